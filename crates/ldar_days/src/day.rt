@@ -4,7 +4,7 @@ ghost use Rattle.ldar_days.specs.Calendar.{IsDay};
 use std::marker::Model;
 
 /// A day of the calendar, from 2008-01-01 to 2099-12-31. Contracts see its number: the days since 1970-01-01.
-#[derive(Clone, Copy, PartialEq, Eq, PartialOrd, Ord)]
+#[derive(Clone, Copy, Debug, PartialEq, Eq, PartialOrd, Ord)]
 pub struct Day {
     number: u16,
 }

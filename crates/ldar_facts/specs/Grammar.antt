@@ -1,0 +1,33 @@
+use Rattle.std.specs.Prelude.{◌≡◌, ℕ, ◌+◌, ◌<◌, List, [], ◌∷◌, ◌++◌, length, take}
+use Rattle.std.specs.List.{flat_map, AllByRecursion}
+use Rattle.ldar_facts.specs.declared.batch.Batch.{Batch}
+use Rattle.ldar_facts.specs.Fields.{Field, number, IsFilled, bytes_of, fact_fields}
+
+-- the fields of a batch, in order: the letter B, who sends it, its number, how many facts, and theirs
+abbrev pub batch_fields : Batch → List Field
+batch_fields batch =
+    number 1 ((66, 66) ∷ []) 66 ∷ number 2 ((0, 65_535) ∷ []) batch.handheld ∷ number 4 ((0, 4_294_967_295) ∷ []) batch.number
+    ∷ number 2 ((1, 512) ∷ []) (length batch.facts) ∷ flat_map fact_fields batch.facts
+
+-- the bytes of some fields, one after the other
+abbrev pub spelled : List Field → List ℕ
+spelled fields = flat_map bytes_of fields
+
+-- the bytes are this batch, each field in its width and range
+pub record Spells (bytes : List ℕ) (batch : Batch) : Type 0 where
+  pub filled : AllByRecursion IsFilled (batch_fields batch)
+  pub spells : bytes ≡ spelled (batch_fields batch)
+
+-- some bytes can follow that make these a batch
+abbrev pub Begins : List ℕ → Type 0
+Begins bytes = (batch : Batch) × (more : List ℕ) × Spells (bytes ++ more) batch
+
+-- no front of the bytes is a batch
+abbrev pub HasNoBatch : List ℕ → Type 0
+HasNoBatch bytes = (used : ℕ) (batch : Batch) → ¬ (Spells (take used bytes) batch)
+
+-- a batch may begin with the bytes before this place, and none with one byte more
+pub record IsFirstWrongPlace (bytes : List ℕ) (at : ℕ) : Type 0 where
+  pub within : at < length bytes
+  pub before : Begins (take at bytes)
+  pub after : ¬ (Begins (take (at + 1) bytes))

@@ -1,0 +1,18 @@
+//! Facts of a leak programme, batches of them, and the bytes that a handheld sends.
+#![tactic(auto)]
+
+mod batch;
+mod body;
+mod class;
+mod fact;
+mod key;
+mod name;
+
+pub use batch::{Batch, FactList};
+pub use body::{FactBody, Purpose, Sort, VisualState};
+pub use class::{Class, Designation, Kind, Service};
+pub use fact::Fact;
+pub use key::Key;
+pub use ldar_days::Day;
+pub use name::Name;
+pub use std::alloc::AllocError as Memory;
