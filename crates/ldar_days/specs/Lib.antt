@@ -1,1 +1,3 @@
 pub mod Calendar
+pub mod Quarters
+pub mod Texts

@@ -1,0 +1,52 @@
+-- The first quarter of a process unit.
+use Rattle.std.proofs.Common.{◌≡◌, ℕ, ◌+◌, ◌-◌, ◌<◌, ◌≤◌, inl, inr, arith}
+use Rattle.std.proofs.lemmas.Bool.{cases_lt}
+use Rattle.std.proofs.lemmas.Bool.Decides.{nat_tests}
+use Rattle.ldar_days.specs.Calendar.{IsDay, IsMonth, first_day, last_day, month_of}
+use Rattle.ldar_days.specs.Quarters.{last_whole, first_quarter}
+use Rattle.ldar_days.proofs.Months.{month_of-is, month_of-near, month_of-month, first_day-next, month_length_bounds}
+
+last_whole-more : (n : ℕ) → n < last_day (month_of n) → last_whole n ≡ month_of n - 1
+unfolding last_whole
+last_whole-more n h = grind (arith, nat_tests)
+
+last_whole-all : (n : ℕ) → last_day (month_of n) ≤ n → last_whole n ≡ month_of n
+unfolding last_whole
+last_whole-all n h = grind (arith, nat_tests)
+
+-- the last whole month is the day's own or the one before
+pub last_whole-near : (n : ℕ) → (month_of n ≤ last_whole n + 1) × (last_whole n ≤ month_of n)
+unfolding last_whole
+last_whole-near n = grind (arith, nat_tests)
+
+-- the last month that is whole by a day ends by it, and the next one ends after it
+pub last_whole-is : (n : ℕ) → IsDay n → (last_day (last_whole n) ≤ n) × (n < last_day (last_whole n + 1))
+last_whole-is n h =
+    let is = month_of-is n h in
+    let month = month_of-month n h in
+    let back : month_of n - 1 + 1 ≡ month_of n = omega arith in
+    elim (cases_lt n (last_day (month_of n))) [
+      | inl more ↦
+          let before = rw back at (first_day-next (month_of n - 1) (omega arith)) in
+          rw (last_whole-more n more, back) (omega (arith, month_length_bounds (month_of n - 1)), more)
+      | inr whole ↦ rw (last_whole-all n whole) (omega arith, omega (arith, first_day-next (month_of n) (omega arith), month_length_bounds (month_of n + 1)))
+    ]
+
+-- 40 CFR 60.481a: the first quarter ends with the last month all of whose days are among startup + 1 to startup + 180
+pub first_quarter-is : (s : ℕ) → IsDay s → s ≤ 46_751 → (s < first_day (first_quarter s + 2)) × (last_day (first_quarter s + 2) ≤ s + 180) × (s + 180 < last_day (first_quarter s + 3))
+unfolding first_quarter
+first_quarter-is s h in_range =
+    let month = month_of-month (s + 180) (omega arith) in
+    let near_it = last_whole-near (s + 180) in
+    let third : last_whole (s + 180) - 2 + 2 ≡ last_whole (s + 180) = omega arith in
+    let after : last_whole (s + 180) - 2 + 3 ≡ last_whole (s + 180) + 1 = omega arith in
+    let is = last_whole-is (s + 180) (omega arith) in
+    rw (third, after) (omega (arith, first_day-next (last_whole (s + 180)) (omega arith), month_length_bounds (last_whole (s + 180)), month_length_bounds (last_whole (s + 180) + 1)), is.0, is.1)
+
+-- quarter 1 lies in the calendar
+pub first_quarter-month : (s : ℕ) → IsDay s → s ≤ 46_751 → IsMonth (first_quarter s) × IsMonth (first_quarter s + 2)
+unfolding first_quarter
+first_quarter-month s h in_range =
+    let near_it = month_of-near (s + 180) in
+    let last = last_whole-near (s + 180) in
+    ((omega arith, omega arith), (omega arith, omega arith))
