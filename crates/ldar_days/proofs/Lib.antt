@@ -1,2 +1,4 @@
+pub mod March
 pub mod Months
 pub mod Quarters
+pub mod Weeks

@@ -30,7 +30,7 @@ unfolding first_day
 first_day-near m h = let b = before_is (m % 12) (omega arith) in grind (arith, nat_tests)
 
 -- the first day of a month as the civil calendar counts days from the year -10000 on
-first_day-day_count : (m : ℕ) → 23_640 ≤ m → first_day m + 4_371_953 ≡ day_count (pos (m / 12)) (m % 12 + 1) 1
+pub first_day-day_count : (m : ℕ) → 23_640 ≤ m → first_day m + 4_371_953 ≡ day_count (pos (m / 12)) (m % 12 + 1) 1
 unfolding first_day
 first_day-day_count m h =
     let b = before_is (m % 12) (omega arith) in
@@ -191,3 +191,9 @@ month_of-day m k h lt =
 -- a day's place is below the length of its month
 pub place_bound : (n : ℕ) → IsDay n → place_of n < month_length (month_of n)
 place_bound n h = omega (arith, month_of-is n h, month_length_bounds (month_of n))
+
+-- for the bodies of `Month`
+pub ruleset months = (first_day-next, first_day-civil, month_length_bounds, month_bounds)
+
+-- for the body of `Day::plus_months`, and for quarters that lie after the calendar
+pub ruleset sums = (first_day-past, month_length_bounds)

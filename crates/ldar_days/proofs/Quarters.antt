@@ -1,10 +1,10 @@
 -- The first quarter of a process unit.
-use Rattle.std.proofs.Common.{◌≡◌, ℕ, ◌+◌, ◌-◌, ◌<◌, ◌≤◌, inl, inr, arith}
+use Rattle.std.proofs.Common.{◌≡◌, ℕ, ◌+◌, ◌-◌, ◌<◌, ◌≤◌, sym, inl, inr, arith}
 use Rattle.std.proofs.lemmas.Bool.{cases_lt}
 use Rattle.std.proofs.lemmas.Bool.Decides.{nat_tests}
 use Rattle.ldar_days.specs.Calendar.{IsDay, IsMonth, first_day, last_day, month_of}
-use Rattle.ldar_days.specs.Quarters.{last_whole, first_quarter}
-use Rattle.ldar_days.proofs.Months.{month_of-is, month_of-near, month_of-month, first_day-next, month_length_bounds}
+use Rattle.ldar_days.specs.Quarters.{last_whole, first_quarter, IsWithin180Days}
+use Rattle.ldar_days.proofs.Months.{month_of-is, month_of-near, month_of-month, month_of-only, first_day-next, first_day-lt, first_day-past, month_length_bounds}
 
 last_whole-more : (n : ℕ) → n < last_day (month_of n) → last_whole n ≡ month_of n - 1
 unfolding last_whole
@@ -50,3 +50,39 @@ first_quarter-month s h in_range =
     let near_it = month_of-near (s + 180) in
     let last = last_whole-near (s + 180) in
     ((omega arith, omega arith), (omega arith, omega arith))
+
+pub first_quarter-third : (s : ℕ) → IsDay s → s ≤ 46_751 → IsWithin180Days s (first_quarter s + 2)
+first_quarter-third s h in_range = let is = first_quarter-is s h in_range in (omega arith, is.1)
+
+pub first_quarter-no_later : (s m : ℕ) → IsDay s → s ≤ 46_751 → IsMonth m → IsWithin180Days s m → m ≤ first_quarter s + 2
+first_quarter-no_later s m h in_range month within =
+    let is = first_quarter-is s h in_range in
+    let first = first_quarter-month s h in_range in
+    elim (cases_lt (first_quarter s + 2) m) [
+      | inl later ↦ elim (cases_lt (first_quarter s + 3) m) [
+        | inl more ↦ absurd (omega (arith, first_day-lt (first_quarter s + 3) m (omega arith) more, month_length_bounds m))
+        | inr same ↦ let e : m ≡ first_quarter s + 3 = omega arith in absurd (omega (arith, rw e at within.1, is.2))
+      ]
+      | inr no_later ↦ no_later
+    ]
+
+-- the month of the day after is the one after the last whole month
+pub month_of-next_day : (n : ℕ) → IsDay n → n ≤ 47_480 → month_of (n + 1) ≡ last_whole n + 1
+month_of-next_day n h before_end =
+    let month = month_of-month n h in
+    let near_it = last_whole-near n in
+    let is = last_whole-is n h in
+    sym (month_of-only (n + 1) (last_whole n + 1) (omega arith) (omega arith) (omega (arith, first_day-next (last_whole n) (omega arith), month_length_bounds (last_whole n)), omega arith))
+
+-- so quarter 1 begins three months before the month of startup + 181
+pub first_quarter-month_of : (s : ℕ) → IsDay s → s ≤ 46_751 → month_of (s + 181) ≡ first_quarter s + 3
+unfolding first_quarter
+first_quarter-month_of s h in_range =
+    let month = month_of-month (s + 180) (omega arith) in
+    let near_it = last_whole-near (s + 180) in
+    let next : s + 180 + 1 ≡ s + 181 = omega arith in
+    let is = rw next at (month_of-next_day (s + 180) (omega arith) (omega arith)) in
+    omega arith
+
+-- for the bodies over quarters
+pub ruleset quarters = (first_quarter-month_of, first_quarter-month, first_quarter-third, first_quarter-no_later, first_day-past, month_length_bounds)

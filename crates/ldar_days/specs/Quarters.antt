@@ -1,6 +1,10 @@
 -- The quarters of a process unit, three months each (40 CFR 60.481a).
-use Rattle.std.specs.Prelude.{ℕ, ◌+◌, ◌-◌, ◌*◌, ◌/◌, nat_lt, nat_le, if◌then◌else◌, Option, Some, None}
+use Rattle.std.specs.Prelude.{ℕ, ◌+◌, ◌-◌, ◌*◌, ◌/◌, ◌≤◌, nat_lt, nat_le, if◌then◌else◌, Option, Some, None}
 use Rattle.ldar_days.specs.Calendar.{first_day, last_day, month_of, end_by}
+
+-- all days of the month are among startup + 1 to startup + 180
+abbrev pub IsWithin180Days : ℕ → ℕ → Type 0
+IsWithin180Days startup m = (startup + 1 ≤ first_day m) × (last_day m ≤ startup + 180)
 
 -- the last month all of whose days are at most this one
 unfoldable pub last_whole : ℕ → ℕ

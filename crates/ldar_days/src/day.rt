@@ -1,10 +1,12 @@
-ghost use Rattle.std.specs.Prelude.{◌≡◌, ℕ, ◌≤◌, ◌↔◌, IsNone, IfSome};
-ghost use Rattle.ldar_days.specs.Calendar.{IsDay};
+ghost use Rattle.std.specs.Prelude.{◌≡◌, ℕ, ◌+◌, ◌*◌, ◌≤◌, ◌↔◌, IsNone, IfSome, pos};
+ghost use Rattle.jiff_core.specs.Calendar.{weekday_number};
+ghost use Rattle.ldar_days.specs.Calendar.{IsDay, IsMonth, IsInMonth, month_of, end_by, later_by, week_of, week_first};
 
+use crate::Month;
 use std::marker::Model;
 
 /// A day of the calendar, from 2008-01-01 to 2099-12-31. Contracts see its number: the days since 1970-01-01.
-#[derive(Clone, Copy, Debug, PartialEq, Eq, PartialOrd, Ord)]
+#[derive(Clone, Copy, Debug, PartialEq, Eq, PartialOrd, Ord, Hash)]
 pub struct Day {
     number: u16,
 }
@@ -22,6 +24,16 @@ impl Model for Day {
     ghost inverse = { λ n. record { number = n } };
 }
 
+/// The number of 2099-12-31, on which every sum ends that would pass it.
+const LAST: u32 = 47_481;
+
+// The number of 2000-03-01. No year from then to 2100-02-28 breaks the rule of one leap year in four,
+// and a year that begins in March has its 29 February at its end.
+const MARCH_2000: u32 = 11_017;
+
+// The same month, as year * 12 + month - 1.
+const MARCH_2000_MONTH: u32 = 24_002;
+
 impl Day {
     /// The day with this number, if the calendar has it.
     pub fn of_number(number: u32) -> Option<Day>
@@ -37,11 +49,73 @@ impl Day {
         }
     }
 
+    /// The day with this number, which the calendar has.
+    pub fn at(number: u32) -> Day
+        requires { IsDay number }
+        ensures value { result ≡ number }
+    {
+        Day {
+            number: number as u16,
+        }
+    }
+
     /// The days since 1970-01-01.
     pub fn number(self) -> u32
         ensures value { result ≡ self }
         ensures in_range { IsDay result }
     {
         u32::from(self.number)
+    }
+
+    /// The month in which the day lies.
+    #[tactic(auto, using(crate::proofs::March::march))]
+    pub fn month(self) -> Month
+        ensures value { result ≡ month_of self }
+        ensures in_range { IsMonth result }
+        ensures inside { IsInMonth result self }
+        ensures no_other { (month : ℕ) → IsMonth month → IsInMonth month self → month ≡ result }
+    {
+        // Quarters of a day since the first March: 1,461 days are four years.
+        let quarters = 4 * (self.number() - MARCH_2000) + 3;
+        let day_of_year = quarters % 1461 / 4;
+        Month::at(MARCH_2000_MONTH + 12 * (quarters / 1461) + (5 * day_of_year + 2) / 153)
+    }
+
+    #[tactic(auto, using(crate::proofs::Weeks::weeks))]
+    /// The week of the day, from Monday to Sunday (our own rule); week 1 begins with 1970-01-05.
+    pub fn week(self) -> u32
+        ensures value { result ≡ week_of self }
+        ensures from_monday { (week_first result ≤ self) × (self ≤ week_first result + 6) }
+        ensures monday { weekday_number (pos (week_first result)) ≡ 0 }
+    {
+        (self.number() + 3) / 7
+    }
+
+    /// The day that many days later, or 2099-12-31 where that would be after it (our own rule).
+    pub fn plus_days(self, days: u32) -> Day
+        ensures value { result ≡ end_by (self + days) }
+        ensures in_range { IsDay result }
+    {
+        let number = self.number();
+        Day::at(if days > LAST - number {
+            LAST
+        } else {
+            number + days
+        })
+    }
+
+    #[tactic(auto, using(crate::proofs::Months::sums))]
+    /// The same place in the month that many months later, or that month's last day where the month is
+    /// shorter, or 2099-12-31 where that would be after it (our own rule).
+    pub fn plus_months(self, months: u32) -> Day
+        ensures value { result ≡ later_by months self }
+        ensures in_range { IsDay result }
+    {
+        let month = self.month();
+        let place = self.number() - month.first_day().number();
+        if months > 25_199 - month.number() {
+            return Day::at(LAST);
+        }
+        month.later(months).day_at(place)
     }
 }

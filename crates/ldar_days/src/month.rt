@@ -1,0 +1,124 @@
+ghost use Rattle.std.specs.Prelude.{◌≡◌, ℕ, ◌+◌, ◌-◌, ◌*◌, ◌/◌, ◌%◌, ◌<◌, ◌≤◌, pos};
+ghost use Rattle.jiff_core.specs.Calendar.{days_from_civil};
+ghost use Rattle.ldar_days.specs.Calendar.{IsDay, IsMonth, first_day, last_day, month_length, day_at};
+
+use crate::Day;
+use std::marker::Model;
+
+/// A month of the calendar, from January 2008 to December 2099. Contracts see its number: year * 12 + month - 1.
+#[derive(Clone, Copy, Debug, PartialEq, Eq, PartialOrd, Ord, Hash)]
+pub struct Month {
+    number: u16,
+}
+
+impl Model for Month {
+    ghost use Rattle.std.specs.Prelude.{ℕ};
+    ghost use Rattle.ldar_days.specs.Calendar.{IsMonth};
+
+    ghost Value = { ℕ };
+
+    ghost view = { λ m. m.number };
+
+    ghost invariant = { λ m. IsMonth m.number };
+
+    ghost inverse = { λ n. record { number = n } };
+}
+
+#[tactic(auto, using(crate::proofs::Months::months))]
+impl Month {
+    /// The month with this number, which the calendar has.
+    pub fn at(number: u32) -> Month
+        requires { IsMonth number }
+        ensures value { result ≡ number }
+    {
+        Month {
+            number: number as u16,
+        }
+    }
+
+    /// The month's year times 12, and the months of that year before it.
+    pub fn number(self) -> u32
+        ensures value { result ≡ self }
+        ensures in_range { IsMonth result }
+    {
+        u32::from(self.number)
+    }
+
+    /// The month's year, from 2008 to 2099.
+    pub fn year(self) -> u32
+        ensures value { result ≡ self / 12 }
+        ensures in_range { (2_008 ≤ result) × (result ≤ 2_099) }
+    {
+        self.number() / 12
+    }
+
+    /// The month's place in its year, from 1 to 12.
+    pub fn month_of_year(self) -> u32
+        ensures value { result ≡ self % 12 + 1 }
+    {
+        self.number() % 12 + 1
+    }
+
+    /// The next month, where the calendar has it.
+    pub fn next(self) -> Month
+        requires { self < 25_199 }
+        ensures value { result ≡ self + 1 }
+    {
+        self.later(1)
+    }
+
+    /// The month that many months later, where the calendar has it.
+    pub fn later(self, months: u32) -> Month
+        requires { self + months ≤ 25_199 }
+        ensures value { result ≡ self + months }
+    {
+        Month::at(self.number() + months)
+    }
+
+    /// The month that many months earlier, where the calendar has it.
+    pub fn earlier(self, months: u32) -> Month
+        requires { 24_096 + months ≤ self }
+        ensures value { result + months ≡ self }
+    {
+        Month::at(self.number() - months)
+    }
+
+    /// The first day of the month.
+    pub fn first_day(self) -> Day
+        ensures value { result ≡ first_day self }
+        ensures in_range { IsDay result }
+        ensures civil { pos result ≡ days_from_civil (pos (self / 12)) (self % 12 + 1) 1 }
+    {
+        Day::at(first_day_of(self.number()))
+    }
+
+    /// The last day of the month.
+    pub fn last_day(self) -> Day
+        ensures value { result ≡ last_day self }
+        ensures in_range { IsDay result }
+        ensures before_next { result + 1 ≡ first_day (self + 1) }
+    {
+        Day::at(first_day_of(self.number() + 1) - 1)
+    }
+
+    /// The day at a place of the month, counted from 0, or its last day where the month is shorter.
+    pub fn day_at(self, place: u32) -> Day
+        ensures value { result ≡ day_at self place }
+        ensures in_range { IsDay result }
+    {
+        let first = first_day_of(self.number());
+        let length = first_day_of(self.number() + 1) - first;
+        Day::at(first + place.min(length - 1))
+    }
+}
+
+// The first day of a month from January 2008 to January 2100, counted from 2000-03-01 (month 24,002, day 11,017).
+// A year that begins in March has 1,461 / 4 days, and five of its months have 153.
+#[tactic(auto, using(crate::proofs::March::march))]
+fn first_day_of(month: u32) -> u32
+    requires { (24_096 ≤ month) × (month ≤ 25_200) }
+    ensures value { result ≡ first_day month }
+{
+    let since_march = month - 24_002;
+    11_017 + 1461 * (since_march / 12) / 4 + (153 * (since_march % 12) + 2) / 5
+}

@@ -1,0 +1,62 @@
+#![tactic(auto, using(crate::proofs::Quarters::quarters))]
+
+ghost use Rattle.std.specs.Prelude.{◌≡◌, ℕ, ◌+◌, ◌<◌, ◌≤◌, ◌↔◌, IsNone, IfSome};
+ghost use Rattle.ldar_days.specs.Calendar.{IsDay, IsMonth};
+ghost use Rattle.ldar_days.specs.Quarters as spec;
+
+use crate::{Day, Month};
+
+/// The first month of a unit's quarter 1, by the day of its initial startup (40 CFR 60.481a).
+///
+/// The quarter's last month is the last one all of whose days are among startup + 1 to startup + 180.
+pub fn first_quarter(startup: Day) -> Month
+    requires { startup ≤ 46_751 }
+    ensures value { result ≡ spec.first_quarter startup }
+    ensures in_range { IsMonth result }
+    ensures third_month { spec.IsWithin180Days startup (result + 2) }
+    ensures no_later_month { (month : ℕ) → IsMonth month → spec.IsWithin180Days startup month → month ≤ result + 2 }
+{
+    // The month before that of startup + 181 is the last one that is over by startup + 180.
+    Day::at(startup.number() + 181).month().earlier(3)
+}
+
+/// The quarter of a month, counted from 1, and `None` before quarter 1.
+pub fn quarter_of(startup: Day, month: Month) -> Option<u16>
+    requires { startup ≤ 46_751 }
+    ensures value { result ≡ spec.quarter_of startup month }
+    ensures none { IsNone result ↔ (month < spec.first_quarter startup) }
+{
+    let first = first_quarter(startup);
+    if month < first {
+        return None;
+    }
+    Some(((month.number() - first.number()) / 3 + 1) as u16)
+}
+
+/// The first day of a quarter, or 2099-12-31 where it would begin after that day (our own rule).
+pub fn quarter_first(startup: Day, quarter: u16) -> Day
+    requires in_range { startup ≤ 46_751 }
+    requires quarter { 1 ≤ quarter }
+    ensures value { result ≡ spec.quarter_first startup quarter }
+    ensures in_range { IsDay result }
+{
+    let number = first_quarter(startup).number() + 3 * (u32::from(quarter) - 1);
+    if number > 25_199 {
+        return Day::at(47_481);
+    }
+    Month::at(number).first_day()
+}
+
+/// The last day of a quarter, or 2099-12-31 where it would end after that day (our own rule).
+pub fn quarter_last(startup: Day, quarter: u16) -> Day
+    requires in_range { startup ≤ 46_751 }
+    requires quarter { 1 ≤ quarter }
+    ensures value { result ≡ spec.quarter_last startup quarter }
+    ensures in_range { IsDay result }
+{
+    let number = first_quarter(startup).number() + 3 * u32::from(quarter) - 1;
+    if number > 25_199 {
+        return Day::at(47_481);
+    }
+    Month::at(number).last_day()
+}
