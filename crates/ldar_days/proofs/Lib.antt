@@ -2,3 +2,4 @@ pub mod March
 pub mod Months
 pub mod Quarters
 pub mod Weeks
+pub mod Texts

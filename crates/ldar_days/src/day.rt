@@ -1,6 +1,6 @@
 ghost use Rattle.std.specs.Prelude.{◌≡◌, ℕ, ◌+◌, ◌*◌, ◌≤◌, ◌↔◌, IsNone, IfSome, pos};
 ghost use Rattle.jiff_core.specs.Calendar.{weekday_number};
-ghost use Rattle.ldar_days.specs.Calendar.{IsDay, IsMonth, IsInMonth, month_of, end_by, later_by, week_of, week_first};
+ghost use Rattle.ldar_days.specs.Calendar.{IsDay, IsMonth, IsInMonth, month_of, place_of, end_by, later_by, week_of, week_first};
 
 use crate::Month;
 use std::marker::Model;
@@ -67,6 +67,15 @@ impl Day {
         u32::from(self.number)
     }
 
+    /// The day's place in its month, from 1 to 31.
+    #[tactic(auto, using(crate::proofs::Months::sums))]
+    pub fn day_of_month(self) -> u32
+        ensures value { result ≡ place_of self + 1 }
+        ensures in_range { (1 ≤ result) × (result ≤ 31) }
+    {
+        self.number() - self.month().first_day().number() + 1
+    }
+
     /// The month in which the day lies.
     #[tactic(auto, using(crate::proofs::March::march))]
     pub fn month(self) -> Month
@@ -112,10 +121,9 @@ impl Day {
         ensures in_range { IsDay result }
     {
         let month = self.month();
-        let place = self.number() - month.first_day().number();
         if months > 25_199 - month.number() {
             return Day::at(LAST);
         }
-        month.later(months).day_at(place)
+        month.later(months).day_at(self.day_of_month() - 1)
     }
 }
