@@ -1,7 +1,6 @@
 ghost use Rattle.std.specs.Prelude.{◌≡◌, ℕ, ◌+◌, ◌-◌, ◌*◌, ◌/◌, ◌%◌, ◌<◌, ◌≤◌, [], ◌∷◌, ◌++◌, length, IsNone, IfSome, Some};
 ghost use Rattle.ldar_days.specs.Calendar.{IsDay, IsMonth, month_of, place_of};
-ghost use Rattle.ldar_days.specs.Texts.{pair, month_text, day_text, day_of};
-ghost use Rattle.ldar_days.specs.Texts.{HasDigits, IsSpelled, IsDate};
+ghost use Rattle.ldar_days.specs.Texts.{pair, month_text, day_text, day_of, HasDigits, IsSpelled, IsDate};
 
 use crate::{Day, Month};
 use std::fmt;
@@ -95,20 +94,34 @@ impl fmt::Display for Pair {
     }
 }
 
+/// A month's text, `YYYY-MM`, also of a month that the calendar does not have: its number is year * 12 + month - 1.
+#[derive(Clone, Copy, Debug, PartialEq, Eq)]
+pub struct MonthText {
+    pub number: u32,
+    pub ghost in_range: { number < 120_000 },
+}
+
+impl fmt::Display for MonthText {
+    ghost output = { λ m. Some (month_text m.number) };
+
+    fn fmt<W: fmt::Write>(&self, f: &mut fmt::Formatter<W>) -> fmt::Result {
+        let year = self.number / 12;
+        let (century, year) = (Pair { number: year / 100 }, Pair { number: year % 100 });
+        let month = Pair {
+            number: self.number % 12 + 1,
+        };
+        write!(f, "{century}{year}-{month}")
+    }
+}
+
 impl fmt::Display for Month {
     ghost output = { λ m. Some (month_text m) };
 
     fn fmt<W: fmt::Write>(&self, f: &mut fmt::Formatter<W>) -> fmt::Result {
-        let century = Pair {
-            number: self.year() / 100,
+        let text = MonthText {
+            number: self.number(),
         };
-        let year = Pair {
-            number: self.year() % 100,
-        };
-        let month = Pair {
-            number: self.month_of_year(),
-        };
-        write!(f, "{century}{year}-{month}")
+        write!(f, "{text}")
     }
 }
 
