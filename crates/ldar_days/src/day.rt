@@ -24,7 +24,9 @@ impl Model for Day {
     ghost inverse = { λ n. record { number = n } };
 }
 
-/// The number of 2099-12-31, on which every sum ends that would pass it.
+// 2008-01-01, and 2099-12-31, on which every sum ends that would pass it.
+const FIRST: u32 = 13_879;
+
 const LAST: u32 = 47_481;
 
 // The number of 2000-03-01. No year from then to 2100-02-28 breaks the rule of one leap year in four,
@@ -40,7 +42,7 @@ impl Day {
         ensures none { IsNone result → IsDay number → ⊥ }
         ensures value { IfSome result (λ day. IsDay number × (day ≡ number)) }
     {
-        if (13_879..=47_481).contains(&number) {
+        if (FIRST..=LAST).contains(&number) {
             Some(Day {
                 number: number as u16,
             })
@@ -67,15 +69,6 @@ impl Day {
         u32::from(self.number)
     }
 
-    /// The day's place in its month, from 1 to 31.
-    #[tactic(auto, using(crate::proofs::Months::sums))]
-    pub fn day_of_month(self) -> u32
-        ensures value { result ≡ place_of self + 1 }
-        ensures in_range { (1 ≤ result) × (result ≤ 31) }
-    {
-        self.number() - self.month().first_day().number() + 1
-    }
-
     /// The month in which the day lies.
     #[tactic(auto, using(crate::proofs::March::march))]
     pub fn month(self) -> Month
@@ -84,10 +77,15 @@ impl Day {
         ensures inside { IsInMonth result self }
         ensures no_other { (month : ℕ) → IsMonth month → IsInMonth month self → month ≡ result }
     {
-        // Quarters of a day since the first March: 1,461 days are four years.
-        let quarters = 4 * (self.number() - MARCH_2000) + 3;
-        let day_of_year = quarters % 1461 / 4;
-        Month::at(MARCH_2000_MONTH + 12 * (quarters / 1461) + (5 * day_of_year + 2) / 153)
+        Month::at(month_and_place(self).0)
+    }
+
+    /// The day's place in its month, from 1 to 31.
+    pub fn day_of_month(self) -> u32
+        ensures value { result ≡ place_of self + 1 }
+        ensures in_range { (1 ≤ result) × (result ≤ 31) }
+    {
+        month_and_place(self).1 + 1
     }
 
     #[tactic(auto, using(crate::proofs::Weeks::weeks))]
@@ -120,10 +118,25 @@ impl Day {
         ensures value { result ≡ later_by months self }
         ensures in_range { IsDay result }
     {
-        let month = self.month();
-        if months > 25_199 - month.number() {
+        let (month, place) = month_and_place(self);
+        if months > 25_199 - month {
             return Day::at(LAST);
         }
-        month.later(months).day_at(self.day_of_month() - 1)
+        Month::at(month + months).day_at(place)
     }
+}
+
+// The month of a day, and the day's place in it from 0.
+#[tactic(auto, using(crate::proofs::March::march))]
+fn month_and_place(day: Day) -> (u32, u32)
+    ensures month { result.0 ≡ month_of day }
+    ensures in_range { IsMonth result.0 }
+    ensures place { result.1 ≡ place_of day }
+    ensures in_month { result.1 ≤ 30 }
+{
+    // Quarters of a day since the first March: 1,461 of them are a year, and 153 fifths of a day a month.
+    let quarters = 4 * (day.number() - MARCH_2000) + 3;
+    let fifths = 5 * (quarters % 1461 / 4) + 2;
+    let month = MARCH_2000_MONTH + 12 * (quarters / 1461) + fifths / 153;
+    (month, fifths % 153 / 5)
 }

@@ -4,6 +4,8 @@
 mod day;
 mod month;
 mod quarter;
+#[cfg(test)]
+mod tests;
 mod text;
 
 pub use day::Day;

@@ -106,14 +106,13 @@ impl Month {
         ensures value { result ≡ day_at self place }
         ensures in_range { IsDay result }
     {
-        let first = first_day_of(self.number());
-        let length = first_day_of(self.number() + 1) - first;
-        Day::at(first + place.min(length - 1))
+        let last_place = days_of(self.number()) - 1;
+        Day::at(first_day_of(self.number()) + place.min(last_place))
     }
 }
 
 // The first day of a month from January 2008 to January 2100, counted from 2000-03-01 (month 24,002, day 11,017).
-// A year that begins in March has 1,461 / 4 days, and five of its months have 153.
+// Four years that begin in March have 1,461 days, and five of their months, up to the last two, have 153.
 #[tactic(auto, using(crate::proofs::March::march))]
 fn first_day_of(month: u32) -> u32
     requires { (24_096 ≤ month) × (month ≤ 25_200) }
@@ -121,4 +120,17 @@ fn first_day_of(month: u32) -> u32
 {
     let since_march = month - 24_002;
     11_017 + 1461 * (since_march / 12) / 4 + (153 * (since_march % 12) + 2) / 5
+}
+
+// The days of a month: from 2008 to 2099 each fourth year is a leap year.
+#[tactic(auto, using(crate::proofs::Months::lengths))]
+fn days_of(month: u32) -> u32
+    requires { IsMonth month }
+    ensures value { result ≡ month_length month }
+{
+    const DAYS: [u8; 12] = [31, 28, 31, 30, 31, 30, 31, 31, 30, 31, 30, 31];
+    if month % 48 == 1 {
+        return 29;
+    }
+    u32::from(DAYS[(month % 12) as usize])
 }

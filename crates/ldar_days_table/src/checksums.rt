@@ -1,0 +1,66 @@
+use crate::row::Checksums;
+use ldar_days::{Day, first_quarter};
+
+// How many days and how many months later the table looks: all that a duty or a delay asks, and far past the end.
+const MOST_DAYS: u32 = 63;
+
+const MORE_DAYS: [u32; 5] = [180, 181, 366, 20_000, u32::MAX];
+
+const MOST_MONTHS: u32 = 121;
+
+const MORE_MONTHS: [u32; 3] = [600, 1_103, u32::MAX];
+
+// The last startup that has a quarter 1 in the calendar, 2097-12-31.
+const LAST_STARTUP: u32 = 46_751;
+
+impl Checksums {
+    pub fn new() -> Checksums {
+        Checksums {
+            months: 0,
+            texts: 0,
+            weeks: 0,
+            later_days: 0,
+            later_months: 0,
+            quarters: 0,
+        }
+    }
+
+    /// Takes the next day of the month into each checksum.
+    pub fn add(&mut self, day: Day) {
+        self.months = mixed(mixed(self.months, day.month().number()), day.day_of_month());
+        self.weeks = mixed(self.weeks, day.week());
+        for byte in day.text() {
+            self.texts = mixed(self.texts, u32::from(byte));
+        }
+        self.later_days = with_later_days(self.later_days, day);
+        self.later_months = with_later_months(self.later_months, day);
+        if day.number() <= LAST_STARTUP {
+            self.quarters = mixed(self.quarters, first_quarter(day).number());
+        }
+    }
+}
+
+fn with_later_days(mut sum: u64, day: Day) -> u64 {
+    for days in 0..MOST_DAYS {
+        sum = mixed(sum, day.plus_days(days).number());
+    }
+    for days in MORE_DAYS {
+        sum = mixed(sum, day.plus_days(days).number());
+    }
+    sum
+}
+
+fn with_later_months(mut sum: u64, day: Day) -> u64 {
+    for months in 0..MOST_MONTHS {
+        sum = mixed(sum, day.plus_months(months).number());
+    }
+    for months in MORE_MONTHS {
+        sum = mixed(sum, day.plus_months(months).number());
+    }
+    sum
+}
+
+// One step of a checksum, as `bench/calendar_table.py` makes it.
+fn mixed(sum: u64, value: u32) -> u64 {
+    (sum ^ u64::from(value)).wrapping_mul(1_099_511_628_211)
+}
