@@ -1,9 +1,11 @@
 -- Years that begin in March, in which the code counts: from 2000-03-01 (day 11,017, month 24,002) to 2100-02-28 each fourth one has a leap day.
-use Rattle.std.proofs.Common.{◌≡◌, ℕ, ◌+◌, ◌-◌, ◌*◌, ◌/◌, ◌%◌, ◌<◌, ◌≤◌, inl, inr, suc, pos, ◌+ℤ◌, arith}
+use Rattle.std.proofs.Common.{◌≡◌, ℕ, ◌+◌, ◌-◌, ◌*◌, ◌/◌, ◌%◌, ◌<◌, ◌≤◌, ◌≢◌, List, [], ◌∷◌, get_or, zero, refl, inl, inr, suc, pos, ◌+ℤ◌, arith}
 use Rattle.std.proofs.lemmas.Bool.{cases_lt}
+use Rattle.std.proofs.lemmas.Bool.Decides.{nat_tests}
+use Rattle.jiff_core.specs.Calendar.{days_in_month}
 use Rattle.jiff_core.proofs.SignedLemmas.{signed_arith}
 use Rattle.jiff_core.proofs.MarchLemmas.{day_count-early, day_count-late}
-use Rattle.ldar_days.specs.Calendar.{IsDay, first_day, month_of}
+use Rattle.ldar_days.specs.Calendar.{IsDay, IsMonth, first_day, month_length, month_of}
 use Rattle.ldar_days.proofs.Months.{first_day-day_count, first_day-next, month_length_bounds, month_of-is, month_of-only, month_of-month}
 
 -- the first day of a month by the months since March 2000
@@ -78,3 +80,36 @@ month_of-march n h =
 
 -- for the bodies of `Day::month` and `first_day_of`
 pub ruleset march = (first_day-march, month_of-march, month_of-is, month_of-only, month_of-month)
+
+-- the days of the months of a year that is no leap year
+abbrev pub days_table : List ℕ
+days_table = 31 ∷ 28 ∷ 31 ∷ 30 ∷ 31 ∷ 30 ∷ 31 ∷ 31 ∷ 30 ∷ 31 ∷ 30 ∷ 31 ∷ []
+
+-- are those that the civil calendar has
+table_is : (k : ℕ) → k < 12 → get_or days_table k 0 ≡ days_in_month (pos 2_009) (k + 1)
+table_is zero h = refl
+table_is (suc zero) h = refl
+table_is (suc (suc zero)) h = refl
+table_is (suc (suc (suc zero))) h = refl
+table_is (suc (suc (suc (suc zero)))) h = refl
+table_is (suc (suc (suc (suc (suc zero))))) h = refl
+table_is (suc (suc (suc (suc (suc (suc zero)))))) h = refl
+table_is (suc (suc (suc (suc (suc (suc (suc zero))))))) h = refl
+table_is (suc (suc (suc (suc (suc (suc (suc (suc zero)))))))) h = refl
+table_is (suc (suc (suc (suc (suc (suc (suc (suc (suc zero))))))))) h = refl
+table_is (suc (suc (suc (suc (suc (suc (suc (suc (suc (suc zero)))))))))) h = refl
+table_is (suc (suc (suc (suc (suc (suc (suc (suc (suc (suc (suc zero))))))))))) h = refl
+table_is (suc (suc (suc (suc (suc (suc (suc (suc (suc (suc (suc (suc k)))))))))))) h = absurd (omega arith)
+
+-- each fourth February has 29 days
+pub month_length-leap : (m : ℕ) → IsMonth m → m % 48 ≡ 1 → month_length m ≡ 29
+unfolding month_length
+month_length-leap m h leap = grind (arith, nat_tests)
+
+-- and each other month what the table has
+pub month_length-table : (m : ℕ) → IsMonth m → m % 48 ≢ 1 → month_length m ≡ get_or days_table (m % 12) 0
+unfolding month_length
+month_length-table m h common = let is = table_is (m % 12) (omega arith) in grind (arith, nat_tests)
+
+-- for `days_of`
+pub ruleset lengths = (month_length-leap, month_length-table)

@@ -1,8 +1,8 @@
 -- The months and days of the calendar: each month begins where the one before ends, and each day lies in one month.
-use Rattle.std.proofs.Common.{◌≡◌, ℕ, zero, suc, ◌+◌, ◌-◌, ◌*◌, ◌/◌, ◌%◌, ◌<◌, ◌≤◌, ◌≢◌, List, [], ◌∷◌, inl, inr, cond, nat_lt, get_or, refl, sym, arith, pos, ◌+ℤ◌}
+use Rattle.std.proofs.Common.{◌≡◌, ℕ, zero, suc, ◌+◌, ◌-◌, ◌*◌, ◌/◌, ◌%◌, ◌<◌, ◌≤◌, inl, inr, cond, nat_lt, get_or, refl, sym, arith, pos, ◌+ℤ◌}
 use Rattle.std.proofs.lemmas.Bool.{cases_lt}
 use Rattle.std.proofs.lemmas.Bool.Decides.{nat_tests}
-use Rattle.jiff_core.specs.Calendar.{days_in_month, days_from_civil, day_count}
+use Rattle.jiff_core.specs.Calendar.{days_from_civil, day_count}
 use Rattle.jiff_core.proofs.SignedLemmas.{signed_arith}
 use Rattle.jiff_core.proofs.CalendarLemmas.{days_from_civil-day_count, day_count-next_month, day_count-next_year, day_count-last_of_year, day_count-day, days_in_month_bounds}
 use Rattle.jiff_core.proofs.MarchLemmas.{day_count-early, day_count-late}
@@ -192,41 +192,30 @@ month_of-day m k h lt =
 pub place_bound : (n : ℕ) → IsDay n → place_of n < month_length (month_of n)
 place_bound n h = omega (arith, month_of-is n h, month_length_bounds (month_of n))
 
+-- the first day of a month lies in it
+pub month_of-first_day : (m : ℕ) → IsMonth m → month_of (first_day m) ≡ m
+month_of-first_day m h =
+    let bounds = month_bounds m h in
+    let long = month_length_bounds m in
+    sym (month_of-only (first_day m) m (omega arith) (omega arith) (omega arith, omega arith))
+
+-- and so does its last day
+pub month_of-last_day : (m : ℕ) → IsMonth m → month_of (last_day m) ≡ m
+month_of-last_day m h =
+    let bounds = month_bounds m h in
+    let long = month_length_bounds m in
+    sym (month_of-only (last_day m) m (omega arith) (omega arith) (omega arith, omega arith))
+
+-- a later day lies in the same month or a later one
+pub month_of-mono : (n later : ℕ) → IsDay n → IsDay later → n ≤ later → month_of n ≤ month_of later
+month_of-mono n later h h' le =
+    let is = month_of-is n h in
+    let is' = month_of-is later h' in
+    let month = month_of-month later h' in
+    elim (cases_lt (month_of later) (month_of n)) [
+      | inl before ↦ absurd (omega (arith, first_day-lt (month_of later) (month_of n) (omega arith) before, month_length_bounds (month_of later)))
+      | inr in_order ↦ in_order
+    ]
+
 -- for the bodies of `Month`
 pub ruleset months = (first_day-next, first_day-civil, month_length_bounds, month_bounds)
-
--- for the body of `Day::plus_months`, and for quarters that lie after the calendar
-pub ruleset sums = (first_day-past, month_length_bounds)
-
--- the days of the months of a year that is no leap year
-abbrev pub days_table : List ℕ
-days_table = 31 ∷ 28 ∷ 31 ∷ 30 ∷ 31 ∷ 30 ∷ 31 ∷ 31 ∷ 30 ∷ 31 ∷ 30 ∷ 31 ∷ []
-
--- are those that the civil calendar has
-table_is : (k : ℕ) → k < 12 → get_or days_table k 0 ≡ days_in_month (pos 2_009) (k + 1)
-table_is zero h = refl
-table_is (suc zero) h = refl
-table_is (suc (suc zero)) h = refl
-table_is (suc (suc (suc zero))) h = refl
-table_is (suc (suc (suc (suc zero)))) h = refl
-table_is (suc (suc (suc (suc (suc zero))))) h = refl
-table_is (suc (suc (suc (suc (suc (suc zero)))))) h = refl
-table_is (suc (suc (suc (suc (suc (suc (suc zero))))))) h = refl
-table_is (suc (suc (suc (suc (suc (suc (suc (suc zero)))))))) h = refl
-table_is (suc (suc (suc (suc (suc (suc (suc (suc (suc zero))))))))) h = refl
-table_is (suc (suc (suc (suc (suc (suc (suc (suc (suc (suc zero)))))))))) h = refl
-table_is (suc (suc (suc (suc (suc (suc (suc (suc (suc (suc (suc zero))))))))))) h = refl
-table_is (suc (suc (suc (suc (suc (suc (suc (suc (suc (suc (suc (suc k)))))))))))) h = absurd (omega arith)
-
--- each fourth February has 29 days
-pub month_length-leap : (m : ℕ) → IsMonth m → m % 48 ≡ 1 → month_length m ≡ 29
-unfolding month_length
-month_length-leap m h leap = grind (arith, nat_tests)
-
--- and each other month what the table has
-pub month_length-table : (m : ℕ) → IsMonth m → m % 48 ≢ 1 → month_length m ≡ get_or days_table (m % 12) 0
-unfolding month_length
-month_length-table m h common = let is = table_is (m % 12) (omega arith) in grind (arith, nat_tests)
-
--- for `days_of`
-pub ruleset lengths = (month_length-leap, month_length-table)

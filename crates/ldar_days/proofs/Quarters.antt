@@ -1,10 +1,10 @@
 -- The first quarter of a process unit.
-use Rattle.std.proofs.Common.{◌≡◌, ℕ, ◌+◌, ◌-◌, ◌<◌, ◌≤◌, sym, inl, inr, arith}
+use Rattle.std.proofs.Common.{◌≡◌, ℕ, ◌+◌, ◌-◌, ◌*◌, ◌<◌, ◌≤◌, sym, inl, inr, arith}
 use Rattle.std.proofs.lemmas.Bool.{cases_lt}
 use Rattle.std.proofs.lemmas.Bool.Decides.{nat_tests}
 use Rattle.ldar_days.specs.Calendar.{IsDay, IsMonth, first_day, last_day, month_of}
-use Rattle.ldar_days.specs.Quarters.{last_whole, first_quarter, IsWithin180Days}
-use Rattle.ldar_days.proofs.Months.{month_of-is, month_of-near, month_of-month, month_of-only, first_day-next, first_day-lt, first_day-past, month_length_bounds}
+use Rattle.ldar_days.specs.Quarters.{last_whole, first_quarter, quarter_first, quarter_last, IsWithin180Days}
+use Rattle.ldar_days.proofs.Months.{month_of-is, month_of-near, month_of-month, month_of-only, first_day-next, first_day-lt, first_day-past, month_length_bounds, month_bounds}
 
 last_whole-more : (n : ℕ) → n < last_day (month_of n) → last_whole n ≡ month_of n - 1
 unfolding last_whole
@@ -84,5 +84,29 @@ first_quarter-month_of s h in_range =
     let is = rw next at (month_of-next_day (s + 180) (omega arith) (omega arith)) in
     omega arith
 
+-- a month begins no earlier than its quarter, and ends no later
+pub first_day-le : (m later : ℕ) → 23_640 ≤ m → m ≤ later → (first_day m ≤ first_day later) × (last_day m ≤ last_day later)
+first_day-le m later low le =
+    let long = month_length_bounds m in
+    let long' = month_length_bounds later in
+    elim (cases_lt m later) [
+      | inl before ↦ let lt = first_day-lt m later low before in (omega arith, omega arith)
+      | inr same ↦ let e : later ≡ m = omega arith in rw e (omega arith, omega arith)
+    ]
+
+-- a month of a quarter lies in it
+pub quarter-days : (s m q : ℕ) → IsMonth (first_quarter s) → IsMonth m → first_quarter s + 3 * q ≤ m + 3 → m < first_quarter s + 3 * q → (quarter_first s q ≤ first_day m) × (last_day m ≤ quarter_last s q)
+quarter-days s m q first month low high =
+    let begin = first_day-le (first_quarter s + 3 * q - 3) m (omega arith) (omega arith) in
+    let end = first_day-le m (first_quarter s + 3 * q - 1) (omega arith) (omega arith) in
+    let bounds = month_bounds m month in
+    (omega (arith, begin.0), omega (arith, end.1))
+
+-- the next quarter begins on the day after
+pub quarter_first-next : (s q : ℕ) → IsMonth (first_quarter s) → 1 ≤ q → quarter_last s q < 47_481 → quarter_first s (q + 1) ≡ quarter_last s q + 1
+quarter_first-next s q first low within =
+    let same : first_quarter s + 3 * (q + 1) - 3 ≡ first_quarter s + 3 * q - 1 + 1 = omega arith in
+    rw same (omega (arith, first_day-next (first_quarter s + 3 * q - 1) (omega arith), month_length_bounds (first_quarter s + 3 * q - 1)))
+
 -- for the bodies over quarters
-pub ruleset quarters = (first_quarter-month_of, first_quarter-month, first_quarter-third, first_quarter-no_later, first_day-past, month_length_bounds)
+pub ruleset quarters = (first_quarter-month_of, first_quarter-month, first_quarter-third, first_quarter-no_later, first_day-past, month_length_bounds, quarter-days, quarter_first-next)

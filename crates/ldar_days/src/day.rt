@@ -1,6 +1,6 @@
-ghost use Rattle.std.specs.Prelude.{◌≡◌, ℕ, ◌+◌, ◌*◌, ◌≤◌, ◌↔◌, IsNone, IfSome, pos};
+ghost use Rattle.std.specs.Prelude.{◌≡◌, ℕ, ◌+◌, ◌*◌, ◌≤◌, ◌<◌, ◌-◌, min, IsNone, IfSome, pos};
 ghost use Rattle.jiff_core.specs.Calendar.{weekday_number};
-ghost use Rattle.ldar_days.specs.Calendar.{IsDay, IsMonth, IsInMonth, month_of, place_of, end_by, later_by, week_of, week_first};
+ghost use Rattle.ldar_days.specs.Calendar.{IsDay, IsMonth, IsInMonth, month_of, place_of, end_by, later_by, week_of, week_first, month_length};
 
 use crate::Month;
 use std::marker::Model;
@@ -77,7 +77,7 @@ impl Day {
         ensures inside { IsInMonth result self }
         ensures no_other { (month : ℕ) → IsMonth month → IsInMonth month self → month ≡ result }
     {
-        Month::at(month_and_place(self).0)
+        Month::at(month_and_place(self.number()).0)
     }
 
     /// The day's place in its month, from 1 to 31.
@@ -85,7 +85,7 @@ impl Day {
         ensures value { result ≡ place_of self + 1 }
         ensures in_range { (1 ≤ result) × (result ≤ 31) }
     {
-        month_and_place(self).1 + 1
+        month_and_place(self.number()).1 + 1
     }
 
     #[tactic(auto, using(crate::proofs::Weeks::weeks))]
@@ -111,14 +111,20 @@ impl Day {
         })
     }
 
-    #[tactic(auto, using(crate::proofs::Months::sums))]
+    #[tactic(auto, using(crate::proofs::Sums::sums))]
     /// The same place in the month that many months later, or that month's last day where the month is
     /// shorter, or 2099-12-31 where that would be after it (our own rule).
     pub fn plus_months(self, months: u32) -> Day
         ensures value { result ≡ later_by months self }
         ensures in_range { IsDay result }
+
+        // The month is that many months later, where the calendar has it.
+        ensures month { month_of self + months ≤ 25_199 → month_of result ≡ month_of self + months }
+        ensures place { month_of self + months ≤ 25_199
+            → place_of result ≡ min (place_of self) (month_length (month_of self + months) - 1) }
+        ensures past_end { 25_199 < month_of self + months → result ≡ 47_481 }
     {
-        let (month, place) = month_and_place(self);
+        let (month, place) = month_and_place(self.number());
         if months > 25_199 - month {
             return Day::at(LAST);
         }
@@ -128,14 +134,15 @@ impl Day {
 
 // The month of a day, and the day's place in it from 0.
 #[tactic(auto, using(crate::proofs::March::march))]
-fn month_and_place(day: Day) -> (u32, u32)
+fn month_and_place(day: u32) -> (u32, u32)
+    requires { IsDay day }
     ensures month { result.0 ≡ month_of day }
     ensures in_range { IsMonth result.0 }
     ensures place { result.1 ≡ place_of day }
     ensures in_month { result.1 ≤ 30 }
 {
     // Quarters of a day since the first March: 1,461 of them are a year, and 153 fifths of a day a month.
-    let quarters = 4 * (day.number() - MARCH_2000) + 3;
+    let quarters = 4 * (day - MARCH_2000) + 3;
     let fifths = 5 * (quarters % 1461 / 4) + 2;
     let month = MARCH_2000_MONTH + 12 * (quarters / 1461) + fifths / 153;
     (month, fifths % 153 / 5)

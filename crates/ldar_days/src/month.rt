@@ -1,6 +1,6 @@
-ghost use Rattle.std.specs.Prelude.{◌≡◌, ℕ, ◌+◌, ◌-◌, ◌*◌, ◌/◌, ◌%◌, ◌<◌, ◌≤◌, pos};
+ghost use Rattle.std.specs.Prelude.{◌≡◌, ℕ, ◌+◌, ◌-◌, ◌*◌, ◌/◌, ◌%◌, ◌<◌, ◌≤◌, min, pos};
 ghost use Rattle.jiff_core.specs.Calendar.{days_from_civil};
-ghost use Rattle.ldar_days.specs.Calendar.{IsDay, IsMonth, first_day, last_day, month_length, day_at};
+ghost use Rattle.ldar_days.specs.Calendar.{IsDay, IsMonth, first_day, last_day, month_length, day_at, month_of, place_of};
 
 use crate::Day;
 use std::marker::Model;
@@ -105,6 +105,8 @@ impl Month {
     pub fn day_at(self, place: u32) -> Day
         ensures value { result ≡ day_at self place }
         ensures in_range { IsDay result }
+        ensures month { month_of result ≡ self }
+        ensures place { place_of result ≡ min place (month_length self - 1) }
     {
         let last_place = days_of(self.number()) - 1;
         Day::at(first_day_of(self.number()) + place.min(last_place))
@@ -123,7 +125,7 @@ fn first_day_of(month: u32) -> u32
 }
 
 // The days of a month: from 2008 to 2099 each fourth year is a leap year.
-#[tactic(auto, using(crate::proofs::Months::lengths))]
+#[tactic(auto, using(crate::proofs::March::lengths))]
 fn days_of(month: u32) -> u32
     requires { IsMonth month }
     ensures value { result ≡ month_length month }

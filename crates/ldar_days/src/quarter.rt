@@ -1,7 +1,7 @@
 #![tactic(auto, using(crate::proofs::Quarters::quarters))]
 
 ghost use Rattle.std.specs.Prelude.{◌≡◌, ℕ, ◌+◌, ◌<◌, ◌≤◌, ◌↔◌, IsNone, IfSome};
-ghost use Rattle.ldar_days.specs.Calendar.{IsDay, IsMonth};
+ghost use Rattle.ldar_days.specs.Calendar.{IsDay, IsMonth, first_day, last_day};
 ghost use Rattle.ldar_days.specs.Quarters as spec;
 
 use crate::{Day, Month};
@@ -24,13 +24,15 @@ pub fn first_quarter(startup: Day) -> Month
 pub fn quarter_of(startup: Day, month: Month) -> Option<u16>
     requires { startup ≤ 46_751 }
     ensures value { result ≡ spec.quarter_of startup month }
+    ensures found { IfSome result (λ quarter. (spec.quarter_first startup quarter ≤ first_day month)
+        × (last_day month ≤ spec.quarter_last startup quarter)) }
     ensures none { IsNone result ↔ (month < spec.first_quarter startup) }
 {
-    let first = first_quarter(startup);
+    let (first, month) = (first_quarter(startup).number(), month.number());
     if month < first {
         return None;
     }
-    Some(((month.number() - first.number()) / 3 + 1) as u16)
+    Some(((month - first) / 3 + 1) as u16)
 }
 
 /// The first day of a quarter, or 2099-12-31 where it would begin after that day (our own rule).
@@ -52,6 +54,7 @@ pub fn quarter_last(startup: Day, quarter: u16) -> Day
     requires in_range { startup ≤ 46_751 }
     requires quarter { 1 ≤ quarter }
     ensures value { result ≡ spec.quarter_last startup quarter }
+    ensures before_next { result < 47_481 → spec.quarter_first startup (quarter + 1) ≡ result + 1 }
     ensures in_range { IsDay result }
 {
     let number = first_quarter(startup).number() + 3 * u32::from(quarter) - 1;

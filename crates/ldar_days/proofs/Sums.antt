@@ -1,0 +1,62 @@
+-- Sums of days and months: within the calendar they keep the day's place, and at its end they stop.
+use Rattle.std.proofs.Common.{◌≡◌, ℕ, ◌+◌, ◌-◌, ◌≤◌, min, inl, inr, arith}
+use Rattle.std.proofs.lemmas.Bool.{cases_lt}
+use Rattle.ldar_days.specs.Calendar.{IsDay, IsMonth, month_length, month_of, place_of, day_at, later_by}
+use Rattle.ldar_days.proofs.Months.{first_day-lt, first_day-past, month_length_bounds, month_bounds, month_of-is, month_of-month, month_of-day, place_bound}
+
+-- the day at a place of a month lies in it, at that place or at its end
+pub month_of-day_at : (m place : ℕ) → IsMonth m → month_of (day_at m place) ≡ m
+month_of-day_at m place h =
+    month_of-day m (min place (month_length m - 1)) h (omega (arith, month_length_bounds m))
+
+pub place_of-day_at : (m place : ℕ) → IsMonth m → place_of (day_at m place) ≡ min place (month_length m - 1)
+place_of-day_at m place h = rw (month_of-day_at m place h) (omega arith)
+
+pub day_at_bounds : (m place : ℕ) → IsMonth m → IsDay (day_at m place)
+day_at_bounds m place h =
+    let bounds = month_bounds m h in
+    let long = month_length_bounds m in
+    (omega arith, omega arith)
+
+-- so is a sum that the calendar has
+pub later_by-day_at : (k n : ℕ) → IsDay n → month_of n + k ≤ 25_199 → later_by k n ≡ day_at (month_of n + k) (place_of n)
+later_by-day_at k n h within =
+    let month = month_of-month n h in
+    let day = day_at_bounds (month_of n + k) (place_of n) (omega arith, within) in
+    omega arith
+
+pub month_of-later_by : (k n : ℕ) → IsDay n → month_of n + k ≤ 25_199 → month_of (later_by k n) ≡ month_of n + k
+month_of-later_by k n h within =
+    let month = month_of-month n h in
+    rw (later_by-day_at k n h within) (month_of-day_at (month_of n + k) (place_of n) (omega arith, within))
+
+pub place_of-later_by : (k n : ℕ) → IsDay n → month_of n + k ≤ 25_199 → place_of (later_by k n) ≡ min (place_of n) (month_length (month_of n + k) - 1)
+place_of-later_by k n h within =
+    let month = month_of-month n h in
+    rw (later_by-day_at k n h within) (place_of-day_at (month_of n + k) (place_of n) (omega arith, within))
+
+-- and any other is the calendar's last day
+pub later_by-past : (k n : ℕ) → 25_200 ≤ month_of n + k → later_by k n ≡ 47_481
+later_by-past k n past = omega (arith, first_day-past (month_of n + k) past)
+
+-- a sum is a day, and none before the day that it is of
+pub later_by_bounds : (k n : ℕ) → IsDay n → IsDay (later_by k n) × (n ≤ later_by k n)
+later_by_bounds k n h =
+    let month = month_of-month n h in
+    let is = month_of-is n h in
+    let here = place_bound n h in
+    elim (cases_lt (month_of n + k) 25_200) [
+      | inl within ↦
+          let sum = later_by-day_at k n h (omega arith) in
+          let day = day_at_bounds (month_of n + k) (place_of n) (omega arith, omega arith) in
+          elim (cases_lt 0 k) [
+            | inl later ↦ (rw sum day, omega (arith, first_day-lt (month_of n) (month_of n + k) (omega arith) (omega arith)))
+            | inr none ↦
+                let same : month_of n + k ≡ month_of n = omega arith in
+                (rw sum day, rw (sum, same) (omega arith))
+          ]
+      | inr past ↦ let sum = later_by-past k n past in ((omega arith, omega arith), omega arith)
+    ]
+
+-- for the body of `Day::plus_months`
+pub ruleset sums = (month_of-later_by, place_of-later_by, later_by-past, month_length_bounds)
