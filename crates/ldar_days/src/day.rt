@@ -3,6 +3,7 @@ ghost use Rattle.jiff_core.specs.Calendar.{weekday_number};
 ghost use Rattle.ldar_days.specs.Calendar.{IsDay, IsMonth, IsInMonth, month_of, place_of, end_by, later_by, week_of, week_first, month_length};
 
 use crate::Month;
+use crate::month::LAST_MONTH;
 use std::marker::Model;
 
 /// A day of the calendar, from 2008-01-01 to 2099-12-31. Contracts see its number: the days since 1970-01-01.
@@ -24,10 +25,11 @@ impl Model for Day {
     ghost inverse = { λ n. record { number = n } };
 }
 
-// 2008-01-01, and 2099-12-31, on which every sum ends that would pass it.
-const FIRST: u32 = 13_879;
+// 2008-01-01.
+const FIRST_DAY: u32 = 13_879;
 
-const LAST: u32 = 47_481;
+/// The number of 2099-12-31, on which every sum ends that would pass it.
+pub const LAST_DAY: u32 = 47_481;
 
 // The number of 2000-03-01. No year from then to 2100-02-28 breaks the rule of one leap year in four,
 // and a year that begins in March has its 29 February at its end.
@@ -42,7 +44,7 @@ impl Day {
         ensures none { IsNone result → IsDay number → ⊥ }
         ensures value { IfSome result (λ day. IsDay number × (day ≡ number)) }
     {
-        if (FIRST..=LAST).contains(&number) {
+        if (FIRST_DAY..=LAST_DAY).contains(&number) {
             Some(Day {
                 number: number as u16,
             })
@@ -88,8 +90,9 @@ impl Day {
         month_and_place(self.number()).1 + 1
     }
 
+    /// The calendar week of the day (40 CFR 60.482-2a(a)(2)), from Monday to Sunday, which is our own rule;
+    /// week 1 begins with 1970-01-05.
     #[tactic(auto, using(crate::proofs::Weeks::weeks))]
-    /// The week of the day, from Monday to Sunday (our own rule); week 1 begins with 1970-01-05.
     pub fn week(self) -> u32
         ensures value { result ≡ week_of self }
         ensures from_monday { (week_first result ≤ self) × (self ≤ week_first result + 6) }
@@ -104,16 +107,15 @@ impl Day {
         ensures in_range { IsDay result }
     {
         let number = self.number();
-        Day::at(if days > LAST - number {
-            LAST
-        } else {
-            number + days
-        })
+        if days > LAST_DAY - number {
+            return Day::at(LAST_DAY);
+        }
+        Day::at(number + days)
     }
 
-    #[tactic(auto, using(crate::proofs::Sums::sums))]
     /// The same place in the month that many months later, or that month's last day where the month is
     /// shorter, or 2099-12-31 where that would be after it (our own rule).
+    #[tactic(auto, using(crate::proofs::Sums::sums))]
     pub fn plus_months(self, months: u32) -> Day
         ensures value { result ≡ later_by months self }
         ensures in_range { IsDay result }
@@ -125,8 +127,8 @@ impl Day {
         ensures past_end { 25_199 < month_of self + months → result ≡ 47_481 }
     {
         let (month, place) = month_and_place(self.number());
-        if months > 25_199 - month {
-            return Day::at(LAST);
+        if months > LAST_MONTH - month {
+            return Day::at(LAST_DAY);
         }
         Month::at(month + months).day_at(place)
     }

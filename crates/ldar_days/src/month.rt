@@ -24,6 +24,9 @@ impl Model for Month {
     ghost inverse = { λ n. record { number = n } };
 }
 
+/// The number of December 2099.
+pub const LAST_MONTH: u32 = 25_199;
+
 #[tactic(auto, using(crate::proofs::Months::months))]
 impl Month {
     /// The month with this number, which the calendar has.
@@ -114,7 +117,7 @@ impl Month {
 }
 
 // The first day of a month from January 2008 to January 2100, counted from 2000-03-01 (month 24,002, day 11,017).
-// Four years that begin in March have 1,461 days, and five of their months, up to the last two, have 153.
+// Four years that begin in March have 1,461 days; March to July have 153, and so have August to December.
 #[tactic(auto, using(crate::proofs::March::march))]
 fn first_day_of(month: u32) -> u32
     requires { (24_096 ≤ month) × (month ≤ 25_200) }

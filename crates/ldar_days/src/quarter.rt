@@ -4,6 +4,8 @@ ghost use Rattle.std.specs.Prelude.{◌≡◌, ℕ, ◌+◌, ◌<◌, ◌≤◌,
 ghost use Rattle.ldar_days.specs.Calendar.{IsDay, IsMonth, first_day, last_day};
 ghost use Rattle.ldar_days.specs.Quarters as spec;
 
+use crate::day::LAST_DAY;
+use crate::month::LAST_MONTH;
 use crate::{Day, Month};
 
 /// The first month of a unit's quarter 1, by the day of its initial startup (40 CFR 60.481a).
@@ -43,8 +45,8 @@ pub fn quarter_first(startup: Day, quarter: u16) -> Day
     ensures in_range { IsDay result }
 {
     let number = first_quarter(startup).number() + 3 * (u32::from(quarter) - 1);
-    if number > 25_199 {
-        return Day::at(47_481);
+    if number > LAST_MONTH {
+        return Day::at(LAST_DAY);
     }
     Month::at(number).first_day()
 }
@@ -58,8 +60,8 @@ pub fn quarter_last(startup: Day, quarter: u16) -> Day
     ensures in_range { IsDay result }
 {
     let number = first_quarter(startup).number() + 3 * u32::from(quarter) - 1;
-    if number > 25_199 {
-        return Day::at(47_481);
+    if number > LAST_MONTH {
+        return Day::at(LAST_DAY);
     }
     Month::at(number).last_day()
 }
