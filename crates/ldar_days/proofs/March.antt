@@ -16,6 +16,7 @@ march_day k = 11_017 + 1461 * (k / 12) / 4 + (153 * (k % 12) + 2) / 5
 abbrev pub march_month : ℕ → ℕ
 march_month t = 24_002 + 12 * ((4 * t + 3) / 1461) + (5 * ((4 * t + 3) % 1461 / 4) + 2) / 153
 
+-- it is the month's first day, as long as each fourth year is a leap year
 pub first_day-march : (m : ℕ) → 24_002 ≤ m → m ≤ 25_201 → first_day m ≡ march_day (m - 24_002)
 first_day-march m low high =
     let y : pos (m / 12) +ℤ pos 10000 ≡ pos (m / 12 + 10000) = omega (arith, signed_arith) in
@@ -29,6 +30,7 @@ first_day-march m low high =
 in_year : (t : ℕ) → t ≡ 1461 * ((4 * t + 3) / 1461) / 4 + (4 * t + 3) % 1461 / 4
 in_year t = omega arith
 
+-- and its month of that year, with the places around it
 in_month : (d : ℕ) → d ≤ 365 → ((5 * d + 2) / 153 ≤ 11) × ((153 * ((5 * d + 2) / 153) + 2) / 5 ≤ d) × (d < (153 * ((5 * d + 2) / 153 + 1) + 2) / 5)
 in_month d h = omega arith
 

@@ -121,9 +121,11 @@ month_bounds m h =
     ] in
     (begin, omega (arith, first_day-2100))
 
+-- the month near a day begins by it
 near_low : (n : ℕ) → IsDay n → first_day (near n) ≤ n
 near_low n h = omega (arith, first_day-near (near n) (omega arith))
 
+-- and the second after that does not
 near_high : (n : ℕ) → IsDay n → n < first_day (near n + 2)
 near_high n h = omega (arith, first_day-near (near n + 2) (omega arith))
 
@@ -132,10 +134,12 @@ pub month_of-near : (n : ℕ) → (near n ≤ month_of n) × (month_of n ≤ nea
 unfolding month_of
 month_of-near n = grind (arith, nat_tests)
 
+-- the month of a day by which the second of the two has begun
 month_of-begun : (n : ℕ) → first_day (near n + 1) ≤ n → month_of n ≡ near n + 1
 unfolding month_of
 month_of-begun n h = grind (arith, nat_tests)
 
+-- and of one by which it has not
 month_of-ahead : (n : ℕ) → n < first_day (near n + 1) → month_of n ≡ near n
 unfolding month_of
 month_of-ahead n h = grind (arith, nat_tests)

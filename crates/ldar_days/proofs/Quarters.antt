@@ -6,10 +6,12 @@ use Rattle.ldar_days.specs.Calendar.{IsDay, IsMonth, first_day, last_day, month_
 use Rattle.ldar_days.specs.Quarters.{last_whole, first_quarter, quarter_first, quarter_last, IsWithin180Days}
 use Rattle.ldar_days.proofs.Months.{month_of-is, month_of-near, month_of-month, month_of-only, first_day-next, first_day-lt, first_day-past, month_length_bounds, month_bounds}
 
+-- a month that goes on after the day is not whole by it
 last_whole-more : (n : ℕ) → n < last_day (month_of n) → last_whole n ≡ month_of n - 1
 unfolding last_whole
 last_whole-more n h = grind (arith, nat_tests)
 
+-- and one that ends by it is
 last_whole-all : (n : ℕ) → last_day (month_of n) ≤ n → last_whole n ≡ month_of n
 unfolding last_whole
 last_whole-all n h = grind (arith, nat_tests)
@@ -51,9 +53,11 @@ first_quarter-month s h in_range =
     let last = last_whole-near (s + 180) in
     ((omega arith, omega arith), (omega arith, omega arith))
 
+-- so the third month of quarter 1 lies within the 180 days
 pub first_quarter-third : (s : ℕ) → IsDay s → s ≤ 46_751 → IsWithin180Days s (first_quarter s + 2)
 first_quarter-third s h in_range = let is = first_quarter-is s h in_range in (omega arith, is.1)
 
+-- and no later month does
 pub first_quarter-no_later : (s m : ℕ) → IsDay s → s ≤ 46_751 → IsMonth m → IsWithin180Days s m → m ≤ first_quarter s + 2
 first_quarter-no_later s m h in_range month within =
     let is = first_quarter-is s h in_range in
@@ -84,7 +88,7 @@ first_quarter-month_of s h in_range =
     let is = rw next at (month_of-next_day (s + 180) (omega arith) (omega arith)) in
     omega arith
 
--- a month begins no earlier than its quarter, and ends no later
+-- months in order begin and end in order
 pub first_day-le : (m later : ℕ) → 23_640 ≤ m → m ≤ later → (first_day m ≤ first_day later) × (last_day m ≤ last_day later)
 first_day-le m later low le =
     let long = month_length_bounds m in

@@ -9,9 +9,11 @@ pub month_of-day_at : (m place : ℕ) → IsMonth m → month_of (day_at m place
 month_of-day_at m place h =
     month_of-day m (min place (month_length m - 1)) h (omega (arith, month_length_bounds m))
 
+-- its place is the one asked for, or the last
 pub place_of-day_at : (m place : ℕ) → IsMonth m → place_of (day_at m place) ≡ min place (month_length m - 1)
 place_of-day_at m place h = rw (month_of-day_at m place h) (omega arith)
 
+-- and the calendar has it
 pub day_at_bounds : (m place : ℕ) → IsMonth m → IsDay (day_at m place)
 day_at_bounds m place h =
     let bounds = month_bounds m h in
@@ -25,11 +27,13 @@ later_by-day_at k n h within =
     let day = day_at_bounds (month_of n + k) (place_of n) (omega arith, within) in
     omega arith
 
+-- so it lies in the month that many months later
 pub month_of-later_by : (k n : ℕ) → IsDay n → month_of n + k ≤ 25_199 → month_of (later_by k n) ≡ month_of n + k
 month_of-later_by k n h within =
     let month = month_of-month n h in
     rw (later_by-day_at k n h within) (month_of-day_at (month_of n + k) (place_of n) (omega arith, within))
 
+-- at the place of the day that it is of, or at the month's end
 pub place_of-later_by : (k n : ℕ) → IsDay n → month_of n + k ≤ 25_199 → place_of (later_by k n) ≡ min (place_of n) (month_length (month_of n + k) - 1)
 place_of-later_by k n h within =
     let month = month_of-month n h in

@@ -21,10 +21,12 @@ day_named-day_text n h =
 the_test : (n : ℕ) (same : Bool) → Bool
 the_test n same = nat_le 13_879 n && nat_le n 47_481 && same
 
+-- it passes for a day
 passes : (n : ℕ) → IsDay n → the_test n true ≡ true
 unfolding the_test
 passes n h = grind (arith, nat_tests)
 
+-- and only for a day
 passed : (n : ℕ) (same : Bool) → the_test n same ≡ true → IsDay n × (same ≡ true)
 unfolding the_test
 passed n same h = grind (arith, nat_tests)
@@ -35,10 +37,12 @@ unfolding day_of the_test
 day_of-day_text n h =
     rw (day_named-day_text n h, (bytes_eq-Decides (day_text n) (day_text n)).1 refl, passes n h)
 
+-- what a test lets through
 chosen : (b : Bool) (n k : ℕ) → cond b (Some n) None ≡ Some k → (b ≡ true) × (n ≡ k)
 chosen true n k h = (refl, cc)
 chosen false n k h = cc
 
+-- and what it does not
 not_chosen : (b : Bool) (n : ℕ) → ¬ (b ≡ true) → cond b (Some n) None ≡ None
 not_chosen true n h = absurd (h refl)
 not_chosen false n h = refl
