@@ -92,6 +92,16 @@ first_day-lt m later h lt =
           rw same (omega (arith, first_day-next m h))
     ]
 
+-- months in order begin and end in order
+pub first_day-le : (m later : ℕ) → 23_640 ≤ m → m ≤ later → (first_day m ≤ first_day later) × (last_day m ≤ last_day later)
+first_day-le m later low le =
+    let long = month_length_bounds m in
+    let long' = month_length_bounds later in
+    elim (cases_lt m later) [
+      | inl before ↦ let lt = first_day-lt m later low before in (omega arith, omega arith)
+      | inr same ↦ let e : later ≡ m = omega arith in rw e (omega arith, omega arith)
+    ]
+
 -- the calendar's first month begins on 2008-01-01
 pub first_day-2008 : first_day 24_096 ≡ 13_879
 unfolding first_day

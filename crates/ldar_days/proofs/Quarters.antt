@@ -4,7 +4,7 @@ use Rattle.std.proofs.lemmas.Bool.{cases_lt}
 use Rattle.std.proofs.lemmas.Bool.Decides.{nat_tests}
 use Rattle.ldar_days.specs.Calendar.{IsDay, IsMonth, first_day, last_day, month_of}
 use Rattle.ldar_days.specs.Quarters.{last_whole, first_quarter, quarter_first, quarter_last, IsWithin180Days}
-use Rattle.ldar_days.proofs.Months.{month_of-is, month_of-near, month_of-month, month_of-only, first_day-next, first_day-lt, first_day-past, month_length_bounds, month_bounds}
+use Rattle.ldar_days.proofs.Months.{month_of-is, month_of-near, month_of-month, month_of-only, first_day-next, first_day-lt, first_day-le, first_day-past, month_length_bounds, month_bounds}
 
 -- a month that goes on after the day is not whole by it
 last_whole-more : (n : ℕ) → n < last_day (month_of n) → last_whole n ≡ month_of n - 1
@@ -87,16 +87,6 @@ first_quarter-month_of s h in_range =
     let next : s + 180 + 1 ≡ s + 181 = omega arith in
     let is = rw next at (month_of-next_day (s + 180) (omega arith) (omega arith)) in
     omega arith
-
--- months in order begin and end in order
-pub first_day-le : (m later : ℕ) → 23_640 ≤ m → m ≤ later → (first_day m ≤ first_day later) × (last_day m ≤ last_day later)
-first_day-le m later low le =
-    let long = month_length_bounds m in
-    let long' = month_length_bounds later in
-    elim (cases_lt m later) [
-      | inl before ↦ let lt = first_day-lt m later low before in (omega arith, omega arith)
-      | inr same ↦ let e : later ≡ m = omega arith in rw e (omega arith, omega arith)
-    ]
 
 -- a month of a quarter lies in it
 pub quarter-days : (s m q : ℕ) → IsMonth (first_quarter s) → IsMonth m → first_quarter s + 3 * q ≤ m + 3 → m < first_quarter s + 3 * q → (quarter_first s q ≤ first_day m) × (last_day m ≤ quarter_last s q)
