@@ -1,0 +1,6 @@
+-- Counts of faults.
+use Rattle.std.specs.Prelude.{◌≡◌, ◌<◌, ◌-◌, ◌^◌, ◌⊎◌, ℕ}
+
+-- a count rose in a call: it is greater after it, or stands at the greatest number
+abbrev pub Rose : ℕ → ℕ → Type 0
+Rose before after = (before < after) ⊎ (after ≡ 2 ^ 64 - 1)

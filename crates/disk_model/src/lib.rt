@@ -1,0 +1,10 @@
+//! A disk as the office sees it: what a call reads, writes and keeps, its clock and its faults.
+#![tactic(auto)]
+
+mod disk;
+mod memory_disk;
+mod places;
+
+pub use disk::{Disk, DiskFault};
+pub use memory_disk::MemoryDisk;
+pub use std::alloc::AllocError as Memory;
