@@ -1,5 +1,6 @@
 -- A disk in memory, and what its calls leave of it.
-use Rattle.std.specs.Prelude.{◌+◌, ◌-◌, ◌^◌, ℕ, List, min, Contains}
+use Rattle.std.specs.Prelude.{◌+◌, ℕ, List, Contains}
+use Rattle.disk_model.specs.Faults.{count_after}
 
 -- its bytes, the numbers of the calls that fail, how many calls were made and failed, and its clock
 pub record DiskState : Type 0 where
@@ -8,10 +9,6 @@ pub record DiskState : Type 0 where
   pub calls : ℕ
   pub faults : ℕ
   pub clock : ℕ
-
--- the count after this one: it stays at the greatest number
-abbrev pub count_after : ℕ → ℕ
-count_after n = min (n + 1) (2 ^ 64 - 1)
 
 -- the call that comes now is one of those that fail
 abbrev pub IsFailing : DiskState → Type 0
