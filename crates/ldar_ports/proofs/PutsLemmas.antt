@@ -1,8 +1,9 @@
 -- Pieces that were put one after the other.
-use Rattle.std.proofs.Common.{◌<◌, ◌≤◌, ◌-◌, take, drop, arith, ◌≡◌, ℕ, List, [], ◌∷◌, ◌++◌, Option, Some, None, length, sym, ap, ◌∙◌}
-use Rattle.std.proofs.lemmas.List.{append-nil, append_assoc, length-drop, length-take-le, take_all, take-append-drop}
+use Rattle.std.proofs.Common.{refl, All, replicate, ◌<◌, ◌≤◌, ◌-◌, take, drop, arith, ◌≡◌, ℕ, List, [], ◌∷◌, ◌++◌, Option, Some, None, length, sym, ap, ◌∙◌}
+use Rattle.std.proofs.lemmas.List.{length-append, replicate-append-replicate, append-nil, append_assoc, length-drop, length-take-le, take_all, take-append-drop}
+use Rattle.std.proofs.lemmas.List.Elements.{All-head, All-tail}
 use Rattle.std.proofs.lemmas.Grind.{flat_map-append}
-use Rattle.ldar_ports.specs.Sink.{Piece, Puts, piece_of, bytes_of}
+use Rattle.ldar_ports.specs.Sink.{IsStamped, stamps_of, Piece, Puts, piece_of, bytes_of}
 
 -- where nothing is put, the pieces stay
 pub puts_none : (pieces : Option (List Piece)) → Puts pieces [] pieces
@@ -29,3 +30,11 @@ rest_more bytes rest put all n stamp is_all was =
 -- a front of some bytes that is not empty has a byte
 pub front_has_some : (n : ℕ) (bytes : List ℕ) → n ≤ length bytes → 0 < n → 0 < length (take n bytes)
 front_has_some n bytes le some = omega (arith, length-take-le n bytes le)
+
+-- each byte of pieces with one stamp has this stamp
+pub stamps_of-stamped : (stamp : ℕ) (put : List Piece) → All (IsStamped stamp) put → stamps_of put ≡ replicate (length (bytes_of put)) stamp
+stamps_of-stamped stamp [] each = refl
+stamps_of-stamped stamp (piece ∷ put) each =
+    let first = All-head (IsStamped stamp) piece put each in
+    let others = stamps_of-stamped stamp put (All-tail (IsStamped stamp) piece put each) in
+    rw (first.1, others, length-append piece.bytes (bytes_of put), ← replicate-append-replicate (length piece.bytes) (length (bytes_of put)) stamp) refl
