@@ -7,4 +7,8 @@ mod places;
 
 pub use disk::{Disk, DiskFault};
 pub use memory_disk::MemoryDisk;
+/// Memory ran out.
 pub use std::alloc::AllocError as Memory;
+
+#[cfg(test)]
+mod tests;

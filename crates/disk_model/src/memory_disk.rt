@@ -24,13 +24,20 @@ impl Model for MemoryDisk {
 
     ghost Value = { DiskState };
 
-    ghost view = { λ m. record { bytes = m.bytes.items; failing = m.failing.items; calls = m.calls; faults = m.faults; clock = m.clock } };
+    ghost view = { λ m. record {
+      bytes = m.bytes.items;
+      failing = m.failing.items;
+      calls = m.calls;
+      faults = m.faults;
+      clock = m.clock;
+    } };
 }
 
 impl MemoryDisk {
     /// A disk with these bytes, all stable, whose calls with these numbers will fail.
     pub fn new(alloc: Global, bytes: &[u8], failing: &[u64]) -> Result<MemoryDisk, Memory>
-        ensures { IfOk result (λ disk. disk ≡ record { bytes = bytes.now; failing = failing.now; calls = 0; faults = 0; clock = 0 }) }
+        ensures value { IfOk result (λ disk. disk
+            ≡ record { bytes = bytes.now; failing = failing.now; calls = 0; faults = 0; clock = 0 }) }
     {
         Ok(MemoryDisk {
             bytes: Vec::from_slice(alloc, bytes)?,
@@ -69,11 +76,20 @@ impl MemoryDisk {
         self.failing.contains(&self.calls)
     }
 
-    // Counts a call that goes through.
+    // Counts a read that goes through.
     fn pass(&mut self)
         ensures value { self.new ≡ after_read self.old }
     {
         self.calls = self.calls.saturating_add(1);
+    }
+
+    // Counts a write or a sync that goes through.
+    fn step(&mut self)
+        requires { self.old.clock < 2 ^ 64 - 1 }
+        ensures value { self.new ≡ after_sync self.old }
+    {
+        self.calls = self.calls.saturating_add(1);
+        self.clock += 1;
     }
 
     // Counts a call that fails.
@@ -100,7 +116,8 @@ impl Disk for MemoryDisk {
     fn read_at(&mut self, at: u64, into: &mut [u8]) -> Result<usize, DiskFault>
         ensures value { IfOk result (λ n. n ≡ min (length into.old) (length self.old.bytes - at)) }
         ensures read { IfOk result (Reads at self.old.bytes into.old into.new) }
-        ensures after { MatchResult result (λ _. self.new ≡ after_read self.old) (λ _. self.new ≡ after_fault self.old) }
+        ensures after { MatchResult result
+            (λ _. self.new ≡ after_read self.old) (λ _. self.new ≡ after_fault self.old) }
 
         // It fails at the calls that were to fail, and at no other.
         ensures fails { IsFailing self.old → IsErr result }
@@ -117,13 +134,17 @@ impl Disk for MemoryDisk {
     }
 
     fn write_at(&mut self, at: u64, bytes: &[u8]) -> Result<(), DiskFault>
-        ensures written { OnOk result (Torn at (length bytes.now) self.old.bytes self.new.bytes × Holds at bytes.now self.old.bytes self.new.bytes) }
-        ensures after { MatchResult result (λ _. self.new ≡ after_write self.old self.new.bytes) (λ _. self.new ≡ after_fault self.old) }
+        ensures written { OnOk result (Torn at (length bytes.now) self.old.bytes self.new.bytes
+            × Holds at bytes.now self.old.bytes self.new.bytes) }
+        ensures after { MatchResult result
+            (λ _. self.new ≡ after_write self.old self.new.bytes)
+            (λ _. self.new ≡ after_fault self.old) }
 
         // It fails at the calls that were to fail, at the end of its clock, and where it can't grow.
         ensures fails { IsFailing self.old → IsErr result }
         ensures clock_at_end { self.old.clock ≡ 2 ^ 64 - 1 → IsErr result }
-        ensures only_failing { OnErr result (IsFailing self.old ⊎ (self.old.clock ≡ 2 ^ 64 - 1) ⊎ (length self.old.bytes < at + length bytes.now)) }
+        ensures only_failing { OnErr result (IsFailing self.old ⊎ (self.old.clock ≡ 2 ^ 64 - 1)
+            ⊎ (length self.old.bytes < at + length bytes.now)) }
 
         ensures count { self.old.faults ≤ self.new.faults }
         ensures cause { OnErr result (Rose self.old.faults self.new.faults) }
@@ -137,13 +158,13 @@ impl Disk for MemoryDisk {
         if overwrite(&mut self.bytes, at as usize, bytes).is_err() {
             return Err(self.fail());
         }
-        self.pass();
-        self.clock += 1;
+        self.step();
         Ok(())
     }
 
     fn sync(&mut self) -> Result<(), DiskFault>
-        ensures after { MatchResult result (λ _. self.new ≡ after_sync self.old) (λ _. self.new ≡ after_fault self.old) }
+        ensures after { MatchResult result
+            (λ _. self.new ≡ after_sync self.old) (λ _. self.new ≡ after_fault self.old) }
 
         // It fails at the calls that were to fail, and at the end of its clock.
         ensures fails { IsFailing self.old → IsErr result }
@@ -153,14 +174,10 @@ impl Disk for MemoryDisk {
         ensures count { self.old.faults ≤ self.new.faults }
         ensures cause { OnErr result (Rose self.old.faults self.new.faults) }
     {
-        if self.is_failing() {
+        if self.is_failing() || self.clock == u64::MAX {
             return Err(self.fail());
         }
-        if self.clock == u64::MAX {
-            return Err(self.fail());
-        }
-        self.pass();
-        self.clock += 1;
+        self.step();
         Ok(())
     }
 

@@ -37,7 +37,8 @@ pub fn overwrite(content: &mut Vec<u8>, at: usize, bytes: &[u8]) -> Result<(), A
 
 // Fills up with zeros to this length, where that is longer.
 fn reach(content: &mut Vec<u8>, end: usize) -> Result<(), AllocError>
-    ensures value { OnOk result (content.new.items ≡ content.old.items ++ replicate (end - length content.old.items) 0) }
+    ensures value { OnOk result
+        (content.new.items ≡ content.old.items ++ replicate (end - length content.old.items) 0) }
     ensures unchanged { OnErr result (content.new.items ≡ content.old.items) }
     ensures grows { OnErr result (length content.old.items < end) }
 {
@@ -49,7 +50,8 @@ fn reach(content: &mut Vec<u8>, end: usize) -> Result<(), AllocError>
 
 fn put_in(content: &mut Vec<u8>, at: usize, bytes: &[u8])
     requires { at + length bytes.now ≤ length content.old.items }
-    ensures { content.new.items ≡ take at content.old.items ++ bytes.now ++ drop (at + length bytes.now) content.old.items }
+    ensures { content.new.items
+        ≡ take at content.old.items ++ bytes.now ++ drop (at + length bytes.now) content.old.items }
 {
     put_in_slice(content, at, bytes);
 }

@@ -14,3 +14,6 @@ pub use sink::{Sink, SinkFault, put_all};
 pub use source::{Source, SourceFault};
 pub use stamped_sink::{StampedPiece, StampedSink};
 pub use window::Window;
+
+#[cfg(test)]
+mod tests;

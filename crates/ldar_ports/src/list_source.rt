@@ -22,13 +22,23 @@ impl Model for ListSource {
 
     ghost Value = { SourceState };
 
-    ghost view = { λ s. record { pieces = s.pieces.items; failing = s.failing.items; calls = s.calls; faults = s.faults } };
+    ghost view = { λ s. record {
+      pieces = s.pieces.items;
+      failing = s.failing.items;
+      calls = s.calls;
+      faults = s.faults;
+    } };
 }
 
 impl ListSource {
     /// A source of these pieces, whose calls with these numbers will fail.
     pub fn new(alloc: Global, pieces: &[Vec<u8>], failing: &[u64]) -> Result<ListSource, Memory>
-        ensures { IfOk result (λ source. source ≡ record { pieces = map (λ piece. piece.items) pieces.now; failing = failing.now; calls = 0; faults = 0 }) }
+        ensures value { IfOk result (λ source. source ≡ record {
+          pieces = map (λ piece. piece.items) pieces.now;
+          failing = failing.now;
+          calls = 0;
+          faults = 0;
+        }) }
     {
         let mut rests = Vec::new(alloc);
         for piece in pieces {
@@ -92,11 +102,16 @@ impl Source for ListSource {
     ghost faults = { λ source. source.faults };
 
     fn take(&mut self, into: &mut [u8]) -> Result<usize, SourceFault>
-        ensures value { IfOk result (λ n. n ≡ min (length into.old) (length (first_piece (from_first self.old.pieces)))) }
-        ensures copied { IfOk result (λ n. into.new ≡ take n (first_piece (from_first self.old.pieces)) ++ drop n into.old) }
-        ensures after { MatchResult result (λ n. self.new ≡ after_take self.old n) (λ _. self.new ≡ after_fault self.old) }
-        ensures taken { IfOk result (λ n. joined self.old.pieces ≡ take n into.new ++ joined self.new.pieces) }
-        ensures ended { IfOk result (λ n. n ≡ 0 → 0 < length into.old → joined self.new.pieces ≡ []) }
+        ensures value { IfOk result (λ n. n
+            ≡ min (length into.old) (length (first_piece (from_first self.old.pieces)))) }
+        ensures copied { IfOk result (λ n. into.new
+            ≡ take n (first_piece (from_first self.old.pieces)) ++ drop n into.old) }
+        ensures after { MatchResult result
+            (λ n. self.new ≡ after_take self.old n) (λ _. self.new ≡ after_fault self.old) }
+        ensures taken { IfOk result
+            (λ n. joined self.old.pieces ≡ take n into.new ++ joined self.new.pieces) }
+        ensures ended { IfOk result
+            (λ n. n ≡ 0 → 0 < length into.old → joined self.new.pieces ≡ []) }
 
         // It fails at the calls that were to fail, and at no other.
         ensures fails { IsFailing self.old → IsErr result }
@@ -116,7 +131,8 @@ impl Source for ListSource {
 // Takes bytes of the first piece that is not empty, as far as it and the slice go.
 fn take_front(pieces: &mut Vec<Rest>, into: &mut [u8]) -> usize
     ensures value { result ≡ min (length into.old) (length (first_piece (from_first pieces.old.items))) }
-    ensures copied { into.new ≡ take result (first_piece (from_first pieces.old.items)) ++ drop result into.old }
+    ensures copied { into.new
+        ≡ take result (first_piece (from_first pieces.old.items)) ++ drop result into.old }
     ensures after { pieces.new.items ≡ cut result (from_first pieces.old.items) }
     ensures taken { joined pieces.old.items ≡ take result into.new ++ joined pieces.new.items }
     ensures ended { result ≡ 0 → 0 < length into.old → joined pieces.new.items ≡ [] }

@@ -33,7 +33,8 @@ pub trait Sink: Drop {
     fn put<D: Disk>(&mut self, beside: &D, bytes: &[u8]) -> Result<usize, SinkFault>
         ensures within { IfOk result (λ n. n ≤ length bytes.now) }
         ensures at_least_one { IfOk result (λ n. 0 < length bytes.now → 0 < n) }
-        ensures puts { IfOk result (λ n. Puts (pieces self.old) (piece_of (take n bytes.now) (D.clock beside.now) ∷ []) (pieces self.new)) }
+        ensures puts { IfOk result (λ n. Puts (pieces self.old)
+            (piece_of (take n bytes.now) (D.clock beside.now) ∷ []) (pieces self.new)) }
         ensures unchanged { OnErr result (pieces self.new ≡ pieces self.old) }
         ensures count { faults self.old ≤ faults self.new }
         ensures cause { OnErr result (Rose (faults self.old) (faults self.new)) };

@@ -55,13 +55,19 @@ impl Model for StampedSink {
 
     ghost Value = { SinkState };
 
-    ghost view = { λ s. record { pieces = s.pieces.items; failing = s.failing.items; calls = s.calls; faults = s.faults } };
+    ghost view = { λ s. record {
+      pieces = s.pieces.items;
+      failing = s.failing.items;
+      calls = s.calls;
+      faults = s.faults;
+    } };
 }
 
 impl StampedSink {
     /// An empty sink, whose calls with these numbers will fail.
     pub fn new(alloc: Global, failing: &[u64]) -> Result<StampedSink, Memory>
-        ensures { IfOk result (λ sink. sink ≡ record { pieces = []; failing = failing.now; calls = 0; faults = 0 }) }
+        ensures value { IfOk result (λ sink. sink
+            ≡ record { pieces = []; failing = failing.now; calls = 0; faults = 0 }) }
     {
         Ok(StampedSink {
             alloc,
@@ -130,8 +136,11 @@ impl Sink for StampedSink {
 
     fn put<D: Disk>(&mut self, beside: &D, bytes: &[u8]) -> Result<usize, SinkFault>
         ensures value { IfOk result (λ n. n ≡ length bytes.now) }
-        ensures puts { IfOk result (λ n. self.new.pieces ≡ self.old.pieces ++ piece_of (take n bytes.now) (D.clock beside.now) ∷ []) }
-        ensures after { MatchResult result (λ _. self.new ≡ after_put self.old (piece_of bytes.now (D.clock beside.now))) (λ _. self.new ≡ after_fault self.old) }
+        ensures puts { IfOk result (λ n. self.new.pieces
+            ≡ self.old.pieces ++ piece_of (take n bytes.now) (D.clock beside.now) ∷ []) }
+        ensures after { MatchResult result
+            (λ _. self.new ≡ after_put self.old (piece_of bytes.now (D.clock beside.now)))
+            (λ _. self.new ≡ after_fault self.old) }
 
         // It fails at the calls that were to fail, and where it can't grow.
         ensures fails { IsFailing self.old → IsErr result }

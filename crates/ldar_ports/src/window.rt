@@ -58,8 +58,10 @@ impl Window {
             × Takes (S.left source.old) taken (S.left source.new)
             × (self.new ≡ after_taking self.old taken)) }
         ensures in_range { IfOk result (λ n. length self.old.bytes + n ≤ self.old.size) }
-        ensures ended { IfOk result (λ n. n ≡ 0 → length self.old.bytes < self.old.size → HasEnded (S.left source.new)) }
-        ensures unchanged { OnErr result ((self.new ≡ self.old) × (S.left source.new ≡ S.left source.old)) }
+        ensures ended { IfOk result
+            (λ n. n ≡ 0 → length self.old.bytes < self.old.size → HasEnded (S.left source.new)) }
+        ensures unchanged { OnErr result
+            ((self.new ≡ self.old) × (S.left source.new ≡ S.left source.old)) }
         ensures count { S.faults source.old ≤ S.faults source.new }
         ensures cause { OnErr result (Rose (S.faults source.old) (S.faults source.new)) }
     {
@@ -74,7 +76,8 @@ impl Window {
         ensures taken { (taken : List ℕ) × Takes (S.left source.old) taken (S.left source.new)
             × (self.new ≡ after_taking self.old taken) }
         ensures in_range { length self.new.bytes ≤ self.new.size }
-        ensures ended { OnOk result (length self.new.bytes < self.new.size → HasEnded (S.left source.new)) }
+        ensures ended { OnOk result
+            (length self.new.bytes < self.new.size → HasEnded (S.left source.new)) }
         ensures count { S.faults source.old ≤ S.faults source.new }
         ensures cause { OnErr result (Rose (S.faults source.old) (S.faults source.new)) }
     {
@@ -107,8 +110,10 @@ fn take_behind<S: Source>(
     ensures size { length buffer.new.items ≡ length buffer.old.items }
     ensures before { take at buffer.new.items ≡ take at buffer.old.items }
     ensures within { IfOk result (λ n. n ≤ length buffer.old.items - at) }
-    ensures taken { IfOk result (λ n. Takes (S.left source.old) (take n (drop at buffer.new.items)) (S.left source.new)) }
-    ensures ended { IfOk result (λ n. n ≡ 0 → at < length buffer.old.items → HasEnded (S.left source.new)) }
+    ensures taken { IfOk result
+        (λ n. Takes (S.left source.old) (take n (drop at buffer.new.items)) (S.left source.new)) }
+    ensures ended { IfOk result
+        (λ n. n ≡ 0 → at < length buffer.old.items → HasEnded (S.left source.new)) }
     ensures unchanged { OnErr result (S.left source.new ≡ S.left source.old) }
     ensures count { S.faults source.old ≤ S.faults source.new }
     ensures cause { OnErr result (Rose (S.faults source.old) (S.faults source.new)) }
