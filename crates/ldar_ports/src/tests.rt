@@ -68,15 +68,16 @@ fn each_piece_has_the_clock_of_its_disk(rt: HostRuntime) -> Result<(), Fail> {
 
 #[test]
 fn a_window_is_filled_and_emptied(rt: HostRuntime) -> Result<(), Fail> {
-    let mut source = source(rt.alloc(), &[1])?;
+    let mut source = source(rt.alloc(), &[2])?;
     let mut window = Window::new(rt.alloc(), 3)?;
     assert_eq!(rt; window.take_from(&mut source), Ok(3));
     assert!(rt; window.is_full());
+    assert_eq!(rt; window.take_from(&mut source), Ok(0));
     window.drop_front(2);
     assert_eq!(rt; window.bytes(), [3].as_slice());
     assert_eq!(rt; window.fill_from(&mut source), Err(SourceFault));
     assert_eq!(rt; window.fill_from(&mut source), Ok(()));
     assert_eq!(rt; window.bytes(), [3, 4].as_slice());
-    assert_eq!(rt; source.calls(), 4);
+    assert_eq!(rt; source.calls(), 5);
     Ok(())
 }

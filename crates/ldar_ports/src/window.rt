@@ -8,22 +8,26 @@ use std::alloc::Global;
 use std::marker::Model;
 
 /// Bytes taken from a source and not yet used, in a buffer of fixed size. Only its making wants
-/// memory.
+/// memory. Bytes are moved only where the end of the buffer is reached.
 #[derive(Drop)]
 pub struct Window {
     buffer: Vec<u8>,
-    filled: usize,
+    start: usize,
+    end: usize,
 }
 
 impl Model for Window {
-    ghost use Rattle.std.specs.Prelude.{◌≤◌, length, take};
+    ghost use Rattle.std.specs.Prelude.{◌≤◌, length, take, drop};
     ghost use Rattle.ldar_ports.specs.Window.{WindowState};
 
     ghost Value = { WindowState };
 
-    ghost view = { λ w. record { bytes = take w.filled w.buffer.items; size = length w.buffer.items } };
+    ghost view = { λ w. record {
+      bytes = drop w.start (take w.end w.buffer.items);
+      size = length w.buffer.items;
+    } };
 
-    ghost invariant = { λ w. w.filled ≤ length w.buffer.items };
+    ghost invariant = { λ w. (w.start ≤ w.end) × (w.end ≤ length w.buffer.items) };
 }
 
 impl Window {
@@ -33,7 +37,8 @@ impl Window {
     {
         Ok(Window {
             buffer: vec![in alloc; 0; size]?,
-            filled: 0,
+            start: 0,
+            end: 0,
         })
     }
 
@@ -41,7 +46,7 @@ impl Window {
     pub fn bytes(&self) -> &[u8]
         ensures value { result.now ≡ self.now.bytes }
     {
-        &self.buffer[..self.filled]
+        &self.buffer[self.start..self.end]
     }
 
     /// Whether there is no room left.
@@ -49,7 +54,7 @@ impl Window {
         ensures value { IsTrue result ↔ (length self.now.bytes ≡ self.now.size) }
         ensures in_range { length self.now.bytes ≤ self.now.size }
     {
-        self.filled == self.buffer.len()
+        self.end - self.start == self.buffer.len()
     }
 
     /// Takes bytes from a source once, as far as there is room, and says how many.
@@ -65,8 +70,11 @@ impl Window {
         ensures count { S.faults source.old ≤ S.faults source.new }
         ensures cause { OnErr result (Rose (S.faults source.old) (S.faults source.new)) }
     {
-        let n = take_behind(&mut self.buffer, self.filled, source)?;
-        self.filled += n;
+        let (start, end) = make_room(&mut self.buffer, self.start, self.end);
+        self.start = start;
+        self.end = end;
+        let n = take_behind(&mut self.buffer, end, source)?;
+        self.end += n;
         Ok(n)
     }
 
@@ -94,9 +102,7 @@ impl Window {
         requires { n ≤ length self.old.bytes }
         ensures value { self.new ≡ after_dropping self.old n }
     {
-        let end = self.filled;
-        move_front(&mut self.buffer, n, end);
-        self.filled = end - n;
+        self.start += n;
     }
 }
 
@@ -121,12 +127,21 @@ fn take_behind<S: Source>(
     source.take(&mut buffer[at..])
 }
 
-// Moves the bytes between two places to the front.
-fn move_front(buffer: &mut Vec<u8>, from: usize, end: usize)
-    requires ordered { from ≤ end }
+// Moves the bytes between two places to the front, where there is no room behind them, and says
+// where they stand.
+fn make_room(buffer: &mut Vec<u8>, start: usize, end: usize) -> (usize, usize)
+    requires ordered { start ≤ end }
     requires in_range { end ≤ length buffer.old.items }
     ensures size { length buffer.new.items ≡ length buffer.old.items }
-    ensures moved { take (end - from) buffer.new.items ≡ drop from (take end buffer.old.items) }
+    ensures ordered { result.0 ≤ result.1 }
+    ensures in_range { result.1 ≤ length buffer.new.items }
+    ensures value { drop result.0 (take result.1 buffer.new.items)
+        ≡ drop start (take end buffer.old.items) }
+    ensures room { end - start < length buffer.old.items → result.1 < length buffer.new.items }
 {
-    buffer.copy_within(from..end, 0);
+    if end < buffer.len() {
+        return (start, end);
+    }
+    buffer.copy_within(start..end, 0);
+    (0, end - start)
 }
