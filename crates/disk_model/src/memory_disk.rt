@@ -1,10 +1,11 @@
-ghost use Rattle.std.specs.Prelude.{◌≡◌, ◌<◌, ◌≤◌, ◌^◌, ◌+◌, ◌-◌, ◌⊎◌, ◌↔◌, List, length, min, [], IfOk, OnOk, OnErr, IsErr, IsTrue, Contains, Some, MatchResult};
+ghost use Rattle.std.specs.Prelude.{◌≡◌, ◌<◌, ◌≤◌, ◌^◌, ◌+◌, ◌-◌, ◌⊎◌, length, min, IfOk, OnOk, OnErr, IsErr, Some, MatchResult};
+ghost use Rattle.disk_model.specs.Calls.{IsFailing};
 ghost use Rattle.disk_model.specs.Disk.{Reads, Torn, Holds};
 ghost use Rattle.disk_model.specs.Faults.{Rose};
-ghost use Rattle.disk_model.specs.MemoryDisk.{DiskState, IsFailing, after_fault, after_read, after_write, after_sync};
+ghost use Rattle.disk_model.specs.MemoryDisk.{after_failing, after_read, after_write, after_sync};
 
 use crate::places::{copy_from, overwrite};
-use crate::{Disk, DiskFault, Memory};
+use crate::{Calls, Disk, DiskFault, Memory};
 use std::alloc::Global;
 use std::marker::Model;
 
@@ -13,9 +14,7 @@ use std::marker::Model;
 #[derive(Drop)]
 pub struct MemoryDisk {
     bytes: Vec<u8>,
-    failing: Vec<u64>,
-    calls: u64,
-    faults: u64,
+    calls: Calls,
     clock: u64,
 }
 
@@ -24,26 +23,21 @@ impl Model for MemoryDisk {
 
     ghost Value = { DiskState };
 
-    ghost view = { λ m. record {
-      bytes = m.bytes.items;
-      failing = m.failing.items;
-      calls = m.calls;
-      faults = m.faults;
-      clock = m.clock;
-    } };
+    ghost view = { λ m. record { bytes = m.bytes.items; calls = m.calls; clock = m.clock } };
 }
 
 impl MemoryDisk {
     /// A disk with these bytes, all stable, whose calls with these numbers will fail.
     pub fn new(alloc: Global, bytes: &[u8], failing: &[u64]) -> Result<MemoryDisk, Memory>
-        ensures value { IfOk result (λ disk. disk
-            ≡ record { bytes = bytes.now; failing = failing.now; calls = 0; faults = 0; clock = 0 }) }
+        ensures value { IfOk result (λ disk. disk ≡ record {
+          bytes = bytes.now;
+          calls = record { failing = failing.now; made = 0; faults = 0 };
+          clock = 0;
+        }) }
     {
         Ok(MemoryDisk {
             bytes: Vec::from_slice(alloc, bytes)?,
-            failing: Vec::from_slice(alloc, failing)?,
-            calls: 0,
-            faults: 0,
+            calls: Calls::new(alloc, failing)?,
             clock: 0,
         })
     }
@@ -57,57 +51,23 @@ impl MemoryDisk {
 
     /// How many calls were made, those that failed among them.
     pub fn calls(&self) -> u64
-        ensures value { result ≡ self.now.calls }
+        ensures value { result ≡ self.now.calls.made }
     {
-        self.calls
+        self.calls.made()
     }
 
     /// How many calls failed.
     pub fn faults(&self) -> u64
-        ensures value { result ≡ self.now.faults }
+        ensures value { result ≡ self.now.calls.faults }
     {
-        self.faults
-    }
-
-    // Whether the call that comes now is to fail.
-    fn is_failing(&self) -> bool
-        ensures { IsTrue result ↔ IsFailing self.now }
-    {
-        self.failing.contains(&self.calls)
-    }
-
-    // Counts a read that goes through.
-    fn pass(&mut self)
-        ensures value { self.new ≡ after_read self.old }
-    {
-        self.calls = self.calls.saturating_add(1);
-    }
-
-    // Counts a write or a sync that goes through.
-    fn step(&mut self)
-        requires { self.old.clock < 2 ^ 64 - 1 }
-        ensures value { self.new ≡ after_sync self.old }
-    {
-        self.calls = self.calls.saturating_add(1);
-        self.clock += 1;
-    }
-
-    // Counts a call that fails.
-    fn fail(&mut self) -> DiskFault
-        ensures value { self.new ≡ after_fault self.old }
-        ensures count { self.old.faults ≤ self.new.faults }
-        ensures cause { Rose self.old.faults self.new.faults }
-    {
-        self.calls = self.calls.saturating_add(1);
-        self.faults = self.faults.saturating_add(1);
-        DiskFault
+        self.calls.faults()
     }
 }
 
 impl Disk for MemoryDisk {
     ghost content = { λ disk. Some disk.bytes };
 
-    ghost faults = { λ disk. disk.faults };
+    ghost faults = { λ disk. disk.calls.faults };
 
     ghost clock = { λ disk. disk.clock };
 
@@ -117,19 +77,20 @@ impl Disk for MemoryDisk {
         ensures value { IfOk result (λ n. n ≡ min (length into.old) (length self.old.bytes - at)) }
         ensures read { IfOk result (Reads at self.old.bytes into.old into.new) }
         ensures after { MatchResult result
-            (λ _. self.new ≡ after_read self.old) (λ _. self.new ≡ after_fault self.old) }
+            (λ _. self.new ≡ after_read self.old) (λ _. self.new ≡ after_failing self.old) }
 
         // It fails at the calls that were to fail, and at no other.
-        ensures fails { IsFailing self.old → IsErr result }
-        ensures only_failing { OnErr result (IsFailing self.old) }
+        ensures fails { IsFailing self.old.calls → IsErr result }
+        ensures only_failing { OnErr result (IsFailing self.old.calls) }
 
-        ensures count { self.old.faults ≤ self.new.faults }
-        ensures cause { OnErr result (Rose self.old.faults self.new.faults) }
+        ensures count { self.old.calls.faults ≤ self.new.calls.faults }
+        ensures cause { OnErr result (Rose self.old.calls.faults self.new.calls.faults) }
     {
-        if self.is_failing() {
-            return Err(self.fail());
+        if self.calls.is_failing() {
+            self.calls.fail();
+            return Err(DiskFault);
         }
-        self.pass();
+        self.calls.pass();
         Ok(copy_from(&self.bytes, at as usize, into))
     }
 
@@ -138,46 +99,53 @@ impl Disk for MemoryDisk {
             × Holds at bytes.now self.old.bytes self.new.bytes) }
         ensures after { MatchResult result
             (λ _. self.new ≡ after_write self.old self.new.bytes)
-            (λ _. self.new ≡ after_fault self.old) }
+            (λ _. self.new ≡ after_failing self.old) }
 
         // It fails at the calls that were to fail, at the end of its clock, and where it can't grow.
-        ensures fails { IsFailing self.old → IsErr result }
+        ensures fails { IsFailing self.old.calls → IsErr result }
         ensures clock_at_end { self.old.clock ≡ 2 ^ 64 - 1 → IsErr result }
-        ensures only_failing { OnErr result (IsFailing self.old ⊎ (self.old.clock ≡ 2 ^ 64 - 1)
-            ⊎ (length self.old.bytes < at + length bytes.now)) }
+        ensures only_failing { OnErr result (IsFailing self.old.calls
+            ⊎ (self.old.clock ≡ 2 ^ 64 - 1) ⊎ (length self.old.bytes < at + length bytes.now)) }
 
-        ensures count { self.old.faults ≤ self.new.faults }
-        ensures cause { OnErr result (Rose self.old.faults self.new.faults) }
+        ensures count { self.old.calls.faults ≤ self.new.calls.faults }
+        ensures cause { OnErr result (Rose self.old.calls.faults self.new.calls.faults) }
     {
-        if self.is_failing() {
-            return Err(self.fail());
-        }
-        if self.clock == u64::MAX {
-            return Err(self.fail());
+        if self.calls.is_failing() || self.clock == u64::MAX {
+            self.calls.fail();
+            return Err(DiskFault);
         }
         if overwrite(&mut self.bytes, at as usize, bytes).is_err() {
-            return Err(self.fail());
+            self.calls.fail();
+            return Err(DiskFault);
         }
-        self.step();
+        self.calls.pass();
+        self.clock += 1;
         Ok(())
     }
 
     fn sync(&mut self) -> Result<(), DiskFault>
         ensures after { MatchResult result
-            (λ _. self.new ≡ after_sync self.old) (λ _. self.new ≡ after_fault self.old) }
+            (λ _. self.new ≡ after_sync self.old) (λ _. self.new ≡ after_failing self.old) }
 
         // It fails at the calls that were to fail, and at the end of its clock.
-        ensures fails { IsFailing self.old → IsErr result }
+        ensures fails { IsFailing self.old.calls → IsErr result }
         ensures clock_at_end { self.old.clock ≡ 2 ^ 64 - 1 → IsErr result }
-        ensures only_failing { OnErr result (IsFailing self.old ⊎ (self.old.clock ≡ 2 ^ 64 - 1)) }
+        ensures only_failing { OnErr result
+            (IsFailing self.old.calls ⊎ (self.old.clock ≡ 2 ^ 64 - 1)) }
 
-        ensures count { self.old.faults ≤ self.new.faults }
-        ensures cause { OnErr result (Rose self.old.faults self.new.faults) }
+        ensures count { self.old.calls.faults ≤ self.new.calls.faults }
+        ensures cause { OnErr result (Rose self.old.calls.faults self.new.calls.faults) }
     {
-        if self.is_failing() || self.clock == u64::MAX {
-            return Err(self.fail());
+        if self.calls.is_failing() {
+            self.calls.fail();
+            return Err(DiskFault);
         }
-        self.step();
+        let Some(clock) = self.clock.checked_add(1) else {
+            self.calls.fail();
+            return Err(DiskFault);
+        };
+        self.calls.pass();
+        self.clock = clock;
         Ok(())
     }
 

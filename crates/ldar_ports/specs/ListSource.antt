@@ -1,18 +1,12 @@
 -- A source in memory, and what its calls leave of it.
-use Rattle.std.specs.Prelude.{ℕ, List, [], ◌∷◌, drop, Contains}
+use Rattle.std.specs.Prelude.{ℕ, List, [], ◌∷◌, drop}
 use Rattle.std.specs.List.{flat_map}
-use Rattle.disk_model.specs.Faults.{count_after}
+use Rattle.disk_model.specs.Calls.{CallCounts, after_pass, after_fault}
 
--- the pieces that are left, the numbers of the calls that fail, and how many calls were made and failed
+-- the pieces that are left, and the calls
 pub record SourceState : Type 0 where
   pub pieces : List (List ℕ)
-  pub failing : List ℕ
-  pub calls : ℕ
-  pub faults : ℕ
-
--- the call that comes now is one of those that fail
-abbrev pub IsFailing : SourceState → Type 0
-IsFailing source = Contains source.failing source.calls
+  pub calls : CallCounts
 
 -- the bytes of pieces, one after the other
 abbrev pub joined : List (List ℕ) → List ℕ
@@ -34,10 +28,10 @@ abbrev pub cut : ℕ → List (List ℕ) → List (List ℕ)
 cut n [] = []
 cut n (piece ∷ pieces) = drop n piece ∷ pieces
 
--- a call that failed is counted as a call and as a fault, and changes nothing else
-abbrev pub after_fault : SourceState → SourceState
-after_fault source = record source { calls = count_after source.calls; faults = count_after source.faults }
+-- a call that failed is counted, and changes nothing else
+abbrev pub after_failing : SourceState → SourceState
+after_failing source = record source { calls = after_fault source.calls }
 
 -- a call that took so many bytes took them from the first piece that is not empty
 abbrev pub after_take : SourceState → ℕ → SourceState
-after_take source n = record source { pieces = cut n (from_first source.pieces); calls = count_after source.calls }
+after_take source n = record source { pieces = cut n (from_first source.pieces); calls = after_pass source.calls }

@@ -1,9 +1,11 @@
 ghost use Rattle.std.specs.Prelude.{◌≡◌, ◌<◌, ◌≤◌, ◌-◌, ◌++◌, [], length, take, drop, min, Contains, IsTrue, ◌↔◌, Some, IfOk, OnErr, IsErr, MatchResult, map};
+ghost use Rattle.disk_model.specs.Calls.{IsFailing};
 ghost use Rattle.disk_model.specs.Faults.{Rose};
-ghost use Rattle.ldar_ports.specs.ListSource.{IsFailing, after_fault, after_take, cut, first_piece, from_first, joined};
+ghost use Rattle.ldar_ports.specs.ListSource.{after_failing, after_take, cut, first_piece, from_first, joined};
 
 use crate::rest::Rest;
 use crate::{Memory, Source, SourceFault};
+use disk_model::Calls;
 use std::alloc::Global;
 use std::marker::Model;
 
@@ -12,9 +14,7 @@ use std::marker::Model;
 #[derive(Drop)]
 pub struct ListSource {
     pieces: Vec<Rest>,
-    failing: Vec<u64>,
-    calls: u64,
-    faults: u64,
+    calls: Calls,
 }
 
 impl Model for ListSource {
@@ -24,9 +24,7 @@ impl Model for ListSource {
 
     ghost view = { λ s. record {
       pieces = s.pieces.items;
-      failing = s.failing.items;
       calls = s.calls;
-      faults = s.faults;
     } };
 }
 
@@ -35,9 +33,7 @@ impl ListSource {
     pub fn new(alloc: Global, pieces: &[Vec<u8>], failing: &[u64]) -> Result<ListSource, Memory>
         ensures value { IfOk result (λ source. source ≡ record {
           pieces = map (λ piece. piece.items) pieces.now;
-          failing = failing.now;
-          calls = 0;
-          faults = 0;
+          calls = record { failing = failing.now; made = 0; faults = 0 };
         }) }
     {
         let mut rests = Vec::new(alloc);
@@ -46,9 +42,7 @@ impl ListSource {
         }
         Ok(ListSource {
             pieces: rests,
-            failing: Vec::from_slice(alloc, failing)?,
-            calls: 0,
-            faults: 0,
+            calls: Calls::new(alloc, failing)?,
         })
     }
 
@@ -65,41 +59,23 @@ impl ListSource {
 
     /// How many calls were made, those that failed among them.
     pub fn calls(&self) -> u64
-        ensures value { result ≡ self.now.calls }
+        ensures value { result ≡ self.now.calls.made }
     {
-        self.calls
+        self.calls.made()
     }
 
     /// How many calls failed.
     pub fn faults(&self) -> u64
-        ensures value { result ≡ self.now.faults }
+        ensures value { result ≡ self.now.calls.faults }
     {
-        self.faults
-    }
-
-    // Whether the call that comes now is to fail.
-    fn is_failing(&self) -> bool
-        ensures { IsTrue result ↔ IsFailing self.now }
-    {
-        self.failing.contains(&self.calls)
-    }
-
-    // Counts a call that fails.
-    fn fail(&mut self) -> SourceFault
-        ensures value { self.new ≡ after_fault self.old }
-        ensures count { self.old.faults ≤ self.new.faults }
-        ensures cause { Rose self.old.faults self.new.faults }
-    {
-        self.calls = self.calls.saturating_add(1);
-        self.faults = self.faults.saturating_add(1);
-        SourceFault
+        self.calls.faults()
     }
 }
 
 impl Source for ListSource {
     ghost left = { λ source. Some (joined source.pieces) };
 
-    ghost faults = { λ source. source.faults };
+    ghost faults = { λ source. source.calls.faults };
 
     fn take(&mut self, into: &mut [u8]) -> Result<usize, SourceFault>
         ensures value { IfOk result (λ n. n
@@ -107,23 +83,24 @@ impl Source for ListSource {
         ensures copied { IfOk result (λ n. into.new
             ≡ take n (first_piece (from_first self.old.pieces)) ++ drop n into.old) }
         ensures after { MatchResult result
-            (λ n. self.new ≡ after_take self.old n) (λ _. self.new ≡ after_fault self.old) }
+            (λ n. self.new ≡ after_take self.old n) (λ _. self.new ≡ after_failing self.old) }
         ensures taken { IfOk result
             (λ n. joined self.old.pieces ≡ take n into.new ++ joined self.new.pieces) }
         ensures ended { IfOk result
             (λ n. n ≡ 0 → 0 < length into.old → joined self.new.pieces ≡ []) }
 
         // It fails at the calls that were to fail, and at no other.
-        ensures fails { IsFailing self.old → IsErr result }
-        ensures only_failing { OnErr result (IsFailing self.old) }
+        ensures fails { IsFailing self.old.calls → IsErr result }
+        ensures only_failing { OnErr result (IsFailing self.old.calls) }
 
-        ensures count { self.old.faults ≤ self.new.faults }
-        ensures cause { OnErr result (Rose self.old.faults self.new.faults) }
+        ensures count { self.old.calls.faults ≤ self.new.calls.faults }
+        ensures cause { OnErr result (Rose self.old.calls.faults self.new.calls.faults) }
     {
-        if self.is_failing() {
-            return Err(self.fail());
+        if self.calls.is_failing() {
+            self.calls.fail();
+            return Err(SourceFault);
         }
-        self.calls = self.calls.saturating_add(1);
+        self.calls.pass();
         Ok(take_front(&mut self.pieces, into))
     }
 }

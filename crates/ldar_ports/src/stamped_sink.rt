@@ -1,10 +1,11 @@
 ghost use Rattle.std.specs.Prelude.{◌≡◌, ◌<◌, ◌≤◌, ◌++◌, [], ◌∷◌, length, take, Contains, IsTrue, ◌↔◌, Some, IfOk, OnErr, IsErr, MatchResult};
+ghost use Rattle.disk_model.specs.Calls.{IsFailing};
 ghost use Rattle.disk_model.specs.Faults.{Rose};
 ghost use Rattle.ldar_ports.specs.Sink.{piece_of, bytes_of};
-ghost use Rattle.ldar_ports.specs.StampedSink.{IsFailing, after_fault, after_put};
+ghost use Rattle.ldar_ports.specs.StampedSink.{after_failing, after_put};
 
 use crate::{Memory, Sink, SinkFault};
-use disk_model::Disk;
+use disk_model::{Calls, Disk};
 use std::alloc::Global;
 use std::marker::Model;
 
@@ -45,9 +46,7 @@ impl StampedPiece {
 pub struct StampedSink {
     alloc: Global,
     pieces: Vec<StampedPiece>,
-    failing: Vec<u64>,
-    calls: u64,
-    faults: u64,
+    calls: Calls,
 }
 
 impl Model for StampedSink {
@@ -57,9 +56,7 @@ impl Model for StampedSink {
 
     ghost view = { λ s. record {
       pieces = s.pieces.items;
-      failing = s.failing.items;
       calls = s.calls;
-      faults = s.faults;
     } };
 }
 
@@ -67,14 +64,12 @@ impl StampedSink {
     /// An empty sink, whose calls with these numbers will fail.
     pub fn new(alloc: Global, failing: &[u64]) -> Result<StampedSink, Memory>
         ensures value { IfOk result (λ sink. sink
-            ≡ record { pieces = []; failing = failing.now; calls = 0; faults = 0 }) }
+            ≡ record { pieces = []; calls = record { failing = failing.now; made = 0; faults = 0 } }) }
     {
         Ok(StampedSink {
             alloc,
             pieces: Vec::new(alloc),
-            failing: Vec::from_slice(alloc, failing)?,
-            calls: 0,
-            faults: 0,
+            calls: Calls::new(alloc, failing)?,
         })
     }
 
@@ -98,41 +93,23 @@ impl StampedSink {
 
     /// How many calls were made, those that failed among them.
     pub fn calls(&self) -> u64
-        ensures value { result ≡ self.now.calls }
+        ensures value { result ≡ self.now.calls.made }
     {
-        self.calls
+        self.calls.made()
     }
 
     /// How many calls failed.
     pub fn faults(&self) -> u64
-        ensures value { result ≡ self.now.faults }
+        ensures value { result ≡ self.now.calls.faults }
     {
-        self.faults
-    }
-
-    // Whether the call that comes now is to fail.
-    fn is_failing(&self) -> bool
-        ensures { IsTrue result ↔ IsFailing self.now }
-    {
-        self.failing.contains(&self.calls)
-    }
-
-    // Counts a call that fails.
-    fn fail(&mut self) -> SinkFault
-        ensures value { self.new ≡ after_fault self.old }
-        ensures count { self.old.faults ≤ self.new.faults }
-        ensures cause { Rose self.old.faults self.new.faults }
-    {
-        self.calls = self.calls.saturating_add(1);
-        self.faults = self.faults.saturating_add(1);
-        SinkFault
+        self.calls.faults()
     }
 }
 
 impl Sink for StampedSink {
     ghost pieces = { λ sink. Some sink.pieces };
 
-    ghost faults = { λ sink. sink.faults };
+    ghost faults = { λ sink. sink.calls.faults };
 
     fn put<D: Disk>(&mut self, beside: &D, bytes: &[u8]) -> Result<usize, SinkFault>
         ensures value { IfOk result (λ n. n ≡ length bytes.now) }
@@ -140,26 +117,29 @@ impl Sink for StampedSink {
             ≡ self.old.pieces ++ piece_of (take n bytes.now) (D.clock beside.now) ∷ []) }
         ensures after { MatchResult result
             (λ _. self.new ≡ after_put self.old (piece_of bytes.now (D.clock beside.now)))
-            (λ _. self.new ≡ after_fault self.old) }
+            (λ _. self.new ≡ after_failing self.old) }
 
         // It fails at the calls that were to fail, and where it can't grow.
-        ensures fails { IsFailing self.old → IsErr result }
+        ensures fails { IsFailing self.old.calls → IsErr result }
 
-        ensures count { self.old.faults ≤ self.new.faults }
-        ensures cause { OnErr result (Rose self.old.faults self.new.faults) }
+        ensures count { self.old.calls.faults ≤ self.new.calls.faults }
+        ensures cause { OnErr result (Rose self.old.calls.faults self.new.calls.faults) }
     {
-        if self.is_failing() {
-            return Err(self.fail());
+        if self.calls.is_failing() {
+            self.calls.fail();
+            return Err(SinkFault);
         }
         let Ok(bytes) = Vec::from_slice(self.alloc, bytes) else {
-            return Err(self.fail());
+            self.calls.fail();
+            return Err(SinkFault);
         };
         let n = bytes.len();
         let stamp = beside.now();
         if self.pieces.push(StampedPiece { bytes, stamp }).is_err() {
-            return Err(self.fail());
+            self.calls.fail();
+            return Err(SinkFault);
         }
-        self.calls = self.calls.saturating_add(1);
+        self.calls.pass();
         Ok(n)
     }
 }
