@@ -1,0 +1,47 @@
+-- What stands after bytes are put into a content that was filled up with zeros to their end.
+use Rattle.std.proofs.Common.{◌≡◌, ◌<◌, ◌≤◌, ◌+◌, ◌-◌, ℕ, List, ◌++◌, length, take, drop, replicate, refl, sym, ap, ◌∙◌, arith, inl, inr}
+use Rattle.std.proofs.Math.ListN.{drop_of_length-le}
+use Rattle.std.proofs.Math.Seq.{take-append-add}
+use Rattle.std.proofs.lemmas.List.{take-append-le, take-replicate, length-append, length-replicate, append-nil}
+use Rattle.std.proofs.lemmas.Bool.{cases_lt}
+use Rattle.disk_model.specs.Disk.{Holds}
+
+-- a content filled up with zeros to a place has at that place what it had before
+drop-filled : (end : ℕ) (old : List ℕ) → drop end (old ++ replicate (end - length old) 0) ≡ drop end old
+drop-filled end old =
+    elim (cases_lt (length old) end) [
+      | inl longer ↦
+          let le : length (old ++ replicate (end - length old) 0) ≤ end = omega (arith, length-append old (replicate (end - length old) 0), length-replicate {A = ℕ} (end - length old) 0) in
+          let le' : length old ≤ end = omega arith in
+          drop_of_length-le _ le ∙ sym (drop_of_length-le old le')
+      | inr within ↦
+          let none : end - length old ≡ 0 = omega arith in
+          rw (none, append-nil old) refl
+    ]
+
+-- the same before a place past the end: zeros stand up to it
+take-filled : (at end : ℕ) (old : List ℕ) → length old < at → at ≤ end → take at (old ++ replicate (end - length old) 0) ≡ old ++ replicate (at - length old) 0
+take-filled at end old past le =
+    let split : at ≡ length old + (at - length old) = omega arith in
+    let fits : at - length old ≤ end - length old = omega arith in
+    ap (λ n. take n (old ++ replicate (end - length old) 0)) split
+    ∙ take-append-add old (replicate (end - length old) 0) (at - length old)
+    ∙ ap (λ zeros. old ++ zeros) (take-replicate (at - length old) (end - length old) 0 fits)
+
+-- bytes put into a content that was filled up to their end are held by it
+pub filled_holds : (at end : ℕ) (bytes old filled new : List ℕ) → 0 < length bytes
+    → end ≡ at + length bytes
+    → filled ≡ old ++ replicate (end - length old) 0
+    → new ≡ take at filled ++ bytes ++ drop (at + length bytes) filled
+    → Holds at bytes old new
+filled_holds at end bytes old filled new some is_end is_filled is_new =
+    let to_end : new ≡ take at filled ++ bytes ++ drop end filled = rw is_end is_new in
+    record {
+      inside = λ within.
+          to_end ∙ rw (is_filled, take-append-le at old (replicate (end - length old) 0) within, drop-filled end old, is_end) refl;
+      past_end = λ past _.
+          let le : at ≤ end = omega arith in
+          let gone : length old ≤ end = omega arith in
+          to_end ∙ rw (is_filled, take-filled at end old past le, drop-filled end old, drop_of_length-le old gone, append-nil) refl;
+      nothing = λ none. absurd (omega arith);
+    }

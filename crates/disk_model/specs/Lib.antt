@@ -1,0 +1,5 @@
+pub mod Calls
+pub mod Disk
+pub mod Faults
+pub mod MemoryDisk
+pub mod Told

@@ -1,0 +1,64 @@
+ghost use Rattle.std.specs.Prelude.{◌≡◌, ◌<◌, ◌≤◌, ◌^◌, ◌+◌, ◌-◌, ◌++◌, length, take, drop, min, replicate, OnOk, OnErr};
+ghost use Rattle.disk_model.specs.Disk.{Torn, Holds};
+
+use std::alloc::AllocError;
+
+// Copies what stands at this place, as far as it and the slice go.
+pub fn copy_from(bytes: &[u8], at: usize, into: &mut [u8]) -> usize
+    ensures value { result ≡ min (length into.old) (length bytes.now - at) }
+    ensures copied { into.new ≡ take result (drop at bytes.now) ++ drop result into.old }
+{
+    if at >= bytes.len() {
+        return 0;
+    }
+    let rest = &bytes[at..];
+    let n = into.len().min(rest.len());
+    into[..n].copy_from_slice(&rest[..n]);
+    n
+}
+
+// Puts bytes over what is there and past the end. It gives up only where it would have to grow.
+pub fn overwrite(content: &mut Vec<u8>, at: usize, bytes: &[u8]) -> Result<(), AllocError>
+    ensures torn { OnOk result (Torn at (length bytes.now) content.old.items content.new.items) }
+    ensures holds { OnOk result (Holds at bytes.now content.old.items content.new.items) }
+    ensures unchanged { OnErr result (content.new.items ≡ content.old.items) }
+    ensures grows { OnErr result (length content.old.items < at + length bytes.now) }
+{
+    if bytes.is_empty() {
+        return Ok(());
+    }
+    let Some(end) = at.checked_add(bytes.len()) else {
+        return Err(AllocError);
+    };
+    reach(content, end)?;
+    put_in(content, at, bytes);
+    Ok(())
+}
+
+// Fills up with zeros to this length, where that is longer.
+fn reach(content: &mut Vec<u8>, end: usize) -> Result<(), AllocError>
+    ensures value { OnOk result
+        (content.new.items ≡ content.old.items ++ replicate (end - length content.old.items) 0) }
+    ensures unchanged { OnErr result (content.new.items ≡ content.old.items) }
+    ensures grows { OnErr result (length content.old.items < end) }
+{
+    if end > content.len() {
+        content.resize(end, 0)?;
+    }
+    Ok(())
+}
+
+fn put_in(content: &mut Vec<u8>, at: usize, bytes: &[u8])
+    requires { at + length bytes.now ≤ length content.old.items }
+    ensures { content.new.items
+        ≡ take at content.old.items ++ bytes.now ++ drop (at + length bytes.now) content.old.items }
+{
+    put_in_slice(content, at, bytes);
+}
+
+fn put_in_slice(content: &mut [u8], at: usize, bytes: &[u8])
+    requires { at + length bytes.now ≤ length content.old }
+    ensures { content.new ≡ take at content.old ++ bytes.now ++ drop (at + length bytes.now) content.old }
+{
+    content[at..at + bytes.len()].copy_from_slice(bytes);
+}

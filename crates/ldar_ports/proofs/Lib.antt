@@ -1,0 +1,4 @@
+pub mod ListSourceLemmas
+pub mod PutsLemmas
+pub mod TakesLemmas
+pub mod WindowLemmas

@@ -1,0 +1,5 @@
+pub mod ListSource
+pub mod Sink
+pub mod Source
+pub mod StampedSink
+pub mod Window

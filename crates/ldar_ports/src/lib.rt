@@ -1,0 +1,19 @@
+//! How bytes come in and go out: a source of bytes, a sink of stamped pieces, and a window on a source.
+#![tactic(auto)]
+
+mod list_source;
+mod rest;
+mod sink;
+mod source;
+mod stamped_sink;
+mod window;
+
+pub use disk_model::Memory;
+pub use list_source::ListSource;
+pub use sink::{Sink, SinkFault, put_all};
+pub use source::{Source, SourceFault};
+pub use stamped_sink::{StampedPiece, StampedSink};
+pub use window::Window;
+
+#[cfg(test)]
+mod tests;
