@@ -7,6 +7,8 @@ mod class;
 mod fact;
 mod key;
 mod name;
+mod scratch;
+mod stop;
 
 pub use batch::{Batch, FactList};
 pub use body::{FactBody, Purpose, Sort, VisualState};
