@@ -1,5 +1,5 @@
 -- One form behind another: if each is read rightly, so are both.
-use Rattle.std.specs.Prelude.{◌≡◌, ℕ, suc, ◌+◌, ◌<◌, ◌⊎◌, List, [], ◌∷◌, ◌++◌, length, get_or, Result, Ok, Err, refl}
+use Rattle.std.specs.Prelude.{◌≡◌, ℕ, suc, ◌+◌, ◌<◌, Bool, true, false, if◌then◌else◌, ◌⊎◌, List, [], ◌∷◌, ◌++◌, length, get_or, Result, Ok, Err, refl}
 use Rattle.std.proofs.Common.{sym, ap, subst, ◌∙◌, inl, inr, append_assoc, length-append, arith}
 use Rattle.std.proofs.lemmas.List.{append-nil, get_or-append-add}
 use Rattle.ldar_facts.specs.declared.stop.Stop.{Stop}
@@ -154,4 +154,35 @@ first >>= next = record {
   text = text first next;
   read = read first next;
   reads = both_read first next;
+}
+
+-- ---- one of two forms, by a test
+
+abbrev pub Either : Bool → Type 0 → Type 0 → Type 0
+Either true P Q = P
+Either false P Q = Q
+
+module _ {A : Type 0} (first second : Form A) where
+  abbrev pub either_value : (test : Bool) → Either test first.Path second.Path → A
+  either_value true p = first.value p
+  either_value false p = second.value p
+
+  abbrev pub either_text : (test : Bool) → Either test first.Path second.Path → List ℕ
+  either_text true p = first.text p
+  either_text false p = second.text p
+
+  abbrev pub either_read : Bool → List ℕ → Reading A
+  either_read test bytes = if test then first.read bytes else second.read bytes
+
+  pub either_reads : (test : Bool) → Reads (either_value test) (either_text test) (either_read test)
+  either_reads true = first.reads
+  either_reads false = second.reads
+
+abbrev pub either : {A : Type 0} → Bool → Form A → Form A → Form A
+either test first second = record {
+  Path = Either test first.Path second.Path;
+  value = either_value first second test;
+  text = either_text first second test;
+  read = either_read first second test;
+  reads = either_reads first second test;
 }
