@@ -7,7 +7,7 @@ mod class;
 mod fact;
 mod key;
 mod name;
-mod scratch;
+mod read_number;
 mod stop;
 
 pub use batch::{Batch, FactList};
