@@ -4,7 +4,7 @@ use Rattle.std.proofs.Common.{sym, ap, subst, ◌∙◌, inl, inr, append_assoc,
 use Rattle.std.proofs.lemmas.List.{append-nil, get_or-append-add}
 use Rattle.ldar_facts.specs.declared.stop.Stop.{Stop}
 use Rattle.ldar_facts.specs.declared.stop.Stop.TheVariants.{Short, Wrong}
-use Rattle.ldar_facts.specs.Form.{Reading, ◌then◌, IsBytes, IsWrong, Reads, Form}
+use Rattle.ldar_facts.specs.Form.{Outcome, ◌then◌, IsBytes, IsWrong, Reads, Form}
 
 -- what stands behind a text of bytes has bytes
 pub IsBytes-behind : (bytes text rest : List ℕ) → bytes ≡ text ++ rest → IsBytes bytes → IsBytes rest
@@ -13,20 +13,20 @@ IsBytes-behind bytes text rest splits are i =
     subst (λ b. b < 256) behind (subst (λ (l : List ℕ). get_or l (length text + i) 0 < 256) splits (are (length text + i)))
 
 -- the step that did not stop
-then_ok : {A B : Type 0} (r : Reading A) (next : A × List ℕ → Reading B) (y : B × List ℕ) → (r then next) ≡ Ok y
+then_ok : {A B : Type 0} (r : Outcome A) (next : A × List ℕ → Outcome B) (y : B × List ℕ) → (r then next) ≡ Ok y
     → (x : A × List ℕ) × (r ≡ Ok x) × (next x ≡ Ok y)
 then_ok (Ok x) next y e = (x, refl, e)
 then_ok (Err stop) next y e = absurd cc
 
 -- the step that stopped
-then_err : {A B : Type 0} (r : Reading A) (next : A × List ℕ → Reading B) (stop : Stop) → (r then next) ≡ Err stop
+then_err : {A B : Type 0} (r : Outcome A) (next : A × List ℕ → Outcome B) (stop : Stop) → (r then next) ≡ Err stop
     → (r ≡ Err stop) ⊎ ((x : A × List ℕ) × (r ≡ Ok x) × (next x ≡ Err stop))
 then_err (Ok x) next stop e = inr (x, refl, e)
 then_err (Err stop) next other e = inl cc
 
 -- ---- a value that stands in no bytes
 
-abbrev read_so : {A : Type 0} → A × List ℕ → Reading A
+abbrev read_so : {A : Type 0} → A × List ℕ → Outcome A
 read_so x = Ok x
 
 -- what two readings agree on
@@ -63,7 +63,7 @@ module _ {A B : Type 0} (first : Form A) (next : A → Form B) where
   abbrev pub text : Both → List ℕ
   text p = first.text p.0 ++ (next (first.value p.0)).text p.1
 
-  abbrev pub read : List ℕ → Reading B
+  abbrev pub read : List ℕ → Outcome B
   read bytes = first.read bytes then λ x. (next x.0).read x.1
 
   found : (bytes : List ℕ) (b : B) (rest : List ℕ) → IsBytes bytes → read bytes ≡ Ok (b, rest) → (p : Both) × (value p ≡ b) × (bytes ≡ text p ++ rest)
@@ -171,7 +171,7 @@ module _ {A : Type 0} (first second : Form A) where
   either_text true p = first.text p
   either_text false p = second.text p
 
-  abbrev pub either_read : Bool → List ℕ → Reading A
+  abbrev pub either_read : Bool → List ℕ → Outcome A
   either_read test bytes = if test then first.read bytes else second.read bytes
 
   pub either_reads : (test : Bool) → Reads (either_value test) (either_text test) (either_read test)

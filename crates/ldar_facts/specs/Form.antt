@@ -1,16 +1,16 @@
--- Reading from the front of some bytes, and what it means that this is done rightly. The clauses of the private readers
+-- Outcome from the front of some bytes, and what it means that this is done rightly. The clauses of the private readers
 -- cite this file; what `read_batch` promises is in Grammar.
 use Rattle.std.specs.Prelude.{◌≡◌, ℕ, suc, ◌<◌, List, [], ◌∷◌, ◌++◌, length, slice_index, Result, Ok, Err}
 use Rattle.ldar_facts.specs.declared.stop.Stop.{Stop}
 use Rattle.ldar_facts.specs.declared.stop.Stop.TheVariants.{Short, Wrong}
 
 -- a value and the bytes behind it, or why there is none
-abbrev pub Reading : Type 0 → Type 0
-Reading A = Result (A × List ℕ) Stop
+abbrev pub Outcome : Type 0 → Type 0
+Outcome A = Result (A × List ℕ) Stop
 
 -- what comes next reads the bytes behind
 infixl 10 ◌then◌
-abbrev pub ◌then◌ : {A B : Type 0} → Reading A → (A × List ℕ → Reading B) → Reading B
+abbrev pub ◌then◌ : {A B : Type 0} → Outcome A → (A × List ℕ → Outcome B) → Outcome B
 (Ok x) then next = next x
 (Err stop) then next = Err stop
 
@@ -25,7 +25,7 @@ IsBytes bytes = (i : ℕ) → slice_index bytes i < 256
 
 -- The bytes go wrong at a place: what stands before it begins one of the texts, and with the byte there reading stops,
 -- whatever follows.
-pub record IsWrong {P A : Type 0} (text : P → List ℕ) (read : List ℕ → Reading A) (bytes : List ℕ) (left : ℕ) : Type 0 where
+pub record IsWrong {P A : Type 0} (text : P → List ℕ) (read : List ℕ → Outcome A) (bytes : List ℕ) (left : ℕ) : Type 0 where
   pub front : List ℕ
   pub byte : ℕ
   pub back : List ℕ
@@ -36,8 +36,8 @@ pub record IsWrong {P A : Type 0} (text : P → List ℕ) (read : List ℕ → R
   pub begins : front ++ more ≡ text path
   pub stops : (other : List ℕ) → read (front ++ byte ∷ other) ≡ Err (Wrong (suc (length other)))
 
--- Reading is right for some texts, each with its value.
-pub record Reads {P A : Type 0} (value : P → A) (text : P → List ℕ) (read : List ℕ → Reading A) : Type 0 where
+-- Outcome is right for some texts, each with its value.
+pub record Reads {P A : Type 0} (value : P → A) (text : P → List ℕ) (read : List ℕ → Outcome A) : Type 0 where
   -- there is one
   pub some : P
   -- what is read stands there
@@ -55,5 +55,5 @@ pub record Form (A : Type 0) : Type 1 where
   pub Path : Type 0
   pub value : Path → A
   pub text : Path → List ℕ
-  pub read : List ℕ → Reading A
+  pub read : List ℕ → Outcome A
   pub reads : Reads value text read

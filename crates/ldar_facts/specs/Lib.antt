@@ -1,4 +1,5 @@
 pub mod Compose
+pub mod FieldForms
 pub mod Fields
 pub mod Form
 pub mod Grammar

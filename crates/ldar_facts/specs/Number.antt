@@ -9,7 +9,7 @@ use Rattle.ldar_facts.specs.declared.stop.Stop.{Stop}
 use Rattle.ldar_facts.specs.declared.stop.Stop.TheVariants.{Short, Wrong}
 use Rattle.ldar_facts.specs.Fields.{IsAmong, big_endian}
 use Rattle.ldar_facts.specs.Compose.{ok_pair}
-use Rattle.ldar_facts.specs.Form.{Reading, ◌then◌, IsBytes, IsWrong, Reads, Form}
+use Rattle.ldar_facts.specs.Form.{Outcome, ◌then◌, IsBytes, IsWrong, Reads, Form}
 
 -- one range lets a number begin so, when so many bytes are still to come
 abbrev pub may_be_in : ℕ → ℕ → ℕ × ℕ → Bool
@@ -20,7 +20,7 @@ abbrev pub may_be : ℕ → List (ℕ × ℕ) → ℕ → Bool
 may_be more ranges n = list_any (may_be_in more n) ranges
 
 -- the rest of a number that begins so
-unfoldable pub number_from : ℕ → List (ℕ × ℕ) → ℕ → List ℕ → Reading ℕ
+unfoldable pub number_from : ℕ → List (ℕ × ℕ) → ℕ → List ℕ → Outcome ℕ
 number_from zero ranges n bytes = Ok (n, bytes)
 number_from (suc more) ranges n [] = Err Short
 number_from (suc more) ranges n (b ∷ bytes) =
@@ -107,7 +107,7 @@ may_be-from more n v (range ∷ ranges) among is_in =
 
 -- ---- reading
 
-abbrev stops_so : {A : Type 0} → Stop → Reading A
+abbrev stops_so : {A : Type 0} → Stop → Outcome A
 stops_so stop = Err stop
 
 left_of : {A : Type 0} {m n : ℕ} → stops_so {A = A} (Wrong m) ≡ stops_so (Wrong n) → n ≡ m
@@ -121,7 +121,7 @@ module _ (ranges : List (ℕ × ℕ)) (are_ranges : AreRanges ranges) where
   abbrev text : (more n : ℕ) → Rest more n → List ℕ
   text more n p = big_endian more p.0
 
-  abbrev read : (more n : ℕ) → List ℕ → Reading ℕ
+  abbrev read : (more n : ℕ) → List ℕ → Outcome ℕ
   read more n bytes = number_from more ranges n bytes
 
   -- a number that goes on with one more digit
@@ -299,7 +299,7 @@ number_form width ranges proper = record {
 }
 
 -- why reading stopped; Short where it did not
-abbrev pub stop_of : {A : Type 0} → Reading A → Stop
+abbrev pub stop_of : {A : Type 0} → Outcome A → Stop
 stop_of (Ok x) = Short
 stop_of (Err stop) = stop
 
@@ -349,11 +349,11 @@ read_whole (b ∷ digits) rest ranges n are h =
     rw passes (read_whole digits rest ranges (n * 256 + b) behind h)
 
 -- a reading that is no value is a stop
-pub stopped : {A : Type 0} (r : Reading A) → ((x : A × List ℕ) → r ≡ Ok x → ⊥) → r ≡ Err (stop_of r)
+pub stopped : {A : Type 0} (r : Outcome A) → ((x : A × List ℕ) → r ≡ Ok x → ⊥) → r ≡ Err (stop_of r)
 stopped (Ok x) h = absurd (h x refl)
 stopped (Err stop) h = refl
 
-no_value : {A : Type 0} (test : Bool) (next : Reading A) (stop : Stop) (x : A × List ℕ) → cond test next (Err stop) ≡ Ok x → (test ≡ true) × (next ≡ Ok x)
+no_value : {A : Type 0} (test : Bool) (next : Outcome A) (stop : Stop) (x : A × List ℕ) → cond test next (Err stop) ≡ Ok x → (test ≡ true) × (next ≡ Ok x)
 no_value true next stop x e = (refl, e)
 no_value false next stop x e = absurd cc
 

@@ -7,6 +7,7 @@ mod class;
 mod fact;
 mod key;
 mod name;
+mod read_field;
 mod read_number;
 mod stop;
 
