@@ -2,10 +2,8 @@
 use Rattle.std.proofs.Common.{◌≡◌, ℕ, zero, suc, ◌+◌, ◌*◌, ◌-◌, ◌<◌, ◌≤◌, Bool, true, false, List, [], ◌∷◌, ◌++◌, length, get_or, take, drop, Ok, Err, refl, sym, ap, subst, ◌∙◌, inl, inr, arith}
 use Rattle.std.proofs.lemmas.Bool.{cases_lt}
 use Rattle.std.proofs.lemmas.List.{get_or_append_left, get_or_past}
-use Rattle.std.specs.Prelude.{IsTrue}
-use Rattle.ldar_facts.specs.Fields.{IsAmong}
 use Rattle.ldar_facts.specs.Form.{IsBytes}
-use Rattle.ldar_facts.specs.Number.{number_from, value_from, among, stop_of, stopped, is_proper, number_reads, read_whole, read_none, read_early}
+use Rattle.ldar_facts.specs.Number.{number_from, value_from, among, stop_of, stopped, read_whole, read_none, read_early}
 
 -- a front of bytes has bytes
 IsBytes-front : (bytes front rest : List ℕ) → bytes ≡ front ++ rest → IsBytes bytes → IsBytes front
@@ -48,10 +46,3 @@ front_4 (a ∷ []) front rest h f r = absurd (omega (arith, h))
 front_4 (a ∷ b ∷ []) front rest h f r = absurd (omega (arith, h))
 front_4 (a ∷ b ∷ c ∷ []) front rest h f r = absurd (omega (arith, h))
 front_4 (a ∷ b ∷ c ∷ d ∷ bytes) front rest h f r = rw (f, r)
-
--- a number that was read lies in one of its ranges
-pub read_among : (width : ℕ) (ranges : List (ℕ × ℕ)) → IsTrue (is_proper width ranges) → (bytes : List ℕ) (n : ℕ) (rest : List ℕ) → IsBytes bytes
-    → number_from width ranges 0 bytes ≡ Ok (n, rest) → IsAmong n ranges
-read_among width ranges proper bytes n rest are e =
-    let p = (number_reads width ranges proper).found bytes n rest are e in
-    subst (λ v. IsAmong v ranges) p.1 p.0.1

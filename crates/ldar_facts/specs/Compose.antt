@@ -36,6 +36,7 @@ ok_pair {A = A} x y e = let same : x ≡ y = cc in (ap (λ (p : A × List ℕ). 
 pub done_reads : {A : Type 0} (a : A) → Reads {P = Unit {0}} (λ p. a) (λ p. []) (λ bytes. Ok (a, bytes))
 done_reads a = record {
   some = tt;
+  leads = λ bytes b rest e. let same = ok_pair (a, bytes) (b, rest) e in (tt, same.0);
   found = λ bytes b rest are e. let same = ok_pair (a, bytes) (b, rest) e in (tt, same.0, same.1);
   again = λ p rest. refl;
   short = λ bytes are e. absurd cc;
@@ -65,6 +66,14 @@ module _ {A B : Type 0} (first : Form A) (next : A → Form B) where
 
   abbrev pub read : List ℕ → Outcome B
   read bytes = first.read bytes then λ x. (next x.0).read x.1
+
+  leads : (bytes : List ℕ) (b : B) (rest : List ℕ) → read bytes ≡ Ok (b, rest) → (p : Both) × (value p ≡ b)
+  leads bytes b rest e =
+      let step = then_ok (first.read bytes) (λ x. (next x.0).read x.1) (b, rest) e in
+      let p = first.reads.leads bytes step.0.0 step.0.1 step.1 in
+      let follows = subst (λ a. (next a).read step.0.1 ≡ Ok (b, rest)) (sym p.1) step.2 in
+      let q = (next (first.value p.0)).reads.leads step.0.1 b rest follows in
+      ((p.0, q.0), q.1)
 
   found : (bytes : List ℕ) (b : B) (rest : List ℕ) → IsBytes bytes → read bytes ≡ Ok (b, rest) → (p : Both) × (value p ≡ b) × (bytes ≡ text p ++ rest)
   found bytes b rest are e =
@@ -140,6 +149,7 @@ module _ {A B : Type 0} (first : Form A) (next : A → Form B) where
   pub both_read : Reads value text read
   both_read = record {
     some = (first.reads.some, (next (first.value first.reads.some)).reads.some);
+    leads = leads;
     found = found;
     again = again;
     short = short;

@@ -40,7 +40,9 @@ pub record IsWrong {P A : Type 0} (text : P → List ℕ) (read : List ℕ → O
 pub record Reads {P A : Type 0} (value : P → A) (text : P → List ℕ) (read : List ℕ → Outcome A) : Type 0 where
   -- there is one
   pub some : P
-  -- what is read stands there
+  -- what is read is the value of one
+  pub leads : (bytes : List ℕ) (a : A) (rest : List ℕ) → read bytes ≡ Ok (a, rest) → (p : P) × (value p ≡ a)
+  -- and of bytes it stands there
   pub found : (bytes : List ℕ) (a : A) (rest : List ℕ) → IsBytes bytes → read bytes ≡ Ok (a, rest)
     → (p : P) × (value p ≡ a) × (bytes ≡ text p ++ rest)
   -- what stands there is read
@@ -57,3 +59,8 @@ pub record Form (A : Type 0) : Type 1 where
   pub text : Path → List ℕ
   pub read : List ℕ → Outcome A
   pub reads : Reads value text read
+
+-- a function took from the front of the old bytes what reading gives, and left the new ones
+abbrev pub Takes : {A : Type 0} → (List ℕ → Outcome A) → Result A Stop → List ℕ → List ℕ → Type 0
+Takes read (Ok a) old new = read old ≡ Ok (a, new)
+Takes read (Err stop) old new = read old ≡ Err stop

@@ -27,15 +27,19 @@ letter_or_zero = number_form 1 letters_or_zero refl
 abbrev pub zero_byte : Form ℕ
 zero_byte = number_form 1 ((0, 0) ∷ []) refl
 
--- so many zero bytes behind a name
-unfoldable pub zeros_behind : ℕ → List ℕ → Form (List ℕ)
-zeros_behind zero name = done name
-zeros_behind (suc more) name = zero_byte >>= λ b. zeros_behind more name
+-- so many zero bytes
+unfoldable pub zeros : ℕ → Form (Unit {0})
+zeros zero = done tt
+zeros (suc more) = zero_byte >>= λ b. zeros more
+
+-- a name that ends here, with so many zero bytes behind it
+abbrev pub ended : ℕ → List ℕ → Form (List ℕ)
+ended more name = zeros more >>= λ z. done name
 
 -- so many bytes behind the beginning of a name
 unfoldable pub behind : ℕ → List ℕ → Form (List ℕ)
 behind zero name = done name
-behind (suc more) name = letter_or_zero >>= λ b. either (b == 0) (zeros_behind more name) (behind more (name ++ b ∷ []))
+behind (suc more) name = letter_or_zero >>= λ b. either (b == 0) (ended more name) (behind more (name ++ b ∷ []))
 
 unfoldable pub name_form : Form (List ℕ)
 name_form = letter >>= λ b. behind 11 (b ∷ [])
@@ -74,13 +78,10 @@ one_byte b lt = omega arith
 
 -- ---- what is read is a name in its twelve bytes
 
-zeros_text : (more : ℕ) (name : List ℕ) (p : (zeros_behind more name).Path) → ((zeros_behind more name).value p ≡ name) × ((zeros_behind more name).text p ≡ replicate more 0)
-unfolding zeros_behind
-zeros_text zero name p = (refl, refl)
-zeros_text (suc more) name p =
-    let rest = zeros_text more name p.1 in
-    let is : p.0.0 ≡ 0 = omega (arith, p.0.1) in
-    (rest.0, rw (is, rest.1))
+zeros_text : (more : ℕ) (p : (zeros more).Path) → (zeros more).text p ≡ replicate more 0
+unfolding zeros
+zeros_text zero p = refl
+zeros_text (suc more) p = let is : p.0.0 ≡ 0 = omega (arith, p.0.1) in rw (is, zeros_text more p.1)
 
 -- the beginning of a name, with so many bytes to come
 pub record BeginsName (more : ℕ) (name : List ℕ) : Type 0 where
@@ -113,13 +114,12 @@ nonzero_letter b (inr h) not_zero = h
 -- by the next byte: zero, or a letter behind which so many bytes complete the name
 step_text : (more : ℕ) (name : List ℕ) (b : ℕ) → BeginsName (suc more) name → IsAmong b letters_or_zero
     → (BeginsName more (name ++ b ∷ []) → (q : (behind more (name ++ b ∷ [])).Path) → Completes more (name ++ b ∷ []) ((behind more (name ++ b ∷ [])).value q) ((behind more (name ++ b ∷ [])).text q))
-    → (test : Bool) → (b == 0) ≡ test → (q : (either test (zeros_behind more name) (behind more (name ++ b ∷ []))).Path)
-    → Completes (suc more) name ((either test (zeros_behind more name) (behind more (name ++ b ∷ []))).value q)
-      (big_endian 1 b ++ (either test (zeros_behind more name) (behind more (name ++ b ∷ []))).text q)
+    → (test : Bool) → (b == 0) ≡ test → (q : (either test (ended more name) (behind more (name ++ b ∷ []))).Path)
+    → Completes (suc more) name ((either test (ended more name) (behind more (name ++ b ∷ []))).value q)
+      (big_endian 1 b ++ (either test (ended more name) (behind more (name ++ b ∷ []))).text q)
 step_text more name b begins among rest true e q =
-    let zeros = zeros_text more name q in
     let is : b ≡ 0 = eqb-true b 0 e in
-    rw (zeros.0, zeros.1, is) (is_whole (suc more) name begins)
+    rw (append-nil, zeros_text more q.0, is) (is_whole (suc more) name begins)
 step_text more name b begins among rest false e q =
     let letter = nonzero_letter b among e in
     let one = one_byte b (letters-pos b letter).1 in
@@ -144,10 +144,10 @@ name_text p =
 
 -- ---- each name is read
 
-zeros_path : (more : ℕ) (name : List ℕ) → (p : (zeros_behind more name).Path) × ((zeros_behind more name).value p ≡ name)
-unfolding zeros_behind
-zeros_path zero name = (tt, refl)
-zeros_path (suc more) name = let rest = zeros_path more name in (((0, (omega arith, omega arith)), rest.0), rest.1)
+zeros_path : (more : ℕ) → (zeros more).Path
+unfolding zeros
+zeros_path zero = tt
+zeros_path (suc more) = ((0, (omega arith, omega arith)), zeros_path more)
 
 -- the way by a test's answer
 pub either_path : {A : Type 0} (first second : Form A) (test : Bool) (a : A) → test ≡ false → (p : second.Path) → second.value p ≡ a
@@ -160,14 +160,13 @@ unfolding behind
 behind_path zero name [] fit h = (tt, sym (append-nil name))
 behind_path zero name (b ∷ rest) fit h = absurd (omega (arith, fit))
 behind_path (suc more) name [] fit h =
-    let zeros = zeros_path more name in
-    (((0, inl (omega arith, omega arith)), zeros.0), zeros.1 ∙ sym (append-nil name))
+    (((0, inl (omega arith, omega arith)), (zeros_path more, tt)), sym (append-nil name))
 behind_path (suc more) name (b ∷ rest) fit h =
     let parts = and_parts (is_name_byte b) (list_all is_name_byte rest) h in
     let letter = among_letters b parts.0 in
     let positive = letters-pos b letter in
     let q = behind_path more (name ++ b ∷ []) rest (omega (arith, fit)) parts.1 in
-    let p = either_path (zeros_behind more name) (behind more (name ++ b ∷ [])) (b == 0) (name ++ b ∷ rest) (ne_eqb b 0 (λ is. omega arith)) q.0 (q.1 ∙ append_assoc name (b ∷ []) rest) in
+    let p = either_path (ended more name) (behind more (name ++ b ∷ [])) (b == 0) (name ++ b ∷ rest) (ne_eqb b 0 (λ is. omega arith)) q.0 (q.1 ∙ append_assoc name (b ∷ []) rest) in
     (((b, inr letter), p.0), p.1)
 
 first_path : (name : List ℕ) → 0 < length name → length name ≤ 12 → list_all is_name_byte name ≡ true → (p : name_form.Path) × (name_form.value p ≡ name)

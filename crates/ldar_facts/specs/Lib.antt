@@ -1,4 +1,5 @@
 pub mod Compose
+pub mod FactForms
 pub mod FieldForms
 pub mod Fields
 pub mod Form

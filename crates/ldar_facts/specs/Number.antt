@@ -219,104 +219,11 @@ module _ (ranges : List (ℕ × ℕ)) (are_ranges : AreRanges ranges) where
           }
       ]
 
--- ---- the form
-
--- the range has a number, and all its numbers have so many bytes
-abbrev pub is_proper_range : ℕ → ℕ × ℕ → Bool
-is_proper_range width range = nat_le range.0 range.1 && nat_lt range.1 (256 ^ width)
-
--- there are ranges, each a proper one
-abbrev pub is_proper : ℕ → List (ℕ × ℕ) → Bool
-is_proper width [] = false
-is_proper width (range ∷ ranges) = list_all (is_proper_range width) (range ∷ ranges)
-
-are_ranges : (width : ℕ) (ranges : List (ℕ × ℕ)) → IsTrue (list_all (is_proper_range width) ranges) → AreRanges ranges
-are_ranges width [] h = refl
-are_ranges width (range ∷ ranges) h =
-    let each = and_parts (is_proper_range width range) (list_all (is_proper_range width) ranges) h in
-    let parts = and_parts (nat_le range.0 range.1) (nat_lt range.1 (256 ^ width)) each.0 in
-    and_from (nat_le range.0 range.1) (list_all (λ range. nat_le range.0 range.1) ranges) parts.0 (are_ranges width ranges each.1)
-
-fits : (width : ℕ) (ranges : List (ℕ × ℕ)) (v : ℕ) → IsTrue (list_all (is_proper_range width) ranges) → IsAmong v ranges → v < 256 ^ width
-fits width [] v h among = absurd among
-fits width (range ∷ ranges) v h among =
-    let each = and_parts (is_proper_range width range) (list_all (is_proper_range width) ranges) h in
-    let parts = and_parts (nat_le range.0 range.1) (nat_lt range.1 (256 ^ width)) each.0 in
-    elim (among_cases range ranges v among) [
-      | inl here ↦ omega (arith, here.1, ltb-true range.1 (256 ^ width) parts.1)
-      | inr there ↦ fits width ranges v each.1 there
-    ]
-
-each_proper : (width : ℕ) (ranges : List (ℕ × ℕ)) → IsTrue (is_proper width ranges) → IsTrue (list_all (is_proper_range width) ranges)
-each_proper width [] h = absurd cc
-each_proper width (range ∷ ranges) h = h
-
--- some number is among them
-some_among : (width : ℕ) (ranges : List (ℕ × ℕ)) → IsTrue (is_proper width ranges) → (v : ℕ) × IsAmong v ranges
-some_among width [] h = absurd cc
-some_among width (range ∷ ranges) h =
-    let each = and_parts (is_proper_range width range) (list_all (is_proper_range width) ranges) h in
-    let parts = and_parts (nat_le range.0 range.1) (nat_lt range.1 (256 ^ width)) each.0 in
-    (range.0, among_cons range ranges range.0 (inl (omega arith, leb-true _ _ parts.0)))
-
-module _ (width : ℕ) (ranges : List (ℕ × ℕ)) (proper : IsTrue (is_proper width ranges)) where
-  abbrev One : Type 0
-  One = (v : ℕ) × IsAmong v ranges
-
-  -- it is a number that begins with nothing
-  in_width : (p : One) → IsIn (256 ^ width) 0 p.0
-  in_width p = let fit = fits width ranges p.0 (each_proper width ranges proper) p.1 in record { low = omega arith; high = omega arith }
-
-  any_begin : may_be width ranges 0 ≡ true
-  any_begin =
-      let v = some_among width ranges proper in
-      may_be-from width 0 v.0 ranges v.1 (in_width v)
-
-  pub number_reads : Reads {P = One} (λ p. p.0) (λ p. big_endian width p.0) (number_from width ranges 0)
-  number_reads =
-      let are = are_ranges width ranges (each_proper width ranges proper) in
-      record {
-        some = some_among width ranges proper;
-        found = λ bytes a rest bs e. let p = found ranges are width 0 any_begin bytes a rest bs e in ((p.0.0, p.0.1), p.1, p.2);
-        again = λ p rest. again ranges are width 0 (p.0, p.1, in_width p) rest;
-        short = λ bytes bs e. let p = short ranges are width 0 any_begin bytes bs e in ((p.0.0, p.0.1), p.1, p.2);
-        wrong = λ bytes left bs e.
-          let w = wrong ranges are width 0 any_begin bytes left bs e in
-          record {
-            front = w.front; byte = w.byte; back = w.back; splits = w.splits; left_is = w.left_is;
-            path = (w.path.0, w.path.1); more = w.more; begins = w.begins; stops = w.stops;
-          };
-      }
-
--- a number of these ranges in so many bytes
-abbrev pub number_form : (width : ℕ) (ranges : List (ℕ × ℕ)) → IsTrue (is_proper width ranges) → Form ℕ
-number_form width ranges proper = record {
-  Path = (v : ℕ) × IsAmong v ranges;
-  value = λ p. p.0;
-  text = λ p. big_endian width p.0;
-  read = number_from width ranges 0;
-  reads = number_reads width ranges proper;
-}
-
--- why reading stopped; Short where it did not
-abbrev pub stop_of : {A : Type 0} → Outcome A → Stop
-stop_of (Ok x) = Short
-stop_of (Err stop) = stop
+-- ---- a number that was read, whatever the bytes
 
 -- whether a number lies in one of the ranges
 abbrev pub among : List (ℕ × ℕ) → ℕ → Bool
 among ranges n = list_any (λ range. nat_le range.0 n && nat_le n range.1) ranges
-
--- ---- what a function that looks at all the digits at once has to know
-
--- the number that goes on with these digits
-abbrev pub value_from : ℕ → List ℕ → ℕ
-value_from n [] = n
-value_from n (b ∷ digits) = value_from (n * 256 + b) digits
-
-value_in : (digits : List ℕ) (n : ℕ) → IsBytes digits → IsIn (256 ^ length digits) n (value_from n digits)
-value_in [] n are = record { low = omega arith; high = omega arith }
-value_in (b ∷ digits) n are = rw pow-suc (block_up (256 ^ length digits) n b (value_from (n * 256 + b) digits) (are 0) (value_in digits (n * 256 + b) (λ i. are (suc i))))
 
 is_among : (ranges : List (ℕ × ℕ)) (n : ℕ) → among ranges n ≡ true → IsAmong n ranges
 is_among [] n h = absurd cc
@@ -338,6 +245,117 @@ may_be-among (range ∷ ranges) n h =
       | inr there ↦ or_right (nat_le range.0 n && nat_le n range.1) (among ranges n) (may_be-among ranges n there)
     ]
 
+no_value : {A : Type 0} (test : Bool) (next : Outcome A) (stop : Stop) (x : A × List ℕ) → cond test next (Err stop) ≡ Ok x → (test ≡ true) × (next ≡ Ok x)
+no_value true next stop x e = (refl, e)
+no_value false next stop x e = absurd cc
+
+pub read_among : (more : ℕ) (ranges : List (ℕ × ℕ)) (n : ℕ) (bytes : List ℕ) (v : ℕ) (rest : List ℕ) → 0 < more → number_from more ranges n bytes ≡ Ok (v, rest) → IsAmong v ranges
+unfolding number_from
+read_among zero ranges n bytes v rest pos e = absurd (omega (arith, pos))
+read_among (suc more) ranges n [] v rest pos e = absurd cc
+read_among (suc zero) ranges n (b ∷ bytes) v rest pos e =
+    let step = no_value (may_be 0 ranges (n * 256 + b)) (Ok (n * 256 + b, bytes)) (Wrong (suc (length bytes))) (v, rest) e in
+    let same = ok_pair (n * 256 + b, bytes) (v, rest) step.1 in
+    subst (λ m. IsAmong m ranges) same.0 (is_among ranges (n * 256 + b) (may_be-among ranges (n * 256 + b) step.0))
+read_among (suc (suc more)) ranges n (b ∷ bytes) v rest pos e =
+    let step = no_value (may_be (suc more) ranges (n * 256 + b)) (number_from (suc more) ranges (n * 256 + b) bytes) (Wrong (suc (length bytes))) (v, rest) e in
+    read_among (suc more) ranges (n * 256 + b) bytes v rest (omega arith) step.1
+
+-- ---- the form
+
+-- the range has a number, and all its numbers have so many bytes
+abbrev pub is_proper_range : ℕ → ℕ × ℕ → Bool
+is_proper_range width range = nat_le range.0 range.1 && nat_lt range.1 (256 ^ width)
+
+-- there is a byte, and there are ranges, each a proper one
+abbrev pub is_proper : ℕ → List (ℕ × ℕ) → Bool
+is_proper width [] = false
+is_proper width (range ∷ ranges) = nat_lt 0 width && list_all (is_proper_range width) (range ∷ ranges)
+
+are_ranges : (width : ℕ) (ranges : List (ℕ × ℕ)) → IsTrue (list_all (is_proper_range width) ranges) → AreRanges ranges
+are_ranges width [] h = refl
+are_ranges width (range ∷ ranges) h =
+    let each = and_parts (is_proper_range width range) (list_all (is_proper_range width) ranges) h in
+    let parts = and_parts (nat_le range.0 range.1) (nat_lt range.1 (256 ^ width)) each.0 in
+    and_from (nat_le range.0 range.1) (list_all (λ range. nat_le range.0 range.1) ranges) parts.0 (are_ranges width ranges each.1)
+
+fits : (width : ℕ) (ranges : List (ℕ × ℕ)) (v : ℕ) → IsTrue (list_all (is_proper_range width) ranges) → IsAmong v ranges → v < 256 ^ width
+fits width [] v h among = absurd among
+fits width (range ∷ ranges) v h among =
+    let each = and_parts (is_proper_range width range) (list_all (is_proper_range width) ranges) h in
+    let parts = and_parts (nat_le range.0 range.1) (nat_lt range.1 (256 ^ width)) each.0 in
+    elim (among_cases range ranges v among) [
+      | inl here ↦ omega (arith, here.1, ltb-true range.1 (256 ^ width) parts.1)
+      | inr there ↦ fits width ranges v each.1 there
+    ]
+
+each_proper : (width : ℕ) (ranges : List (ℕ × ℕ)) → IsTrue (is_proper width ranges) → IsTrue (list_all (is_proper_range width) ranges)
+each_proper width [] h = absurd cc
+each_proper width (range ∷ ranges) h = (and_parts (nat_lt 0 width) (list_all (is_proper_range width) (range ∷ ranges)) h).1
+
+wide : (width : ℕ) (ranges : List (ℕ × ℕ)) → IsTrue (is_proper width ranges) → 0 < width
+wide width [] h = absurd cc
+wide width (range ∷ ranges) h = ltb-true 0 width (and_parts (nat_lt 0 width) (list_all (is_proper_range width) (range ∷ ranges)) h).0
+
+-- some number is among them
+some_among : (width : ℕ) (ranges : List (ℕ × ℕ)) → IsTrue (is_proper width ranges) → (v : ℕ) × IsAmong v ranges
+some_among width [] h = absurd cc
+some_among width (range ∷ ranges) h =
+    let each = and_parts (is_proper_range width range) (list_all (is_proper_range width) ranges) (each_proper width (range ∷ ranges) h) in
+    let parts = and_parts (nat_le range.0 range.1) (nat_lt range.1 (256 ^ width)) each.0 in
+    (range.0, among_cons range ranges range.0 (inl (omega arith, leb-true _ _ parts.0)))
+
+module _ (width : ℕ) (ranges : List (ℕ × ℕ)) (proper : IsTrue (is_proper width ranges)) where
+  abbrev One : Type 0
+  One = (v : ℕ) × IsAmong v ranges
+
+  -- it is a number that begins with nothing
+  in_width : (p : One) → IsIn (256 ^ width) 0 p.0
+  in_width p = let fit = fits width ranges p.0 (each_proper width ranges proper) p.1 in record { low = omega arith; high = omega arith }
+
+  any_begin : may_be width ranges 0 ≡ true
+  any_begin =
+      let v = some_among width ranges proper in
+      may_be-from width 0 v.0 ranges v.1 (in_width v)
+
+  pub number_reads : Reads {P = One} (λ p. p.0) (λ p. big_endian width p.0) (number_from width ranges 0)
+  number_reads =
+      let are = are_ranges width ranges (each_proper width ranges proper) in
+      record {
+        some = some_among width ranges proper;
+        leads = λ bytes a rest e. ((a, read_among width ranges 0 bytes a rest (wide width ranges proper) e), refl);
+        found = λ bytes a rest bs e. let p = found ranges are width 0 any_begin bytes a rest bs e in ((p.0.0, p.0.1), p.1, p.2);
+        again = λ p rest. again ranges are width 0 (p.0, p.1, in_width p) rest;
+        short = λ bytes bs e. let p = short ranges are width 0 any_begin bytes bs e in ((p.0.0, p.0.1), p.1, p.2);
+        wrong = λ bytes left bs e.
+          let w = wrong ranges are width 0 any_begin bytes left bs e in
+          record {
+            front = w.front; byte = w.byte; back = w.back; splits = w.splits; left_is = w.left_is;
+            path = (w.path.0, w.path.1); more = w.more; begins = w.begins; stops = w.stops;
+          };
+      }
+
+-- a number of these ranges in so many bytes
+abbrev pub number_form : (width : ℕ) (ranges : List (ℕ × ℕ)) → IsTrue (is_proper width ranges) → Form ℕ
+number_form width ranges proper = record {
+  Path = (v : ℕ) × IsAmong v ranges;
+  value = λ p. p.0;
+  text = λ p. big_endian width p.0;
+  read = number_from width ranges 0;
+  reads = number_reads width ranges proper;
+}
+
+-- ---- what a function that looks at all the digits at once has to know
+
+-- the number that goes on with these digits
+abbrev pub value_from : ℕ → List ℕ → ℕ
+value_from n [] = n
+value_from n (b ∷ digits) = value_from (n * 256 + b) digits
+
+value_in : (digits : List ℕ) (n : ℕ) → IsBytes digits → IsIn (256 ^ length digits) n (value_from n digits)
+value_in [] n are = record { low = omega arith; high = omega arith }
+value_in (b ∷ digits) n are = rw pow-suc (block_up (256 ^ length digits) n b (value_from (n * 256 + b) digits) (are 0) (value_in digits (n * 256 + b) (λ i. are (suc i))))
+
 -- digits of a number among the ranges are read
 pub read_whole : (digits rest : List ℕ) (ranges : List (ℕ × ℕ)) (n : ℕ) → IsBytes digits → among ranges (value_from n digits) ≡ true
     → number_from (length digits) ranges n (digits ++ rest) ≡ Ok (value_from n digits, rest)
@@ -348,14 +366,15 @@ read_whole (b ∷ digits) rest ranges n are h =
     let passes = may_be-from (length digits) (n * 256 + b) (value_from (n * 256 + b) digits) ranges (is_among ranges (value_from (n * 256 + b) digits) h) (value_in digits (n * 256 + b) behind) in
     rw passes (read_whole digits rest ranges (n * 256 + b) behind h)
 
+-- why reading stopped; Short where it did not
+abbrev pub stop_of : {A : Type 0} → Outcome A → Stop
+stop_of (Ok x) = Short
+stop_of (Err stop) = stop
+
 -- a reading that is no value is a stop
 pub stopped : {A : Type 0} (r : Outcome A) → ((x : A × List ℕ) → r ≡ Ok x → ⊥) → r ≡ Err (stop_of r)
 stopped (Ok x) h = absurd (h x refl)
 stopped (Err stop) h = refl
-
-no_value : {A : Type 0} (test : Bool) (next : Outcome A) (stop : Stop) (x : A × List ℕ) → cond test next (Err stop) ≡ Ok x → (test ≡ true) × (next ≡ Ok x)
-no_value true next stop x e = (refl, e)
-no_value false next stop x e = absurd cc
 
 -- digits of no such number are not
 pub read_none : (b : ℕ) (digits rest : List ℕ) (ranges : List (ℕ × ℕ)) (n : ℕ) → among ranges (value_from n (b ∷ digits)) ≡ false → (x : ℕ × List ℕ)

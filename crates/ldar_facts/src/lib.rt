@@ -4,10 +4,13 @@
 mod batch;
 mod body;
 mod class;
+mod cursor;
 mod fact;
 mod key;
 mod name;
+mod read_body;
 mod read_field;
+mod read_name;
 mod read_number;
 mod stop;
 
