@@ -3,6 +3,8 @@ use Rattle.std.specs.Prelude.{ℕ, zero, suc, ◌==◌, List, [], ◌∷◌, ref
 use Rattle.ldar_facts.specs.declared.batch.Batch.{Batch}
 use Rattle.ldar_facts.specs.declared.body.FactBody.{FactBody}
 use Rattle.ldar_facts.specs.declared.body.FactBody.TheVariants.{Unit as UnitFact, Component as ComponentFact, Class as ClassFact, Retire, Election, Shutdown, Calibration, Precision, Drift, Reading, Visual, Attempt, Delay, Release, Indication}
+use Rattle.ldar_facts.specs.declared.read_fact.Head.{Head}
+use Rattle.ldar_facts.specs.Fields as fields
 use Rattle.ldar_facts.specs.Stated.{Stated}
 use Rattle.ldar_facts.specs.Form.{Form}
 use Rattle.ldar_facts.specs.Compose.{done, either, ◌>>=◌}
@@ -136,3 +138,18 @@ facts (suc more) = do
   first ← fact
   others ← facts more
   done (first ∷ others)
+
+-- what stands before the facts of a batch
+unfoldable pub head : Form Head
+head = do
+  letter ← number_form 1 fields.first_letters refl
+  handheld ← number_form 2 fields.handhelds refl
+  number ← number_form 4 fields.batch_numbers refl
+  count ← number_form 2 fields.counts refl
+  done (record { handheld = handheld; number = number; count = count })
+
+unfoldable pub batch : Form Batch
+batch = do
+  head ← head
+  facts ← facts head.count
+  done (record { handheld = head.handheld; number = head.number; facts = facts })

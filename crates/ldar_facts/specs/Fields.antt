@@ -46,6 +46,20 @@ bytes_of (name bytes) = spelled_name bytes
 
 -- ---- the ranges of the table
 
+-- the letter B, with which a batch begins
+abbrev pub first_letters : List (ℕ × ℕ)
+first_letters = (66, 66) ∷ []
+
+abbrev pub handhelds : List (ℕ × ℕ)
+handhelds = (0, 65_535) ∷ []
+
+abbrev pub batch_numbers : List (ℕ × ℕ)
+batch_numbers = (0, 4_294_967_295) ∷ []
+
+-- how many facts a batch has
+abbrev pub counts : List (ℕ × ℕ)
+counts = (1, 512) ∷ []
+
 -- days from 2008-01-01 to 2099-12-31, since 1970-01-01
 abbrev pub days : List (ℕ × ℕ)
 days = (13_879, 47_481) ∷ []

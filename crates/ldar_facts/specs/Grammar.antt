@@ -1,13 +1,13 @@
 use Rattle.std.specs.Prelude.{◌≡◌, ℕ, ◌+◌, ◌<◌, List, [], ◌∷◌, ◌++◌, length, take}
 use Rattle.std.specs.List.{flat_map, AllByRecursion}
 use Rattle.ldar_facts.specs.declared.batch.Batch.{Batch}
-use Rattle.ldar_facts.specs.Fields.{Field, number, IsFilled, bytes_of, fact_fields}
+use Rattle.ldar_facts.specs.Fields.{Field, number, IsFilled, bytes_of, first_letters, handhelds, batch_numbers, counts, fact_fields}
 
 -- the fields of a batch, in order: the letter B, who sends it, its number, how many facts, and theirs
 abbrev pub batch_fields : Batch → List Field
 batch_fields batch =
-    number 1 ((66, 66) ∷ []) 66 ∷ number 2 ((0, 65_535) ∷ []) batch.handheld ∷ number 4 ((0, 4_294_967_295) ∷ []) batch.number
-    ∷ number 2 ((1, 512) ∷ []) (length batch.facts) ∷ flat_map fact_fields batch.facts
+    number 1 first_letters 66 ∷ number 2 handhelds batch.handheld ∷ number 4 batch_numbers batch.number
+    ∷ number 2 counts (length batch.facts) ∷ flat_map fact_fields batch.facts
 
 -- the bytes of some fields, one after the other
 abbrev pub spelled : List Field → List ℕ

@@ -9,6 +9,7 @@ mod fact;
 mod key;
 mod name;
 mod read_body;
+mod read_fact;
 mod read_field;
 mod read_name;
 mod read_number;
