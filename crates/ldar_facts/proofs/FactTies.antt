@@ -35,12 +35,12 @@ pub fact : AreFields forms.fact fact_fields
 unfolding forms.fact
 fact = record {
   filled = λ p.
-    let among = field.fact_kind.filled p.0 in
-    let is = kind.body _ among in
-    (rw (is.number p.1.1.1.0) among, (field.day.filled p.1.0, (field.minute.filled p.1.1.0, is.filled p.1.1.1.0)));
+      let among = field.fact_kind.filled p.0 in
+      let is = kind.body _ among in
+      (rw (is.number p.1.1.1.0) among, (field.day.filled p.1.0, (field.minute.filled p.1.1.0, is.filled p.1.1.1.0)));
   text = λ p.
-    let is = kind.body _ (field.fact_kind.filled p.0) in
-    rw (field.fact_kind.text p.0, field.day.text p.1.0, field.minute.text p.1.1.0, append-nil, is.text p.1.1.1.0, is.number p.1.1.1.0);
+      let is = kind.body _ (field.fact_kind.filled p.0) in
+      rw (field.fact_kind.text p.0, field.day.text p.1.0, field.minute.text p.1.1.0, append-nil, is.text p.1.1.1.0, is.number p.1.1.1.0);
   path = fact_path;
 }
 
@@ -81,3 +81,32 @@ facts-path (first ∷ facts) h =
     let p = fact.path first parts.0 in
     let q = facts-path facts parts.1 in
     ((p.0, (q.0, tt)), rw (p.1, q.1))
+
+-- ---- a batch
+
+batch_filled : (p : (forms.batch).Path) → AllByRecursion IsFilled (batch_fields ((forms.batch).value p))
+unfolding forms.batch forms.head
+batch_filled p =
+    let count = p.0.1.1.1.0 in
+    ((omega arith, omega arith), (p.0.1.0.1, (p.0.1.1.0.1, (rw (facts-length count.0 p.1.0) count.1, facts-filled count.0 p.1.0))))
+
+batch_text : (p : (forms.batch).Path) → (forms.batch).text p ≡ spelled (batch_fields ((forms.batch).value p))
+unfolding forms.batch forms.head
+batch_text p =
+    let count = p.0.1.1.1.0 in
+    let letter : p.0.0.0 ≡ 66 = omega (arith, p.0.0.1) in
+    rw (letter, append-nil, facts-text count.0 p.1.0, facts-length count.0 p.1.0)
+
+batch_path : (batch : Batch) → AllByRecursion IsFilled (batch_fields batch) → (p : (forms.batch).Path) × ((forms.batch).value p ≡ batch)
+unfolding forms.batch forms.head
+batch_path batch h =
+    let q = facts-path batch.facts h.1.1.1.1 in
+    ((((66, h.0), ((batch.handheld, h.1.0), ((batch.number, h.1.1.0), ((length batch.facts, h.1.1.1.0), tt)))), (q.0, tt)), rw q.1)
+
+pub batch : AreFields forms.batch batch_fields
+batch = record { filled = batch_filled; text = batch_text; path = batch_path }
+
+-- a batch has 1 to 512 facts
+pub head_count : (p : (forms.head).Path) → IsAmong ((forms.head).value p).count counts
+unfolding forms.head
+head_count p = p.1.1.1.0.1

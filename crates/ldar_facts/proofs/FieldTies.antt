@@ -275,11 +275,11 @@ class = record {
   filled = λ p. (service.filled p.0, (designation.filled p.1.0, ((plan ((forms.designation).value p.1.0)).filled p.1.1.0, (month.filled p.1.1.1.0, tt))));
   text = λ p. rw (service.text p.0, designation.text p.1.0, (plan ((forms.designation).value p.1.0)).text p.1.1.0, month.text p.1.1.1.0);
   path = λ c h.
-    let s = service.path c.service h.0 in
-    let d = designation.path c.designation h.1.0 in
-    let l = (plan ((forms.designation).value d.0)).path c.plan (subst (λ x. IsAmong c.plan (fields.plans x)) (sym d.1) h.1.1.0) in
-    let m = month.path c.month h.1.1.1.0 in
-    ((s.0, (d.0, (l.0, (m.0, tt)))), same_class _ c.service _ c.designation _ c.plan _ c.month s.1 d.1 l.1 m.1);
+      let s = service.path c.service h.0 in
+      let d = designation.path c.designation h.1.0 in
+      let l = (plan ((forms.designation).value d.0)).path c.plan (subst (λ x. IsAmong c.plan (fields.plans x)) (sym d.1) h.1.1.0) in
+      let m = month.path c.month h.1.1.1.0 in
+      ((s.0, (d.0, (l.0, (m.0, tt)))), same_class _ c.service _ c.designation _ c.plan _ c.month s.1 d.1 l.1 m.1);
 }
 
 pub readings : AreFields forms.readings fields.readings_fields
@@ -288,8 +288,8 @@ readings = record {
   filled = λ p. (concentration.filled p.0, (concentration.filled p.1.0, (concentration.filled p.1.1.0, tt)));
   text = λ p. rw (concentration.text p.0, concentration.text p.1.0, concentration.text p.1.1.0);
   path = λ r h.
-    let a = concentration.path r.0 h.0 in
-    let b = concentration.path r.1 h.1.0 in
-    let c = concentration.path r.2 h.1.1.0 in
-    ((a.0, (b.0, (c.0, tt))), rw (a.1, b.1, c.1));
+      let a = concentration.path r.0 h.0 in
+      let b = concentration.path r.1 h.1.0 in
+      let c = concentration.path r.2 h.1.1.0 in
+      ((a.0, (b.0, (c.0, tt))), rw (a.1, b.1, c.1));
 }

@@ -109,41 +109,51 @@ module _ {A B : Type 0} (first : Form A) (next : A → Form B) where
       elim (then_err (first.read bytes) (λ x. (next x.0).read x.1) Short e) [
         | inl early ↦ let p = first.reads.short bytes are early in completed bytes p.0 p.1 p.2
         | inr step ↦
-          let behind = step.0.1 in
-          let p = first.reads.found bytes step.0.0 behind are step.1 in
-          let follows = subst (λ a. (next a).read behind ≡ Err Short) (sym p.1) step.2 in
-          let q = (next (first.value p.0)).reads.short behind (IsBytes-behind bytes (first.text p.0) behind p.2 are) follows in
-          ((p.0, q.0), q.1, ap (λ l. l ++ q.1) p.2 ∙ continued behind q.1 p.0 q.0 q.2)
+            let behind = step.0.1 in
+            let p = first.reads.found bytes step.0.0 behind are step.1 in
+            let follows = subst (λ a. (next a).read behind ≡ Err Short) (sym p.1) step.2 in
+            let q = (next (first.value p.0)).reads.short behind (IsBytes-behind bytes (first.text p.0) behind p.2 are) follows in
+            ((p.0, q.0), q.1, ap (λ l. l ++ q.1) p.2 ∙ continued behind q.1 p.0 q.0 q.2)
       ]
 
   wrong : (bytes : List ℕ) (left : ℕ) → IsBytes bytes → read bytes ≡ Err (Wrong left) → IsWrong text read bytes left
   wrong bytes left are e =
       elim (then_err (first.read bytes) (λ x. (next x.0).read x.1) (Wrong left) e) [
         | inl early ↦
-          let w = first.reads.wrong bytes left are early in
-          let q = completed w.front w.path w.more w.begins in
-          record {
-            front = w.front; byte = w.byte; back = w.back; splits = w.splits; left_is = w.left_is;
-            path = q.0; more = q.1; begins = q.2;
-            stops = λ other. ap (λ r. r then λ x. (next x.0).read x.1) (w.stops other);
-          }
+            let w = first.reads.wrong bytes left are early in
+            let q = completed w.front w.path w.more w.begins in
+            record {
+              front = w.front;
+              byte = w.byte;
+              back = w.back;
+              splits = w.splits;
+              left_is = w.left_is;
+              path = q.0;
+              more = q.1;
+              begins = q.2;
+              stops = λ other. ap (λ r. r then λ x. (next x.0).read x.1) (w.stops other);
+            }
         | inr step ↦
-          let behind = step.0.1 in
-          let p = first.reads.found bytes step.0.0 behind are step.1 in
-          let second = next (first.value p.0) in
-          let follows = subst (λ a. (next a).read behind ≡ Err (Wrong left)) (sym p.1) step.2 in
-          let w = second.reads.wrong behind left (IsBytes-behind bytes (first.text p.0) behind p.2 are) follows in
-          let start = first.text p.0 in
-          record {
-            front = start ++ w.front; byte = w.byte; back = w.back;
-            splits = p.2 ∙ ap (λ l. start ++ l) w.splits ∙ sym (append_assoc start w.front (w.byte ∷ w.back));
-            left_is = w.left_is;
-            path = (p.0, w.path); more = w.more; begins = continued w.front w.more p.0 w.path w.begins;
-            stops = λ other.
-              ap read (append_assoc start w.front (w.byte ∷ other))
-              ∙ ap (λ r. r then λ x. (next x.0).read x.1) (first.reads.again p.0 (w.front ++ w.byte ∷ other))
-              ∙ w.stops other;
-          }
+            let behind = step.0.1 in
+            let p = first.reads.found bytes step.0.0 behind are step.1 in
+            let second = next (first.value p.0) in
+            let follows = subst (λ a. (next a).read behind ≡ Err (Wrong left)) (sym p.1) step.2 in
+            let w = second.reads.wrong behind left (IsBytes-behind bytes (first.text p.0) behind p.2 are) follows in
+            let start = first.text p.0 in
+            record {
+              front = start ++ w.front;
+              byte = w.byte;
+              back = w.back;
+              splits = p.2 ∙ ap (λ l. start ++ l) w.splits ∙ sym (append_assoc start w.front (w.byte ∷ w.back));
+              left_is = w.left_is;
+              path = (p.0, w.path);
+              more = w.more;
+              begins = continued w.front w.more p.0 w.path w.begins;
+              stops = λ other.
+                  ap read (append_assoc start w.front (w.byte ∷ other))
+                  ∙ ap (λ r. r then λ x. (next x.0).read x.1) (first.reads.again p.0 (w.front ++ w.byte ∷ other))
+                  ∙ w.stops other;
+            }
       ]
 
   pub both_read : Reads value text read

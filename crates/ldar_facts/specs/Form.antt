@@ -44,7 +44,7 @@ pub record Reads {P A : Type 0} (value : P → A) (text : P → List ℕ) (read 
   pub leads : (bytes : List ℕ) (a : A) (rest : List ℕ) → read bytes ≡ Ok (a, rest) → (p : P) × (value p ≡ a)
   -- and of bytes it stands there
   pub found : (bytes : List ℕ) (a : A) (rest : List ℕ) → IsBytes bytes → read bytes ≡ Ok (a, rest)
-    → (p : P) × (value p ≡ a) × (bytes ≡ text p ++ rest)
+      → (p : P) × (value p ≡ a) × (bytes ≡ text p ++ rest)
   -- what stands there is read
   pub again : (p : P) (rest : List ℕ) → read (text p ++ rest) ≡ Ok (value p, rest)
   -- what is short begins one

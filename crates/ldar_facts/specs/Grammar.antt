@@ -1,6 +1,8 @@
 use Rattle.std.specs.Prelude.{◌≡◌, ℕ, ◌+◌, ◌<◌, List, [], ◌∷◌, ◌++◌, length, take}
 use Rattle.std.specs.List.{flat_map, AllByRecursion}
 use Rattle.ldar_facts.specs.declared.batch.Batch.{Batch}
+use Rattle.ldar_facts.specs.declared.read.Read.{Read}
+use Rattle.ldar_facts.specs.declared.read.Read.TheVariants.{Whole, Short, Bad}
 use Rattle.ldar_facts.specs.Fields.{Field, number, IsFilled, bytes_of, first_letters, handhelds, batch_numbers, counts, fact_fields}
 
 -- the fields of a batch, in order: the letter B, who sends it, its number, how many facts, and theirs
@@ -31,3 +33,21 @@ pub record IsFirstWrongPlace (bytes : List ℕ) (at : ℕ) : Type 0 where
   pub within : at < length bytes
   pub before : Begins (take at bytes)
   pub after : ¬ (Begins (take (at + 1) bytes))
+
+-- the reading found a batch of so many bytes, and this holds of them
+abbrev pub IfWhole : Read → (Batch → ℕ → Type 0) → Type 0
+IfWhole (Whole batch used) P = P batch used
+IfWhole Short P = Unit {0}
+IfWhole (Bad at) P = Unit {0}
+
+-- this holds where the reading found the beginning of a batch
+abbrev pub OnShort : Read → Type 0 → Type 0
+OnShort (Whole batch used) P = Unit {0}
+OnShort Short P = P
+OnShort (Bad at) P = Unit {0}
+
+-- the reading found a wrong place, and this holds of it
+abbrev pub IfBad : Read → (ℕ → Type 0) → Type 0
+IfBad (Whole batch used) P = Unit {0}
+IfBad Short P = Unit {0}
+IfBad (Bad at) P = P at

@@ -60,10 +60,10 @@ among_letters : (b : ℕ) → is_name_byte b ≡ true → IsAmong b letters
 among_letters b h =
     elim (or_cases (b == 45 || (nat_le 48 b && nat_le b 57)) (nat_le 65 b && nat_le b 90) h) [
       | inl early ↦
-        elim (or_cases (b == 45) (nat_le 48 b && nat_le b 57) early) [
-          | inl hyphen ↦ let is = eqb-true b 45 hyphen in inl (omega arith, omega arith)
-          | inr digit ↦ let d = and_parts (nat_le 48 b) (nat_le b 57) digit in inr (inl (leb-true 48 b d.0, leb-true b 57 d.1))
-        ]
+          elim (or_cases (b == 45) (nat_le 48 b && nat_le b 57) early) [
+            | inl hyphen ↦ let is = eqb-true b 45 hyphen in inl (omega arith, omega arith)
+            | inr digit ↦ let d = and_parts (nat_le 48 b) (nat_le b 57) digit in inr (inl (leb-true 48 b d.0, leb-true b 57 d.1))
+          ]
       | inr capital ↦ let d = and_parts (nat_le 65 b) (nat_le b 90) capital in inr (inr (leb-true 65 b d.0, leb-true b 90 d.1))
     ]
 
@@ -116,7 +116,7 @@ step_text : (more : ℕ) (name : List ℕ) (b : ℕ) → BeginsName (suc more) n
     → (BeginsName more (name ++ b ∷ []) → (q : (behind more (name ++ b ∷ [])).Path) → Completes more (name ++ b ∷ []) ((behind more (name ++ b ∷ [])).value q) ((behind more (name ++ b ∷ [])).text q))
     → (test : Bool) → (b == 0) ≡ test → (q : (either test (ended more name) (behind more (name ++ b ∷ []))).Path)
     → Completes (suc more) name ((either test (ended more name) (behind more (name ++ b ∷ []))).value q)
-      (big_endian 1 b ++ (either test (ended more name) (behind more (name ++ b ∷ []))).text q)
+    (big_endian 1 b ++ (either test (ended more name) (behind more (name ++ b ∷ []))).text q)
 step_text more name b begins among rest true e q =
     let is : b ≡ 0 = eqb-true b 0 e in
     rw (append-nil, zeros_text more q.0, is) (is_whole (suc more) name begins)

@@ -3,6 +3,7 @@ pub mod FactForms
 pub mod FieldForms
 pub mod Fields
 pub mod Form
+pub mod Front
 pub mod Grammar
 pub mod Letters
 pub mod Name

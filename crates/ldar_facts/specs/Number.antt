@@ -85,12 +85,12 @@ may_be-finds more n (range ∷ ranges) are h =
     let each = and_parts (nat_le range.0 range.1) (list_all (λ range. nat_le range.0 range.1) ranges) are in
     elim (or_cases (may_be_in more n range) (may_be more ranges n) h) [
       | inl here ↦
-        let test = and_parts (nat_le (n * 256 ^ more) range.1) (nat_le range.0 (n * 256 ^ more + (256 ^ more - 1))) here in
-        let v = some_in_range (256 ^ more) n range (pow_pos more) (leb-true _ _ test.0) (leb-true _ _ test.1) (leb-true _ _ each.0) in
-        (v.0, among_cons range ranges v.0 (inl (v.1, v.2)), v.3)
+          let test = and_parts (nat_le (n * 256 ^ more) range.1) (nat_le range.0 (n * 256 ^ more + (256 ^ more - 1))) here in
+          let v = some_in_range (256 ^ more) n range (pow_pos more) (leb-true _ _ test.0) (leb-true _ _ test.1) (leb-true _ _ each.0) in
+          (v.0, among_cons range ranges v.0 (inl (v.1, v.2)), v.3)
       | inr there ↦
-        let v = may_be-finds more n ranges each.1 there in
-        (v.0, among_cons range ranges v.0 (inr v.1), v.2)
+          let v = may_be-finds more n ranges each.1 there in
+          (v.0, among_cons range ranges v.0 (inr v.1), v.2)
     ]
 
 -- what begins a number of the ranges passes
@@ -100,8 +100,8 @@ may_be-from more n v (range ∷ ranges) among is_in =
     let pos = pow_pos more in
     elim (among_cases range ranges v among) [
       | inl here ↦
-        or_left (may_be_in more n range) (may_be more ranges n)
-        (and_from (nat_le (n * 256 ^ more) range.1) (nat_le range.0 (n * 256 ^ more + (256 ^ more - 1))) (le-leb _ _ (omega (arith, is_in.low, here.1))) (le-leb _ _ (omega (arith, is_in.high, here.0))))
+          or_left (may_be_in more n range) (may_be more ranges n)
+          (and_from (nat_le (n * 256 ^ more) range.1) (nat_le range.0 (n * 256 ^ more + (256 ^ more - 1))) (le-leb _ _ (omega (arith, is_in.low, here.1))) (le-leb _ _ (omega (arith, is_in.high, here.0))))
       | inr there ↦ or_right (may_be_in more n range) (may_be more ranges n) (may_be-from more n v ranges there is_in)
     ]
 
@@ -152,13 +152,13 @@ module _ (ranges : List (ℕ × ℕ)) (are_ranges : AreRanges ranges) where
       let m = n * 256 + b in
       elim (cases_Bool (may_be more ranges m)) [
         | inl passes ↦
-          let goes_on = sym (cond-true (may_be more ranges m) (number_from more ranges m bytes) (Err (Wrong (suc (length bytes)))) passes) ∙ e in
-          let p = found more m passes bytes a rest (λ i. are (suc i)) goes_on in
-          let q = wider more n b (are 0) p.0 in
-          (q.0, q.1 ∙ p.1, ap (λ l. b ∷ l) p.2 ∙ ap (λ (l : List ℕ). l ++ rest) (sym q.2))
+            let goes_on = sym (cond-true (may_be more ranges m) (number_from more ranges m bytes) (Err (Wrong (suc (length bytes)))) passes) ∙ e in
+            let p = found more m passes bytes a rest (λ i. are (suc i)) goes_on in
+            let q = wider more n b (are 0) p.0 in
+            (q.0, q.1 ∙ p.1, ap (λ l. b ∷ l) p.2 ∙ ap (λ (l : List ℕ). l ++ rest) (sym q.2))
         | inr stops ↦
-          let wrong = sym (cond-false (may_be more ranges m) (number_from more ranges m bytes) (Err (Wrong (suc (length bytes)))) stops) ∙ e in
-          absurd cc
+            let wrong = sym (cond-false (may_be more ranges m) (number_from more ranges m bytes) (Err (Wrong (suc (length bytes)))) stops) ∙ e in
+            absurd cc
       ]
 
   again : (more n : ℕ) (p : Rest more n) (rest : List ℕ) → read more n (text more n p ++ rest) ≡ Ok (p.0, rest)
@@ -182,13 +182,13 @@ module _ (ranges : List (ℕ × ℕ)) (are_ranges : AreRanges ranges) where
       let m = n * 256 + b in
       elim (cases_Bool (may_be more ranges m)) [
         | inl passes ↦
-          let goes_on = sym (cond-true (may_be more ranges m) (number_from more ranges m bytes) (Err (Wrong (suc (length bytes)))) passes) ∙ e in
-          let p = short more m passes bytes (λ i. are (suc i)) goes_on in
-          let q = wider more n b (are 0) p.0 in
-          (q.0, p.1, ap (λ l. b ∷ l) p.2 ∙ sym q.2)
+            let goes_on = sym (cond-true (may_be more ranges m) (number_from more ranges m bytes) (Err (Wrong (suc (length bytes)))) passes) ∙ e in
+            let p = short more m passes bytes (λ i. are (suc i)) goes_on in
+            let q = wider more n b (are 0) p.0 in
+            (q.0, p.1, ap (λ l. b ∷ l) p.2 ∙ sym q.2)
         | inr stops ↦
-          let wrong = sym (cond-false (may_be more ranges m) (number_from more ranges m bytes) (Err (Wrong (suc (length bytes)))) stops) ∙ e in
-          absurd cc
+            let wrong = sym (cond-false (may_be more ranges m) (number_from more ranges m bytes) (Err (Wrong (suc (length bytes)))) stops) ∙ e in
+            absurd cc
       ]
 
   wrong : (more n : ℕ) → may_be more ranges n ≡ true → (bytes : List ℕ) (left : ℕ) → IsBytes bytes → read more n bytes ≡ Err (Wrong left)
@@ -200,23 +200,34 @@ module _ (ranges : List (ℕ × ℕ)) (are_ranges : AreRanges ranges) where
       let m = n * 256 + b in
       elim (cases_Bool (may_be more ranges m)) [
         | inl passes ↦
-          let goes_on = sym (cond-true (may_be more ranges m) (number_from more ranges m bytes) (Err (Wrong (suc (length bytes)))) passes) ∙ e in
-          let w = wrong more m passes bytes left (λ i. are (suc i)) goes_on in
-          let q = wider more n b (are 0) w.path in
-          record {
-            front = b ∷ w.front; byte = w.byte; back = w.back;
-            splits = ap (λ l. b ∷ l) w.splits; left_is = w.left_is;
-            path = q.0; more = w.more; begins = ap (λ l. b ∷ l) w.begins ∙ sym q.2;
-            stops = λ other. cond-true (may_be more ranges m) (number_from more ranges m (w.front ++ w.byte ∷ other)) (Err (Wrong (suc (length (w.front ++ w.byte ∷ other))))) passes ∙ w.stops other;
-          }
+            let goes_on = sym (cond-true (may_be more ranges m) (number_from more ranges m bytes) (Err (Wrong (suc (length bytes)))) passes) ∙ e in
+            let w = wrong more m passes bytes left (λ i. are (suc i)) goes_on in
+            let q = wider more n b (are 0) w.path in
+            record {
+              front = b ∷ w.front;
+              byte = w.byte;
+              back = w.back;
+              splits = ap (λ l. b ∷ l) w.splits;
+              left_is = w.left_is;
+              path = q.0;
+              more = w.more;
+              begins = ap (λ l. b ∷ l) w.begins ∙ sym q.2;
+              stops = λ other. cond-true (may_be more ranges m) (number_from more ranges m (w.front ++ w.byte ∷ other)) (Err (Wrong (suc (length (w.front ++ w.byte ∷ other))))) passes ∙ w.stops other;
+            }
         | inr stops ↦
-          let here = sym (cond-false (may_be more ranges m) (number_from more ranges m bytes) (Err (Wrong (suc (length bytes)))) stops) ∙ e in
-          let p = may_be-finds (suc more) n ranges are_ranges may in
-          record {
-            front = []; byte = b; back = bytes; splits = refl; left_is = left_of here;
-            path = p; more = text (suc more) n p; begins = refl;
-            stops = λ other. cond-false (may_be more ranges m) (number_from more ranges m other) (Err (Wrong (suc (length other)))) stops;
-          }
+            let here = sym (cond-false (may_be more ranges m) (number_from more ranges m bytes) (Err (Wrong (suc (length bytes)))) stops) ∙ e in
+            let p = may_be-finds (suc more) n ranges are_ranges may in
+            record {
+              front = [];
+              byte = b;
+              back = bytes;
+              splits = refl;
+              left_is = left_of here;
+              path = p;
+              more = text (suc more) n p;
+              begins = refl;
+              stops = λ other. cond-false (may_be more ranges m) (number_from more ranges m other) (Err (Wrong (suc (length other)))) stops;
+            }
       ]
 
 -- ---- a number that was read, whatever the bytes
@@ -238,10 +249,10 @@ may_be-among [] n h = h
 may_be-among (range ∷ ranges) n h =
     elim (or_cases (may_be_in 0 n range) (may_be 0 ranges n) h) [
       | inl here ↦
-        let p = and_parts (nat_le (n * 1) range.1) (nat_le range.0 (n * 1 + (1 - 1))) here in
-        let high : n ≤ range.1 = omega (arith, leb-true _ _ p.0) in
-        let low : range.0 ≤ n = omega (arith, leb-true _ _ p.1) in
-        or_left (nat_le range.0 n && nat_le n range.1) (among ranges n) (and_from (nat_le range.0 n) (nat_le n range.1) (le-leb _ _ low) (le-leb _ _ high))
+          let p = and_parts (nat_le (n * 1) range.1) (nat_le range.0 (n * 1 + (1 - 1))) here in
+          let high : n ≤ range.1 = omega (arith, leb-true _ _ p.0) in
+          let low : range.0 ≤ n = omega (arith, leb-true _ _ p.1) in
+          or_left (nat_le range.0 n && nat_le n range.1) (among ranges n) (and_from (nat_le range.0 n) (nat_le n range.1) (le-leb _ _ low) (le-leb _ _ high))
       | inr there ↦ or_right (nat_le range.0 n && nat_le n range.1) (among ranges n) (may_be-among ranges n there)
     ]
 
@@ -328,11 +339,18 @@ module _ (width : ℕ) (ranges : List (ℕ × ℕ)) (proper : IsTrue (is_proper 
         again = λ p rest. again ranges are width 0 (p.0, p.1, in_width p) rest;
         short = λ bytes bs e. let p = short ranges are width 0 any_begin bytes bs e in ((p.0.0, p.0.1), p.1, p.2);
         wrong = λ bytes left bs e.
-          let w = wrong ranges are width 0 any_begin bytes left bs e in
-          record {
-            front = w.front; byte = w.byte; back = w.back; splits = w.splits; left_is = w.left_is;
-            path = (w.path.0, w.path.1); more = w.more; begins = w.begins; stops = w.stops;
-          };
+            let w = wrong ranges are width 0 any_begin bytes left bs e in
+            record {
+              front = w.front;
+              byte = w.byte;
+              back = w.back;
+              splits = w.splits;
+              left_is = w.left_is;
+              path = (w.path.0, w.path.1);
+              more = w.more;
+              begins = w.begins;
+              stops = w.stops;
+            };
       }
 
 -- a number of these ranges in so many bytes

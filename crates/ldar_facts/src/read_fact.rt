@@ -1,7 +1,8 @@
-ghost use Rattle.std.specs.Prelude.{◌≡◌};
+ghost use Rattle.std.specs.Prelude.{◌≡◌, ◌≤◌, vec_len, vec_capacity};
 ghost use Rattle.ldar_facts.specs.Form.{Takes};
 ghost use Rattle.ldar_facts.specs.FactForms as forms;
 
+use crate::batch::FactList;
 use crate::cursor::Cursor;
 use crate::fact::Fact;
 use crate::stop::Stop;
@@ -39,5 +40,20 @@ impl Cursor<'_> {
         let minute = self.minute()?;
         let body = self.body(kind)?;
         Ok(Fact { day, minute, body })
+    }
+
+    /// Takes so many facts, for which there is room.
+    pub(crate) fn facts(&mut self, count: u16, room: Vec<Fact>) -> Result<FactList, Stop>
+        requires some { (1 ≤ count) × (count ≤ 512) }
+        requires empty { vec_len room ≡ 0 }
+        requires fits { count ≤ vec_capacity room }
+        ensures { Takes (forms.facts count).read result self.old self.new }
+    {
+        let mut facts = room;
+        for _ in 0..count {
+            let fact = self.fact()?;
+            facts.push(fact).unwrap();
+        }
+        Ok(FactList::new(facts).unwrap())
     }
 }

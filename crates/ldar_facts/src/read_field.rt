@@ -290,4 +290,3 @@ fn sort_of(number: u8) -> Sort
         _ => Sort::Evidence,
     }
 }
-

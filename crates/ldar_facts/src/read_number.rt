@@ -20,10 +20,7 @@ pub(crate) fn byte<'a>(bytes: &'a [u8], ranges: &[(u32, u32)]) -> Result<(u8, &'
 }
 
 /// A number of two bytes in one of the ranges.
-pub(crate) fn two_bytes<'a>(
-    bytes: &'a [u8],
-    ranges: &[(u32, u32)],
-) -> Result<(u16, &'a [u8]), Stop>
+pub(crate) fn two_bytes<'a>(bytes: &'a [u8], ranges: &[(u32, u32)]) -> Result<(u16, &'a [u8]), Stop>
     ensures { Gives (λ x. (x.0, x.1.now)) result (number_from 2 ranges.now 0 bytes.now) }
 {
     if bytes.len() < 2 {
@@ -93,7 +90,5 @@ fn may_begin(number: u64, more: usize, ranges: &[(u32, u32)]) -> bool
     let span = 256u64.pow(more as u32);
     let least = number * span;
     let most = least + (span - 1);
-    ranges
-        .iter()
-        .any(|range| least <= u64::from(range.1) && u64::from(range.0) <= most)
+    ranges.iter().any(|range| least <= u64::from(range.1) && u64::from(range.0) <= most)
 }
