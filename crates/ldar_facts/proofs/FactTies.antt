@@ -51,10 +51,10 @@ unfolding forms.facts
 facts-length zero p = refl
 facts-length (suc n) p = ap suc (facts-length n p.1.0)
 
-spelled-append : (xs ys : List Field) → spelled (xs ++ ys) ≡ spelled xs ++ spelled ys
+pub spelled-append : (xs ys : List Field) → spelled (xs ++ ys) ≡ spelled xs ++ spelled ys
 spelled-append xs ys = flat_map-append bytes_of xs ys
 
-filled-append : (xs ys : List Field) → AllByRecursion IsFilled xs → AllByRecursion IsFilled ys → AllByRecursion IsFilled (xs ++ ys)
+pub filled-append : (xs ys : List Field) → AllByRecursion IsFilled xs → AllByRecursion IsFilled ys → AllByRecursion IsFilled (xs ++ ys)
 filled-append [] ys h k = k
 filled-append (x ∷ xs) ys h k = (h.0, filled-append xs ys h.1 k)
 

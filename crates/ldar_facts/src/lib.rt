@@ -15,6 +15,9 @@ mod read_field;
 mod read_name;
 mod read_number;
 mod stop;
+mod write;
+mod write_body;
+mod write_field;
 
 pub use batch::{Batch, FactList};
 pub use body::{FactBody, Purpose, Sort, VisualState};
@@ -25,3 +28,4 @@ pub use ldar_days::Day;
 pub use name::Name;
 pub use read::{Read, read_batch};
 pub use std::alloc::AllocError as Memory;
+pub use write::write_batch;
