@@ -7,6 +7,7 @@ mod class;
 mod cursor;
 mod fact;
 mod key;
+pub mod laws;
 mod name;
 mod read;
 mod read_body;
