@@ -44,31 +44,123 @@ abbrev pub bytes_of : Field → List ℕ
 bytes_of (number width ranges value) = big_endian width value
 bytes_of (name bytes) = spelled_name bytes
 
--- the ranges that the table has more than once
-abbrev pub a_day : List (ℕ × ℕ)
-a_day = (13_879, 47_481) ∷ []
+-- ---- the ranges of the table
+
+-- the letter B, with which a batch begins
+abbrev pub first_letters : List (ℕ × ℕ)
+first_letters = (66, 66) ∷ []
+
+abbrev pub handhelds : List (ℕ × ℕ)
+handhelds = (0, 65_535) ∷ []
+
+abbrev pub batch_numbers : List (ℕ × ℕ)
+batch_numbers = (0, 4_294_967_295) ∷ []
+
+-- how many facts a batch has
+abbrev pub counts : List (ℕ × ℕ)
+counts = (1, 512) ∷ []
+
+-- days from 2008-01-01 to 2099-12-31, since 1970-01-01
+abbrev pub days : List (ℕ × ℕ)
+days = (13_879, 47_481) ∷ []
+
+-- a day, or 0 for none
+abbrev pub days_or_none : List (ℕ × ℕ)
+days_or_none = (0, 0) ∷ days
+
+abbrev pub minutes : List (ℕ × ℕ)
+minutes = (0, 1_439) ∷ []
+
+abbrev pub fact_kinds : List (ℕ × ℕ)
+fact_kinds = (1, 15) ∷ []
+
+abbrev pub units : List (ℕ × ℕ)
+units = (1, 64) ∷ []
+
+abbrev pub components : List (ℕ × ℕ)
+components = (1, 60_000) ∷ []
+
+abbrev pub instruments : List (ℕ × ℕ)
+instruments = (1, 65_535) ∷ []
+
+-- a number of an instrument or a person, or 0 for none
+abbrev pub numbers_or_none : List (ℕ × ℕ)
+numbers_or_none = (0, 65_535) ∷ []
+
+-- parts per million that were read
+abbrev pub concentrations : List (ℕ × ℕ)
+concentrations = (0, 999_999) ∷ []
+
+-- parts per million of a gas
+abbrev pub known_values : List (ℕ × ℕ)
+known_values = (1, 999_999) ∷ []
+
+abbrev pub flags : List (ℕ × ℕ)
+flags = (0, 1) ∷ []
+
+abbrev pub component_kinds : List (ℕ × ℕ)
+component_kinds = (1, 4) ∷ []
+
+abbrev pub services : List (ℕ × ℕ)
+services = (1, 5) ∷ []
+
+abbrev pub designations : List (ℕ × ℕ)
+designations = (0, 3) ∷ []
+
+-- a plan has 1 to 60 months where the component is unsafe to monitor, and else none
+abbrev pub plans : Designation → List (ℕ × ℕ)
+plans Plain = (0, 0) ∷ []
+plans Nde = (0, 0) ∷ []
+plans Unsafe = (1, 60) ∷ []
+plans Difficult = (0, 0) ∷ []
+
+-- the months of a quarter
+abbrev pub months : List (ℕ × ℕ)
+months = (1, 3) ∷ []
+
+-- the programmes of skip periods: none, 1 and 3
+abbrev pub modes : List (ℕ × ℕ)
+modes = (0, 1) ∷ (3, 3) ∷ []
+
+-- the days of a shutdown
+abbrev pub shutdown_lengths : List (ℕ × ℕ)
+shutdown_lengths = (1, 366) ∷ []
+
+abbrev pub purposes : List (ℕ × ℕ)
+purposes = (1, 2) ∷ []
+
+abbrev pub visual_states : List (ℕ × ℕ)
+visual_states = (0, 2) ∷ []
+
+-- withdrawn, or one of the grounds (a) to (e)
+abbrev pub grounds : List (ℕ × ℕ)
+grounds = (0, 5) ∷ []
+
+abbrev pub sorts : List (ℕ × ℕ)
+sorts = (1, 2) ∷ []
+
+-- ---- the fields that several kinds have
 
 abbrev pub component : ℕ → Field
-component n = number 2 ((1, 60_000) ∷ []) n
+component n = number 2 components n
 
 abbrev pub unit : ℕ → Field
-unit n = number 1 ((1, 64) ∷ []) n
+unit n = number 1 units n
 
 abbrev pub instrument : ℕ → Field
-instrument n = number 2 ((1, 65_535) ∷ []) n
+instrument n = number 2 instruments n
 
--- a number that may be 0, which is none
 abbrev pub number_or_none : ℕ → Field
-number_or_none n = number 2 ((0, 65_535) ∷ []) n
+number_or_none n = number 2 numbers_or_none n
 
 abbrev pub concentration : ℕ → Field
-concentration n = number 4 ((0, 999_999) ∷ []) n
+concentration n = number 4 concentrations n
 
 abbrev pub known_value : ℕ → Field
-known_value n = number 4 ((1, 999_999) ∷ []) n
+known_value n = number 4 known_values n
 
 abbrev pub flag : Bool → Field
-flag b = number 1 ((0, 1) ∷ []) (if b then 1 else 0)
+flag b = number 1 flags (if b then 1 else 0)
 
 abbrev pub kind_number : Kind → ℕ
 kind_number Valve = 1
@@ -89,19 +181,12 @@ designation_number Nde = 1
 designation_number Unsafe = 2
 designation_number Difficult = 3
 
--- a plan has 1 to 60 months where the component is unsafe to monitor, and else none
-abbrev pub plan_range : Designation → List (ℕ × ℕ)
-plan_range Plain = (0, 0) ∷ []
-plan_range Nde = (0, 0) ∷ []
-plan_range Unsafe = (1, 60) ∷ []
-plan_range Difficult = (0, 0) ∷ []
-
 abbrev pub class_fields : Class → List Field
 class_fields c =
-    number 1 ((1, 5) ∷ []) (service_number c.service)
-    ∷ number 1 ((0, 3) ∷ []) (designation_number c.designation)
-    ∷ number 1 (plan_range c.designation) c.plan
-    ∷ number 1 ((1, 3) ∷ []) c.month ∷ []
+    number 1 services (service_number c.service)
+    ∷ number 1 designations (designation_number c.designation)
+    ∷ number 1 (plans c.designation) c.plan
+    ∷ number 1 months c.month ∷ []
 
 abbrev pub purpose_number : Purpose → ℕ
 purpose_number Routine = 1
@@ -119,7 +204,7 @@ sort_number Evidence = 2
 -- a day, or 0 for none
 abbrev pub day_or_none : Option ℕ → Field
 day_or_none None = number 2 ((0, 0) ∷ []) 0
-day_or_none (Some day) = number 2 a_day day
+day_or_none (Some day) = number 2 days day
 
 abbrev pub readings_fields : ℕ × ℕ × ℕ → List Field
 readings_fields r = concentration r.0 ∷ concentration r.1 ∷ concentration r.2 ∷ []
@@ -146,28 +231,28 @@ body_number (Indication _ _ _) = 15
 abbrev pub body_fields : FactBody → List Field
 body_fields (UnitFact u older n) = unit u ∷ flag older ∷ name n ∷ []
 body_fields (ComponentFact c u kind monomer replaces class) =
-    component c ∷ unit u ∷ number 1 ((1, 4) ∷ []) (kind_number kind) ∷ flag monomer ∷ flag replaces ∷ class_fields class
+    component c ∷ unit u ∷ number 1 component_kinds (kind_number kind) ∷ flag monomer ∷ flag replaces ∷ class_fields class
 body_fields (ClassFact c class) = component c ∷ class_fields class
 body_fields (Retire c) = component c ∷ []
-body_fields (Election u mode notified) = unit u ∷ number 1 ((0, 1) ∷ (3, 3) ∷ []) mode ∷ number 2 a_day notified ∷ []
-body_fields (Shutdown u days) = unit u ∷ number 2 ((1, 366) ∷ []) days ∷ []
+body_fields (Election u mode notified) = unit u ∷ number 1 modes mode ∷ number 2 days notified ∷ []
+body_fields (Shutdown u length) = unit u ∷ number 2 shutdown_lengths length ∷ []
 body_fields (Calibration i gas) = instrument i ∷ known_value gas ∷ []
 body_fields (Precision i value readings) = instrument i ∷ known_value value ∷ readings_fields readings
 body_fields (Drift i value readings) = instrument i ∷ known_value value ∷ readings_fields readings
 body_fields (Reading c i operator purpose ppm background) =
-    component c ∷ number_or_none i ∷ number_or_none operator ∷ number 1 ((1, 2) ∷ []) (purpose_number purpose)
+    component c ∷ number_or_none i ∷ number_or_none operator ∷ number 1 purposes (purpose_number purpose)
     ∷ concentration ppm ∷ concentration background ∷ []
-body_fields (Visual c state) = component c ∷ number 1 ((0, 2) ∷ []) (state_number state) ∷ []
+body_fields (Visual c state) = component c ∷ number 1 visual_states (state_number state) ∷ []
 body_fields (Attempt c complete) = component c ∷ flag complete ∷ []
 body_fields (Delay c reason signer expected) =
-    component c ∷ number 1 ((0, 5) ∷ []) reason ∷ number_or_none signer ∷ day_or_none expected ∷ []
+    component c ∷ number 1 grounds reason ∷ number_or_none signer ∷ day_or_none expected ∷ []
 body_fields (Release c) = component c ∷ []
-body_fields (Indication c sort present) = component c ∷ number 1 ((1, 2) ∷ []) (sort_number sort) ∷ flag present ∷ []
+body_fields (Indication c sort present) = component c ∷ number 1 sorts (sort_number sort) ∷ flag present ∷ []
 
 -- the fields of a fact, in order
 abbrev pub fact_fields : Stated → List Field
 fact_fields fact =
-    number 1 ((1, 15) ∷ []) (body_number fact.body) ∷ number 2 a_day fact.day ∷ number 2 ((0, 1_439) ∷ []) fact.minute
+    number 1 fact_kinds (body_number fact.body) ∷ number 2 days fact.day ∷ number 2 minutes fact.minute
     ∷ body_fields fact.body
 
 -- each field of the fact is in its range

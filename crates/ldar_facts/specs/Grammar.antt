@@ -1,13 +1,15 @@
 use Rattle.std.specs.Prelude.{◌≡◌, ℕ, ◌+◌, ◌<◌, List, [], ◌∷◌, ◌++◌, length, take}
 use Rattle.std.specs.List.{flat_map, AllByRecursion}
 use Rattle.ldar_facts.specs.declared.batch.Batch.{Batch}
-use Rattle.ldar_facts.specs.Fields.{Field, number, IsFilled, bytes_of, fact_fields}
+use Rattle.ldar_facts.specs.declared.read.Read.{Read}
+use Rattle.ldar_facts.specs.declared.read.Read.TheVariants.{Whole, Short, Bad}
+use Rattle.ldar_facts.specs.Fields.{Field, number, IsFilled, bytes_of, first_letters, handhelds, batch_numbers, counts, fact_fields}
 
 -- the fields of a batch, in order: the letter B, who sends it, its number, how many facts, and theirs
 abbrev pub batch_fields : Batch → List Field
 batch_fields batch =
-    number 1 ((66, 66) ∷ []) 66 ∷ number 2 ((0, 65_535) ∷ []) batch.handheld ∷ number 4 ((0, 4_294_967_295) ∷ []) batch.number
-    ∷ number 2 ((1, 512) ∷ []) (length batch.facts) ∷ flat_map fact_fields batch.facts
+    number 1 first_letters 66 ∷ number 2 handhelds batch.handheld ∷ number 4 batch_numbers batch.number
+    ∷ number 2 counts (length batch.facts) ∷ flat_map fact_fields batch.facts
 
 -- the bytes of some fields, one after the other
 abbrev pub spelled : List Field → List ℕ
@@ -31,3 +33,21 @@ pub record IsFirstWrongPlace (bytes : List ℕ) (at : ℕ) : Type 0 where
   pub within : at < length bytes
   pub before : Begins (take at bytes)
   pub after : ¬ (Begins (take (at + 1) bytes))
+
+-- the reading found a batch of so many bytes, and this holds of them
+abbrev pub IfWhole : Read → (Batch → ℕ → Type 0) → Type 0
+IfWhole (Whole batch used) P = P batch used
+IfWhole Short P = Unit {0}
+IfWhole (Bad at) P = Unit {0}
+
+-- this holds where the reading found the beginning of a batch
+abbrev pub OnShort : Read → Type 0 → Type 0
+OnShort (Whole batch used) P = Unit {0}
+OnShort Short P = P
+OnShort (Bad at) P = Unit {0}
+
+-- the reading found a wrong place, and this holds of it
+abbrev pub IfBad : Read → (ℕ → Type 0) → Type 0
+IfBad (Whole batch used) P = Unit {0}
+IfBad Short P = Unit {0}
+IfBad (Bad at) P = P at

@@ -1,4 +1,11 @@
+pub mod Compose
+pub mod FactForms
+pub mod FieldForms
 pub mod Fields
+pub mod Form
+pub mod Front
 pub mod Grammar
+pub mod Letters
 pub mod Name
+pub mod Number
 pub mod Stated

@@ -4,9 +4,21 @@
 mod batch;
 mod body;
 mod class;
+mod cursor;
 mod fact;
 mod key;
+pub mod laws;
 mod name;
+mod read;
+mod read_body;
+mod read_fact;
+mod read_field;
+mod read_name;
+mod read_number;
+mod stop;
+mod write;
+mod write_body;
+mod write_field;
 
 pub use batch::{Batch, FactList};
 pub use body::{FactBody, Purpose, Sort, VisualState};
@@ -15,4 +27,6 @@ pub use fact::Fact;
 pub use key::Key;
 pub use ldar_days::Day;
 pub use name::Name;
+pub use read::{Read, read_batch};
 pub use std::alloc::AllocError as Memory;
+pub use write::write_batch;

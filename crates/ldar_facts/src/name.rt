@@ -1,6 +1,6 @@
 ghost use Rattle.std.specs.Prelude.{◌≡◌, IsNone, IfSome};
 ghost use Rattle.std.specs.List.{list_all};
-ghost use Rattle.ldar_facts.specs.Name.{IsName, is_name_byte};
+ghost use Rattle.ldar_facts.specs.Name.{IsName, is_name_byte, spelled_name};
 
 use std::marker::Model;
 
@@ -48,6 +48,13 @@ impl Name {
         ensures in_range { IsName result.now }
     {
         &self.bytes[..usize::from(self.len)]
+    }
+
+    /// The bytes of the name, with zero bytes behind them up to twelve.
+    pub(crate) fn padded(&self) -> &[u8]
+        ensures { result.now ≡ spelled_name self.now }
+    {
+        &self.bytes
     }
 }
 

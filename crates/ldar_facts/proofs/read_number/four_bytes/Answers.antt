@@ -1,0 +1,25 @@
+use Rattle.std.proofs.Common.{◌≡◌, ℕ, ◌<◌, List, [], ◌∷◌, length, get_or, ap, sym, ◌∙◌, arith}
+use Rattle.ldar_facts.specs.Number.{value_from}
+use Rattle.ldar_facts.proofs.Digits.{whole, none, early, front_4}
+use Rattle.ldar_facts.proofs.read_number.four_bytes.Goals as goal
+
+pub returns-then-bytes-lt4 : goal.returns-then-bytes-lt4
+returns-then-bytes-lt4 c =
+    let lt : length c.args.bytes.now < 4 = omega arith in
+    rw c.first_wrong.ensures (early 4 c.args.bytes.now c.args.ranges.now lt)
+
+pub returns-then-not-is_among : goal.returns-then-not-is_among
+returns-then-not-is_among c =
+    let front = c.split_at.result.0.now in
+    let splits = front_4 c.args.bytes.now front c.split_at.result.1.now (omega arith) c.split_at.ensures.front c.split_at.ensures.back in
+    let digits : List ℕ = get_or front 1 0 ∷ get_or front 2 0 ∷ get_or front 3 0 ∷ [] in
+    let is : value_from 0 (get_or front 0 0 ∷ digits) ≡ c.from_be_bytes-number.result = omega arith in
+    rw c.first_wrong-then-not-is_among.ensures (none (get_or front 0 0) digits c.split_at.result.1.now c.args.bytes.now c.args.ranges.now (c.from_be_bytes-number.result) splits is cc)
+
+pub returns : goal.returns
+returns c =
+    let front = c.split_at.result.0.now in
+    let splits = front_4 c.args.bytes.now front c.split_at.result.1.now (omega arith) c.split_at.ensures.front c.split_at.ensures.back in
+    let digits : List ℕ = get_or front 0 0 ∷ get_or front 1 0 ∷ get_or front 2 0 ∷ get_or front 3 0 ∷ [] in
+    let is : value_from 0 digits ≡ c.from_be_bytes-number.result = omega arith in
+    whole digits c.split_at.result.1.now c.args.bytes.now c.args.ranges.now (c.from_be_bytes-number.result) (λ i. omega (arith, c.type_inv.bytes i)) splits is cc

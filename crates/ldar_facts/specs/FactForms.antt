@@ -1,0 +1,155 @@
+-- How the facts of each kind are read, and a batch of them.
+use Rattle.std.specs.Prelude.{ℕ, zero, suc, ◌==◌, List, [], ◌∷◌, refl}
+use Rattle.ldar_facts.specs.declared.batch.Batch.{Batch}
+use Rattle.ldar_facts.specs.declared.body.FactBody.{FactBody}
+use Rattle.ldar_facts.specs.declared.body.FactBody.TheVariants.{Unit as UnitFact, Component as ComponentFact, Class as ClassFact, Retire, Election, Shutdown, Calibration, Precision, Drift, Reading, Visual, Attempt, Delay, Release, Indication}
+use Rattle.ldar_facts.specs.declared.read_fact.Head.{Head}
+use Rattle.ldar_facts.specs.Fields as fields
+use Rattle.ldar_facts.specs.Stated.{Stated}
+use Rattle.ldar_facts.specs.Form.{Form}
+use Rattle.ldar_facts.specs.Compose.{done, either, ◌>>=◌}
+use Rattle.ldar_facts.specs.Number.{number_form}
+use Rattle.ldar_facts.specs.Letters.{name_form}
+use Rattle.ldar_facts.specs.FieldForms as field
+
+unfoldable pub unit_fact : Form FactBody
+unit_fact = do
+  unit ← field.unit
+  older ← field.flag
+  name ← name_form
+  done (UnitFact unit older name)
+
+unfoldable pub component_fact : Form FactBody
+component_fact = do
+  component ← field.component
+  unit ← field.unit
+  kind ← field.kind
+  monomer ← field.flag
+  replaces ← field.flag
+  class ← field.class
+  done (ComponentFact component unit kind monomer replaces class)
+
+unfoldable pub class_fact : Form FactBody
+class_fact = do
+  component ← field.component
+  class ← field.class
+  done (ClassFact component class)
+
+unfoldable pub retire : Form FactBody
+retire = do
+  component ← field.component
+  done (Retire component)
+
+unfoldable pub election : Form FactBody
+election = do
+  unit ← field.unit
+  mode ← field.mode
+  notified ← field.day
+  done (Election unit mode notified)
+
+unfoldable pub shutdown : Form FactBody
+shutdown = do
+  unit ← field.unit
+  days ← field.shutdown_length
+  done (Shutdown unit days)
+
+unfoldable pub calibration : Form FactBody
+calibration = do
+  instrument ← field.instrument
+  gas ← field.known_value
+  done (Calibration instrument gas)
+
+unfoldable pub precision : Form FactBody
+precision = do
+  instrument ← field.instrument
+  value ← field.known_value
+  readings ← field.readings
+  done (Precision instrument value readings)
+
+unfoldable pub drift : Form FactBody
+drift = do
+  instrument ← field.instrument
+  value ← field.known_value
+  readings ← field.readings
+  done (Drift instrument value readings)
+
+unfoldable pub reading : Form FactBody
+reading = do
+  component ← field.component
+  instrument ← field.number_or_none
+  operator ← field.number_or_none
+  purpose ← field.purpose
+  ppm ← field.concentration
+  background ← field.concentration
+  done (Reading component instrument operator purpose ppm background)
+
+unfoldable pub visual : Form FactBody
+visual = do
+  component ← field.component
+  state ← field.state
+  done (Visual component state)
+
+unfoldable pub attempt : Form FactBody
+attempt = do
+  component ← field.component
+  complete ← field.flag
+  done (Attempt component complete)
+
+unfoldable pub delay : Form FactBody
+delay = do
+  component ← field.component
+  reason ← field.delay_ground
+  signer ← field.number_or_none
+  expected ← field.day_or_none
+  done (Delay component reason signer expected)
+
+unfoldable pub release : Form FactBody
+release = do
+  component ← field.component
+  done (Release component)
+
+unfoldable pub indication : Form FactBody
+indication = do
+  component ← field.component
+  sort ← field.sort
+  present ← field.flag
+  done (Indication component sort present)
+
+-- what a fact says, by the number of its kind
+unfoldable pub body : ℕ → Form FactBody
+body kind =
+    either (kind == 1) unit_fact (either (kind == 2) component_fact (either (kind == 3) class_fact (either (kind == 4) retire
+    (either (kind == 5) election (either (kind == 6) shutdown (either (kind == 7) calibration (either (kind == 8) precision
+    (either (kind == 9) drift (either (kind == 10) reading (either (kind == 11) visual (either (kind == 12) attempt
+    (either (kind == 13) delay (either (kind == 14) release indication)))))))))))))
+
+unfoldable pub fact : Form Stated
+fact = do
+  kind ← field.fact_kind
+  day ← field.day
+  minute ← field.minute
+  body ← body kind
+  done (record { day = day; minute = minute; body = body })
+
+-- so many facts
+unfoldable pub facts : ℕ → Form (List Stated)
+facts zero = done []
+facts (suc more) = do
+  first ← fact
+  others ← facts more
+  done (first ∷ others)
+
+-- what stands before the facts of a batch
+unfoldable pub head : Form Head
+head = do
+  letter ← number_form 1 fields.first_letters refl
+  handheld ← number_form 2 fields.handhelds refl
+  number ← number_form 4 fields.batch_numbers refl
+  count ← number_form 2 fields.counts refl
+  done (record { handheld = handheld; number = number; count = count })
+
+unfoldable pub batch : Form Batch
+batch = do
+  head ← head
+  facts ← facts head.count
+  done (record { handheld = head.handheld; number = head.number; facts = facts })

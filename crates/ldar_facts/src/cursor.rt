@@ -1,0 +1,64 @@
+ghost use Rattle.std.specs.Prelude.{◌≡◌, length};
+ghost use Rattle.ldar_facts.specs.Form.{Takes};
+ghost use Rattle.ldar_facts.specs.Number.{number_from};
+
+use crate::read_number;
+use crate::stop::Stop;
+use std::marker::Model;
+
+/// Bytes that are read from the front. Contracts see those that are left.
+#[derive(Drop)]
+pub(crate) struct Cursor<'a> {
+    rest: &'a [u8],
+}
+
+impl<'a> Model for Cursor<'a> {
+    ghost use Rattle.std.specs.Prelude.{ℕ, List};
+
+    ghost Value = { List ℕ };
+
+    ghost view = { λ c. c.rest.now };
+}
+
+impl<'a> Cursor<'a> {
+    /// Before the first of these bytes.
+    pub(crate) fn new(bytes: &'a [u8]) -> Cursor<'a>
+        ensures { result ≡ bytes.now }
+    {
+        Cursor { rest: bytes }
+    }
+
+    /// How many bytes are left.
+    pub(crate) fn left(&self) -> usize
+        ensures { result ≡ length self.now }
+    {
+        self.rest.len()
+    }
+
+    /// Takes a byte in one of the ranges.
+    pub(crate) fn byte(&mut self, ranges: &[(u32, u32)]) -> Result<u8, Stop>
+        ensures { Takes (number_from 1 ranges.now 0) result self.old self.new }
+    {
+        let (number, rest) = read_number::byte(self.rest, ranges)?;
+        self.rest = rest;
+        Ok(number)
+    }
+
+    /// Takes a number of two bytes in one of the ranges.
+    pub(crate) fn two_bytes(&mut self, ranges: &[(u32, u32)]) -> Result<u16, Stop>
+        ensures { Takes (number_from 2 ranges.now 0) result self.old self.new }
+    {
+        let (number, rest) = read_number::two_bytes(self.rest, ranges)?;
+        self.rest = rest;
+        Ok(number)
+    }
+
+    /// Takes a number of four bytes in one of the ranges.
+    pub(crate) fn four_bytes(&mut self, ranges: &[(u32, u32)]) -> Result<u32, Stop>
+        ensures { Takes (number_from 4 ranges.now 0) result self.old self.new }
+    {
+        let (number, rest) = read_number::four_bytes(self.rest, ranges)?;
+        self.rest = rest;
+        Ok(number)
+    }
+}
