@@ -2,6 +2,7 @@ pub mod Ascending
 pub mod CutLemmas
 pub mod Narrowing
 pub mod OrderLaws
+pub mod PartLemmas
 pub mod PutLemmas
 pub mod RangeLemmas
 pub mod WordLaws

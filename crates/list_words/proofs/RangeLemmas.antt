@@ -3,8 +3,9 @@ use Rattle.std.specs.List.{list_any, filter_map, flat_map, range_with_len}
 use Rattle.std.specs.Option.{option_to_list}
 use Rattle.std.proofs.lemmas.List.{append_assoc, append-nil}
 use Rattle.std.proofs.lemmas.Bool.{cases_eq}
-use Rattle.list_words.specs.Ranges.{until}
-use Rattle.list_words.proofs.Ascending.{Among}
+use Rattle.std.proofs.lemmas.List.FromFn.{get_or-range_with_len}
+use Rattle.list_words.specs.Ranges.{until, UntilHolds, UntilCounts}
+use Rattle.list_words.proofs.Ascending.{Among, among_from_Contains, Contains-from_among}
 use Rattle.list_words.proofs.WordLemmas.{cons_option_is}
 
 -- no number, and one more
@@ -50,3 +51,12 @@ unfolding until
 among_until low end n =
     let within = among_range low (end - low) n in
     (λ h. let both = within.0 h in (omega arith, omega arith), λ h. within.1 (omega arith, omega arith))
+
+pub until_holds : UntilHolds
+until_holds low end n =
+    let held = among_until low end n in
+    (λ h. held.0 (among_from_Contains (until low end) n h), λ h. Contains-from_among (until low end) n (held.1 h))
+
+pub until_counts : UntilCounts
+unfolding until
+until_counts low end i h = get_or-range_with_len low (end - low) i 0 h
