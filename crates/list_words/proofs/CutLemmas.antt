@@ -2,7 +2,8 @@ use Rattle.std.proofs.Common.{◌≡◌, Bool, true, false, cond, List, [], ◌�
 use Rattle.std.specs.List.{AllByRecursion, prefix_len}
 use Rattle.std.proofs.lemmas.Bool.{cases_Bool, false≢true}
 use Rattle.list_words.specs.Order.{IsStrictOrder, Ascends}
-use Rattle.list_words.proofs.Ascending.{all_weaker, not_behind}
+use Rattle.list_words.proofs.Ascending.{not_behind}
+use Rattle.list_words.proofs.Members.{all_weaker}
 
 -- nothing passes where no element does, and all where each does
 pub filter_none : {X : Type 0} (p : X → Bool) (xs : List X) → AllByRecursion (λ x. p x ≡ false) xs → filter p xs ≡ []

@@ -1,5 +1,6 @@
 pub mod Ascending
 pub mod CutLemmas
+pub mod Members
 pub mod Narrowing
 pub mod OrderLaws
 pub mod PartLemmas

@@ -1,8 +1,8 @@
 use Rattle.std.proofs.Common.{◌↔◌, List}
 use Rattle.std.specs.List.{Contains}
-use Rattle.list_words.specs.Order.{InOrderPermutes, InOrderAscends, AscendingIsOne, InOrderForgetsOrder, CutIsByOrder, FrontIsCut}
+use Rattle.list_words.specs.Order.{InOrderPermutes, InOrderAscends, AscendingIsOne, InOrderForgetsOrder, CutIsByOrder, FrontIsCut, PutEachIsInOrder}
 use Rattle.list_words.proofs.Ascending as ascending
-use Rattle.list_words.proofs.Ascending.{Among, among_from_Contains, Contains-from_among}
+use Rattle.list_words.proofs.Members.{Among, among_from_Contains, Contains-from_among}
 use Rattle.list_words.proofs.CutLemmas.{later_of_cut, earlier_of_cut, front_is_cut as cut_of_front}
 
 pub in_order_permutes : (X : Type 0) → InOrderPermutes X
@@ -29,3 +29,6 @@ cut_is_by_order X before xs x ys strict up = (later_of_cut before strict xs x ys
 
 pub front_is_cut : (X : Type 0) → FrontIsCut X
 front_is_cut X before p xs up closed = cut_of_front before p xs up closed
+
+pub put_each_in_order : (X : Type 0) → PutEachIsInOrder X
+put_each_in_order X before xs ys strict apart = ascending.put_each_in_order before strict xs ys apart

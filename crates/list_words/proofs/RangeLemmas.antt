@@ -5,7 +5,7 @@ use Rattle.std.proofs.lemmas.List.{append_assoc, append-nil}
 use Rattle.std.proofs.lemmas.Bool.{cases_eq}
 use Rattle.std.proofs.lemmas.List.FromFn.{get_or-range_with_len}
 use Rattle.list_words.specs.Ranges.{until, UntilHolds, UntilCounts}
-use Rattle.list_words.proofs.Ascending.{Among, among_from_Contains, Contains-from_among}
+use Rattle.list_words.proofs.Members.{Among, among_from_Contains, Contains-from_among}
 use Rattle.list_words.proofs.WordLemmas.{cons_option_is}
 
 -- no number, and one more

@@ -4,7 +4,7 @@ use Rattle.std.specs.Option.{option_or}
 use Rattle.std.proofs.lemmas.Bool.{cases_Bool, false≢true, or_cases, or_left, or_right}
 use Rattle.std.proofs.lemmas.List.{append_assoc, append-nil}
 use Rattle.list_words.specs.Words.{somewhere_from, first_from, first_given_from, each_from, each_where, last_such, Passes, PassesFirst, Gives, GivesFirst, PassesLast, SomewhereDecides, FirstWhereIsFirst, FirstWhereFinds, FirstGivenIsFirst, FirstGivenFinds, EachWhereHolds, LastSuchIsLast, LastSuchFinds}
-use Rattle.list_words.proofs.Ascending.{Among, among_from_Contains, Contains-from_among}
+use Rattle.list_words.proofs.Members.{Among, among_from_Contains, Contains-from_among}
 use Rattle.list_words.proofs.WordLemmas.{last_such-cons, last_such_here}
 
 -- Each word walks on from a front: the proofs are of the walk, seen with what stands before the front's end.

@@ -1,6 +1,6 @@
 //! What each word means, as a law: a function with nothing to do, whose contract is the law.
 
-ghost use Rattle.list_words.specs.Order.{InOrderPermutes, InOrderAscends, AscendingIsOne, InOrderForgetsOrder, CutIsByOrder, FrontIsCut};
+ghost use Rattle.list_words.specs.Order.{InOrderPermutes, InOrderAscends, AscendingIsOne, InOrderForgetsOrder, CutIsByOrder, FrontIsCut, PutEachIsInOrder};
 ghost use Rattle.list_words.specs.Parts.{CutHasParts, CutJoins};
 ghost use Rattle.list_words.specs.Ranges.{UntilHolds, UntilCounts};
 ghost use Rattle.list_words.specs.Words.{SomewhereDecides, FirstWhereIsFirst, FirstWhereFinds, FirstGivenIsFirst, FirstGivenFinds, EachWhereHolds, LastSuchIsLast, LastSuchFinds};
@@ -63,6 +63,11 @@ pub fn ascending_is_one<X>()
 /// The order in which elements come has no effect on the list in order, where no two elements tie.
 pub fn in_order_forgets<X>()
     ensures { InOrderForgetsOrder X }
+{}
+
+/// More elements, each put in its place, are all of them in order, where no two elements tie.
+pub fn put_each_in_order<X>()
+    ensures { PutEachIsInOrder X }
 {}
 
 /// A cut of an ascending list has the earlier elements in front and the later ones behind.
