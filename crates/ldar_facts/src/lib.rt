@@ -7,6 +7,8 @@ mod class;
 mod fact;
 mod key;
 mod name;
+mod order;
+pub mod order_laws;
 
 pub use batch::{Batch, FactList};
 pub use body::{FactBody, Purpose, Sort, VisualState};
@@ -15,4 +17,5 @@ pub use fact::Fact;
 pub use key::Key;
 pub use ldar_days::Day;
 pub use name::Name;
+pub use order::precedes;
 pub use std::alloc::AllocError as Memory;
