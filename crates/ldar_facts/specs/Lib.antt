@@ -2,4 +2,5 @@ pub mod Facts
 pub mod Fields
 pub mod Grammar
 pub mod Name
+pub mod Named
 pub mod Stated

@@ -7,6 +7,7 @@ mod class;
 mod fact;
 mod key;
 mod name;
+mod named;
 mod order;
 pub mod order_laws;
 
@@ -17,5 +18,6 @@ pub use fact::Fact;
 pub use key::Key;
 pub use ldar_days::Day;
 pub use name::Name;
+pub use named::{component_of, reading_instrument, tested_instrument, unit_of};
 pub use order::precedes;
 pub use std::alloc::AllocError as Memory;
