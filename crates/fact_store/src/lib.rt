@@ -1,0 +1,10 @@
+//! Accepted facts, kept by component, process unit and instrument in key order. Reading one is counted.
+#![tactic(auto)]
+
+mod lists;
+mod place;
+mod room;
+mod steps;
+
+pub use place::Place;
+pub use steps::Steps;
