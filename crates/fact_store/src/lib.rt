@@ -3,6 +3,7 @@
 
 mod lists;
 mod place;
+mod put;
 mod room;
 mod steps;
 
