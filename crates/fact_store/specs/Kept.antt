@@ -1,4 +1,4 @@
-use Rattle.std.specs.Prelude.{ℕ, Bool, Option, List, slice_get}
+use Rattle.std.specs.Prelude.{◌≡◌, ◌<◌, length, filter, All, ℕ, Bool, Option, List, slice_get}
 use Rattle.std.specs.List.{list_any, filter_map}
 use Rattle.std.specs.Ordering.{is_eq}
 use Rattle.list_words.specs.Order.{in_order}
@@ -29,3 +29,8 @@ entries_at arrived places = filter_map (λ place. slice_get arrived place.at) pl
 -- the fact names this number, by what its kind names
 abbrev pub names : (FactBody → Option ℕ) → ℕ → Entry → Bool
 names naming number entry = is_numbered (naming entry.1.body) number
+
+-- the places of the facts that name a number, in key order
+pub record ArePlacesOf (naming : FactBody → Option ℕ) (number : ℕ) (kept : Kept) (places : List Place) : Type 0 where
+  pub held : All (λ place. place.at < length kept.arrived) places
+  pub facts : entries_at kept.arrived places ≡ filter (names naming number) (facts_in kept)

@@ -6,6 +6,8 @@ mod place;
 mod put;
 mod room;
 mod steps;
+mod store;
 
 pub use place::Place;
 pub use steps::Steps;
+pub use store::FactStore;
