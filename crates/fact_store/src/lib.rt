@@ -2,6 +2,7 @@
 #![tactic(auto)]
 
 mod lists;
+mod numbers;
 mod place;
 mod put;
 mod room;

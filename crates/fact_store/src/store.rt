@@ -1,12 +1,13 @@
-ghost use Rattle.std.specs.Prelude.{◌≡◌, ℕ, ◌+◌, ◌<◌, Some, List, [], ◌∷◌, ◌++◌, length, drop, slice_get};
+ghost use Rattle.std.specs.Prelude.{◌≡◌, ℕ, ◌+◌, ◌<◌, Some, false, [], ◌∷◌, ◌++◌, length, drop, slice_get};
 ghost use Rattle.ldar_facts.specs.Named as named;
 ghost use Rattle.fact_store.specs.Kept.{Kept, ArePlacesOf, is_held};
 
 use crate::lists::{Lists, list_of};
+use crate::numbers::unit_number;
 use crate::place::Place;
 use crate::put::put_place;
 use crate::steps::Steps;
-use ldar_facts::{Fact, Key, component_of, reading_instrument, tested_instrument, unit_of};
+use ldar_facts::{Fact, Key, component_of, reading_instrument, tested_instrument};
 use std::alloc::Global;
 use std::marker::Model;
 use std::sync::ledger::Ledger;
@@ -52,6 +53,37 @@ impl FactStore {
             instruments: Vec::new(alloc),
             readings: Vec::new(alloc),
         }
+    }
+
+    /// Adds a fact with its key. It takes no memory, since room was made for the fact.
+    pub fn insert(&mut self, key: Key, fact: Fact)
+        requires roomy { slice_get self.old.spare 0 ≡ Some fact }
+        requires new_key { is_held key self.old.arrived ≡ false }
+        requires few { length self.old.arrived < 8_000_000 }
+        ensures { self.new ≡ record { arrived = self.old.arrived ++ (key, fact) ∷ []; spare = drop 1 self.old.spare } }
+    {
+        let arrived = self.arrived.as_slice();
+        put_place(
+            &mut self.components,
+            arrived,
+            component_of(&fact.body),
+            &key,
+        );
+        put_place(&mut self.units, arrived, unit_number(&fact.body), &key);
+        put_place(
+            &mut self.instruments,
+            arrived,
+            tested_instrument(&fact.body),
+            &key,
+        );
+        put_place(
+            &mut self.readings,
+            arrived,
+            reading_instrument(&fact.body),
+            &key,
+        );
+        self.arrived.push_reserved((key, fact));
+        self.used += 1;
     }
 
     /// The places of the facts that name a component.
