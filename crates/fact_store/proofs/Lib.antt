@@ -1,3 +1,4 @@
+pub mod CountLemmas
 pub mod KeepLemmas
 pub mod ListLemmas
 pub mod PlaceLemmas

@@ -1,4 +1,4 @@
-ghost use Rattle.std.specs.Prelude.{◌≡◌, ℕ, ◌+◌, ◌<◌, Some, false, [], ◌∷◌, ◌++◌, length, drop, slice_get};
+ghost use Rattle.std.specs.Prelude.{◌≡◌, ℕ, ◌+◌, ◌<◌, Some, false, [], ◌∷◌, ◌++◌, length, drop, slice_get, OnOk, OnErr};
 ghost use Rattle.ldar_facts.specs.Named as named;
 ghost use Rattle.fact_store.specs.Kept.{Kept, ArePlacesOf, is_held};
 
@@ -6,8 +6,9 @@ use crate::lists::{Lists, list_of};
 use crate::numbers::unit_number;
 use crate::place::Place;
 use crate::put::put_place;
+use crate::room::{room_by_component, room_by_instrument, room_by_reading, room_by_unit};
 use crate::steps::Steps;
-use ldar_facts::{Fact, Key, component_of, reading_instrument, tested_instrument};
+use ldar_facts::{Fact, Key, Memory, component_of, reading_instrument, tested_instrument};
 use std::alloc::Global;
 use std::marker::Model;
 use std::sync::ledger::Ledger;
@@ -53,6 +54,22 @@ impl FactStore {
             instruments: Vec::new(alloc),
             readings: Vec::new(alloc),
         }
+    }
+
+    /// Makes room for just these facts. After `Memory` the store is as it was.
+    pub fn reserve(&mut self, facts: &[Fact]) -> Result<(), Memory>
+        ensures ok { OnOk result (self.new ≡ record self.old { spare = facts.now }) }
+        ensures unchanged { OnErr result (self.new ≡ self.old) }
+    {
+        let reserved = Vec::from_slice(self.alloc, facts)?;
+        self.arrived.reserve(facts.len())?;
+        room_by_component(self.alloc, &mut self.components, facts)?;
+        room_by_unit(self.alloc, &mut self.units, facts)?;
+        room_by_instrument(self.alloc, &mut self.instruments, facts)?;
+        room_by_reading(self.alloc, &mut self.readings, facts)?;
+        self.reserved = reserved;
+        self.used = 0;
+        Ok(())
     }
 
     /// Adds a fact with its key. It takes no memory, since room was made for the fact.
