@@ -12,3 +12,6 @@ mod store;
 pub use place::Place;
 pub use steps::Steps;
 pub use store::FactStore;
+
+#[cfg(test)]
+mod tests;
