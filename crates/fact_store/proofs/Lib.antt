@@ -1,0 +1,5 @@
+pub mod CountLemmas
+pub mod KeepLemmas
+pub mod ListLemmas
+pub mod PlaceLemmas
+pub mod TakeLemmas

@@ -1,0 +1,11 @@
+use Rattle.std.proofs.Common.{◌∙◌}
+use Rattle.std.proofs.lemmas.Result.{on_ok_weaker}
+use Rattle.ldar_facts.specs.Named as named
+use Rattle.fact_store.proofs.CountLemmas.{room_for_named}
+use Rattle.fact_store.proofs.room.room_by_instrument.Goals as goal
+
+pub returns-clause-roomy : goal.returns-clause-roomy
+returns-clause-roomy c =
+    on_ok_weaker c.make_rooms.result
+    (room_for_named named.tested_instrument c.args.facts.now c.deref.result.now c.make_rooms.new.lists.items (c.deref.ensures.value ∙ c.in_ok-numbers.ensures))
+    c.make_rooms.ensures.roomy

@@ -1,0 +1,144 @@
+ghost use Rattle.std.specs.Prelude.{◌≡◌, ℕ, ◌+◌, ◌<◌, Some, false, [], ◌∷◌, ◌++◌, length, drop, slice_get, OnOk, OnErr};
+ghost use Rattle.ldar_facts.specs.Named as named;
+ghost use Rattle.fact_store.specs.Kept.{Kept, ArePlacesOf, is_held};
+
+use crate::lists::{Lists, list_of};
+use crate::numbers::unit_number;
+use crate::place::Place;
+use crate::put::put_place;
+use crate::room::{room_by_component, room_by_instrument, room_by_reading, room_by_unit};
+use crate::steps::Steps;
+use ldar_facts::{Fact, Key, Memory, component_of, reading_instrument, tested_instrument};
+use std::alloc::Global;
+use std::marker::Model;
+use std::sync::ledger::Ledger;
+
+/// Accepted facts. Contracts see them in the order in which they came, beside the facts that have room.
+#[derive(Drop)]
+pub struct FactStore {
+    alloc: Global,
+    arrived: Vec<(Key, Fact)>,
+    /// The facts that room was made for last, and how many of them have come.
+    reserved: Vec<Fact>,
+    used: usize,
+    components: Lists,
+    units: Lists,
+    instruments: Lists,
+    readings: Lists,
+}
+
+impl Model for FactStore {
+    ghost use Rattle.std.specs.Prelude.{drop};
+    ghost use Rattle.fact_store.specs.Kept.{Kept};
+    ghost use Rattle.fact_store.specs.Inside.{IsSound};
+
+    ghost Value = { Kept };
+
+    ghost view = { λ s. record { arrived = s.arrived.items; spare = drop s.used s.reserved.items } };
+
+    ghost invariant = { λ s. IsSound s.arrived (drop s.used s.reserved.items) s.components.items s.units.items s.instruments.items s.readings.items };
+}
+
+impl FactStore {
+    /// A store with no facts.
+    pub fn new(alloc: Global) -> FactStore
+        ensures { result ≡ record { arrived = []; spare = [] } }
+    {
+        FactStore {
+            alloc,
+            arrived: Vec::new(alloc),
+            reserved: Vec::new(alloc),
+            used: 0,
+            components: Vec::new(alloc),
+            units: Vec::new(alloc),
+            instruments: Vec::new(alloc),
+            readings: Vec::new(alloc),
+        }
+    }
+
+    /// Makes room for just these facts. After `Memory` the store is as it was.
+    pub fn reserve(&mut self, facts: &[Fact]) -> Result<(), Memory>
+        ensures ok { OnOk result (self.new ≡ record self.old { spare = facts.now }) }
+        ensures unchanged { OnErr result (self.new ≡ self.old) }
+    {
+        let reserved = Vec::from_slice(self.alloc, facts)?;
+        self.arrived.reserve(facts.len())?;
+        room_by_component(self.alloc, &mut self.components, facts)?;
+        room_by_unit(self.alloc, &mut self.units, facts)?;
+        room_by_instrument(self.alloc, &mut self.instruments, facts)?;
+        room_by_reading(self.alloc, &mut self.readings, facts)?;
+        self.reserved = reserved;
+        self.used = 0;
+        Ok(())
+    }
+
+    /// Adds a fact with its key. It takes no memory, since room was made for the fact.
+    pub fn insert(&mut self, key: Key, fact: Fact)
+        requires roomy { slice_get self.old.spare 0 ≡ Some fact }
+        requires new_key { is_held key self.old.arrived ≡ false }
+        requires few { length self.old.arrived < 8_000_000 }
+        ensures { self.new ≡ record { arrived = self.old.arrived ++ (key, fact) ∷ []; spare = drop 1 self.old.spare } }
+    {
+        let arrived = self.arrived.as_slice();
+        put_place(
+            &mut self.components,
+            arrived,
+            component_of(&fact.body),
+            &key,
+        );
+        put_place(&mut self.units, arrived, unit_number(&fact.body), &key);
+        put_place(
+            &mut self.instruments,
+            arrived,
+            tested_instrument(&fact.body),
+            &key,
+        );
+        put_place(
+            &mut self.readings,
+            arrived,
+            reading_instrument(&fact.body),
+            &key,
+        );
+        self.arrived.push_reserved((key, fact));
+        self.used += 1;
+    }
+
+    /// The places of the facts that name a component.
+    pub fn of_component(&self, component: u16) -> &[Place]
+        ensures { ArePlacesOf named.component_of component self.now result.now }
+    {
+        list_of(&self.components, component)
+    }
+
+    /// The places of the facts that name a process unit.
+    pub fn of_unit(&self, unit: u8) -> &[Place]
+        ensures { ArePlacesOf named.unit_of unit self.now result.now }
+    {
+        list_of(&self.units, u16::from(unit))
+    }
+
+    /// The places of the calibrations, precision tests and drift assessments of an instrument.
+    pub fn of_instrument(&self, instrument: u16) -> &[Place]
+        ensures { ArePlacesOf named.tested_instrument instrument self.now result.now }
+    {
+        list_of(&self.instruments, instrument)
+    }
+
+    /// The places of the readings of an instrument.
+    pub fn readings_of(&self, instrument: u16) -> &[Place]
+        ensures { ArePlacesOf named.reading_instrument instrument self.now result.now }
+    {
+        list_of(&self.readings, instrument)
+    }
+
+    /// The fact at a place, with its key. This is the only way to read one, and it counts.
+    pub fn fact<L: Ledger>(&self, place: Place, steps: &mut Steps<L>) -> (&Key, &Fact)
+        requires { place.at < length self.now.arrived }
+        ensures value { slice_get self.now.arrived place.at ≡ Some (result.0.now, result.1.now) }
+        ensures counted { steps.new ≡ steps.old + 1 }
+    {
+        steps.tick();
+        let entry = &self.arrived[place.at as usize];
+        (&entry.0, &entry.1)
+    }
+}

@@ -1,0 +1,166 @@
+ghost use Rattle.std.specs.Prelude.{◌≡◌, ◌<◌, length, All, OnOk};
+ghost use Rattle.fact_store.specs.Kept.{is_held};
+
+use crate::{FactStore, Place, Steps};
+use ldar_facts::{Day, Fact, FactBody, Key, Memory, Purpose};
+use std::alloc::{AllocError, Global};
+use std::marker::Brand;
+use std::sync::ledger::{Blank, Ledger};
+use std::test::Fail;
+
+/// A store of these facts, which come in this order; of two with one key the first.
+fn store_of(alloc: Global, entries: &[(Key, Fact)]) -> Result<FactStore, Memory> {
+    let mut store = FactStore::new(alloc);
+    let mut seen: Vec<(Key, Fact)> = Vec::new(alloc);
+    for entry in entries {
+        add_new(&mut store, &mut seen, *entry)?;
+    }
+    Ok(store)
+}
+
+/// Adds a fact, if none with its key is among those seen.
+fn add_new(
+    store: &mut FactStore,
+    seen: &mut Vec<(Key, Fact)>,
+    entry: (Key, Fact),
+) -> Result<(), Memory>
+    requires { seen.old.items ≡ store.old.arrived }
+    ensures { OnOk result (seen.new.items ≡ store.new.arrived) }
+{
+    if seen.len() < 1000 && !is_seen(seen, &entry.0) {
+        store.reserve(&[entry.1])?;
+        store.insert(entry.0, entry.1);
+        seen.push(entry)?;
+    }
+    Ok(())
+}
+
+/// Whether one of the facts has this key.
+fn is_seen(seen: &[(Key, Fact)], key: &Key) -> bool
+    ensures { result ≡ is_held key.now seen.now }
+{
+    seen.iter().any(|entry| entry.0.cmp(key).is_eq())
+}
+
+/// The keys of the facts at some places.
+fn keys_at<L: Ledger>(
+    alloc: Global,
+    blank: Blank,
+    store: &FactStore,
+    places: &[Place],
+) -> Result<Vec<Key>, AllocError>
+    requires name { blank.name ≡ L.name }
+    requires parts { blank.parts ≡ L.parts }
+    requires some_part { 0 < L.parts }
+    requires held { All (λ place. place.at < length store.now.arrived) places.now }
+{
+    let mut steps = Steps::<L>::new(blank);
+    let mut keys = Vec::new(alloc);
+    for place in places {
+        let (key, _) = store.fact(*place, &mut steps);
+        keys.push(*key)?;
+    }
+    Ok(keys)
+}
+
+/// The nth of the orders in which five things can come.
+fn nth_order(alloc: Global, n: usize) -> Result<Vec<usize>, AllocError> {
+    let mut left = vec![in alloc; 0, 1, 2, 3, 4]?;
+    let mut order = Vec::new(alloc);
+    let mut rest = n;
+    while !left.is_empty() {
+        let count = left.len();
+        order.push(left.remove(rest % count))?;
+        rest /= count;
+    }
+    Ok(order)
+}
+
+fn at(day: Day, minute: u16, handheld: u16, number: u32, index: u16) -> Key {
+    Key {
+        day,
+        minute,
+        handheld,
+        number,
+        index,
+    }
+}
+
+fn attempt(day: Day) -> Fact {
+    Fact {
+        day,
+        minute: 0,
+        body: FactBody::Attempt {
+            component: 7,
+            complete: false,
+        },
+    }
+}
+
+#[test]
+fn late_facts_come_in_every_order(rt: HostRuntime) -> Result<(), Fail> {
+    let alloc = rt.alloc();
+    let first = Day::of_number(20_000).ok_or("day")?;
+    let second = Day::of_number(20_001).ok_or("day")?;
+    // In key order: an earlier day, then one minute by handheld, number and index.
+    let keys = [
+        at(first, 700, 9, 9, 9),
+        at(second, 600, 1, 1, 0),
+        at(second, 600, 1, 1, 1),
+        at(second, 600, 1, 2, 0),
+        at(second, 600, 2, 1, 0),
+    ];
+    for n in 0..120 {
+        let mut entries = Vec::new(alloc);
+        for index in nth_order(alloc, n)? {
+            if index < 5 {
+                entries.push((keys[index], attempt(first)))?;
+            }
+        }
+        let store = store_of(alloc, &entries)?;
+        let found = keys_at::<Brand>(alloc, Blank::new(1), &store, store.of_component(7))?;
+        assert_eq!(rt; found.as_slice(), keys.as_slice(), "in order {n}");
+        assert!(rt; store.of_component(8).is_empty());
+        assert!(rt; store.of_unit(7).is_empty());
+    }
+    Ok(())
+}
+
+#[test]
+fn an_instruments_tests_and_readings_stand_apart(rt: HostRuntime) -> Result<(), Fail> {
+    let alloc = rt.alloc();
+    let day = Day::of_number(20_000).ok_or("day")?;
+    let calibration = Fact {
+        day,
+        minute: 5,
+        body: FactBody::Calibration {
+            instrument: 3,
+            gas: 500,
+        },
+    };
+    let reading = Fact {
+        day,
+        minute: 9,
+        body: FactBody::Reading {
+            component: 7,
+            instrument: 3,
+            operator: 1,
+            purpose: Purpose::Routine,
+            ppm: 20,
+            background: 2,
+        },
+    };
+    let entries = [
+        (at(day, 9, 1, 1, 0), reading),
+        (at(day, 5, 1, 1, 1), calibration),
+    ];
+    let store = store_of(alloc, &entries)?;
+    let tests = keys_at::<Brand>(alloc, Blank::new(1), &store, store.of_instrument(3))?;
+    assert_eq!(rt; tests.as_slice(), [at(day, 5, 1, 1, 1)].as_slice());
+    let readings = keys_at::<Brand>(alloc, Blank::new(1), &store, store.readings_of(3))?;
+    assert_eq!(rt; readings.as_slice(), [at(day, 9, 1, 1, 0)].as_slice());
+    let named = keys_at::<Brand>(alloc, Blank::new(1), &store, store.of_component(7))?;
+    assert_eq!(rt; named.as_slice(), [at(day, 9, 1, 1, 0)].as_slice());
+    assert!(rt; store.readings_of(4).is_empty());
+    Ok(())
+}

@@ -1,0 +1,5 @@
+use Rattle.ldar_facts.proofs.OrderFree.{one_more_batch}
+use Rattle.ldar_facts.proofs.order_laws.one_more_batch.Goals as goal
+
+pub returns : goal.returns
+returns c = one_more_batch

@@ -1,0 +1,193 @@
+-- What an append leaves of the bytes of a journal, step by step.
+use Rattle.std.proofs.Common.{◌≡◌, ◌≢◌, ◌⊎◌, inl, inr, ℕ, ◌+◌, ◌*◌, ◌-◌, ◌<◌, ◌≤◌, Option, Result, Ok, Err, OnOk, is_err, Bool, false, true, List, [], ◌∷◌, ◌++◌, length, take, drop, get_or, slice_index, refl, sym, ◌∙◌, ap, ap₂, subst, arith, append_assoc, length-append, length-drop, add-one, take-add}
+use Rattle.std.specs.List.{AllByRecursion}
+use Rattle.std.proofs.lemmas.Bool.{cases_eq, false≢true}
+use Rattle.std.proofs.lemmas.List.Sums.{sum_by-append}
+use Rattle.std.proofs.Math.Seq.{drop-append_seam}
+use Rattle.std.proofs.lemmas.List.{drop-drop, get_or-take, take-take}
+use Rattle.disk_model.specs.Told.{Told, BothTold}
+use Rattle.disk_model.proofs.ToldLemmas.{Told-after, Told-weaker, Told-both}
+use Rattle.ldar_facts.specs.declared.batch.Batch.{Batch}
+use Rattle.ldar_facts.specs.Fields.{big_endian}
+use Rattle.ldar_journal.specs.Image.{IsBatch, payload, frame, fact_count, IsFrame, IsFront, IsKept, EndsAt, Opens}
+use Rattle.ldar_journal.specs.FrameAt.{IsFrameOf}
+use Rattle.ldar_journal.specs.Gates.{PutsBehind, HoldsBehind, SameButGate}
+use Rattle.ldar_journal.specs.Shelf.{behind_gate, IsInDoubt, Stands, IsShelved, OpensEither}
+use Rattle.ldar_journal.proofs.Frames.{length-payload, fact_count-some}
+use Rattle.ldar_journal.proofs.Histories.{at_place, front_grows, IsKept-front}
+
+-- a frame and what stands behind its gate are of one length
+length-behind_gate : (batches : List Batch) → length (behind_gate batches) ≡ length (frame batches)
+length-behind_gate batches = omega (arith, length-append (payload batches) (0 ∷ []))
+
+-- with the open gate the frame stands, and a closed gate behind it
+pub opened : (bytes : List ℕ) (place : ℕ) (history batches : List Batch) → IsInDoubt bytes place history batches → get_or bytes place 0 ≡ 1
+    → EndsAt bytes (place + length (behind_gate batches)) (history ++ batches)
+opened bytes place history batches stands open_gate =
+    let used = length (frame batches) in
+    let whole : drop place bytes ≡ frame batches ++ 0 ∷ stands.rest =
+        at_place bytes place stands.within ∙ ap₂ (λ (gate : ℕ) (l : List ℕ). gate ∷ l) open_gate stands.stands
+        ∙ ap (λ (l : List ℕ). 1 ∷ (big_endian 4 (length (payload batches)) ++ l)) (append_assoc (payload batches) (0 ∷ []) stands.rest) in
+    let after : drop used (drop place bytes) ≡ 0 ∷ stands.rest = ap (drop used) whole ∙ drop-append_seam (frame batches) (0 ∷ stands.rest) in
+    let long : length bytes - place ≡ used + length (0 ∷ stands.rest) = sym (length-drop place bytes) ∙ ap length whole ∙ length-append (frame batches) (0 ∷ stands.rest) in
+    let is_frame : IsFrameOf (drop place bytes) batches used = record {
+        is = stands.is;
+        used_is = refl;
+        within = omega (arith, length-drop place bytes);
+        stands = whole ∙ ap (λ (l : List ℕ). frame batches ++ l) (sym after);
+    } in
+    let within : place + used < length bytes = omega (arith, stands.within) in
+    let gate : get_or bytes (place + used) 0 ≡ 0 = shut_gate (sym (at_place bytes (place + used) within) ∙ drop_twice ∙ after) in
+    rw (length-behind_gate batches) (record {
+        within = within;
+        front = front_grows bytes place used history batches stands.front is_frame;
+        closed = zero_is_not_one (get_or bytes (place + used) 0) gate;
+        kept = stands.kept;
+    })
+  where
+    drop_twice : drop (place + length (frame batches)) bytes ≡ drop (length (frame batches)) (drop place bytes)
+    drop_twice = sym (drop-drop (length (frame batches)) place bytes)
+    shut_gate : {a b : ℕ} {x y : List ℕ} → a ∷ x ≡ b ∷ y → a ≡ b
+    shut_gate e = cc
+    zero_is_not_one : (n : ℕ) → n ≡ 0 → n ≡ 1 → ⊥
+    zero_is_not_one n zero one = omega arith
+
+-- what opens to a history, or stands in doubt behind it, opens to one of the two
+pub Stands-opens : (bytes : List ℕ) (place : ℕ) (history doubt : List Batch) → Stands bytes place history doubt → OpensEither bytes history doubt
+Stands-opens bytes place history [] ends = inl (place, ends)
+Stands-opens bytes place history (b ∷ doubt) stands = in_doubt (cases_eq (get_or bytes place 0) 1)
+  where
+    in_doubt : (get_or bytes place 0 ≡ 1) ⊎ (get_or bytes place 0 ≢ 1) → OpensEither bytes history (b ∷ doubt)
+    in_doubt (inl open_gate) = inr (place + length (behind_gate (b ∷ doubt)), opened bytes place history (b ∷ doubt) stands open_gate)
+    in_doubt (inr shut) = inl (place, record { within = stands.within; front = stands.front; closed = shut; kept = IsKept-front history (b ∷ doubt) stands.kept })
+
+-- bytes behind the gate of the last frame change nothing of the history
+pub put_behind_stays : (gate : ℕ) (history : List Batch) (old new : List ℕ) → EndsAt old gate history → (gate < length old → PutsBehind gate old new) → EndsAt new gate history
+put_behind_stays gate history old new ends puts =
+    let put = puts ends.within in
+    let front : take gate new ≡ take gate old = take_gate new ∙ ap (take gate) put.front ∙ sym (take_gate old) in
+    let byte : get_or new gate 0 ≡ get_or old gate 0 = sym (get_or-take (gate + 1) new gate 0 (omega arith)) ∙ ap (λ (l : List ℕ). get_or l gate 0) put.front ∙ get_or-take (gate + 1) old gate 0 (omega arith) in
+    record {
+      within = put.within;
+      front = subst (λ (l : List ℕ). IsFront l history) (sym front) ends.front;
+      closed = λ e. ends.closed (sym byte ∙ e);
+      kept = ends.kept;
+    }
+  where
+    take_gate : (l : List ℕ) → take gate l ≡ take gate (take (gate + 1) l)
+    take_gate l = sym (take-take gate (gate + 1) l (omega arith))
+
+-- a frame behind a gate that is being opened is in doubt
+pub put_in_doubt : (gate : ℕ) (history batches : List Batch) → IsFrame batches → IsKept (history ++ batches) → (old new : List ℕ)
+    → EndsAt old gate history × HoldsBehind gate (behind_gate batches) old → (gate < length old → SameButGate gate old new) → IsInDoubt new gate history batches
+put_in_doubt gate history batches is kept old new both sames =
+    let ends = both.0 in
+    let holds = both.1 in
+    let same = sames ends.within in
+    record {
+      within = same.within;
+      front = subst (λ (l : List ℕ). IsFront l history) (sym same.front) ends.front;
+      is = is;
+      kept = kept;
+      rest = holds.rest;
+      stands = same.behind ∙ holds.stands;
+    }
+
+-- a journal with a frame in doubt stands where its frame has a batch
+pub Stands-doubt : (bytes : List ℕ) (place : ℕ) (history batches : List Batch) → 0 < length batches → IsInDoubt bytes place history batches → Stands bytes place history batches
+Stands-doubt bytes place history [] some stands = absurd (omega arith)
+Stands-doubt bytes place history (b ∷ batches) some stands = stands
+
+-- what a journal's disk tells after each step of an append
+pub told_opens : (now : Option (List ℕ)) (place : ℕ) (history doubt : List Batch) → Told now (λ bytes. Stands bytes place history doubt) → Told now (λ bytes. OpensEither bytes history doubt)
+told_opens now place history doubt = Told-weaker (λ bytes. Stands bytes place history doubt) (λ bytes. OpensEither bytes history doubt) (λ bytes. Stands-opens bytes place history doubt) now
+
+pub told_put : (old new : Option (List ℕ)) (gate : ℕ) (history batches : List Batch) → Told old (λ bytes. EndsAt bytes gate history)
+    → BothTold old new (λ old new. gate < length old → PutsBehind gate old new) → BothTold old new (λ old new. gate < length old → HoldsBehind gate (behind_gate batches) new)
+    → Told new (λ bytes. EndsAt bytes gate history × HoldsBehind gate (behind_gate batches) bytes)
+told_put old new gate history batches ends puts holds =
+    Told-both (λ bytes. EndsAt bytes gate history) (λ bytes. HoldsBehind gate (behind_gate batches) bytes) new
+        (Told-after (λ bytes. EndsAt bytes gate history) (λ bytes. EndsAt bytes gate history) (λ old new. gate < length old → PutsBehind gate old new) (put_behind_stays gate history) old new ends puts)
+        (Told-after (λ bytes. EndsAt bytes gate history) (λ bytes. HoldsBehind gate (behind_gate batches) bytes) (λ old new. gate < length old → HoldsBehind gate (behind_gate batches) new) (λ old new ends holds. holds ends.within) old new ends holds)
+
+pub told_in_doubt : (old new : Option (List ℕ)) (gate : ℕ) (history batches : List Batch) → IsFrame batches → IsKept (history ++ batches)
+    → Told old (λ bytes. EndsAt bytes gate history × HoldsBehind gate (behind_gate batches) bytes) → BothTold old new (λ old new. gate < length old → SameButGate gate old new)
+    → Told new (λ bytes. IsInDoubt bytes gate history batches)
+told_in_doubt old new gate history batches is kept put same =
+    Told-after (λ bytes. EndsAt bytes gate history × HoldsBehind gate (behind_gate batches) bytes) (λ bytes. IsInDoubt bytes gate history batches) (λ old new. gate < length old → SameButGate gate old new)
+        (put_in_doubt gate history batches is kept) old new put same
+
+pub told_opened : (old new : Option (List ℕ)) (gate : ℕ) (history batches : List Batch) → IsFrame batches → IsKept (history ++ batches)
+    → Told old (λ bytes. EndsAt bytes gate history × HoldsBehind gate (behind_gate batches) bytes)
+    → BothTold old new (λ old new. gate < length old → SameButGate gate old new) → BothTold old new (λ old new. gate < length old → slice_index new gate ≡ 1)
+    → Told new (λ bytes. EndsAt bytes (gate + length (behind_gate batches)) (history ++ batches))
+told_opened old new gate history batches is kept put same open_gate =
+    let doubt = told_in_doubt old new gate history batches is kept put same in
+    let gates = Told-after (λ bytes. EndsAt bytes gate history × HoldsBehind gate (behind_gate batches) bytes) (λ bytes. slice_index bytes gate ≡ 1) (λ old new. gate < length old → slice_index new gate ≡ 1)
+        (λ old new put opens. opens put.0.within) old new put open_gate in
+    Told-weaker (λ bytes. IsInDoubt bytes gate history batches × (slice_index bytes gate ≡ 1)) (λ bytes. EndsAt bytes (gate + length (behind_gate batches)) (history ++ batches))
+        (λ bytes both. opened bytes gate history batches both.0 both.1) new (Told-both (λ bytes. IsInDoubt bytes gate history batches) (λ bytes. slice_index bytes gate ≡ 1) new doubt gates)
+
+-- the place of the next gate grows no faster than the facts
+pub place_fits : (place : ℕ) (history batches : List Batch) → IsFrame batches → place ≤ 16 + 188_565 * fact_count history
+    → place + length (behind_gate batches) ≤ 16 + 188_565 * fact_count (history ++ batches)
+place_fits place history batches is fits =
+    let long = length-payload batches is.each in
+    let some = fact_count-some batches is.each in
+    omega (arith, length-append (payload batches) (0 ∷ []), sum_by-append (λ (batch : Batch). length batch.facts) history batches, is.some, is.fits)
+
+-- a settled journal with a frame to append
+pub record IsReady (content : Option (List ℕ)) (gate : ℕ) (history doubt batches : List Batch) : Type 0 where
+  pub ends : Told content (λ bytes. EndsAt bytes gate history)
+  pub none : doubt ≡ []
+  pub is : IsFrame batches
+  pub kept : IsKept (history ++ batches)
+  pub front_kept : IsKept history
+  pub fits : gate ≤ 16 + 188_565 * fact_count history
+
+pub ready : (content : Option (List ℕ)) (gate : ℕ) (history doubt batches : List Batch) → IsShelved content gate history doubt → doubt ≡ [] → IsFrame batches → IsKept (history ++ batches)
+    → IsReady content gate history doubt batches
+ready content gate history doubt batches shelved none is kept = record {
+  ends = subst (λ (d : List Batch). Told content (λ bytes. Stands bytes gate history d)) none shelved.stands;
+  none = none;
+  is = is;
+  kept = kept;
+  front_kept = shelved.kept;
+  fits = shelved.fits;
+}
+
+module _ (old : Option (List ℕ)) (gate : ℕ) (history doubt batches : List Batch) (is_ready : IsReady old gate history doubt batches) where
+
+  -- a fault behind the gate leaves the history
+  pub stays : (new : Option (List ℕ)) → BothTold old new (λ old new. gate < length old → PutsBehind gate old new) → Told new (λ bytes. OpensEither bytes history doubt)
+  stays new puts =
+      Told-weaker (λ bytes. EndsAt bytes gate history) (λ bytes. OpensEither bytes history doubt) (λ bytes ends. inl (gate, ends)) new
+          (Told-after (λ bytes. EndsAt bytes gate history) (λ bytes. EndsAt bytes gate history) (λ old new. gate < length old → PutsBehind gate old new) (put_behind_stays gate history) old new is_ready.ends puts)
+
+  module _ (middle new : Option (List ℕ))
+      (puts : BothTold old middle (λ old new. gate < length old → PutsBehind gate old new))
+      (holds : BothTold old middle (λ old new. gate < length old → HoldsBehind gate (behind_gate batches) new))
+      (same : BothTold middle new (λ old new. gate < length old → SameButGate gate old new)) where
+
+    put : Told middle (λ bytes. EndsAt bytes gate history × HoldsBehind gate (behind_gate batches) bytes)
+    put = told_put old middle gate history batches is_ready.ends puts holds
+
+    -- a fault at the gate leaves the frame in doubt
+    pub in_doubt : Told new (λ bytes. Stands bytes gate history batches)
+    in_doubt = Told-weaker (λ bytes. IsInDoubt bytes gate history batches) (λ bytes. Stands bytes gate history batches) (λ bytes. Stands-doubt bytes gate history batches is_ready.is.some) new
+        (told_in_doubt middle new gate history batches is_ready.is is_ready.kept put same)
+
+    -- the frame stands
+    pub appended : BothTold middle new (λ old new. gate < length old → slice_index new gate ≡ 1) → Told new (λ bytes. EndsAt bytes (gate + length (behind_gate batches)) (history ++ batches))
+    appended gates = told_opened middle new gate history batches is_ready.is is_ready.kept put same gates
+
+    pub IsShelved-torn : IsShelved new gate history batches
+    IsShelved-torn = record { stands = in_doubt; kept = is_ready.front_kept; fits = is_ready.fits }
+
+    pub IsShelved-appended : BothTold middle new (λ old new. gate < length old → slice_index new gate ≡ 1) → IsShelved new (gate + length (behind_gate batches)) (history ++ batches) doubt
+    IsShelved-appended gates = rw is_ready.none (record { stands = appended gates; kept = is_ready.kept; fits = place_fits gate history batches is_ready.is is_ready.fits })
+
+-- what a call that answered Ok promises
+pub from_ok : {T E : Type 0} (r : Result T E) {P : Type 0} → is_err r ≡ false → OnOk r P → P
+from_ok (Ok v) ok promised = promised
+from_ok (Err e) ok promised = absurd (false≢true (sym ok))

@@ -1,0 +1,14 @@
+use Rattle.std.proofs.Common.{◌≡◌, ◌-◌, ◌≤◌, length, take}
+use Rattle.ldar_journal.specs.Image.{header, IsFront, IsKept}
+use Rattle.ldar_journal.proofs.image.read_image.Given as goal
+
+-- the front up to the place is the header and whole frames of what was taken
+abbrev pub invariant-loop-alloc : goal.invariant-loop-alloc
+invariant-loop-alloc l = record {
+  within : l.place ≤ length l.image;
+  front : IsFront (take l.place l.image) l.accepted;
+  kept : IsKept l.accepted;
+}
+
+abbrev pub decreases-loop-alloc : goal.decreases-loop-alloc
+decreases-loop-alloc l = length l.image - l.place

@@ -1,0 +1,18 @@
+-- What the writes of an append do to the bytes.
+use Rattle.std.specs.Prelude.{◌≡◌, ℕ, ◌+◌, ◌<◌, ◌≤◌, List, ◌++◌, length, take, drop, slice_index}
+
+-- the bytes up to a gate and the gate itself are as they were
+pub record PutsBehind (gate : ℕ) (old new : List ℕ) : Type 0 where
+  pub within : gate < length new
+  pub front : take (gate + 1) new ≡ take (gate + 1) old
+
+-- these bytes stand behind the gate
+pub record HoldsBehind (gate : ℕ) (bytes new : List ℕ) : Type 0 where
+  pub rest : List ℕ
+  pub stands : drop (gate + 1) new ≡ bytes ++ rest
+
+-- all bytes but the gate are as they were
+pub record SameButGate (gate : ℕ) (old new : List ℕ) : Type 0 where
+  pub within : gate < length new
+  pub front : take gate new ≡ take gate old
+  pub behind : drop (gate + 1) new ≡ drop (gate + 1) old

@@ -1,0 +1,60 @@
+-- The bytes of a journal, and the history that they open to.
+use Rattle.std.specs.Prelude.{◌≡◌, ◌≢◌, ℕ, ◌+◌, ◌<◌, ◌≤◌, List, [], ◌∷◌, ◌++◌, length, take, drop, codes, replicate, sum_by, slice_index, IsTrue}
+use Rattle.std.specs.List.{flat_map, AllByRecursion}
+use Rattle.ldar_facts.specs.declared.batch.Batch.{Batch}
+use Rattle.ldar_facts.specs.Fields.{IsFilled, big_endian}
+use Rattle.ldar_facts.specs.Grammar.{batch_fields, spelled}
+use Rattle.ldar_facts.specs.Identity.{identities_differ}
+
+-- what a journal begins with: its name and version in letters, and eight zero bytes
+abbrev pub header : List ℕ
+header = codes "LDARJNL1" ++ replicate 8 0
+
+-- each field of the batch is in its width and range
+unfoldable pub IsBatch : Batch → Type 0
+IsBatch batch = AllByRecursion IsFilled (batch_fields batch)
+
+-- the bytes of a batch
+unfoldable pub spelling : Batch → List ℕ
+spelling batch = spelled (batch_fields batch)
+
+-- batches one after the other
+abbrev pub payload : List Batch → List ℕ
+payload batches = flat_map spelling batches
+
+-- an open frame: the gate 1, the length of the payload in four bytes, and the payload
+abbrev pub frame : List Batch → List ℕ
+frame batches = 1 ∷ (big_endian 4 (length (payload batches)) ++ payload batches)
+
+-- what a frame may hold: 1 to 16 batches
+pub record IsFrame (batches : List Batch) : Type 0 where
+  pub some : 0 < length batches
+  pub fits : length batches ≤ 16
+  pub each : AllByRecursion IsBatch batches
+
+-- these bytes are the header and whole open frames, whose batches in order are the history
+pub record IsFront (front : List ℕ) (history : List Batch) : Type 0 where
+  pub frames : List (List Batch)
+  pub each : AllByRecursion IsFrame frames
+  pub batches : flat_map (λ batches. batches) frames ≡ history
+  pub spells : front ≡ header ++ flat_map frame frames
+
+-- how many facts the batches have
+abbrev pub fact_count : List Batch → ℕ
+fact_count history = sum_by (λ batch. length batch.facts) history
+
+-- what a journal may keep: each identity once, and at most 8,000,000 facts
+pub record IsKept (history : List Batch) : Type 0 where
+  pub differ : IsTrue (identities_differ history)
+  pub fits : fact_count history ≤ 8_000_000
+
+-- the image opens to this history, whose last frame ends at this place, at which a closed gate stands; what follows it is free
+pub record EndsAt (image : List ℕ) (place : ℕ) (history : List Batch) : Type 0 where
+  pub within : place < length image
+  pub front : IsFront (take place image) history
+  pub closed : slice_index image place ≢ 1
+  pub kept : IsKept history
+
+-- the image opens to this history
+abbrev pub Opens : List ℕ → List Batch → Type 0
+Opens image history = (place : ℕ) × EndsAt image place history

@@ -1,0 +1,51 @@
+ghost use Rattle.std.specs.Prelude.{◌≡◌, ◌<◌, ◌≤◌, [], ◌∷◌, ◌++◌, length, OnOk, Err};
+ghost use Rattle.disk_model.specs.Faults.{Rose};
+ghost use Rattle.disk_model.specs.Told.{BothTold};
+ghost use Rattle.ldar_journal.specs.Image.{header};
+
+use disk_model::{Disk, DiskFault};
+
+/// The bytes of an empty journal: the header and a closed gate.
+const EMPTY: [u8; 17] = *b"LDARJNL1\0\0\0\0\0\0\0\0\0";
+
+/// Why no journal was made.
+#[derive(Clone, Copy, Debug, PartialEq, Eq)]
+pub enum CreateError {
+    /// A byte stands on the disk already. Nothing was written.
+    NotEmpty,
+    /// A call of the disk failed. What it holds then is no journal, or the empty one.
+    Disk,
+}
+
+impl From<DiskFault> for CreateError {
+    ghost use Rattle.std.specs.Prelude.{◌≡◌};
+    ghost use Rattle.ldar_journal.specs.declared.creation.CreateError.TheVariants.{Disk as DiskError};
+
+    ghost from_gives = { λ _ e. e ≡ DiskError };
+
+    fn from(_e: DiskFault) -> CreateError {
+        CreateError::Disk
+    }
+}
+
+/// Makes an empty journal on an empty disk: the header and a closed gate, in one write, and a sync.
+pub fn create<D: Disk>(disk: &mut D) -> Result<(), CreateError>
+    // It is not empty exactly where a byte could be read.
+    ensures value { OnOk result (BothTold (D.content disk.old) (D.content disk.new)
+        (λ old new. (old ≡ []) × (new ≡ header ++ 0 ∷ []))) }
+    ensures not_empty { result ≡ Err CreateError.NotEmpty → BothTold (D.content disk.old) (D.content disk.new)
+        (λ old new. (0 < length old) × (new ≡ old)) }
+
+    ensures time { D.clock disk.old ≤ D.clock disk.new }
+    ensures name { D.name disk.new ≡ D.name disk.old }
+    ensures count { D.faults disk.old ≤ D.faults disk.new }
+    ensures cause { result ≡ Err CreateError.Disk → Rose (D.faults disk.old) (D.faults disk.new) }
+{
+    let mut first = [0u8; 1];
+    if disk.read_at(0, &mut first)? > 0 {
+        return Err(CreateError::NotEmpty);
+    }
+    disk.write_at(0, &EMPTY)?;
+    disk.sync()?;
+    Ok(())
+}

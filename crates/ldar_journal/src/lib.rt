@@ -1,0 +1,18 @@
+//! A journal of accepted batches in a file, behind gates that a crash leaves closed.
+#![tactic(auto)]
+
+mod accepted;
+mod creation;
+mod frame;
+mod history;
+mod image;
+mod journal;
+pub mod laws;
+mod opening;
+mod prepared;
+
+pub use accepted::{Accepted, MOST_FACTS};
+pub use creation::{CreateError, create};
+pub use journal::{Journal, Torn};
+pub use opening::{OpenError, OpenWhy, open_accepted, open_journal};
+pub use prepared::{Frame, prepare};

@@ -1,0 +1,76 @@
+ghost use Rattle.std.specs.Prelude.{◌≡◌, ◌<◌, ◌≤◌, [], ◌∷◌, ◌++◌, length, IfOk, OnOk};
+ghost use Rattle.std.specs.List.{AllByRecursion};
+ghost use Rattle.ldar_journal.specs.Image.{IsBatch, payload, IsFrame};
+ghost use Rattle.ldar_journal.specs.Shelf.{behind_gate};
+
+use crate::history::{Chapter, History};
+use ldar_facts::{Batch, Memory, write_batch};
+use std::alloc::Global;
+use std::marker::Model;
+
+/// A frame made ready to be appended: what will stand behind its gate. Contracts see its batches.
+#[derive(Drop)]
+pub struct Frame {
+    bytes: Vec<u8>,
+    batches: Chapter,
+}
+
+impl Model for Frame {
+    ghost use Rattle.std.specs.Prelude.{◌≡◌, List};
+    ghost use Rattle.ldar_facts.specs.declared.batch.Batch.{Batch};
+    ghost use Rattle.ldar_journal.specs.Image.{IsFrame};
+    ghost use Rattle.ldar_journal.specs.Shelf.{behind_gate};
+
+    ghost Value = { List Batch };
+
+    ghost view = { λ f. f.batches };
+
+    ghost invariant = { λ f. IsFrame f.batches × (f.bytes.items ≡ behind_gate f.batches) };
+}
+
+impl Frame {
+    /// What stands behind the gate of this frame: its length, its payload and a closed gate.
+    pub fn bytes(&self) -> &[u8]
+        ensures value { result.now ≡ behind_gate self.now }
+        ensures is_frame { IsFrame self.now }
+    {
+        self.bytes.as_slice()
+    }
+
+    /// Adds the batches of this frame to a history.
+    pub fn add_to(&self, history: &mut History)
+        ensures { history.new ≡ history.old ++ self.now }
+    {
+        history.push(&self.batches);
+    }
+}
+
+/// Makes a frame of 1 to 16 batches ready.
+pub fn prepare(alloc: Global, batches: &[Batch]) -> Result<Frame, Memory>
+    requires some { 0 < length batches.now }
+    requires fits { length batches.now ≤ 16 }
+    ensures value { IfOk result (λ frame. frame ≡ batches.now) }
+{
+    let payload = payload_of(alloc, batches)?;
+    let len = payload.len() as u32;
+    let mut bytes = Vec::with_capacity(alloc, payload.len() + 5)?;
+    bytes.extend_from_slice(&len.to_be_bytes())?;
+    bytes.extend_from_slice(&payload)?;
+    bytes.push(0)?;
+    Ok(Frame {
+        bytes,
+        batches: Chapter::of(batches),
+    })
+}
+
+/// The bytes of batches, one after the other.
+fn payload_of(alloc: Global, batches: &[Batch]) -> Result<Vec<u8>, Memory>
+    ensures value { IfOk result (λ bytes. bytes.items ≡ payload batches.now) }
+    ensures each { OnOk result (AllByRecursion IsBatch batches.now) }
+{
+    let mut bytes = Vec::new(alloc);
+    for batch in batches {
+        write_batch(alloc, batch, &mut bytes)?;
+    }
+    Ok(bytes)
+}

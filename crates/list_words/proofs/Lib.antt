@@ -1,0 +1,10 @@
+pub mod Ascending
+pub mod CutLemmas
+pub mod Members
+pub mod Narrowing
+pub mod OrderLaws
+pub mod PartLemmas
+pub mod PutLemmas
+pub mod RangeLemmas
+pub mod WordLaws
+pub mod WordLemmas

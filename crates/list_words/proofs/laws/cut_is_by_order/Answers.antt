@@ -1,0 +1,5 @@
+use Rattle.list_words.proofs.OrderLaws.{cut_is_by_order}
+use Rattle.list_words.proofs.laws.cut_is_by_order.Goals as goal
+
+pub returns : goal.returns
+returns g c = cut_is_by_order _

@@ -1,0 +1,5 @@
+use Rattle.list_words.proofs.PartLemmas.{cut_joins}
+use Rattle.list_words.proofs.laws.cut_joins.Goals as goal
+
+pub returns : goal.returns
+returns g c = cut_joins _

@@ -1,0 +1,5 @@
+use Rattle.list_words.proofs.WordLaws.{first_where_is_first}
+use Rattle.list_words.proofs.laws.first_element.Goals as goal
+
+pub returns : goal.returns
+returns g c = first_where_is_first _

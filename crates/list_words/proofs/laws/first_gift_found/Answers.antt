@@ -1,0 +1,5 @@
+use Rattle.list_words.proofs.WordLaws.{first_given_finds}
+use Rattle.list_words.proofs.laws.first_gift_found.Goals as goal
+
+pub returns : goal.returns
+returns g c = first_given_finds _ _

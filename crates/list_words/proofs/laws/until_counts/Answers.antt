@@ -1,0 +1,5 @@
+use Rattle.list_words.proofs.RangeLemmas.{until_counts}
+use Rattle.list_words.proofs.laws.until_counts.Goals as goal
+
+pub returns : goal.returns
+returns c = until_counts

@@ -1,0 +1,4 @@
+pub mod Order
+pub mod Parts
+pub mod Ranges
+pub mod Words
