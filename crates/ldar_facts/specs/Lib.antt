@@ -5,6 +5,7 @@ pub mod Fields
 pub mod Form
 pub mod Front
 pub mod Grammar
+pub mod Identity
 pub mod Letters
 pub mod Name
 pub mod Number
