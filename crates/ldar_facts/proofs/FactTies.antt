@@ -16,11 +16,11 @@ use Rattle.ldar_facts.proofs.BodyTies as kind
 
 -- ---- a fact
 
-abbrev stated : ℕ → ℕ → FactBody → Stated
+abbrev pub stated : ℕ → ℕ → FactBody → Stated
 stated day minute body = record { day = day; minute = minute; body = body }
 
-same_fact : (d d' m m' : ℕ) (b b' : FactBody) → d ≡ d' → m ≡ m' → b ≡ b' → stated d m b ≡ stated d' m' b'
-same_fact d d' m m' b b' x y z = cc
+pub same_stated : (d d' m m' : ℕ) (b b' : FactBody) → d ≡ d' → m ≡ m' → b ≡ b' → stated d m b ≡ stated d' m' b'
+same_stated d d' m m' b b' x y z = cc
 
 fact_path : (fact : Stated) → AllByRecursion IsFilled (fact_fields fact) → (p : (forms.fact).Path) × ((forms.fact).value p ≡ fact)
 unfolding forms.fact
@@ -29,7 +29,7 @@ fact_path fact h =
     let d = field.day.path fact.day h.1.0 in
     let m = field.minute.path fact.minute h.1.1.0 in
     let b = subst (λ j. (q : (forms.body j).Path) × ((forms.body j).value q ≡ fact.body)) (sym k.1) (kind.path fact.body h.1.1.1) in
-    ((k.0, (d.0, (m.0, (b.0, tt)))), same_fact _ fact.day _ fact.minute _ fact.body d.1 m.1 b.1)
+    ((k.0, (d.0, (m.0, (b.0, tt)))), same_stated _ fact.day _ fact.minute _ fact.body d.1 m.1 b.1)
 
 pub fact : AreFields forms.fact fact_fields
 unfolding forms.fact

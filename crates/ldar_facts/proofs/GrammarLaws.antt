@@ -35,7 +35,7 @@ name_length name is = omega (arith, is.fits, length-append name (replicate (12 -
 
 -- a fact has 2 to 18 bytes after its kind, day and minute
 body_length : (b : FactBody) → AllByRecursion IsFilled (body_fields b) → (2 ≤ length (spelled (body_fields b))) × (length (spelled (body_fields b)) ≤ 18)
-body_length (UnitFact unit older name) h = 
+body_length (UnitFact unit older name) h =
     let is = name_length name h.1.1.0 in
     let whole : length (spelled_name name ++ []) ≡ 12 = ap length (append-nil (spelled_name name)) ∙ is in
     let len : length (spelled (body_fields (UnitFact unit older name))) ≡ suc (suc (length (spelled_name name ++ []))) = refl in
@@ -67,7 +67,7 @@ facts_length (fact ∷ facts) h =
     let one = fact_length fact parts.0 in
     let rest = facts_length facts parts.1 in
     let both : length (spelled (fact_fields fact ++ flat_map fact_fields facts)) ≡ length (spelled (fact_fields fact)) + length (spelled (flat_map fact_fields facts))
-      = ap length (spelled-append (fact_fields fact) (flat_map fact_fields facts)) ∙ length-append (spelled (fact_fields fact)) (spelled (flat_map fact_fields facts)) in
+    = ap length (spelled-append (fact_fields fact) (flat_map fact_fields facts)) ∙ length-append (spelled (fact_fields fact)) (spelled (flat_map fact_fields facts)) in
     (omega (arith, both, one.0, rest.0), omega (arith, both, one.1, rest.1))
 
 -- a batch has 9 bytes before its facts

@@ -7,20 +7,17 @@ ghost use Rattle.ldar_facts.specs.Grammar.{Spells, Begins, IsFirstWrongPlace};
 /// Some bytes spell at most one batch.
 pub fn one_batch()
     ensures { (bytes : List ℕ) (batch other : Batch) → Spells bytes batch → Spells bytes other → batch ≡ other }
-{
-}
+{}
 
 /// A batch has one spelling.
 pub fn one_spelling()
     ensures { (bytes other : List ℕ) (batch : Batch) → Spells bytes batch → Spells other batch → bytes ≡ other }
-{
-}
+{}
 
 /// No spelling is a proper front of another.
 pub fn no_proper_front()
     ensures { (bytes more : List ℕ) (batch other : Batch) → Spells bytes batch → Spells (bytes ++ more) other → more ≡ [] }
-{
-}
+{}
 
 /// A spelling has 9 bytes and 7 to 23 for each fact: 16 to 11,785.
 pub fn spelling_length()
@@ -28,12 +25,10 @@ pub fn spelling_length()
         → (9 + 7 * length batch.facts ≤ length bytes) × (length bytes ≤ 9 + 23 * length batch.facts) }
     ensures in_range { (bytes : List ℕ) (batch : Batch) → Spells bytes batch
         → (16 ≤ length bytes) × (length bytes ≤ 11_785) }
-{
-}
+{}
 
 /// Bytes that begin a batch have no wrong place, and others have one first wrong place at most.
 pub fn one_wrong_place()
     ensures none { (bytes : List ℕ) (at : ℕ) → Begins bytes → ¬ (IsFirstWrongPlace bytes at) }
     ensures one { (bytes : List ℕ) (at other : ℕ) → IsFirstWrongPlace bytes at → IsFirstWrongPlace bytes other → at ≡ other }
-{
-}
+{}
