@@ -1,18 +1,19 @@
-use Rattle.std.proofs.Common.{◌≡◌, ℕ, ◌+◌, Bool, true, false, ◌||◌, cond, Vec, Option, Some, List, [], ◌∷◌, ◌++◌, length, drop, slice_get, count_by, refl, sym, ap, ◌∙◌, subst, arith}
+use Rattle.std.proofs.Common.{◌≡◌, ℕ, ◌+◌, Bool, true, false, ◌||◌, cond, Vec, Option, Some, List, [], ◌∷◌, ◌++◌, length, drop, slice_get, count_by, refl, sym, ap, ◌∙◌, subst, inl, arith}
 use Rattle.std.specs.List.{AllByRecursion}
 use Rattle.std.specs.Ordering.{is_eq}
-use Rattle.std.proofs.lemmas.Bool.{or_parts, false≢true}
+use Rattle.std.proofs.lemmas.Bool.{or_parts, or_from, false≢true}
 use Rattle.std.proofs.lemmas.List.{drop-drop, length_push}
 use Rattle.std.proofs.lemmas.List.Sums.{sum_by-cons}
 use Rattle.list_words.specs.Order.{put_in_order, in_order, AllApart}
 use Rattle.list_words.proofs.Ascending.{apart_append, ascends_in_order, put_each_in_order}
+use Rattle.list_words.proofs.Members.{all_at, among_right}
 use Rattle.list_words.proofs.PutLemmas.{filter-put, ascends_filter}
 use Rattle.ldar_facts.specs.declared.body.FactBody.{FactBody}
 use Rattle.ldar_facts.specs.declared.key.Key.{Key}
 use Rattle.ldar_facts.specs.Facts.{Entry, key_cmp, goes_first}
 use Rattle.ldar_facts.specs.Named.{is_numbered}
 use Rattle.ldar_facts.specs.Stated.{Stated}
-use Rattle.ldar_facts.proofs.KeyOrder.{strict_goes_first, apart_keys}
+use Rattle.ldar_facts.proofs.KeyOrder.{strict_goes_first, apart_keys, no_tie}
 use Rattle.fact_store.specs.declared.place.Place.{Place}
 use Rattle.fact_store.specs.Kept.{names, is_held}
 use Rattle.fact_store.specs.Lists.{OnlyGrows, CanTake, Takes}
@@ -92,3 +93,10 @@ has_come naming arrived reserved used key fact old new number first named apart 
     keeps_taken naming arrived key fact (drop (used + 1) reserved) old new apart (apart_more arrived key fact apart new_key)
     (subst (λ spare. KeepsLists naming arrived spare old) (spare_first reserved used fact first) keeps)
     (subst (λ n. Takes arrived n key old new) named takes)
+
+-- of facts of which no two tie, none of those before one has its key
+pub not_held : (arrived : List Entry) (e : Entry) (rest : List Entry) → AllApart goes_first (arrived ++ e ∷ rest) → is_held e.0 arrived ≡ false
+not_held [] e rest apart = refl
+not_held (x ∷ xs) e rest apart =
+    let differ = all_at (λ y. (goes_first x y || goes_first y x) ≡ true) (xs ++ e ∷ rest) e apart.0 (among_right xs (e ∷ rest) e (inl refl)) in
+    or_from (is_eq (key_cmp x.0 e.0)) (is_held e.0 xs) (no_tie x.0 e.0 differ) (not_held xs e rest apart.1)

@@ -1,6 +1,7 @@
-use Rattle.std.proofs.Common.{◌≡◌, ℕ, ◌<◌, true, ◌||◌, Ordering, refl, subst, ap}
+use Rattle.std.proofs.Common.{◌≡◌, ℕ, ◌<◌, true, false, ◌||◌, Ordering, refl, subst, ap}
 use Rattle.std.specs.Cmp.{IsTotalOrder}
-use Rattle.std.specs.Ordering.{is_lt, ordering_reverse, ordering_then, nat_cmp, MatchOrdering}
+use Rattle.std.proofs.lemmas.Bool.{false≢true}
+use Rattle.std.specs.Ordering.{is_lt, is_eq, ordering_reverse, ordering_then, nat_cmp, MatchOrdering}
 use Rattle.std.specs.declared.cmp.Ordering.TheVariants.{Less, Equal, Greater}
 use Rattle.std.proofs.lemmas.Cmp.{nat_cmp_total, on_total, then_total, tied_itself, ranked}
 use Rattle.list_words.specs.Order.{IsStrictOrder}
@@ -41,6 +42,17 @@ apart_answer Greater Greater e differ = cc
 -- of two keys that do not tie one is the earlier
 pub apart_keys : (a b : Key) → ¬ (key_cmp a b ≡ Equal) → (is_earlier a b || is_earlier b a) ≡ true
 apart_keys a b differ = apart_answer (key_cmp a b) (key_cmp b a) (key_cmp_total.antisymm a b) differ
+
+answer_apart : (o p : Ordering) → o ≡ ordering_reverse p → (is_lt o || is_lt p) ≡ true → is_eq o ≡ false
+answer_apart Less p e apart = refl
+answer_apart Equal Less e apart = cc
+answer_apart Equal Equal e apart = absurd (false≢true apart)
+answer_apart Equal Greater e apart = cc
+answer_apart Greater p e apart = refl
+
+-- keys of which one is before the other do not tie
+pub no_tie : (a b : Key) → (is_earlier a b || is_earlier b a) ≡ true → is_eq (key_cmp a b) ≡ false
+no_tie a b apart = answer_apart (key_cmp a b) (key_cmp b a) (key_cmp_total.antisymm a b) apart
 
 then_tied : (o p : Ordering) → ordering_then o p ≡ Equal → (o ≡ Equal) × (p ≡ Equal)
 then_tied Less p e = cc
