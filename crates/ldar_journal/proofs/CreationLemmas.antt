@@ -8,9 +8,12 @@ use Rattle.ldar_journal.specs.Image.{header, frame, IsFront, IsKept, EndsAt, Ope
 
 -- the header and a closed gate open to the empty history
 pub empty_opens : Opens (header ++ 0 ∷ []) []
-empty_opens = (16, record {
-  within = omega arith;
-  front = record { frames = []; each = tt; batches = refl; spells = refl };
-  closed = λ e. cc;
-  kept = record { differ = refl; fits = omega arith };
-})
+empty_opens = (
+  16,
+  record {
+    within = omega arith;
+    front = record { frames = []; each = tt; batches = refl; spells = refl };
+    closed = λ e. cc;
+    kept = record { differ = refl; fits = omega arith };
+  },
+)

@@ -95,7 +95,7 @@ payload_stands (a ∷ b ∷ c ∷ d ∷ []) rest found len long open_gate are_by
 payload_stands (a ∷ b ∷ c ∷ d ∷ e ∷ tail) rest found len long open_gate are_bytes len_is rest_is found_is some fits within =
     let long_is : length found ≡ len = ap length found_is ∙ length-take-le len rest within in
     let bytes_are : big_endian 4 len ≡ b ∷ c ∷ d ∷ e ∷ [] =
-        big_endian-bytes len ∙ be_bytes_4 (b ∷ c ∷ d ∷ e ∷ []) len refl (four b c d e (are_bytes 1) (are_bytes 2) (are_bytes 3) (are_bytes 4)) len_is in
+    big_endian-bytes len ∙ be_bytes_4 (b ∷ c ∷ d ∷ e ∷ []) len refl (four b c d e (are_bytes 1) (are_bytes 2) (are_bytes 3) (are_bytes 4)) len_is in
     let parts : tail ≡ found ++ drop len rest = sym rest_is ∙ sym (take-append-drop len rest) ∙ ap (λ (l : List ℕ). l ++ drop len rest) (sym found_is) in
     let head : b ∷ c ∷ d ∷ e ∷ [] ≡ big_endian 4 (length found) = sym bytes_are ∙ ap (big_endian 4) (sym long_is) in
     record {

@@ -77,13 +77,13 @@ continues_at image place end front history within is_front opens [] each frames 
     ends (omega arith) (sym is_front.batches ∙ ap all_of same ∙ opens.front.batches)
 continues_at image place end front history within is_front opens (f ∷ more) each frames bytes =
     let history_is : history ≡ (front ++ f) ++ all_of more =
-        sym opens.front.batches ∙ ap all_of frames ∙ flat_map-append (λ (batches : List Batch). batches) is_front.frames (f ∷ more)
-        ∙ ap (λ (l : List Batch). l ++ (f ++ all_of more)) is_front.batches ∙ sym (append_assoc front f (all_of more)) in
+    sym opens.front.batches ∙ ap all_of frames ∙ flat_map-append (λ (batches : List Batch). batches) is_front.frames (f ∷ more)
+    ∙ ap (λ (l : List Batch). l ++ (f ++ all_of more)) is_front.batches ∙ sym (append_assoc front f (all_of more)) in
     goes f (record {
-        is = each.0;
-        rest = framed more ++ drop end image;
-        stands = bytes ∙ append_assoc (frame f) (framed more) (drop end image);
-        kept = IsKept-front (front ++ f) (all_of more) (subst IsKept history_is opens.kept);
+      is = each.0;
+      rest = framed more ++ drop end image;
+      stands = bytes ∙ append_assoc (frame f) (framed more) (drop end image);
+      kept = IsKept-front (front ++ f) (all_of more) (subst IsKept history_is opens.kept);
     })
 
 pub continues : (image : List ℕ) (place end : ℕ) (front history : List Batch) → place ≤ length image → IsFront (take place image) front → EndsAt image end history → Continues image place front end history
@@ -128,7 +128,7 @@ pub front_grows : (image : List ℕ) (place used : ℕ) (history batches : List 
 front_grows image place used history batches is_front stands =
     let frame_is : take used (drop place image) ≡ frame batches = ap₂ (λ (n : ℕ) (l : List ℕ). take n l) stands.used_is stands.stands ∙ take-append_seam (frame batches) (drop used (drop place image)) in
     subst (λ (l : List ℕ). IsFront l (history ++ batches)) (ap (λ (l : List ℕ). take place image ++ l) (sym frame_is) ∙ sym (take-add place used image))
-        (IsFront-push (take place image) history batches is_front stands.is)
+    (IsFront-push (take place image) history batches is_front stands.is)
 
 -- a frame that can't be kept is bad, whatever other frame one might see there
 pub bad_frame : (image : List ℕ) (place used : ℕ) (history batches : List Batch) → IsFrameOf (drop place image) batches used → ¬ (IsKept (history ++ batches))
@@ -147,7 +147,7 @@ no_next image place end history front open_gate opens bad (goes batches next) = 
 pub damaged_opens_to_none : (image : List ℕ) (place : ℕ) (history : List Batch) → IsDamagedAt image place → ¬ (Opens image history)
 damaged_opens_to_none image place history damaged opens =
     no_next image place opens.0 history damaged.history damaged.open_gate opens.1 damaged.bad
-        (continues image place opens.0 damaged.history history damaged.within damaged.front opens.1)
+    (continues image place opens.0 damaged.history history damaged.within damaged.front opens.1)
 
 -- bytes without the header open to no history
 pub no_header_opens_to_none : (image : List ℕ) (history : List Batch) → take 16 image ≢ header → ¬ (Opens image history)

@@ -15,7 +15,7 @@ IsFrontOf-take n read bytes is = is ∙ sym (take_min n bytes) ∙ ap (λ (k : �
 pub IsFrontOf-more : (at count : ℕ) (bytes into into' read read' : List ℕ) → Reads at bytes into into' count → at ≡ length read → read' ≡ read ++ take count into' → IsFrontOf read bytes → IsFrontOf read' bytes
 IsFrontOf-more at count bytes into into' read read' reads at_is more front =
     IsFrontOf-take (at + count) read' bytes
-        (more ∙ ap (λ (l : List ℕ). l ++ take count into') (front ∙ ap (λ (n : ℕ). take n bytes) (sym at_is)) ∙ Reads-more at count bytes into into' reads)
+    (more ∙ ap (λ (l : List ℕ). l ++ take count into') (front ∙ ap (λ (n : ℕ). take n bytes) (sym at_is)) ∙ Reads-more at count bytes into into' reads)
 
 -- a front stays one over more pieces
 pub fronts_join : (old middle new : Option (List ℕ)) (before after : List ℕ)

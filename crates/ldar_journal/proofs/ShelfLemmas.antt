@@ -26,29 +26,31 @@ pub opened : (bytes : List ℕ) (place : ℕ) (history batches : List Batch) →
 opened bytes place history batches stands open_gate =
     let used = length (frame batches) in
     let whole : drop place bytes ≡ frame batches ++ 0 ∷ stands.rest =
-        at_place bytes place stands.within ∙ ap₂ (λ (gate : ℕ) (l : List ℕ). gate ∷ l) open_gate stands.stands
-        ∙ ap (λ (l : List ℕ). 1 ∷ (big_endian 4 (length (payload batches)) ++ l)) (append_assoc (payload batches) (0 ∷ []) stands.rest) in
+    at_place bytes place stands.within ∙ ap₂ (λ (gate : ℕ) (l : List ℕ). gate ∷ l) open_gate stands.stands
+    ∙ ap (λ (l : List ℕ). 1 ∷ (big_endian 4 (length (payload batches)) ++ l)) (append_assoc (payload batches) (0 ∷ []) stands.rest) in
     let after : drop used (drop place bytes) ≡ 0 ∷ stands.rest = ap (drop used) whole ∙ drop-append_seam (frame batches) (0 ∷ stands.rest) in
     let long : length bytes - place ≡ used + length (0 ∷ stands.rest) = sym (length-drop place bytes) ∙ ap length whole ∙ length-append (frame batches) (0 ∷ stands.rest) in
     let is_frame : IsFrameOf (drop place bytes) batches used = record {
-        is = stands.is;
-        used_is = refl;
-        within = omega (arith, length-drop place bytes);
-        stands = whole ∙ ap (λ (l : List ℕ). frame batches ++ l) (sym after);
+      is = stands.is;
+      used_is = refl;
+      within = omega (arith, length-drop place bytes);
+      stands = whole ∙ ap (λ (l : List ℕ). frame batches ++ l) (sym after);
     } in
     let within : place + used < length bytes = omega (arith, stands.within) in
     let gate : get_or bytes (place + used) 0 ≡ 0 = shut_gate (sym (at_place bytes (place + used) within) ∙ drop_twice ∙ after) in
     rw (length-behind_gate batches) (record {
-        within = within;
-        front = front_grows bytes place used history batches stands.front is_frame;
-        closed = zero_is_not_one (get_or bytes (place + used) 0) gate;
-        kept = stands.kept;
+      within = within;
+      front = front_grows bytes place used history batches stands.front is_frame;
+      closed = zero_is_not_one (get_or bytes (place + used) 0) gate;
+      kept = stands.kept;
     })
   where
     drop_twice : drop (place + length (frame batches)) bytes ≡ drop (length (frame batches)) (drop place bytes)
     drop_twice = sym (drop-drop (length (frame batches)) place bytes)
+
     shut_gate : {a b : ℕ} {x y : List ℕ} → a ∷ x ≡ b ∷ y → a ≡ b
     shut_gate e = cc
+
     zero_is_not_one : (n : ℕ) → n ≡ 0 → n ≡ 1 → ⊥
     zero_is_not_one n zero one = omega arith
 
@@ -107,15 +109,15 @@ pub told_put : (old new : Option (List ℕ)) (gate : ℕ) (history batches : Lis
     → Told new (λ bytes. EndsAt bytes gate history × HoldsBehind gate (behind_gate batches) bytes)
 told_put old new gate history batches ends puts holds =
     Told-both (λ bytes. EndsAt bytes gate history) (λ bytes. HoldsBehind gate (behind_gate batches) bytes) new
-        (Told-after (λ bytes. EndsAt bytes gate history) (λ bytes. EndsAt bytes gate history) (λ old new. gate < length old → PutsBehind gate old new) (put_behind_stays gate history) old new ends puts)
-        (Told-after (λ bytes. EndsAt bytes gate history) (λ bytes. HoldsBehind gate (behind_gate batches) bytes) (λ old new. gate < length old → HoldsBehind gate (behind_gate batches) new) (λ old new ends holds. holds ends.within) old new ends holds)
+    (Told-after (λ bytes. EndsAt bytes gate history) (λ bytes. EndsAt bytes gate history) (λ old new. gate < length old → PutsBehind gate old new) (put_behind_stays gate history) old new ends puts)
+    (Told-after (λ bytes. EndsAt bytes gate history) (λ bytes. HoldsBehind gate (behind_gate batches) bytes) (λ old new. gate < length old → HoldsBehind gate (behind_gate batches) new) (λ old new ends holds. holds ends.within) old new ends holds)
 
 pub told_in_doubt : (old new : Option (List ℕ)) (gate : ℕ) (history batches : List Batch) → IsFrame batches → IsKept (history ++ batches)
     → Told old (λ bytes. EndsAt bytes gate history × HoldsBehind gate (behind_gate batches) bytes) → BothTold old new (λ old new. gate < length old → SameButGate gate old new)
     → Told new (λ bytes. IsInDoubt bytes gate history batches)
 told_in_doubt old new gate history batches is kept put same =
     Told-after (λ bytes. EndsAt bytes gate history × HoldsBehind gate (behind_gate batches) bytes) (λ bytes. IsInDoubt bytes gate history batches) (λ old new. gate < length old → SameButGate gate old new)
-        (put_in_doubt gate history batches is kept) old new put same
+    (put_in_doubt gate history batches is kept) old new put same
 
 pub told_opened : (old new : Option (List ℕ)) (gate : ℕ) (history batches : List Batch) → IsFrame batches → IsKept (history ++ batches)
     → Told old (λ bytes. EndsAt bytes gate history × HoldsBehind gate (behind_gate batches) bytes)
@@ -124,9 +126,9 @@ pub told_opened : (old new : Option (List ℕ)) (gate : ℕ) (history batches : 
 told_opened old new gate history batches is kept put same open_gate =
     let doubt = told_in_doubt old new gate history batches is kept put same in
     let gates = Told-after (λ bytes. EndsAt bytes gate history × HoldsBehind gate (behind_gate batches) bytes) (λ bytes. slice_index bytes gate ≡ 1) (λ old new. gate < length old → slice_index new gate ≡ 1)
-        (λ old new put opens. opens put.0.within) old new put open_gate in
+    (λ old new put opens. opens put.0.within) old new put open_gate in
     Told-weaker (λ bytes. IsInDoubt bytes gate history batches × (slice_index bytes gate ≡ 1)) (λ bytes. EndsAt bytes (gate + length (behind_gate batches)) (history ++ batches))
-        (λ bytes both. opened bytes gate history batches both.0 both.1) new (Told-both (λ bytes. IsInDoubt bytes gate history batches) (λ bytes. slice_index bytes gate ≡ 1) new doubt gates)
+    (λ bytes both. opened bytes gate history batches both.0 both.1) new (Told-both (λ bytes. IsInDoubt bytes gate history batches) (λ bytes. slice_index bytes gate ≡ 1) new doubt gates)
 
 -- the place of the next gate grows no faster than the facts
 pub place_fits : (place : ℕ) (history batches : List Batch) → IsFrame batches → place ≤ 16 + 188_565 * fact_count history
@@ -157,18 +159,16 @@ ready content gate history doubt batches shelved none is kept = record {
 }
 
 module _ (old : Option (List ℕ)) (gate : ℕ) (history doubt batches : List Batch) (is_ready : IsReady old gate history doubt batches) where
-
   -- a fault behind the gate leaves the history
   pub stays : (new : Option (List ℕ)) → BothTold old new (λ old new. gate < length old → PutsBehind gate old new) → Told new (λ bytes. OpensEither bytes history doubt)
   stays new puts =
       Told-weaker (λ bytes. EndsAt bytes gate history) (λ bytes. OpensEither bytes history doubt) (λ bytes ends. inl (gate, ends)) new
-          (Told-after (λ bytes. EndsAt bytes gate history) (λ bytes. EndsAt bytes gate history) (λ old new. gate < length old → PutsBehind gate old new) (put_behind_stays gate history) old new is_ready.ends puts)
+      (Told-after (λ bytes. EndsAt bytes gate history) (λ bytes. EndsAt bytes gate history) (λ old new. gate < length old → PutsBehind gate old new) (put_behind_stays gate history) old new is_ready.ends puts)
 
   module _ (middle new : Option (List ℕ))
       (puts : BothTold old middle (λ old new. gate < length old → PutsBehind gate old new))
       (holds : BothTold old middle (λ old new. gate < length old → HoldsBehind gate (behind_gate batches) new))
       (same : BothTold middle new (λ old new. gate < length old → SameButGate gate old new)) where
-
     put : Told middle (λ bytes. EndsAt bytes gate history × HoldsBehind gate (behind_gate batches) bytes)
     put = told_put old middle gate history batches is_ready.ends puts holds
 

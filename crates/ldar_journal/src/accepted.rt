@@ -104,7 +104,11 @@ impl Accepted {
     pub fn into_batches(self) -> Vec<Batch>
         ensures value { result.items ≡ self }
     {
-        let Accepted { batches, positions: _, facts: _ } = self;
+        let Accepted {
+            batches,
+            positions: _,
+            facts: _,
+        } = self;
         batches
     }
 }

@@ -16,3 +16,6 @@ pub use creation::{CreateError, create};
 pub use journal::{Journal, Torn};
 pub use opening::{OpenError, OpenWhy, open_accepted, open_journal};
 pub use prepared::{Frame, prepare};
+
+#[cfg(test)]
+mod tests;

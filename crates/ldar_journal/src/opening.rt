@@ -143,11 +143,7 @@ fn buffer(alloc: Global) -> Result<Vec<u8>, AllocError>
 }
 
 /// Reads one more piece behind the bytes read so far. It answers false where all were read.
-fn read_piece<D: Disk>(
-    disk: &mut D,
-    bytes: &mut Vec<u8>,
-    piece: &mut [u8],
-) -> Result<bool, OpenWhy>
+fn read_piece<D: Disk>(disk: &mut D, bytes: &mut Vec<u8>, piece: &mut [u8]) -> Result<bool, OpenWhy>
     requires { 0 < length piece.old }
     ensures front { OnOk result (BothTold (D.content disk.old) (D.content disk.new)
         (λ old new. IsFrontOf bytes.old.items old → IsFrontOf bytes.new.items new)) }

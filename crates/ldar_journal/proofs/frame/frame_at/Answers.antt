@@ -14,4 +14,4 @@ returns-in-Some-2 c =
 pub returns-in-None : goal.returns-in-None
 returns-in-None c = λ batches rest is stands.
     (rw c.in-None.is at c.in_ok-batches.ensures) batches is
-        (sym (one_payload_at c.args.bytes.now c.in-Some.payload.now (payload batches) c.in-Some.ensures (payload_of_frame c.args.bytes.now rest batches is stands)))
+    (sym (one_payload_at c.args.bytes.now c.in-Some.payload.now (payload batches) c.in-Some.ensures (payload_of_frame c.args.bytes.now rest batches is stands)))

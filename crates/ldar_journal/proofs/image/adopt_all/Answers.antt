@@ -11,5 +11,5 @@ returns-then-not-branch c = λ kept.
     let refused = rw c.if-not-branch.true at c.in_ok-adopt.ensures.value in
     let rest = into_iter_items c.next.new.self in
     let parts : c.args.accepted.now ++ c.args.batches.items ≡ (c.loop-batch.accepted ++ c.in-Some.batch ∷ []) ++ rest =
-        sym c.loop-batch.invariant.2 ∙ ap (λ (l : List Batch). c.loop-batch.accepted ++ l) c.in-Some.ensures.steps.0 ∙ sym (append_assoc c.loop-batch.accepted (c.in-Some.batch ∷ []) rest) in
+    sym c.loop-batch.invariant.2 ∙ ap (λ (l : List Batch). c.loop-batch.accepted ++ l) c.in-Some.ensures.steps.0 ∙ sym (append_assoc c.loop-batch.accepted (c.in-Some.batch ∷ []) rest) in
     refused.1 (IsKept-front (c.loop-batch.accepted ++ c.in-Some.batch ∷ []) rest (subst IsKept parts kept))

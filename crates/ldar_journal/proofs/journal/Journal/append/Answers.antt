@@ -28,10 +28,11 @@ invariant_of-self-then-is_err-2 g c =
     let holds = from_ok c.put_behind.result (sym c.is_err.ensures.value ∙ c.if-is_err.false) c.put_behind.ensures.put in
     let doubt : c.add_to.new.history ≡ frame = c.add_to.ensures ∙ ap (λ (l : List Batch). l ++ frame) none in
     rw doubt (
-        IsShelved-torn (g.D.Disk.content j.disk) j.end j.history j.doubt frame is_ready (g.D.Disk.content c.put_behind.new.disk) (g.D.Disk.content c.open_gate.new.disk)
-            c.put_behind.ensures.front (rw c.bytes-bytes.ensures.value at holds) c.open_gate.ensures.others,
-        λ e. absurd (false≢true (sym e)),
-        λ e. absurd (omega (arith, ap length e, is_ready.is.some)))
+      IsShelved-torn (g.D.Disk.content j.disk) j.end j.history j.doubt frame is_ready (g.D.Disk.content c.put_behind.new.disk) (g.D.Disk.content c.open_gate.new.disk)
+          c.put_behind.ensures.front (rw c.bytes-bytes.ensures.value at holds) c.open_gate.ensures.others,
+      λ e. absurd (false≢true (sym e)),
+      λ e. absurd (omega (arith, ap length e, is_ready.is.some)),
+    )
 
 pub returns-then-is_err-2-clause-opens : goal.returns-then-is_err-2-clause-opens
 returns-then-is_err-2-clause-opens g c =
@@ -48,9 +49,11 @@ invariant_of-self-2 g c =
     let holds = from_ok c.put_behind.result (sym c.is_err.ensures.value ∙ c.if-is_err.false) c.put_behind.ensures.put in
     let gates = from_ok c.open_gate.result (sym c.is_err-2.ensures.value ∙ c.if-is_err-2.false) c.open_gate.ensures.opened in
     rw (c.add_to-2.ensures, c.bytes-bytes.ensures.value) (
-        IsShelved-appended (g.D.Disk.content j.disk) j.end j.history j.doubt frame is_ready (g.D.Disk.content c.put_behind.new.disk) (g.D.Disk.content c.open_gate.new.disk)
-            c.put_behind.ensures.front (rw c.bytes-bytes.ensures.value at holds) c.open_gate.ensures.others gates,
-        c.self.invariant.1, c.self.invariant.2)
+      IsShelved-appended (g.D.Disk.content j.disk) j.end j.history j.doubt frame is_ready (g.D.Disk.content c.put_behind.new.disk) (g.D.Disk.content c.open_gate.new.disk)
+          c.put_behind.ensures.front (rw c.bytes-bytes.ensures.value at holds) c.open_gate.ensures.others gates,
+      c.self.invariant.1,
+      c.self.invariant.2,
+    )
 
 pub returns-clause-opens : goal.returns-clause-opens
 returns-clause-opens g c =
