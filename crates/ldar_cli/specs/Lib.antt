@@ -1,0 +1,4 @@
+pub mod Carried
+pub mod Command
+pub mod Dock
+pub mod Run

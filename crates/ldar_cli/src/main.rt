@@ -1,0 +1,85 @@
+//! The leak detection and repair office of a refinery, as a command.
+#![tactic(auto)]
+
+mod command;
+mod docking;
+mod file_disk;
+mod held;
+mod init;
+mod input;
+mod program;
+mod reply;
+mod status;
+mod streams;
+#[cfg(test)]
+mod tests;
+
+use disk_model::{Disk, MemoryDisk};
+pub use file_disk::FileDisk;
+pub use program::run;
+use std::process::ExitCode;
+use std::{env, io};
+pub use streams::{StdSink, StdSource};
+
+const HELP: &str = "usage: ldar JOURNAL COMMAND
+
+JOURNAL  the path of a journal, or :memory: for one that is gone with the run
+COMMAND  init   makes an empty journal
+         dock   reads a batch from standard input, and prints its receipt
+";
+
+const VERSION: &str = "ldar 0.1.0\n";
+
+fn main(rt: HostRuntime) -> ExitCode {
+    let held = held::hold_descriptors(&rt);
+    let status = match env::args(&rt) {
+        Ok(args) => {
+            let mut words: Vec<String> = Vec::new(rt.alloc());
+            let mut status = None;
+            for word in args {
+                if words.push(word).is_err() {
+                    status = Some(6);
+                }
+            }
+            status.unwrap_or(office(&rt, &words))
+        }
+        Err(_) => 2,
+    };
+    drop(held);
+    ExitCode::from(status)
+}
+
+/// Answers the words of the command line, the program's own name first.
+fn office(rt: &HostRuntime, words: &[String]) -> u8 {
+    let Some(journal) = words.get(1) else {
+        return in_memory(rt, &[]);
+    };
+    match journal.as_str() {
+        "--help" => shown(rt, HELP),
+        "--version" => shown(rt, VERSION),
+        ":memory:" => in_memory(rt, &words[2..]),
+        path => with_disk(rt, &words[2..], &mut FileDisk::new(rt, path)),
+    }
+}
+
+/// Prints a text of the program itself.
+fn shown(rt: &HostRuntime, text: &str) -> u8 {
+    match rt.print(text) {
+        Ok(()) => 0,
+        Err(_) => 4,
+    }
+}
+
+fn in_memory(rt: &HostRuntime, words: &[String]) -> u8 {
+    match MemoryDisk::new(rt.alloc(), &[], &[]) {
+        Ok(mut disk) => with_disk(rt, words, &mut disk),
+        Err(_) => 6,
+    }
+}
+
+fn with_disk<D: Disk>(rt: &HostRuntime, words: &[String], disk: &mut D) -> u8 {
+    let mut input = StdSource::new(rt.stdin());
+    let mut output = StdSink::new(rt.stdout());
+    let mut notes = StdSink::new(rt.stderr());
+    run(rt.alloc(), words, &mut input, &mut output, &mut notes, disk)
+}
