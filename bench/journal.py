@@ -1,0 +1,74 @@
+#!/usr/bin/env python3
+"""Measures the opening of a journal by the real program, beside a plain Rust program (journal.rs).
+
+Journals of FACTS facts are made, in batches of one fact and of 512, and opened by `dock` with an empty input.
+rt and rustc have to be on the path. usage: journal.py [FACTS..]     100000 200000 400000 if left out
+"""
+import os
+import pathlib
+import struct
+import subprocess
+import sys
+import tempfile
+import time
+
+SIZES = [int(word) for word in sys.argv[1:]] or [100_000, 200_000, 400_000]
+RUNS = 3
+
+here = pathlib.Path(__file__).parent
+ldar = here.parent / "ldar"
+
+
+def batch(number, count):
+    """A batch of calibrations, a minute apart."""
+    facts = b"".join(struct.pack(">BHHHI", 7, 19_773 + i // 1440, i % 1440, 1, 500) for i in range(count))
+    return struct.pack(">BHIH", 66, 7, number, count) + facts
+
+
+def journal(path, facts, count):
+    """A journal of so many facts, in batches of count, one batch a frame."""
+    with open(path, "wb") as file:
+        file.write(b"LDARJNL1" + bytes(8))
+        for number in range(facts // count):
+            payload = batch(number, count)
+            file.write(struct.pack(">BI", 1, len(payload)) + payload)
+        file.write(b"\0")
+
+
+def measured(words):
+    """The least time in seconds of a few runs, and the greatest resident memory in KiB."""
+    best, most = None, 0
+    for _ in range(RUNS):
+        start = time.perf_counter()
+        child = subprocess.Popen(words, stdin=subprocess.DEVNULL, stdout=subprocess.DEVNULL)
+        _, status, usage = os.wait4(child.pid, 0)
+        took = time.perf_counter() - start
+        if status != 0:
+            sys.exit(f"{words}: status {status}")
+        best = took if best is None else min(best, took)
+        most = max(most, usage.ru_maxrss)
+    return best, most
+
+
+def main():
+    subprocess.run([ldar, ":memory:", "init"], check=True)
+    program = here.parent / "crates/ldar_cli/out/ldar_cli"
+    with tempfile.TemporaryDirectory() as folder:
+        rust = pathlib.Path(folder) / "rust"
+        subprocess.run(["rustc", "-O", "--edition", "2021", "-o", rust, here / "journal.rs"], check=True)
+        empty = pathlib.Path(folder) / "empty"
+        journal(empty, 0, 1)
+        _, base = measured([program, empty, "dock"])
+        print(f"{'facts':>8} {'a batch':>8} {'seconds':>8} {'Rust':>8} {'ratio':>6} {'bytes a fact':>13} {'Rust':>6}")
+        for facts in SIZES:
+            for count in (1, 512):
+                path = pathlib.Path(folder) / "journal"
+                journal(path, facts, count)
+                ours, memory = measured([program, path, "dock"])
+                theirs, plain = measured([rust, path])
+                held = facts // count * count
+                print(f"{facts:8} {count:8} {ours:8.3f} {theirs:8.3f} {ours / theirs:6.2f} "
+                      f"{(memory - base) * 1024 / held:13.0f} {(plain - base) * 1024 / held:6.0f}")
+
+
+main()
