@@ -18,7 +18,7 @@ at-requires-clause-within c =
 
 pub returns-then-same_content : goal.returns-then-same_content
 returns-then-same_content c =
-    let same : c.at.result.now ≡ c.args.batch.now = c.if-same_content.ensures.0 refl in
+    let same : c.at.result.now ≡ c.args.batch.now = c.if-same_content.ensures.value.0 refl in
     let docks = Docks-again c.args.accepted.now c.args.batch.now c.at.result.now c.args.position c.requires c.at.ensures.value same in
     record {
       value = IfOk-weaker c.line.result
@@ -29,7 +29,7 @@ returns-then-same_content c =
 
 pub returns : goal.returns
 returns c =
-    let differ : ¬ (c.at.result.now ≡ c.args.batch.now) = λ same. absurd (cc (c.if-same_content.ensures.1 same)) in
+    let differ : ¬ (c.at.result.now ≡ c.args.batch.now) = λ same. absurd (cc (c.if-same_content.ensures.value.1 same)) in
     let docks = Docks-conflict c.args.accepted.now c.args.batch.now c.at.result.now c.args.position c.requires c.at.ensures.value differ in
     record {
       value = IfOk-weaker c.line-2.result
