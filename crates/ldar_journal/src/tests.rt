@@ -61,10 +61,10 @@ fn an_empty_disk_takes_a_journal_and_no_other_does(rt: HostRuntime) -> Result<()
 #[test]
 fn a_frame_takes_two_writes_and_two_syncs(rt: HostRuntime) -> Result<(), Fail> {
     let mut journal = open(rt.alloc(), empty(rt.alloc(), &[])?)?;
-    let before = journal.disk().calls();
+    assert_eq!(rt; journal.disk().calls(), 3);
     assert_eq!(rt; journal.append(&frame(rt.alloc())?), Ok(()));
     let disk = journal.into_disk();
-    assert_eq!(rt; disk.calls(), before + 4);
+    assert_eq!(rt; disk.calls(), 7);
     assert_eq!(rt; disk.bytes(), image(rt.alloc())?.as_slice());
     Ok(())
 }
@@ -108,7 +108,9 @@ fn a_journal_is_refused_where_it_is_damaged(rt: HostRuntime) -> Result<(), Fail>
     ];
     for (place, byte, want) in cases {
         let mut bytes = image(rt.alloc())?;
-        bytes[place] = byte;
+        if let Some(there) = bytes.get_mut(place) {
+            *there = byte;
+        }
         let disk = MemoryDisk::new(rt.alloc(), &bytes, &[])?;
         let why = match open_journal(rt.alloc(), disk) {
             Ok(_) => None,
