@@ -4,7 +4,6 @@
 Journals of FACTS facts are made, in batches of one fact and of 512, and opened by `dock` with an empty input.
 rt and rustc have to be on the path. usage: journal.py [FACTS..]     100000 200000 400000 if left out
 """
-import os
 import pathlib
 import struct
 import subprocess
@@ -37,17 +36,16 @@ def journal(path, facts, count):
 
 def measured(words):
     """The least time in seconds of a few runs, and the greatest resident memory in KiB."""
-    best, most = None, 0
+    best = None
     for _ in range(RUNS):
         start = time.perf_counter()
-        child = subprocess.Popen(words, stdin=subprocess.DEVNULL, stdout=subprocess.DEVNULL)
-        _, status, usage = os.wait4(child.pid, 0)
+        subprocess.run(words, check=True, stdin=subprocess.DEVNULL, stdout=subprocess.DEVNULL)
         took = time.perf_counter() - start
-        if status != 0:
-            sys.exit(f"{words}: status {status}")
         best = took if best is None else min(best, took)
-        most = max(most, usage.ru_maxrss)
-    return best, most
+    # By /usr/bin/time, since a child of this process would count this process's own memory as its own.
+    told = subprocess.run(["/usr/bin/time", "-f", "%M", *words], check=True, stdin=subprocess.DEVNULL,
+                          stdout=subprocess.DEVNULL, stderr=subprocess.PIPE, text=True)
+    return best, int(told.stderr.split()[-1])
 
 
 def main():
