@@ -1,7 +1,5 @@
-use crate::{
-    CreateError, Frame, Journal, OpenWhy, Torn, create, open_accepted, open_journal, prepare,
-};
-use disk_model::{Disk, MemoryDisk};
+use crate::{CreateError, OpenWhy, create, open_accepted, open_journal};
+use disk_model::MemoryDisk;
 use ldar_facts::{Batch, Read, read_batch};
 use std::alloc::Global;
 use std::test::Fail;
@@ -19,21 +17,9 @@ fn batch(alloc: Global, bytes: &[u8]) -> Result<Batch, Fail> {
     }
 }
 
-fn frame(alloc: Global) -> Result<Frame, Fail> {
-    let batches = [batch(alloc, &BATCH)?];
-    Ok(prepare(alloc, &batches)?)
-}
-
 // A disk with an empty journal, whose calls with these numbers will fail: opening takes calls 0 to 2.
 fn empty(alloc: Global, failing: &[u64]) -> Result<MemoryDisk, Fail> {
     Ok(MemoryDisk::new(alloc, &EMPTY, failing)?)
-}
-
-fn open(alloc: Global, disk: MemoryDisk) -> Result<Journal<MemoryDisk>, Fail> {
-    match open_journal(alloc, disk) {
-        Ok((journal, _)) => Ok(journal),
-        Err(_) => Err(Fail::from("a journal")),
-    }
 }
 
 // The image of a journal with one batch.
@@ -59,17 +45,6 @@ fn an_empty_disk_takes_a_journal_and_no_other_does(rt: HostRuntime) -> Result<()
 }
 
 #[test]
-fn a_frame_takes_two_writes_and_two_syncs(rt: HostRuntime) -> Result<(), Fail> {
-    let mut journal = open(rt.alloc(), empty(rt.alloc(), &[])?)?;
-    assert_eq!(rt; journal.disk().calls(), 3);
-    assert_eq!(rt; journal.append(&frame(rt.alloc())?), Ok(()));
-    let disk = journal.into_disk();
-    assert_eq!(rt; disk.calls(), 7);
-    assert_eq!(rt; disk.bytes(), image(rt.alloc())?.as_slice());
-    Ok(())
-}
-
-#[test]
 fn a_journal_opens_to_its_batches(rt: HostRuntime) -> Result<(), Fail> {
     let disk = MemoryDisk::new(rt.alloc(), &image(rt.alloc())?, &[])?;
     let Ok((journal, accepted)) = open_accepted(rt.alloc(), disk) else {
@@ -79,17 +54,6 @@ fn a_journal_opens_to_its_batches(rt: HostRuntime) -> Result<(), Fail> {
     assert_eq!(rt; accepted.position(kept.identity()), Some(1));
     assert_eq!(rt; (accepted.as_slice().len(), accepted.facts()), (1, 1));
     assert!(rt; !journal.settling());
-    Ok(())
-}
-
-#[test]
-fn a_frame_is_not_added_where_a_call_fails(rt: HostRuntime) -> Result<(), Fail> {
-    let cases = [(3, false), (4, false), (5, true), (6, true)];
-    for (call, gate) in cases {
-        let mut journal = open(rt.alloc(), empty(rt.alloc(), &[call])?)?;
-        assert_eq!(rt; journal.append(&frame(rt.alloc())?), Err(Torn { gate }));
-        assert_eq!(rt; journal.settling(), gate);
-    }
     Ok(())
 }
 
