@@ -1,1 +1,6 @@
+pub mod Equipment
+pub mod Force
+pub mod Limits
+pub mod RegisterLaws
+pub mod Slices
 pub mod Tallies

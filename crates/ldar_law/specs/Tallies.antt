@@ -1,4 +1,4 @@
-use Rattle.std.specs.Prelude.{ℕ, ◌+◌, if◌then◌else◌}
+use Rattle.std.specs.Prelude.{◌+◌, if◌then◌else◌}
 use Rattle.ldar_law.specs.declared.tally.Mark.{Mark}
 use Rattle.ldar_law.specs.declared.tally.Tally.{Tally}
 
