@@ -1,0 +1,2 @@
+pub mod ForceLemmas
+pub mod SliceLemmas

@@ -1,0 +1,37 @@
+use Rattle.std.specs.Prelude.{ℕ, Bool, true, false, List, filter}
+use Rattle.ldar_facts.specs.declared.body.FactBody.{FactBody}
+use Rattle.ldar_facts.specs.declared.body.FactBody.TheVariants.{Unit as UnitFact, Component as ComponentFact, Class as ClassFact, Retire, Election, Shutdown}
+use Rattle.ldar_facts.specs.Facts.{Entry}
+use Rattle.ldar_facts.specs.Named.{component_of, unit_of, tested_instrument, reading_instrument, is_numbered}
+
+-- parts of the facts, each in key order
+
+-- the facts that name a component
+abbrev pub facts_of_component : ℕ → List Entry → List Entry
+facts_of_component number facts = filter (λ e. is_numbered (component_of e.1.body) number) facts
+
+-- the facts that name a process unit
+abbrev pub facts_of_unit : ℕ → List Entry → List Entry
+facts_of_unit number facts = filter (λ e. is_numbered (unit_of e.1.body) number) facts
+
+-- the calibrations, precision tests and drift assessments of an instrument
+abbrev pub facts_of_instrument : ℕ → List Entry → List Entry
+facts_of_instrument number facts = filter (λ e. is_numbered (tested_instrument e.1.body) number) facts
+
+-- the readings taken with an instrument
+abbrev pub readings_of_instrument : ℕ → List Entry → List Entry
+readings_of_instrument number facts = filter (λ e. is_numbered (reading_instrument e.1.body) number) facts
+
+-- the fact is an entry in the register
+abbrev pub is_registered : FactBody → Bool
+is_registered (UnitFact _ _ _) = true
+is_registered (ComponentFact _ _ _ _ _ _) = true
+is_registered (ClassFact _ _) = true
+is_registered (Retire _) = true
+is_registered (Election _ _ _) = true
+is_registered (Shutdown _ _) = true
+is_registered _ = false
+
+-- the entries in the register
+abbrev pub register_facts : List Entry → List Entry
+register_facts facts = filter (λ e. is_registered e.1.body) facts

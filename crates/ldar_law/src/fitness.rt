@@ -1,0 +1,16 @@
+use ldar_facts::Key;
+
+/// Whether a reading is fit to be used (40 CFR 60.485a(b); EPA Method 21, sections 8.1.2 and 10.1), and the first
+/// reason why it isn't.
+#[derive(Clone, Copy, Debug, PartialEq, Eq)]
+pub enum Fitness {
+    Fit,
+    /// The instrument was not calibrated earlier on the day.
+    NoCalibration,
+    /// Each calibration of the day used a gas of more than the leak definition and 2,000 parts per million.
+    GasTooHigh,
+    /// No precision test that was passed, three months old at most, is earlier.
+    NoPrecision,
+    /// The drift assessment with this key, the first such, voids the reading (40 CFR 60.485a(b)(2)).
+    Voided { drift: Key },
+}

@@ -1,0 +1,84 @@
+ghost use Rattle.std.specs.Prelude.{◌≡◌, length};
+
+use crate::delay::{DelayLine, Stop};
+use crate::items::Items;
+use ldar_days::Day;
+use ldar_facts::Name;
+use std::marker::Model;
+
+/// The counts of a report: for each of six months those of valves, pumps and compressors, of each first the
+/// components with a leak and then those with a late tag (40 CFR 60.487a(c)(2)). Contracts see the 36 numbers.
+#[derive(Clone, Copy, Debug, PartialEq, Eq)]
+pub struct MonthCells {
+    cells: [u32; 36],
+}
+
+impl Model for MonthCells {
+    ghost use Rattle.std.specs.Prelude.{◌≡◌, ℕ, List, length};
+
+    ghost Value = { List ℕ };
+
+    ghost view = { λ m. m.cells };
+
+    ghost invariant = { λ m. length m.cells ≡ 36 };
+
+    ghost inverse = { λ cells. record { cells = cells } };
+}
+
+impl MonthCells {
+    /// These numbers, month by month.
+    pub fn new(cells: [u32; 36]) -> MonthCells
+        ensures value { result ≡ cells }
+        ensures in_range { length result ≡ 36 }
+    {
+        MonthCells { cells }
+    }
+
+    /// The 36 numbers.
+    pub fn as_slice(&self) -> &[u32]
+        ensures value { result.now ≡ self.now }
+        ensures in_range { length result.now ≡ 36 }
+    {
+        &self.cells
+    }
+}
+
+/// What a report says of a process unit: if two have equal cells, the later one amends nothing.
+#[derive(Drop)]
+pub struct Cells {
+    pub months: MonthCells,
+    /// By component and detection (40 CFR 60.487a(c)(2)(xi)).
+    pub delays: Items<DelayLine>,
+    /// The process unit shutdowns, in key order (40 CFR 60.487a(c)(3)).
+    pub stops: Items<Stop>,
+}
+
+/// The semiannual report of a process unit (40 CFR 60.487a(c)), as known on a day.
+#[derive(Drop)]
+pub struct Report {
+    pub unit: u8,
+    pub name: Name,
+    /// Half h is quarters 2h - 1 and 2h, from 1.
+    pub half: u16,
+    pub day: Day,
+    pub cells: Cells,
+}
+
+/// A report that was filed. Revisions count from 1.
+#[derive(Drop)]
+pub struct Filed {
+    pub unit: u8,
+    pub half: u16,
+    pub revision: u32,
+    pub day: Day,
+    pub cells: Cells,
+}
+
+/// A number that differs between two reports: in the month and column 1 to 6.
+#[derive(Clone, Copy, Debug, PartialEq, Eq)]
+pub struct Amended {
+    pub month: u8,
+    pub column: u8,
+    pub old: u32,
+    pub new: u32,
+}

@@ -1,0 +1,47 @@
+use ldar_days::Day;
+use ldar_facts::Batch;
+
+/// What is asked of the office: that it keep a batch, or show something as known on a day. Numbers of units,
+/// quarters and halves count from 1, and may name none.
+#[derive(Drop)]
+pub enum Request {
+    Sync(Batch),
+    Due {
+        unit: u16,
+        day: Day,
+    },
+    Tags {
+        unit: u16,
+        day: Day,
+    },
+    Delays {
+        unit: u16,
+        day: Day,
+    },
+    Route {
+        unit: u16,
+        day: Day,
+        /// How many components a route has at most.
+        stops: u16,
+    },
+    Percent {
+        unit: u16,
+        quarter: u16,
+        day: Day,
+    },
+    Report {
+        unit: u16,
+        half: u16,
+        day: Day,
+    },
+}
+
+/// What there is none of.
+#[derive(Clone, Copy, Debug, PartialEq, Eq)]
+pub enum What {
+    Unit,
+    Quarter,
+    Half,
+    Day,
+    Stops,
+}

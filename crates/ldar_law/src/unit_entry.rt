@@ -1,0 +1,14 @@
+use ldar_days::Day;
+use ldar_facts::Name;
+
+/// A process unit as the register has it.
+#[derive(Clone, Copy, PartialEq, Eq)]
+pub struct UnitEntry {
+    /// From 1 to 64.
+    pub unit: u8,
+    pub name: Name,
+    /// The day of the initial startup, from which quarters are counted (40 CFR 60.481a).
+    pub startup: Day,
+    /// The share of difficult valves has no bound (40 CFR 60.482-7a(h)(2)).
+    pub older: bool,
+}
