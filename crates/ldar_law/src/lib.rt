@@ -6,6 +6,7 @@ mod duty;
 mod election;
 mod equipment;
 mod event;
+pub mod examples;
 mod fitness;
 mod items;
 pub mod laws;

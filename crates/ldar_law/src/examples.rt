@@ -1,0 +1,3 @@
+//! Worked examples: functions with empty bodies whose contracts are checked by computing.
+
+pub mod readings;
