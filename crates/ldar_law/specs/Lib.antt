@@ -18,3 +18,4 @@ pub mod Spans
 pub mod Standing
 pub mod Tags
 pub mod Tallies
+pub mod Units

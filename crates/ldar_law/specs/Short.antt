@@ -1,8 +1,13 @@
 -- Words for the worked examples: days, facts and events in short.
-use Rattle.std.specs.Prelude.{ℕ, ◌+◌, ◌-◌, ◌*◌, true, false, nat_lt, nat_le, Some, None}
+use Rattle.ldar_facts.specs.declared.body.FactBody.TheVariants.{Calibration, Precision, Drift, Reading, Visual, Indication}
+use Rattle.ldar_facts.specs.declared.body.Sort.TheVariants.{Sensor as SensorSort}
+use Rattle.ldar_facts.specs.declared.body.VisualState.TheVariants.{Designated}
+use Rattle.ldar_law.specs.declared.span.Span.{Span}
+use Rattle.ldar_law.specs.Events.{events_in}
+use Rattle.ldar_law.specs.Happenings.{is_leak}
+use Rattle.std.specs.Prelude.{ℕ, ◌+◌, ◌-◌, ◌*◌, Bool, true, false, ◌&&◌, not, nat_lt, nat_le, Option, Some, None, List, [], ◌∷◌, ◌++◌, replicate, map}
 use Rattle.ldar_days.specs.Calendar.{first_day}
 use Rattle.ldar_facts.specs.declared.body.FactBody.{FactBody}
-use Rattle.ldar_facts.specs.declared.body.FactBody.TheVariants.{Calibration, Precision, Drift, Reading}
 use Rattle.ldar_facts.specs.declared.body.Purpose.TheVariants.{Routine}
 use Rattle.ldar_facts.specs.declared.class.Class.{Class}
 use Rattle.ldar_facts.specs.declared.class.Designation.{Designation}
@@ -19,7 +24,7 @@ use Rattle.ldar_law.specs.declared.duty.Duty.{Duty}
 use Rattle.ldar_law.specs.declared.equipment.Equipment.{Equipment}
 use Rattle.ldar_law.specs.declared.event.Event.{Event}
 use Rattle.ldar_law.specs.declared.event.Happening.{Happening}
-use Rattle.ldar_law.specs.declared.event.Happening.TheVariants.{Read, Look, Attempt, Delay}
+use Rattle.ldar_law.specs.declared.event.Happening.TheVariants.{Read, Look, Attempt, Delay, Release, Sensor, Evidence, Retire}
 
 -- a day by year, month and day of the month
 abbrev pub date : ℕ → ℕ → ℕ → ℕ
@@ -138,3 +143,49 @@ owes component cause due = record { component = component; cause = cause; due = 
 
 abbrev pub has_done : ℕ → ℕ → ℕ → ℕ → Duty
 has_done component cause due day = record { component = component; cause = cause; due = due; met = Some (key day 600) }
+
+-- ---- more
+
+-- a pump that handles polymerizing monomers
+abbrev pub monomer_pump : ℕ → ℕ → Equipment
+monomer_pump component begin = record {
+  component = component;
+  unit = 1;
+  kind = Pump;
+  monomer = true;
+  replaces = false;
+  begin = begin;
+  retired = None;
+  class = class Light Plain;
+}
+
+-- whether facts of 2024-02-20 at a component are leaks, with the instrument calibrated
+abbrev pub leaks_of : Equipment → Entry → List Bool
+leaks_of item e = map (λ event. is_leak event.what) (events_in item [] (precise (date 2024 1 2) ∷ calibrated (date 2024 2 20) 300 500 ∷ e ∷ []))
+
+-- whether a reading is
+abbrev pub found_at : Equipment → ℕ → List Bool
+found_at item ppm = leaks_of item (measured (date 2024 2 20) item.component ppm)
+
+-- whether a sensor's indication is
+abbrev pub sensed : Equipment → Bool → List Bool
+sensed item present = leaks_of item (fact (date 2024 2 20) 600 (Indication item.component SensorSort present))
+
+-- whether a designated drip is
+abbrev pub designated_at : Equipment → List Bool
+designated_at item = leaks_of item (fact (date 2024 2 20) 600 (Visual item.component Designated))
+
+abbrev pub sensor_leak : ℕ → Event
+sensor_leak day = event day (Sensor true true)
+
+abbrev pub retires : ℕ → Event
+retires day = event day Retire
+
+-- a tag detected on a day at minute 600
+abbrev pub span : ℕ → Option ℕ → Option Key → Bool → Span
+span detected attempted closed removable = record {
+  detected = key detected 600;
+  attempted = attempted;
+  closed = closed;
+  removable = removable;
+}
