@@ -8,6 +8,7 @@ pub mod Happenings
 pub mod Limits
 pub mod Months
 pub mod Percent
+pub mod RegisterExamples
 pub mod RegisterLaws
 pub mod Routes
 pub mod Settling
