@@ -1,2 +1,6 @@
+pub mod EventLemmas
+pub mod FitnessLemmas
 pub mod ForceLemmas
+pub mod MonthLemmas
 pub mod SliceLemmas
+pub mod Tests
