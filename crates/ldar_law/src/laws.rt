@@ -1,7 +1,9 @@
 //! What is true of the definitions: functions with nothing to do, whose contracts are the laws.
 
 pub mod months;
+pub mod quarters;
 pub mod readings;
+pub mod repairs;
 
 ghost use Rattle.ldar_law.specs.RegisterLaws.{OwnFactsSuffice, UnitFactsSuffice, RegisterFactsSuffice, RetiredBySome, OneMoreFactInForce};
 
