@@ -1,2 +1,4 @@
 pub mod ForceLemmas
+pub mod RegisterLemmas
 pub mod SliceLemmas
+pub mod VerdictLemmas

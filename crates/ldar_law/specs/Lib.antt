@@ -1,6 +1,15 @@
+pub mod DenialLaws
+pub mod Denials
 pub mod Equipment
 pub mod Force
+pub mod Judged
 pub mod Limits
 pub mod RegisterLaws
+pub mod Replies
+pub mod Reports
 pub mod Slices
+pub mod SmallOffice
+pub mod SmallReport
 pub mod Tallies
+pub mod Texts
+pub mod Verdicts
