@@ -2,8 +2,10 @@ use Rattle.std.specs.Prelude.{ℕ, Bool, false, not, ◌&&◌, nat_le, Option, S
 use Rattle.list_words.specs.Words.{last_such}
 use Rattle.ldar_facts.specs.declared.class.Class.{Class}
 use Rattle.ldar_facts.specs.declared.key.Key.{Key}
+use Rattle.ldar_facts.specs.Facts.{Entry}
 use Rattle.ldar_law.specs.declared.equipment.Equipment.{Equipment}
 use Rattle.ldar_law.specs.declared.regime.Regime.{Regime}
+use Rattle.ldar_law.specs.Equipment.{equipment_of, classes_of}
 use Rattle.ldar_law.specs.Limits.{regime_of, limit_of}
 
 -- what holds of a component on a day, by the classes entered for it in key order
@@ -33,3 +35,7 @@ regime_on item classes day = regime_of item.kind (class_on item classes day).ser
 -- its leak definition on the day, in parts per million
 abbrev pub limit_on : Equipment → List (Key × Class) → ℕ → ℕ
 limit_on item classes day = limit_of item.kind item.monomer (class_on item classes day)
+
+-- the class of a component in force on the day, if the facts enter the component
+abbrev pub class_in_force : ℕ → List Entry → ℕ → Option Class
+class_in_force number facts day = option_map (λ item. class_on item (classes_of number facts) day) (equipment_of number facts)

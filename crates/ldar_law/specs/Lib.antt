@@ -4,6 +4,7 @@ pub mod Equipment
 pub mod Force
 pub mod Judged
 pub mod Limits
+pub mod RegisterExamples
 pub mod RegisterLaws
 pub mod Replies
 pub mod Reports

@@ -6,6 +6,7 @@ mod duty;
 mod election;
 mod equipment;
 mod event;
+pub mod examples;
 pub mod examples_of_denials;
 pub mod examples_of_reports;
 pub mod examples_of_texts;
