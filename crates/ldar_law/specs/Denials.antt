@@ -21,18 +21,12 @@ use Rattle.ldar_law.specs.declared.regime.Regime.TheVariants.{ValveRules, PumpRu
 use Rattle.ldar_law.specs.Equipment.{retired_on, unit_entry_of}
 use Rattle.ldar_law.specs.Force.{has_come}
 use Rattle.ldar_law.specs.Judged.{Register, Case, first_entry, class_held, is_so_of, is_kind_so}
+use Rattle.ldar_law.specs.Kinds.{is_valve, is_pump}
 use Rattle.ldar_law.specs.Limits.{regime_of}
 use Rattle.ldar_law.specs.Slices.{is_registered}
+use Rattle.ldar_law.specs.Standing.{are_pump_rules, are_compressor_rules, are_relief_rules, are_heavy_liquid_rules, is_difficult_designated}
 
 -- ---- kinds and services
-
-abbrev pub is_valve : Kind → Bool
-is_valve Valve = true
-is_valve _ = false
-
-abbrev pub is_pump : Kind → Bool
-is_pump Pump = true
-is_pump _ = false
 
 abbrev pub is_vacuum : Service → Bool
 is_vacuum Vacuum = true
@@ -42,17 +36,9 @@ abbrev pub is_under_300 : Service → Bool
 is_under_300 Under300 = true
 is_under_300 _ = false
 
-abbrev pub is_difficult : Designation → Bool
-is_difficult Difficult = true
-is_difficult _ = false
-
 abbrev pub is_sensor : Sort → Bool
 is_sensor Sensor = true
 is_sensor Evidence = false
-
-abbrev pub is_heavy_liquid : Regime → Bool
-is_heavy_liquid HeavyLiquidRules = true
-is_heavy_liquid _ = false
 
 -- a compressor has no liquid service, and a pump no gas service
 abbrev pub suits_service : Kind → Service → Bool
@@ -73,17 +59,9 @@ suits_designation _ _ = false
 abbrev pub suits : Kind → Class → Bool
 suits kind class = suits_service kind class.service && suits_designation (regime_of kind class.service) class.designation
 
-abbrev pub is_light_liquid_pump : Kind → Class → Bool
-is_light_liquid_pump Pump class = elim class.service [ Light ↦ true | _ ↦ false ]
-is_light_liquid_pump _ class = false
-
-abbrev pub is_gas_compressor : Kind → Class → Bool
-is_gas_compressor Compressor class = elim class.service [ Gas ↦ true | _ ↦ false ]
-is_gas_compressor _ class = false
-
-abbrev pub is_gas_relief : Kind → Class → Bool
-is_gas_relief Relief class = elim class.service [ Gas ↦ true | _ ↦ false ]
-is_gas_relief _ class = false
+-- the component is not under these rules
+abbrev pub is_not_under : (Regime → Bool) → Kind → Class → Bool
+is_not_under are_rules kind class = not (are_rules (regime_of kind class.service))
 
 -- ---- the rules on a component
 
@@ -127,23 +105,23 @@ reading_unsigned case = elim case.entry.1.body [ Reading c instrument operator p
 
 -- 5 (40 CFR 60.482-2a(a)(2)): a visual inspection of what is no pump in light liquid service
 abbrev pub no_pump_to_see : Case → Bool
-no_pump_to_see case = elim case.entry.1.body [ Visual c state ↦ is_so_of case c (λ kind class. not (is_light_liquid_pump kind class)) | _ ↦ false ]
+no_pump_to_see case = elim case.entry.1.body [ Visual c state ↦ is_so_of case c (is_not_under are_pump_rules) | _ ↦ false ]
 
 -- 6 (40 CFR 60.482-3a(f)): a sensor's indication at what is no compressor in gas service
 abbrev pub no_compressor_to_sense : Case → Bool
 no_compressor_to_sense case = elim case.entry.1.body [
-  | Indication c sort present ↦ is_sensor sort && is_so_of case c (λ kind class. not (is_gas_compressor kind class))
+  | Indication c sort present ↦ is_sensor sort && is_so_of case c (is_not_under are_compressor_rules)
   | _ ↦ false
 ]
 
 -- 7 (40 CFR 60.482-4a(b)): a pressure release of what is no relief device in gas service
 abbrev pub no_relief_device : Case → Bool
-no_relief_device case = elim case.entry.1.body [ Release c ↦ is_so_of case c (λ kind class. not (is_gas_relief kind class)) | _ ↦ false ]
+no_relief_device case = elim case.entry.1.body [ Release c ↦ is_so_of case c (is_not_under are_relief_rules) | _ ↦ false ]
 
 -- 8 (40 CFR 60.482-8a(a)): evidence of a potential leak where only readings tell
 abbrev pub no_evidence_counts : Case → Bool
 no_evidence_counts case = elim case.entry.1.body [
-  | Indication c sort present ↦ not (is_sensor sort) && is_so_of case c (λ kind class. not (is_heavy_liquid (regime_of kind class.service)))
+  | Indication c sort present ↦ not (is_sensor sort) && is_so_of case c (is_not_under are_heavy_liquid_rules)
   | _ ↦ false
 ]
 
@@ -209,7 +187,7 @@ valves_in_service register unit day =
 
 -- those that are difficult to monitor by their class on the day
 abbrev pub difficult_among : Register → ℕ → List Equipment → List Equipment
-difficult_among register day valves = filter (λ item. is_difficult (class_held register item day).designation) valves
+difficult_among register day valves = filter (λ item. is_difficult_designated (class_held register item day).designation) valves
 
 -- of the valves of a unit in service on the fact's day, by all facts of the history and the batch, three in a hundred or more are difficult
 abbrev pub is_share_reached : Case → ℕ → Bool
@@ -224,10 +202,10 @@ is_bounded case unit = elim (unit_entry_of unit case.whole.entered) [ None ↦ f
 -- the unit of a valve that the fact makes difficult to monitor
 abbrev pub unit_with_one_more : Case → Option ℕ
 unit_with_one_more case = elim case.entry.1.body [
-  | ComponentFact c unit kind monomer replaces class ↦ if is_valve kind && is_difficult class.designation then Some unit else None
+  | ComponentFact c unit kind monomer replaces class ↦ if is_valve kind && is_difficult_designated class.designation then Some unit else None
   | ClassFact c class ↦ elim (first_entry c case.whole.entered) [
     | None ↦ None
-    | Some item ↦ if is_valve item.kind && is_difficult class.designation then Some item.unit else None
+    | Some item ↦ if is_valve item.kind && is_difficult_designated class.designation then Some item.unit else None
   ]
   | _ ↦ None
 ]

@@ -17,6 +17,8 @@ use Rattle.ldar_law.specs.declared.report.Report.{Report}
 use Rattle.ldar_law.specs.declared.sheet.Sheet.{Sheet}
 use Rattle.ldar_law.specs.declared.tag.Tag.{Tag}
 use Rattle.ldar_law.specs.declared.unit_entry.UnitEntry.{UnitEntry}
+use Rattle.ldar_law.specs.Kinds.{is_valve, is_pump, is_compressor}
+use Rattle.ldar_law.specs.Tags.{is_late, line_on}
 
 -- ---- quarters and halves
 
@@ -39,25 +41,6 @@ abbrev pub half_last : ℕ → ℕ → ℕ
 half_last startup half = quarter_last startup (2 * half)
 
 -- ---- the numbers of a month
-
-abbrev pub is_valve : Kind → Bool
-is_valve Valve = true
-is_valve _ = false
-
-abbrev pub is_pump : Kind → Bool
-is_pump Pump = true
-is_pump _ = false
-
-abbrev pub is_compressor : Kind → Bool
-is_compressor Compressor = true
-is_compressor _ = false
-
--- the tag was closed after its due day, or is open with the day after it; a due day that is no date is never passed
-abbrev pub is_late : ℕ → Tag → Bool
-is_late day tag = elim tag.repair_due [
-  | Date due ↦ elim tag.closed [ Some closed ↦ nat_lt due closed | None ↦ nat_lt due day ]
-  | _ ↦ false
-]
 
 -- the due day of a tag is a date in the month
 abbrev pub is_due_in : ℕ → Tag → Bool
@@ -110,20 +93,6 @@ cells_of startup half day sheets stops = record {
 abbrev pub report_on : UnitEntry → ℕ → ℕ → List Sheet → List Stop → Report
 report_on unit half day sheets stops =
     record { unit = unit.unit; name = unit.name; half = half; day = day; cells = cells_of unit.startup half day sheets stops }
-
--- ---- the list of delays
-
--- the line of a tag that is open, and whose last delay that was not ignored was not withdrawn
-unfoldable pub open_delay : Tag → Option DelayLine
-open_delay tag = elim tag.closed [
-  | Some closed ↦ None
-  | None ↦ elim tag.delay [
-    | None ↦ None
-    | Some delay ↦ if nat_le 1 delay.ground
-        then Some (record { component = tag.component; detected = tag.detected; delay = delay; until = tag.repair_due; closed = None })
-        else None
-  ]
-]
 
 -- ---- what a later report amends
 

@@ -1,6 +1,5 @@
 -- A small office, for worked examples: the process unit CRUDE, started up on 2020-01-15, with nine components.
 use Rattle.std.specs.Prelude.{ℕ, ◌+◌, ◌-◌, ◌*◌, Bool, true, false, Option, Some, None, List, [], ◌∷◌, ◌++◌, zero, suc, codes}
-use Rattle.ldar_days.specs.Calendar.{first_day}
 use Rattle.ldar_facts.specs.declared.batch.Batch.{Batch}
 use Rattle.ldar_facts.specs.declared.class.Class.{Class}
 use Rattle.ldar_facts.specs.declared.class.Kind.{Kind}
@@ -13,10 +12,7 @@ use Rattle.ldar_facts.specs.declared.body.Purpose.TheVariants.{Routine}
 use Rattle.ldar_facts.specs.declared.body.FactBody.{FactBody}
 use Rattle.ldar_facts.specs.declared.body.FactBody.TheVariants.{Unit as UnitFact, Component as ComponentFact, Class as ClassFact, Calibration, Precision, Reading}
 use Rattle.ldar_facts.specs.Stated.{Stated}
-
--- the day with this date
-abbrev pub date : ℕ → ℕ → ℕ → ℕ
-date year month day = first_day (12 * year + month - 1) + day - 1
+use Rattle.ldar_law.specs.Short.{date}
 
 -- what is entered at ten o'clock
 abbrev pub on : ℕ → FactBody → Stated

@@ -7,7 +7,7 @@ use Rattle.ldar_law.specs.declared.delay.Until.{Until}
 use Rattle.ldar_law.specs.declared.delay.Until.TheVariants.{Date}
 use Rattle.ldar_law.specs.declared.sheet.Sheet.{Sheet}
 use Rattle.ldar_law.specs.declared.tag.Tag.{Tag}
-use Rattle.ldar_law.specs.SmallOffice.{date}
+use Rattle.ldar_law.specs.Short.{date}
 
 -- the tag of a leak of valve 1 on 2024-02-20: its first attempt, its closing, and whether it may come off
 abbrev pub small_tag : Option ℕ → Option ℕ → Bool → Tag

@@ -1,13 +1,14 @@
 //! Worked examples of reports, as contracts of functions with nothing to do: each clause computes.
-#![tactic(auto, unfolding(ldar_days::specs::Calendar::first_day, ldar_days::specs::Calendar::month_of, ldar_days::specs::Calendar::month_length, ldar_days::specs::Quarters::first_quarter, ldar_days::specs::Quarters::last_whole, list_words::specs::Ranges::until, crate::specs::Reports::month_cells, crate::specs::Reports::delay_of, crate::specs::Reports::open_delay, crate::specs::Reports::amended_at))]
+#![tactic(auto, unfolding(ldar_days::specs::Calendar::first_day, ldar_days::specs::Calendar::month_of, ldar_days::specs::Calendar::month_length, ldar_days::specs::Quarters::first_quarter, ldar_days::specs::Quarters::last_whole, list_words::specs::Ranges::until, crate::specs::Reports::month_cells, crate::specs::Reports::delay_of, crate::specs::Reports::amended_at))]
 
 ghost use Rattle.std.specs.Prelude.{◌≡◌, ℕ, ◌+◌, ◌*◌, true, false, Some, None, [], ◌∷◌, ◌++◌, codes, filter, replicate};
 ghost use Rattle.std.specs.List.{filter_map};
 ghost use Rattle.ldar_days.specs.Quarters.{quarter_first};
 ghost use Rattle.ldar_facts.specs.declared.class.Kind.TheVariants.{Valve, Pump, Relief};
 ghost use Rattle.ldar_law.specs.declared.delay.Until.TheVariants.{Date, Shutdown};
-ghost use Rattle.ldar_law.specs.Reports.{has_half_begun, has_quarter_begun, half_month, half_first, half_last, is_late, month_cells, delay_of, is_stop_in, open_delay, amended, cells_of};
-ghost use Rattle.ldar_law.specs.SmallOffice.{date};
+ghost use Rattle.ldar_law.specs.Reports.{has_half_begun, half_month, half_first, half_last, month_cells, delay_of, is_stop_in, amended, cells_of};
+ghost use Rattle.ldar_law.specs.Short.{date};
+ghost use Rattle.ldar_law.specs.Tags.{is_late, delay_lines};
 ghost use Rattle.ldar_law.specs.SmallReport.{repaired_late, with_closing, delay_entry, delayed, sheet_of, filed_months};
 
 /// A unit that started up on 2020-01-15 has October 2023 to March 2024 as half 8.
@@ -53,7 +54,7 @@ pub fn months_past_the_calendar()
 {}
 
 /// The line of a delayed tag in half 8, and where there is none.
-pub fn delay_lines()
+pub fn delays_of_a_half()
     ensures line { delay_of (date 2023 10 1) (date 2024 3 31) (delayed 1 Shutdown None) ≡ Some (record {
       component = 1;
       detected = date 2024 2 20;
@@ -75,15 +76,15 @@ pub fn withdrawn_delay()
       until = Date (date 2024 3 6);
       closed = None;
     }) }
-    ensures not_listed { open_delay (delayed 0 (Date (date 2024 3 6)) None) ≡ None }
-    ensures while_it_holds { open_delay (delayed 1 Shutdown None) ≡ Some (record {
+    ensures not_listed { delay_lines ((delayed 0 (Date (date 2024 3 6)) None) ∷ []) ≡ [] }
+    ensures while_it_holds { delay_lines (delayed 1 Shutdown None ∷ []) ≡ record {
       component = 1;
       detected = date 2024 2 20;
       delay = delay_entry 1;
       until = Shutdown;
       closed = None;
-    }) }
-    ensures closed { open_delay (delayed 1 (Date (date 2024 6 30)) (Some (date 2024 6 10))) ≡ None }
+    } ∷ [] }
+    ensures closed { delay_lines ((delayed 1 (Date (date 2024 6 30)) (Some (date 2024 6 10))) ∷ []) ≡ [] }
 {}
 
 /// Shutdowns with a day in half 8.

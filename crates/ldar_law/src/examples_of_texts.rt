@@ -6,7 +6,7 @@ ghost use Rattle.ldar_law.specs.declared.delay.Until.TheVariants.{Date, Shutdown
 ghost use Rattle.ldar_law.specs.declared.reply.Reply.TheVariants.{Receipt, Conflict, Denied, Full, NoSuch, Fault, Memory};
 ghost use Rattle.ldar_law.specs.declared.request.What.TheVariants.{Stops as NoStops};
 ghost use Rattle.ldar_law.specs.Replies.{reply_text};
-ghost use Rattle.ldar_law.specs.SmallOffice.{date};
+ghost use Rattle.ldar_law.specs.Short.{date};
 ghost use Rattle.ldar_law.specs.SmallReport.{small_tag, with_closing, repaired_late, delay_entry, delayed, filed_months, met_by};
 ghost use Rattle.ldar_law.specs.Texts.{due_text, tags_text, delays_text, route_text, percent_text, report_text};
 

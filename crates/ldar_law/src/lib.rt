@@ -14,6 +14,7 @@ mod fitness;
 mod items;
 pub mod laws;
 pub mod laws_of_denials;
+pub mod laws_of_views;
 mod regime;
 mod reply;
 mod report;
