@@ -10,7 +10,7 @@ use Rattle.ldar_facts.specs.declared.class.Designation.{Designation}
 use Rattle.ldar_facts.specs.declared.class.Designation.TheVariants.{Plain, Nde, Unsafe, Difficult}
 use Rattle.ldar_facts.specs.declared.body.Purpose.TheVariants.{Routine}
 use Rattle.ldar_facts.specs.declared.body.FactBody.{FactBody}
-use Rattle.ldar_facts.specs.declared.body.FactBody.TheVariants.{Unit as UnitFact, Component as ComponentFact, Class as ClassFact, Calibration, Precision, Reading}
+use Rattle.ldar_facts.specs.declared.body.FactBody.TheVariants.{Unit as UnitFact, Component as ComponentFact, Class as ClassFact, Shutdown, Calibration, Precision, Reading, Attempt, Delay}
 use Rattle.ldar_facts.specs.Stated.{Stated}
 use Rattle.ldar_law.specs.Short.{date}
 
@@ -81,3 +81,47 @@ makes_difficult component = on (date 2024 1 1) (ClassFact component (designated 
 -- the unit with 100 valves
 abbrev pub hundred_valves : Batch
 hundred_valves = enters 1 (on (date 2020 1 15) crude ∷ valves 100)
+
+-- ---- what handheld 7 finds at valve 1
+
+-- a routine reading on a day on which its instrument is calibrated
+abbrev pub rounds : ℕ → ℕ → ℕ → List Stated
+rounds day component ppm = calibrated day ∷ on day (reads component ppm) ∷ []
+
+-- a leak on 2024-02-20, and in a later batch the calibration of that day
+abbrev pub leak_found : Batch
+leak_found = sends 1 (record { day = date 2024 2 20; minute = 615; body = reads 1 620 } ∷ [])
+
+abbrev pub leaking : List Batch
+leaking = base ++ leak_found ∷ sends 2 (calibrated (date 2024 2 20) ∷ []) ∷ []
+
+-- an attempt two days later, and a reading of 20 on a day
+abbrev pub repaired_on : ℕ → List Batch
+repaired_on day = leaking ++ sends 3 (on (date 2024 2 22) (Attempt 1 false) ∷ rounds day 1 20) ∷ []
+
+-- a delay for want of a shutdown, entered on a day, with the repair expected on 2024-06-10
+abbrev pub delayed_on : ℕ → List Batch
+delayed_on day = leaking ++ sends 3 (on day (Delay 1 1 9 (Some (date 2024 6 10))) ∷ []) ∷ []
+
+-- fourteen days of shutdown
+abbrev pub shut_down : Batch
+shut_down = enters 2 (on (date 2024 6 1) (Shutdown 1 14) ∷ [])
+
+-- ---- the process unit COKER, started up on 2024-01-15, with valve 30
+
+abbrev pub coker : List Batch
+coker = base ++ enters 2 (on (date 2024 1 15) (UnitFact 2 false (codes "COKER"))
+    ∷ on (date 2024 1 15) (ComponentFact 30 2 Valve false false (in_service Gas)) ∷ []) ∷ []
+
+-- readings of 10 in February, March, April and July, with the precision tests that they need
+abbrev pub coker_rounds : List Batch
+coker_rounds = coker ++ sends 1 (on (date 2024 4 1) (Precision 1 500 (500, 500, 500)) ∷ on (date 2024 7 1) (Precision 1 500 (500, 500, 500))
+    ∷ rounds (date 2024 2 10) 30 10 ++ rounds (date 2024 3 10) 30 10 ++ rounds (date 2024 4 10) 30 10 ++ rounds (date 2024 7 10) 30 10) ∷ []
+
+-- a leak in April that comes late
+abbrev pub coker_leak : Batch
+coker_leak = sends 2 (rounds (date 2024 4 20) 30 700)
+
+-- a unit that started up on the last day on which one may
+abbrev pub last_unit : List Batch
+last_unit = enters 1 (on (date 2097 12 31) crude ∷ []) ∷ []

@@ -10,6 +10,7 @@ pub mod examples;
 pub mod examples_of_denials;
 pub mod examples_of_reports;
 pub mod examples_of_texts;
+pub mod examples_of_views;
 mod fitness;
 mod items;
 pub mod laws;
