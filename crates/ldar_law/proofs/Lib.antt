@@ -1,5 +1,9 @@
+pub mod EventLemmas
+pub mod FitnessLemmas
 pub mod ForceLemmas
+pub mod MonthLemmas
 pub mod RegisterLemmas
 pub mod SliceLemmas
+pub mod Tests
 pub mod VerdictLemmas
 pub mod ViewLemmas

@@ -7,4 +7,4 @@ use Rattle.ldar_law.specs.Shown.{view_day, view_of, shown, ViewsForgetOrder}
 pub views_forget_order : ViewsForgetOrder
 unfolding shown
 views_forget_order history other request moved differ =
-    ap (λ facts. view_of (filter (λ e. nat_le e.0.day (view_day request)) facts) request) (order_free history other moved differ)
+    ap (λ facts. view_of request (filter (λ e. nat_le e.0.day (view_day request)) facts)) (order_free history other moved differ)

@@ -2,10 +2,15 @@
 use Rattle.std.specs.Prelude.{ℕ, ◌+◌, Bool, false, ◌&&◌, nat_eq, nat_lt, nat_le, max, Option, Some, None, option_map, if◌then◌else◌, List, [], ◌∷◌, length, reverse, filter}
 use Rattle.std.specs.List.{list_any}
 use Rattle.ldar_days.specs.Calendar.{end_by, later_by}
+use Rattle.ldar_facts.specs.declared.key.Key.{Key}
 use Rattle.ldar_law.specs.declared.delay.DelayEntry.{DelayEntry}
 use Rattle.ldar_law.specs.declared.delay.Stop.{Stop}
 use Rattle.ldar_law.specs.declared.delay.Until.{Until}
 use Rattle.ldar_law.specs.declared.delay.Until.TheVariants.{Date, Shutdown, WhileIsolated, NoDate}
+
+-- a delay of repair, as it is entered
+abbrev pub delay_entered : (key : Key) (ground : ℕ) (signer : ℕ) (expected : Option ℕ) → DelayEntry
+delay_entered key why signer expected = record { key = key; «ground» = why; signer = signer; expected = expected }
 
 -- 40 CFR 60.482-7a(d)(1): fifteen days after the detection
 abbrev pub repair_by : ℕ → ℕ

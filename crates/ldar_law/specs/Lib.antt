@@ -29,4 +29,5 @@ pub mod Standing
 pub mod Tags
 pub mod Tallies
 pub mod Texts
+pub mod Units
 pub mod Verdicts

@@ -13,7 +13,7 @@ use Rattle.ldar_law.specs.declared.event.Happening.TheVariants.{Delay}
 use Rattle.ldar_law.specs.declared.span.Span.{Span}
 use Rattle.ldar_law.specs.declared.tag.Tag.{Tag}
 use Rattle.ldar_law.specs.Spans.{spans_of}
-use Rattle.ldar_law.specs.Delays.{repair_due, counted_delay, attempt_by, is_past}
+use Rattle.ldar_law.specs.Delays.{delay_entered, repair_due, counted_delay, attempt_by, is_past}
 use Rattle.ldar_law.specs.Happenings.{is_attempt}
 
 -- the delay that an event is, if it is one
@@ -21,7 +21,7 @@ abbrev pub delay_entry : Event → Option DelayEntry
 delay_entry e = delay_entry_at e.key e.what
   where
     delay_entry_at : Key → Happening → Option DelayEntry
-    delay_entry_at key (Delay why signer expected) = Some (record { key = key; «ground» = why; signer = signer; expected = expected })
+    delay_entry_at key (Delay why signer expected) = Some (delay_entered key why signer expected)
     delay_entry_at key _ = None
 
 -- the key lies after the tag's detection, and before its closing where it is closed

@@ -1,0 +1,4 @@
+pub mod EntryLemmas
+pub mod HoldLemmas
+pub mod MemberLemmas
+pub mod RosterLemmas

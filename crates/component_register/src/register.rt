@@ -1,0 +1,121 @@
+ghost use Rattle.std.specs.Prelude.{◌≡◌, ℕ, ◌<◌, Some, false, [], ◌∷◌, ◌++◌, length, drop, filter, slice_get, option_map, OnOk, OnErr, IfOk};
+ghost use Rattle.fact_store.specs.Kept.{Kept, facts_in, is_held};
+ghost use Rattle.ldar_law.specs.Equipment as law;
+ghost use Rattle.ldar_law.specs.Force as force;
+ghost use Rattle.ldar_law.specs.Slices as slices;
+
+use crate::entered::is_registered;
+use crate::lookup::{class_by, equipment_of, unit_entry_of};
+use crate::members::{Rosters, make_rooms, members_of, put_member};
+use fact_store::FactStore;
+use ldar_days::Day;
+use ldar_facts::{Class, Fact, Key, Memory};
+use ldar_law::{Equipment, UnitEntry};
+use std::alloc::Global;
+use std::marker::Model;
+
+/// The entries of the register: process units and components, their classes and retirements, elections and
+/// shutdowns. Contracts see them as a store sees facts: as they came, beside those that have room.
+#[derive(Drop)]
+pub struct Register {
+    alloc: Global,
+    store: FactStore,
+    rosters: Rosters,
+}
+
+impl Model for Register {
+    ghost use Rattle.fact_store.specs.Kept.{Kept};
+    ghost use Rattle.component_register.specs.Members.{HoldsMembers};
+
+    ghost Value = { Kept };
+
+    ghost view = { λ r. r.store };
+
+    ghost invariant = { λ r. HoldsMembers r.store r.rosters.items };
+}
+
+impl Register {
+    /// A register with no entries. Takes no memory.
+    pub fn new(alloc: Global) -> Register
+        ensures value { result ≡ record { arrived = []; spare = [] } }
+    {
+        Register {
+            alloc,
+            store: FactStore::new(alloc),
+            rosters: Vec::new(alloc),
+        }
+    }
+
+    /// Makes room for just the entries of the register among these facts. After `Memory` the register is as it was.
+    pub fn reserve(&mut self, facts: &[Fact]) -> Result<(), Memory>
+        ensures ok { OnOk result (self.new ≡ record self.old { spare = filter (λ fact. slices.is_registered fact.body) facts.now }) }
+        ensures unchanged { OnErr result (self.new ≡ self.old) }
+    {
+        let entries = entries_among(self.alloc, facts)?;
+        make_rooms(self.alloc, &mut self.rosters, &entries)?;
+        self.store.reserve(&entries)
+    }
+
+    /// Adds an entry with its key. It takes no memory, since room was made for it.
+    pub fn insert(&mut self, key: Key, fact: Fact)
+        requires roomy { slice_get self.old.spare 0 ≡ Some fact }
+        requires new_key { is_held key self.old.arrived ≡ false }
+        requires few { length self.old.arrived < 8_000_000 }
+        ensures value { self.new ≡ record { arrived = self.old.arrived ++ (key, fact) ∷ []; spare = drop 1 self.old.spare } }
+    {
+        put_member(&mut self.rosters, &fact.body);
+        self.store.insert(key, fact);
+    }
+
+    /// The component, as it was entered; `None` where it was not.
+    pub fn component(&self, component: u16) -> Option<Equipment>
+        ensures value { result ≡ law.equipment_of component (facts_in self.now) }
+    {
+        equipment_of(&self.store, component)
+    }
+
+    /// The class of the component in force on a day; `None` where the component was not entered.
+    pub fn class_on(&self, component: u16, day: Day) -> Option<Class>
+        ensures value { result ≡ force.class_in_force component (facts_in self.now) day }
+    {
+        let item = self.component(component)?;
+        match class_by(&self.store, component, day) {
+            Some((_, class)) => Some(class),
+            None => Some(item.class),
+        }
+    }
+
+    /// The key of the last class that was entered for the component by a day; `None` where there is no such one.
+    pub fn class_key(&self, component: u16, day: Day) -> Option<Key>
+        ensures value { result ≡ option_map (λ entered. entered.0) (force.class_by day (law.classes_of component (facts_in self.now))) }
+    {
+        class_by(&self.store, component, day).map(|entered| entered.0)
+    }
+
+    /// The process unit, as it was entered; `None` where it was not.
+    pub fn unit(&self, unit: u8) -> Option<UnitEntry>
+        ensures value { result ≡ law.unit_entry_of unit (facts_in self.now) }
+    {
+        unit_entry_of(&self.store, unit)
+    }
+
+    /// The components of the process unit, ascending by number, with those that are retired.
+    pub fn members(&self, unit: u8) -> &[u16]
+        ensures value { result.now ≡ law.members_of unit (facts_in self.now) }
+    {
+        members_of(&self.rosters, unit)
+    }
+}
+
+/// The entries of the register among some facts, in their order.
+fn entries_among(alloc: Global, facts: &[Fact]) -> Result<Vec<Fact>, Memory>
+    ensures value { IfOk result (λ entries. entries.items ≡ filter (λ fact. slices.is_registered fact.body) facts.now) }
+{
+    let mut entries = Vec::new(alloc);
+    for fact in facts {
+        if is_registered(&fact.body) {
+            entries.push(*fact)?;
+        }
+    }
+    Ok(entries)
+}

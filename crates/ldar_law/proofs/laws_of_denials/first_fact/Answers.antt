@@ -1,5 +1,0 @@
-use Rattle.ldar_law.proofs.VerdictLemmas.{first_fact_is_told}
-use Rattle.ldar_law.proofs.laws_of_denials.first_fact.Goals as goal
-
-pub returns : goal.returns
-returns c = first_fact_is_told

@@ -1,5 +1,0 @@
-use Rattle.ldar_law.proofs.VerdictLemmas.{full_undenied}
-use Rattle.ldar_law.proofs.laws_of_denials.full_history.Goals as goal
-
-pub returns : goal.returns
-returns c = full_undenied

@@ -1,5 +1,0 @@
-use Rattle.ldar_law.proofs.VerdictLemmas.{passes_undenied}
-use Rattle.ldar_law.proofs.laws_of_denials.passing_batch.Goals as goal
-
-pub returns : goal.returns
-returns c = passes_undenied

@@ -1,5 +1,0 @@
-use Rattle.ldar_law.proofs.RegisterLemmas.{register_decides}
-use Rattle.ldar_law.proofs.laws_of_denials.register_decides.Goals as goal
-
-pub returns : goal.returns
-returns c = register_decides

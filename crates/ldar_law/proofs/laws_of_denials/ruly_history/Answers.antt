@@ -1,5 +1,0 @@
-use Rattle.ldar_law.proofs.VerdictLemmas.{ruly_is_each}
-use Rattle.ldar_law.proofs.laws_of_denials.ruly_history.Goals as goal
-
-pub returns : goal.returns
-returns c = ruly_is_each

@@ -1,5 +1,0 @@
-use Rattle.ldar_law.proofs.ViewLemmas.{views_forget_order}
-use Rattle.ldar_law.proofs.laws_of_views.views_forget_order.Goals as goal
-
-pub returns : goal.returns
-returns c = views_forget_order
