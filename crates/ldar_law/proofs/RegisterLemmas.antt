@@ -1,14 +1,14 @@
-use Rattle.std.proofs.Common.{◌≡◌, ℕ, ◌+◌, length, Bool, true, false, not, cond, Option, Some, None, List, [], ◌∷◌, ◌++◌, refl, sym, ap, ◌∙◌, subst, inl, inr}
+use Rattle.std.proofs.Common.{◌≡◌, ℕ, ◌+◌, length, Bool, true, false, cond, Option, List, [], ◌∷◌, ◌++◌, refl, sym, ap, ◌∙◌, inl, inr}
 use Rattle.std.specs.Prelude.{filter}
 use Rattle.std.specs.List.{flat_map, AllByRecursion}
-use Rattle.std.specs.Option.{option_map, option_or}
+use Rattle.std.specs.Option.{option_map}
 use Rattle.std.specs.Ordering.{is_lt, ordering_reverse}
 use Rattle.std.specs.declared.cmp.Ordering.{Ordering}
 use Rattle.std.specs.declared.cmp.Ordering.TheVariants.{Less, Equal, Greater}
 use Rattle.std.proofs.lemmas.Bool.{cases_Bool, false≢true}
 use Rattle.std.proofs.lemmas.List.Elements.{filter-append}
 use Rattle.list_words.specs.Order.{put_in_order, in_order, put_each}
-use Rattle.list_words.specs.Words.{first_given_from, first_given}
+use Rattle.list_words.specs.Words.{first_given_from}
 use Rattle.list_words.proofs.Ascending.{all_put}
 use Rattle.list_words.proofs.Members.{all_weaker}
 use Rattle.list_words.proofs.Narrowing.{filter_narrowed}
@@ -16,10 +16,10 @@ use Rattle.ldar_facts.specs.declared.batch.Batch.{Batch}
 use Rattle.ldar_facts.specs.declared.key.Key.{Key}
 use Rattle.ldar_facts.specs.Facts.{Entry, key_cmp, goes_first, entries_of, facts_of}
 use Rattle.ldar_facts.proofs.KeyOrder.{key_cmp_total}
-use Rattle.ldar_law.specs.Judged.{Register, register_with, case_of}
+use Rattle.ldar_law.specs.Judged.{Register, register_with}
 use Rattle.ldar_law.specs.Slices.{is_registered, register_facts}
 use Rattle.ldar_law.specs.DenialLaws.{RegisterDecides}
-use Rattle.ldar_law.specs.Verdicts.{least_rule, denial_at, denial_after, first_denial}
+use Rattle.ldar_law.specs.Verdicts.{least_rule, denial_at}
 
 -- ---- a list in which nothing is before what stands before it
 

@@ -1,26 +1,21 @@
-use Rattle.std.proofs.Common.{◌≡◌, ◌⊎◌, ◌↔◌, ℕ, ◌≤◌, ◌<◌, Bool, true, false, not, IsTrue, cond, nat_lt, Option, Some, None, is_some, List, [], ◌∷◌, ◌++◌, length, ◌+◌, refl, sym, ap, ◌∙◌, inl, inr, subst, arith}
-use Rattle.std.specs.Prelude.{Contains, IsPermutation, find}
+use Rattle.std.proofs.Common.{◌≡◌, ℕ, ◌≤◌, ◌<◌, true, false, not, nat_lt, Option, Some, None, is_some, List, [], ◌∷◌, ◌++◌, length, ◌+◌, refl, sym, ap, ◌∙◌, inl, inr, subst, arith}
+use Rattle.std.specs.Prelude.{Contains, find}
 use Rattle.std.specs.Option.{option_map}
 use Rattle.std.proofs.lemmas.Bool.{cases_Bool, false≢true}
 use Rattle.std.proofs.lemmas.Bool.Decides.{nat_tests}
-use Rattle.list_words.specs.Words.{GivesFirst, first_given, somewhere, Passes}
+use Rattle.list_words.specs.Words.{first_given, somewhere, Passes}
 use Rattle.list_words.specs.Order.{Ascends}
 use Rattle.list_words.proofs.Members.{Among, all_at, among_from_Contains, Contains-from_among}
 use Rattle.list_words.proofs.WordLaws.{somewhere_decides, first_given_is_first, first_given_finds}
 use Rattle.ldar_facts.specs.declared.batch.Batch.{Batch}
 use Rattle.ldar_facts.specs.Facts.{Entry, entries_of, facts_of}
-use Rattle.ldar_facts.specs.Identity.{identities_differ}
 use Rattle.ldar_facts.proofs.OrderFree.{order_free}
 use Rattle.ldar_law.specs.declared.verdict.Verdict.{Verdict}
 use Rattle.ldar_law.specs.declared.verdict.Verdict.TheVariants.{Pass, Denied, Full}
+use Rattle.ldar_law.proofs.Gifts.{cases_Option}
 use Rattle.ldar_law.specs.Judged.{Case}
-use Rattle.ldar_law.specs.Verdicts.{Rule, rules, least_rule, denial_at, first_denial, facts_with, verdict_by, verdict_on, is_pass, is_ruly}
-use Rattle.ldar_law.specs.DenialLaws.{LeastRuleIsTold, NoRuleDenies, FirstFactIsTold, IsUndenied, PassesUndenied, FullUndenied, RulyIsEach, VerdictForgetsOrder}
-
--- an option that is nothing, and one that is something
-cases_Option : {X : Type 0} (o : Option X) → (o ≡ None) ⊎ ((x : X) × (o ≡ Some x))
-cases_Option None = inl refl
-cases_Option (Some x) = inr (x, refl)
+use Rattle.ldar_law.specs.Verdicts.{Rule, rules, denial_at, first_denial, facts_with, verdict_by, verdict_on, is_pass, is_ruly}
+use Rattle.ldar_law.specs.DenialLaws.{LeastRuleIsTold, NoRuleDenies, FirstFactIsTold, PassesUndenied, FullUndenied, RulyIsEach, VerdictForgetsOrder}
 
 -- ---- the least rule
 

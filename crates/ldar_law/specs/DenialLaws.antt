@@ -1,10 +1,9 @@
 -- What the verdict on a batch means, as laws.
-use Rattle.std.specs.Prelude.{◌≡◌, ℕ, ◌≤◌, ◌<◌, ◌↔◌, Bool, true, false, IsTrue, Option, Some, None, List, [], ◌∷◌, ◌++◌, Contains, IsPermutation}
+use Rattle.std.specs.Prelude.{◌≡◌, ℕ, ◌≤◌, ◌<◌, ◌↔◌, true, false, IsTrue, Some, None, List, ◌∷◌, ◌++◌, Contains, IsPermutation}
 use Rattle.list_words.specs.Words.{GivesFirst}
 use Rattle.ldar_facts.specs.declared.batch.Batch.{Batch}
 use Rattle.ldar_facts.specs.Facts.{Entry, entries_of, facts_of}
 use Rattle.ldar_facts.specs.Identity.{identities_differ}
-use Rattle.ldar_law.specs.declared.verdict.Verdict.{Verdict}
 use Rattle.ldar_law.specs.declared.verdict.Verdict.TheVariants.{Pass, Denied, Full}
 use Rattle.ldar_law.specs.Judged.{Case}
 use Rattle.ldar_law.specs.Slices.{register_facts}

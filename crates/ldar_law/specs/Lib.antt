@@ -15,6 +15,7 @@ pub mod Percent
 pub mod RegisterExamples
 pub mod RegisterLaws
 pub mod Replies
+pub mod ReportLaws
 pub mod Reports
 pub mod Routes
 pub mod Settling

@@ -1,16 +1,14 @@
 -- The semiannual report of a process unit (40 CFR 60.487a(c)): its half, its numbers, its lines, and what a later one amends.
-use Rattle.std.specs.Prelude.{ℕ, ◌+◌, ◌-◌, ◌*◌, ◌/◌, ◌%◌, Bool, true, false, not, ◌&&◌, nat_lt, nat_le, nat_eq, if◌then◌else◌, Option, Some, None, List, [], ◌∷◌, ◌++◌, filter, slice_index_or}
+use Rattle.std.specs.Prelude.{ℕ, ◌+◌, ◌-◌, ◌*◌, ◌/◌, ◌%◌, Bool, false, not, ◌&&◌, nat_lt, nat_le, nat_eq, if◌then◌else◌, Option, Some, None, List, [], ◌∷◌, filter, slice_index_or}
 use Rattle.std.specs.List.{list_any, filter_map, flat_map, count_by}
 use Rattle.list_words.specs.Ranges.{until}
 use Rattle.ldar_days.specs.Calendar.{first_day, month_of}
 use Rattle.ldar_days.specs.Quarters.{first_quarter, quarter_first, quarter_last}
 use Rattle.ldar_facts.specs.declared.class.Kind.{Kind}
-use Rattle.ldar_facts.specs.declared.class.Kind.TheVariants.{Valve, Pump, Compressor, Relief}
-use Rattle.ldar_law.specs.declared.delay.DelayEntry.{DelayEntry}
 use Rattle.ldar_law.specs.declared.delay.DelayLine.{DelayLine}
 use Rattle.ldar_law.specs.declared.delay.Stop.{Stop}
 use Rattle.ldar_law.specs.declared.delay.Until.{Until}
-use Rattle.ldar_law.specs.declared.delay.Until.TheVariants.{Date, Shutdown, WhileIsolated, NoDate}
+use Rattle.ldar_law.specs.declared.delay.Until.TheVariants.{Date}
 use Rattle.ldar_law.specs.declared.report.Amended.{Amended}
 use Rattle.ldar_law.specs.declared.report.Cells.{Cells}
 use Rattle.ldar_law.specs.declared.report.Report.{Report}
@@ -42,9 +40,10 @@ half_last startup half = quarter_last startup (2 * half)
 
 -- ---- the numbers of a month
 
--- the due day of a tag is a date in the month
-abbrev pub is_due_in : ℕ → Tag → Bool
-is_due_in month tag = elim tag.repair_due [ Date due ↦ nat_eq (month_of due) month | _ ↦ false ]
+-- the due day is a date in the month
+abbrev pub is_date_in : ℕ → Until → Bool
+is_date_in month (Date due) = nat_eq (month_of due) month
+is_date_in month _ = false
 
 -- the components of a kind with a leak in the month (40 CFR 60.487a(c)(2)(i), (iii), (v))
 abbrev pub leaking_in : (Kind → Bool) → List Sheet → ℕ → ℕ
@@ -53,7 +52,7 @@ leaking_in is_kind sheets month = count_by (λ sheet. is_kind sheet.kind && list
 -- those with a late tag that was due in the month (40 CFR 60.487a(c)(2)(ii), (iv), (vi))
 abbrev pub late_in : (Kind → Bool) → ℕ → List Sheet → ℕ → ℕ
 late_in is_kind day sheets month =
-    count_by (λ sheet. is_kind sheet.kind && list_any (λ tag. is_late day tag && is_due_in month tag) sheet.tags) sheets
+    count_by (λ sheet. is_kind sheet.kind && list_any (λ tag. is_late day tag && is_date_in month tag.repair_due) sheet.tags) sheets
 
 -- the six numbers of a month; relief devices are in none (our own rule)
 unfoldable pub month_cells : ℕ → List Sheet → ℕ → List ℕ
@@ -71,9 +70,7 @@ is_closed_before day tag = elim tag.closed [ Some closed ↦ nat_lt closed day |
 unfoldable pub delay_of : ℕ → ℕ → Tag → Option DelayLine
 delay_of first last tag = elim tag.delay [
   | None ↦ None
-  | Some delay ↦ if nat_le tag.detected last && not (is_closed_before first tag)
-      then Some (record { component = tag.component; detected = tag.detected; delay = delay; until = tag.repair_due; closed = tag.closed })
-      else None
+  | Some delay ↦ if nat_le tag.detected last && not (is_closed_before first tag) then Some (line_on tag delay) else None
 ]
 
 -- a shutdown with a day in the half

@@ -1,10 +1,9 @@
 -- What views show, byte for byte: a first line that names the view, its lines, and a last line that counts these.
-use Rattle.std.specs.Prelude.{ℕ, ◌+◌, ◌*◌, nat_le, nat_eq, if◌then◌else◌, Bool, not, ◌&&◌, Option, Some, None, is_none, List, [], ◌∷◌, ◌++◌, length, filter, codes, slice_index_or}
+use Rattle.std.specs.Prelude.{ℕ, ◌+◌, ◌*◌, nat_le, nat_eq, if◌then◌else◌, Bool, Option, Some, None, List, [], ◌∷◌, ◌++◌, length, codes, slice_index_or}
 use Rattle.std.specs.List.{flat_map}
 use Rattle.std.specs.Fmt.{decimal}
 use Rattle.list_words.specs.Ranges.{until}
 use Rattle.ldar_days.specs.Texts.{day_text, month_text}
-use Rattle.ldar_facts.specs.declared.key.Key.{Key}
 use Rattle.ldar_law.specs.declared.delay.DelayEntry.{DelayEntry}
 use Rattle.ldar_law.specs.declared.delay.DelayLine.{DelayLine}
 use Rattle.ldar_law.specs.declared.delay.Stop.{Stop}

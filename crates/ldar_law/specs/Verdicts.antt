@@ -1,5 +1,5 @@
 -- The table of rules, the verdict on a batch, and histories that keep the rules.
-use Rattle.std.specs.Prelude.{◌≡◌, ℕ, ◌+◌, Bool, true, false, not, nat_lt, nat_eq, if◌then◌else◌, Option, Some, None, List, [], ◌∷◌, ◌++◌, length, find, codes, IsTrue, ◌↔◌}
+use Rattle.std.specs.Prelude.{ℕ, ◌+◌, Bool, true, false, not, nat_lt, nat_eq, if◌then◌else◌, Option, Some, None, List, [], ◌∷◌, length, find, codes}
 use Rattle.std.specs.Option.{option_map}
 use Rattle.list_words.specs.Words.{first_given, somewhere}
 use Rattle.ldar_facts.specs.declared.batch.Batch.{Batch}

@@ -3,6 +3,7 @@
 pub mod denials;
 pub mod months;
 pub mod readings;
+pub mod reports;
 pub mod views;
 
 ghost use Rattle.ldar_law.specs.RegisterLaws.{OwnFactsSuffice, UnitFactsSuffice, RegisterFactsSuffice, RetiredBySome, OneMoreFactInForce};
