@@ -8,3 +8,6 @@ mod members;
 mod register;
 
 pub use register::Register;
+
+#[cfg(test)]
+mod tests;

@@ -1,3 +1,6 @@
+use Rattle.std.proofs.Common.{subst}
+use Rattle.std.specs.Prelude.{unwrap_or}
+use Rattle.ldar_law.specs.Fitness.{fitness_of}
 use Rattle.std.proofs.Common.{◌≡◌, ℕ, false, Some, None, List, [], ◌∷◌, refl, sym, ap, inl, inr}
 use Rattle.std.specs.Prelude.{if◌then◌else◌, filter_map}
 use Rattle.std.specs.List.{cons_option}
@@ -9,8 +12,11 @@ use Rattle.ldar_facts.specs.declared.key.Key.{Key}
 use Rattle.ldar_facts.specs.Facts.{Entry}
 use Rattle.ldar_law.specs.declared.equipment.Equipment.{Equipment}
 use Rattle.ldar_law.specs.declared.fitness.Fitness.{Fitness}
-use Rattle.ldar_law.specs.Events.{happening, event_of, events_with, events_in, is_reading, next_fitness, fitness_among, EventsAreJudgedInOrder}
-use Rattle.ldar_law.specs.Slices.{facts_of_component}
+use Rattle.ldar_law.specs.Events.{happening, event_of, events_with, events_in, is_reading, next_fitness, fitness_among, EventsAreJudgedInOrder, fitness_at, ReadingsAreOfInstrument}
+use Rattle.ldar_facts.specs.Named.{reading_instrument}
+use Rattle.ldar_law.specs.Force.{limit_on}
+use Rattle.ldar_law.specs.Slices.{facts_of_component, facts_of_instrument}
+use Rattle.ldar_law.proofs.FitnessLemmas.{fitness_is_of_instrument}
 
 module _ (item : Equipment) (classes : List (Key × Class)) where
   -- the fitness of a reading has no effect on what is none
@@ -37,3 +43,15 @@ pub events_are_judged_in_order : EventsAreJudgedInOrder
 unfolding events_in
 events_are_judged_in_order item classes facts =
     in_order_same item classes (fitness_among item classes facts) (facts_of_component item.component facts)
+
+-- the fitness of a reading by its instrument's facts
+by_instrument : (item : Equipment) (classes : List (Key × Class)) (facts : List Entry) (key : Key) (body : FactBody) (instrument : ℕ) →
+    reading_instrument body ≡ Some instrument → fitness_at item classes (facts_of_instrument instrument facts) key body ≡ fitness_at item classes facts key body
+by_instrument item classes facts key (Reading _ other _ _ ppm _) instrument e =
+    subst (λ i. fitness_of (facts_of_instrument i facts) (limit_on item classes key.day) key other ppm ≡ fitness_of facts (limit_on item classes key.day) key other ppm)
+    (ap (λ o. unwrap_or o 0) e)
+    (fitness_is_of_instrument facts (limit_on item classes key.day) key other ppm)
+by_instrument item classes facts key _ instrument e = refl
+
+pub readings_are_of_instrument : ReadingsAreOfInstrument
+readings_are_of_instrument item classes facts e instrument of = by_instrument item classes facts e.0 e.1.body instrument of

@@ -1,8 +1,10 @@
+pub mod DelayLemmas
 pub mod EventLemmas
 pub mod FitnessLemmas
 pub mod ForceLemmas
 pub mod Gifts
 pub mod MonthLemmas
+pub mod QuarterLemmas
 pub mod RegisterLemmas
 pub mod ReportLemmas
 pub mod SliceLemmas

@@ -18,7 +18,8 @@ use Rattle.ldar_law.specs.declared.event.Happening.{Happening}
 use Rattle.ldar_law.specs.declared.event.Happening.TheVariants.{Read, Look, Attempt, Delay, Release, Sensor, Evidence, Retire}
 use Rattle.ldar_law.specs.declared.fitness.Fitness.{Fitness}
 use Rattle.ldar_law.specs.declared.fitness.Fitness.TheVariants.{NoCalibration}
-use Rattle.ldar_law.specs.Slices.{facts_of_component}
+use Rattle.ldar_facts.specs.Named.{reading_instrument}
+use Rattle.ldar_law.specs.Slices.{facts_of_component, facts_of_instrument}
 use Rattle.ldar_law.specs.Fitness.{fitness_of, is_fit}
 use Rattle.ldar_law.specs.Force.{is_in_service, limit_on}
 use Rattle.ldar_law.specs.Standing.{is_under_valve_rules, is_under_pump_rules, is_under_compressor_rules, is_under_heavy_liquid_rules, is_left_out, is_nde}
@@ -105,15 +106,16 @@ events_with item classes [] fitness = []
 events_with item classes (e ∷ facts) fitness =
     cons_option (event_of item classes e (next_fitness fitness)) (events_with item classes facts (fitness_left e.1.body fitness))
 
--- the fitness of a fact of the component that is a reading, among facts in key order
-abbrev pub fitness_among : Equipment → List (Key × Class) → List Entry → Entry → Fitness
-fitness_among item classes facts e = fitness_by e.1.body
-  where
-    fitness_by : FactBody → Fitness
-    fitness_by (Reading _ instrument _ _ ppm _) = fitness_of facts (limit_on item classes e.0.day) e.0 instrument ppm
-    fitness_by _ = NoCalibration
+-- the fitness of a reading with this key, among facts in key order
+abbrev pub fitness_at : Equipment → List (Key × Class) → List Entry → Key → FactBody → Fitness
+fitness_at item classes facts key (Reading _ instrument _ _ ppm _) = fitness_of facts (limit_on item classes key.day) key instrument ppm
+fitness_at item classes facts key _ = NoCalibration
 
--- .. if it is one
+-- .. of a fact of the component
+abbrev pub fitness_among : Equipment → List (Key × Class) → List Entry → Entry → Fitness
+fitness_among item classes facts e = fitness_at item classes facts e.0 e.1.body
+
+-- .. if it is a reading
 abbrev pub fitness_in : Equipment → List (Key × Class) → List Entry → Entry → Option Fitness
 fitness_in item classes facts e = if is_reading e.1.body then Some (fitness_among item classes facts e) else None
 
@@ -128,3 +130,10 @@ EventsAreJudgedInOrder =
     (item : Equipment) (classes : List (Key × Class)) (facts : List Entry)
     → events_with item classes (facts_of_component item.component facts) (filter_map (fitness_in item classes facts) (facts_of_component item.component facts))
     ≡ events_in item classes facts
+
+-- a reading is judged by the facts of its instrument as by all facts
+abbrev pub ReadingsAreOfInstrument : Type 0
+ReadingsAreOfInstrument =
+    (item : Equipment) (classes : List (Key × Class)) (facts : List Entry) (e : Entry) (instrument : ℕ)
+    → reading_instrument e.1.body ≡ Some instrument
+    → fitness_among item classes (facts_of_instrument instrument facts) e ≡ fitness_among item classes facts e

@@ -2,7 +2,9 @@
 
 pub mod denials;
 pub mod months;
+pub mod quarters;
 pub mod readings;
+pub mod repairs;
 pub mod reports;
 pub mod views;
 
