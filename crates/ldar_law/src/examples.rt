@@ -1,5 +1,12 @@
 //! Worked examples of the definitions: functions with nothing to do, whose contracts are found by computing.
 
+pub mod duties;
+pub mod histories;
+pub mod leaks;
+pub mod quarters;
+pub mod readings;
+pub mod repairs;
+
 ghost use Rattle.ldar_law.specs.RegisterExamples.{LimitsAtTheEdges, ClassFromItsDayOn, LastOfTheDayIsInForce, InServiceUntilRetired, MembersAscend, NothingOfUnknownNumbers, ShutdownsInOrder};
 
 /// Readings just below the leak definition and at it.

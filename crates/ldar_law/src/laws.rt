@@ -1,5 +1,10 @@
 //! What is true of the definitions: functions with nothing to do, whose contracts are the laws.
 
+pub mod months;
+pub mod quarters;
+pub mod readings;
+pub mod repairs;
+
 ghost use Rattle.ldar_law.specs.RegisterLaws.{OwnFactsSuffice, UnitFactsSuffice, RegisterFactsSuffice, RetiredBySome, OneMoreFactInForce};
 
 /// The facts that name a component have all that the register holds of it.

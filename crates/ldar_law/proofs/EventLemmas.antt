@@ -1,0 +1,57 @@
+use Rattle.std.proofs.Common.{subst}
+use Rattle.std.specs.Prelude.{unwrap_or}
+use Rattle.ldar_law.specs.Fitness.{fitness_of}
+use Rattle.std.proofs.Common.{◌≡◌, ℕ, false, Some, None, List, [], ◌∷◌, refl, sym, ap, inl, inr}
+use Rattle.std.specs.Prelude.{if◌then◌else◌, filter_map}
+use Rattle.std.specs.List.{cons_option}
+use Rattle.std.proofs.lemmas.Bool.{cases_Bool, false≢true}
+use Rattle.ldar_facts.specs.declared.body.FactBody.{FactBody}
+use Rattle.ldar_facts.specs.declared.body.FactBody.TheVariants.{Reading}
+use Rattle.ldar_facts.specs.declared.class.Class.{Class}
+use Rattle.ldar_facts.specs.declared.key.Key.{Key}
+use Rattle.ldar_facts.specs.Facts.{Entry}
+use Rattle.ldar_law.specs.declared.equipment.Equipment.{Equipment}
+use Rattle.ldar_law.specs.declared.fitness.Fitness.{Fitness}
+use Rattle.ldar_law.specs.Events.{happening, event_of, events_with, events_in, is_reading, next_fitness, fitness_among, EventsAreJudgedInOrder, fitness_at, ReadingsAreOfInstrument}
+use Rattle.ldar_facts.specs.Named.{reading_instrument}
+use Rattle.ldar_law.specs.Force.{limit_on}
+use Rattle.ldar_law.specs.Slices.{facts_of_component, facts_of_instrument}
+use Rattle.ldar_law.proofs.FitnessLemmas.{fitness_is_of_instrument}
+
+module _ (item : Equipment) (classes : List (Key × Class)) where
+  -- the fitness of a reading has no effect on what is none
+  no_reading_same : (day : ℕ) (fitness other : Fitness) (body : FactBody) → is_reading body ≡ false → happening item classes day fitness body ≡ happening item classes day other body
+  no_reading_same day fitness other (Reading _ _ _ purpose ppm background) e = absurd (false≢true (sym e))
+  no_reading_same day fitness other _ e = refl
+
+  -- .. nor on the event
+  no_reading_event : (e : Entry) (fitness other : Fitness) → is_reading e.1.body ≡ false → event_of item classes e fitness ≡ event_of item classes e other
+  no_reading_event e fitness other none = rw (no_reading_same e.0.day fitness other e.1.body none) refl
+
+  -- judged by a list with the fitness of each reading, or each by its own
+  in_order_same : (fit : Entry → Fitness) (es : List Entry) →
+      events_with item classes es (filter_map (λ e. if is_reading e.1.body then Some (fit e) else None) es) ≡ filter_map (λ e. event_of item classes e (fit e)) es
+  in_order_same fit [] = refl
+  in_order_same fit (e ∷ es) =
+      let rest = filter_map (λ x. if is_reading x.1.body then Some (fit x) else None) es in
+      elim (cases_Bool (is_reading e.1.body)) [
+        | inl one ↦ rw one (ap (λ xs. cons_option (event_of item classes e (fit e)) xs) (in_order_same fit es))
+        | inr none ↦ rw (none, no_reading_event e (next_fitness rest) (fit e) none, in_order_same fit es) refl
+      ]
+
+pub events_are_judged_in_order : EventsAreJudgedInOrder
+unfolding events_in
+events_are_judged_in_order item classes facts =
+    in_order_same item classes (fitness_among item classes facts) (facts_of_component item.component facts)
+
+-- the fitness of a reading by its instrument's facts
+by_instrument : (item : Equipment) (classes : List (Key × Class)) (facts : List Entry) (key : Key) (body : FactBody) (instrument : ℕ) →
+    reading_instrument body ≡ Some instrument → fitness_at item classes (facts_of_instrument instrument facts) key body ≡ fitness_at item classes facts key body
+by_instrument item classes facts key (Reading _ other _ _ ppm _) instrument e =
+    subst (λ i. fitness_of (facts_of_instrument i facts) (limit_on item classes key.day) key other ppm ≡ fitness_of facts (limit_on item classes key.day) key other ppm)
+    (ap (λ o. unwrap_or o 0) e)
+    (fitness_is_of_instrument facts (limit_on item classes key.day) key other ppm)
+by_instrument item classes facts key _ instrument e = refl
+
+pub readings_are_of_instrument : ReadingsAreOfInstrument
+readings_are_of_instrument item classes facts e instrument of = by_instrument item classes facts e.0 e.1.body instrument of

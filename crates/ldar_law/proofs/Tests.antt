@@ -1,0 +1,28 @@
+use Rattle.std.proofs.Common.{◌≡◌, Bool, true, false, ◌&&◌, ◌||◌, List, [], ◌∷◌, refl, subst, inl, inr}
+use Rattle.std.specs.List.{list_any}
+use Rattle.std.proofs.lemmas.Bool.{cases_Bool, false≢true}
+
+both_of : (a b : Bool) → (a && b) ≡ true → (a ≡ true) × (b ≡ true)
+both_of true true e = (refl, refl)
+both_of true false e = absurd (false≢true e)
+both_of false b e = absurd (false≢true e)
+
+-- of two tests that both pass, each passes
+pub both : {a b : Bool} → (a && b) ≡ true → (a ≡ true) × (b ≡ true)
+both {a} {b} e = both_of a b e
+
+-- what some element passes, some element passes that is implied
+pub list_any_implied : {X : Type 0} (p q : X → Bool) → ((x : X) → p x ≡ true → q x ≡ true) → (xs : List X) → list_any p xs ≡ true → list_any q xs ≡ true
+list_any_implied p q implies [] e = e
+list_any_implied p q implies (x ∷ xs) e = elim (cases_Bool (p x)) [
+  | inl t ↦ rw (implies x t) refl
+  | inr f ↦ elim (cases_Bool (q x)) [ inl t ↦ rw t refl | inr g ↦ rw g (list_any_implied p q implies xs (subst (λ b. (b || list_any p xs) ≡ true) f e)) ]
+]
+
+-- where some element passes, there is one that does
+pub passing : {X : Type 0} (p : X → Bool) (xs : List X) → list_any p xs ≡ true → (x : X) × (p x ≡ true)
+passing p [] e = absurd (false≢true e)
+passing p (x ∷ xs) e = elim (cases_Bool (p x)) [
+  | inl t ↦ (x, t)
+  | inr f ↦ passing p xs (subst (λ b. (b || list_any p xs) ≡ true) f e)
+]

@@ -1,0 +1,5 @@
+use Rattle.ldar_law.proofs.MonthLemmas.{clean_twice_from_decides}
+use Rattle.ldar_law.proofs.laws.months.clean_twice_from_decides.Goals as goal
+
+pub returns : goal.returns
+returns c = clean_twice_from_decides

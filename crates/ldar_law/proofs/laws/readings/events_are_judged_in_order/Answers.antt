@@ -1,0 +1,5 @@
+use Rattle.ldar_law.proofs.EventLemmas.{events_are_judged_in_order}
+use Rattle.ldar_law.proofs.laws.readings.events_are_judged_in_order.Goals as goal
+
+pub returns : goal.returns
+returns c = events_are_judged_in_order

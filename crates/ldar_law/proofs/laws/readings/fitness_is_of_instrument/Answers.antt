@@ -1,0 +1,5 @@
+use Rattle.ldar_law.proofs.FitnessLemmas.{fitness_is_of_instrument}
+use Rattle.ldar_law.proofs.laws.readings.fitness_is_of_instrument.Goals as goal
+
+pub returns : goal.returns
+returns c = fitness_is_of_instrument

@@ -1,0 +1,108 @@
+-- Until when a leak must be repaired, and what a delay of repair changes (40 CFR 60.482-9a).
+use Rattle.std.specs.Prelude.{◌≡◌, ◌++◌, slice_get, option_and_then, ℕ, ◌+◌, Bool, false, ◌&&◌, nat_eq, nat_lt, nat_le, max, Option, Some, None, option_map, if◌then◌else◌, List, [], ◌∷◌, length, reverse, filter}
+use Rattle.std.specs.List.{list_any}
+use Rattle.ldar_days.specs.Calendar.{end_by, later_by}
+use Rattle.ldar_facts.specs.declared.key.Key.{Key}
+use Rattle.ldar_law.specs.declared.delay.DelayEntry.{DelayEntry}
+use Rattle.ldar_law.specs.declared.delay.Stop.{Stop}
+use Rattle.ldar_law.specs.declared.delay.Until.{Until}
+use Rattle.ldar_law.specs.declared.delay.Until.TheVariants.{Date, Shutdown, WhileIsolated, NoDate}
+
+-- a delay of repair, as it is entered
+abbrev pub delay_entered : (key : Key) (ground : ℕ) (signer : ℕ) (expected : Option ℕ) → DelayEntry
+delay_entered key why signer expected = record { key = key; «ground» = why; signer = signer; expected = expected }
+
+-- 40 CFR 60.482-7a(d)(1): fifteen days after the detection
+abbrev pub repair_by : ℕ → ℕ
+repair_by detected = end_by (detected + 15)
+
+-- 40 CFR 60.482-7a(d)(2): five days after the detection
+abbrev pub attempt_by : ℕ → ℕ
+attempt_by detected = end_by (detected + 5)
+
+-- the day is past the due day; one that is no date is never passed
+abbrev pub is_past : ℕ → Until → Bool
+is_past day (Date due) = nat_lt due day
+is_past day _ = false
+
+-- an attempt lies on a day of the shutdown
+abbrev pub has_attempt_in : List ℕ → Stop → Bool
+has_attempt_in attempts stop = list_any (λ day. nat_le stop.first day && nat_le day stop.last) attempts
+
+-- the end of a shutdown: its last day, and where an attempt was made in it fifteen days after the startup on the next (our own rule)
+abbrev pub end_of : List ℕ → Stop → ℕ
+end_of attempts stop = if has_attempt_in attempts stop then end_by (stop.last + 16) else stop.last
+
+-- the shutdowns that begin after the detection, in order
+abbrev pub stops_after : ℕ → List Stop → List Stop
+stops_after detected stops = filter (λ stop. nat_lt detected stop.first) stops
+
+-- the end of the first of these shutdowns, once it is known
+abbrev pub end_of_first : List ℕ → List Stop → Until
+end_of_first attempts [] = Shutdown
+end_of_first attempts (first ∷ later) = Date (end_of attempts first)
+
+-- 40 CFR 60.482-9a(e): the end of the second of these shutdowns, or of the third where the second begins sooner than six months
+-- after the first began
+abbrev pub end_of_second : List ℕ → List Stop → Until
+end_of_second attempts [] = Shutdown
+end_of_second attempts (first ∷ []) = Shutdown
+end_of_second attempts (first ∷ second ∷ later) =
+    if nat_lt second.first (later_by 6 first.first) then end_of_first attempts later else Date (end_of attempts second)
+
+-- one detection, and the attempts and shutdowns that are known
+module _ (detected : ℕ) (attempts : List ℕ) (stops : List Stop) where
+  -- the due day that a delay of this ground gives, entered on this day
+  abbrev pub due_by : ℕ → ℕ → Until
+  due_by why day =
+      -- withdrawn: as without a delay, and at least the day of withdrawal (our own rule)
+      if nat_eq why 0 then Date (max (repair_by detected) day)
+      -- 40 CFR 60.482-9a(a): infeasible without a shutdown
+      else if nat_eq why 1 then end_of_first attempts (stops_after detected stops)
+      -- 40 CFR 60.482-9a(b): isolated, and not in VOC service
+      else if nat_eq why 2 then WhileIsolated
+      -- 40 CFR 60.482-9a(c): purging emits more than the leak
+      else if nat_eq why 3 then NoDate
+      -- 40 CFR 60.482-9a(d): a dual mechanical seal is needed
+      else if nat_eq why 4 then Date (later_by 6 detected)
+      -- 40 CFR 60.482-9a(e): the stock of valve assemblies is depleted
+      else end_of_second attempts (stops_after detected stops)
+
+  -- the due day that the last delay gives which isn't ignored, or the fifteenth day where there is none
+  abbrev pub due_given : Option DelayEntry → Until
+  due_given None = Date (repair_by detected)
+  due_given (Some delay) = due_by delay.«ground» delay.key.day
+
+  -- the last delay that isn't ignored, of delays the latest first, with its place from the first one on: one whose day is past
+  -- the due day that those before it give is ignored (our own rule)
+  abbrev pub last_counted : List DelayEntry → Option (ℕ × DelayEntry)
+  last_counted [] = None
+  last_counted (latest ∷ earlier) =
+      if is_past latest.key.day (due_given (option_map (λ c. c.1) (last_counted earlier)))
+      then last_counted earlier
+      else Some (length earlier, latest)
+
+  -- the last delay that isn't ignored, of delays in key order
+  abbrev pub counted_delay : List DelayEntry → Option DelayEntry
+  counted_delay delays = option_map (λ c. c.1) (last_counted (reverse delays))
+
+  -- .. and its place among them
+  abbrev pub counted_place : List DelayEntry → Option ℕ
+  counted_place delays = option_map (λ c. c.0) (last_counted (reverse delays))
+
+  -- 40 CFR 60.482-9a: until when the leak must be repaired
+  abbrev pub repair_due : List DelayEntry → Until
+  repair_due delays = due_given (counted_delay delays)
+
+-- one more delay counts, or is ignored where its day is past the due day that those before it give
+abbrev pub OneMoreDelay : Type 0
+OneMoreDelay =
+    (detected : ℕ) (attempts : List ℕ) (stops : List Stop) (delays : List DelayEntry) (delay : DelayEntry)
+    → counted_delay detected attempts stops (delays ++ delay ∷ [])
+    ≡ (if is_past delay.key.day (repair_due detected attempts stops delays) then counted_delay detected attempts stops delays else Some delay)
+
+-- the place is that of the last delay that counts
+abbrev pub CountedPlaceIsOfDelay : Type 0
+CountedPlaceIsOfDelay =
+    (detected : ℕ) (attempts : List ℕ) (stops : List Stop) (delays : List DelayEntry)
+    → option_and_then (slice_get delays) (counted_place detected attempts stops delays) ≡ counted_delay detected attempts stops delays

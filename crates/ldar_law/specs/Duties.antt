@@ -1,0 +1,186 @@
+-- What has to be done at a component: nine causes, and the rule for lists (40 CFR 60.482-2a, 60.482-3a, 60.482-4a, 60.482-7a, 60.482-8a).
+use Rattle.std.specs.Prelude.{ℕ, ◌+◌, ◌-◌, ◌*◌, ◌/◌, ◌%◌, Bool, false, not, ◌&&◌, ◌||◌, nat_eq, nat_lt, nat_le, min, if◌then◌else◌, Option, Some, None, option_map, is_none, option_to_list, unwrap_or, slice_get, List, ◌++◌, find, filter_map}
+use Rattle.std.specs.Option.{option_map_or}
+use Rattle.std.specs.List.{list_any}
+use Rattle.list_words.specs.Words.{somewhere, each_where}
+use Rattle.list_words.specs.Ranges.{from_to}
+use Rattle.ldar_days.specs.Calendar.{first_day, last_day, month_of, end_by, week_of, week_first, week_last}
+use Rattle.ldar_days.specs.Quarters.{quarter_of}
+use Rattle.ldar_facts.specs.declared.class.Class.{Class}
+use Rattle.ldar_facts.specs.declared.key.Key.{Key}
+use Rattle.ldar_law.specs.declared.duty.Duty.{Duty}
+use Rattle.ldar_law.specs.declared.equipment.Equipment.{Equipment}
+use Rattle.ldar_law.specs.declared.event.Event.{Event}
+use Rattle.ldar_law.specs.Happenings.{is_counting, is_below, is_routine, is_near_background, is_look, is_dry, has_drips, is_designating, has_undesignated_drips, is_release, has_evidence, is_evidence_gone, is_from_to}
+use Rattle.ldar_law.specs.Months.{is_quarterly, month_in_quarter}
+use Rattle.ldar_law.specs.Force.{class_on, is_in_service}
+use Rattle.ldar_law.specs.Standing.{is_under_valve_rules, is_under_pump_rules, is_under_compressor_rules, is_under_relief_rules, is_under_heavy_liquid_rules, is_plain, is_nde, is_unsafe, is_difficult}
+
+-- the rule for lists (our own): the period contains the day, or nothing has met the duty and it was due at most 366 days before
+abbrev pub is_listed : ℕ → ℕ → ℕ → Bool → Bool
+is_listed t first due unmet = nat_le first t && (nat_le t due || (unmet && nat_le t (due + 366)))
+
+-- the first counting routine reading of a period
+abbrev pub routine_in : List Event → ℕ → ℕ → Option Event
+routine_in events first due = find (λ e. is_routine e.what && is_from_to first due e) events
+
+-- .. that is less than 500 above the background
+abbrev pub routine_near_background : List Event → ℕ → ℕ → Option Event
+routine_near_background events first due = find (λ e. is_routine e.what && is_near_background e.what && is_from_to first due e) events
+
+-- the first visual inspection of a period
+abbrev pub look_in : List Event → ℕ → ℕ → Option Event
+look_in events first due = find (λ e. is_look e.what && is_from_to first due e) events
+
+-- some earlier drips, a counting reading below the leak definition since, and no dry visual inspection since (our own reading of
+-- 40 CFR 60.482-2a(b)(2))
+abbrev pub is_repeated : List Event → Bool
+is_repeated before = somewhere (λ _ drips since. has_drips drips.what
+    && list_any (λ e. is_below e.what) since && not (list_any (λ e. is_dry e.what) since)) before
+
+-- a component, its classes in key order, and the startup of its unit
+module _ (item : Equipment) (classes : List (Key × Class)) (startup : ℕ) where
+  -- the due day of a first monitoring
+  abbrev pub first_due : ℕ
+  first_due = end_by (item.begin + 30)
+
+  -- 40 CFR 60.482-2a(a)(1), 60.482-7a(a)(2): a valve or pump that is no designated one when it begins, begins after the unit's
+  -- startup and replaces no leaking one; judged on a day
+  abbrev pub is_first_owed : ℕ → Bool
+  is_first_owed day =
+      is_in_service item day && (is_under_valve_rules item classes day || is_under_pump_rules item classes day) && is_plain item classes item.begin
+      && nat_lt startup item.begin && not item.replaces
+
+-- .. its events, the quarters of the unit that are skipped, from the first on, and the day of the list
+module _ (item : Equipment) (classes : List (Key × Class)) (startup : ℕ) (events : List Event) (skipped : List Bool) (t : ℕ) where
+  -- a duty of a cause from a first day to a due day, where it is owed, and what met it; if it belongs on the list
+  abbrev pub duty : ℕ → ℕ → ℕ → Bool → Option Event → Option Duty
+  duty cause first due owed met =
+      if is_listed t first due (is_none met) && owed
+      then Some (record { component = item.component; cause = cause; due = due; met = option_map (λ e. e.key) met })
+      else None
+
+  -- 1 first: within thirty days of the beginning
+  unfoldable pub first_monitoring : Option Duty
+  first_monitoring = duty 1 item.begin (first_due item classes startup)
+      (is_first_owed item classes startup (min (first_due item classes startup) t))
+      (routine_in events item.begin (first_due item classes startup))
+
+  -- on this day a pump, or a valve that isn't quarterly in the month, is monitored each month
+  abbrev pub is_monthly : ℕ → ℕ → Bool
+  is_monthly month day =
+      is_in_service item day && is_plain item classes day
+      && (is_under_pump_rules item classes day || (is_under_valve_rules item classes day && not (is_quarterly startup events month)))
+
+  -- 2 monthly (40 CFR 60.482-2a(a)(1), 60.482-7a(a)(1))
+  unfoldable pub monthly : ℕ → Option Duty
+  monthly month = duty 2 (first_day month) (last_day month) (is_monthly month (min (last_day month) t))
+      (routine_in events (first_day month) (last_day month))
+
+  -- the quarter of the month is skipped
+  abbrev pub is_month_skipped : ℕ → Bool
+  is_month_skipped month = option_map_or (λ q. unwrap_or (slice_get skipped (q - 1)) false) (quarter_of startup month) false
+
+  -- on this day a valve that is quarterly in the month is monitored in it: it is the valve's month of a quarter not skipped
+  abbrev pub is_quarter_month : ℕ → ℕ → Bool
+  is_quarter_month month day =
+      is_in_service item day && is_plain item classes day && is_under_valve_rules item classes day && is_quarterly startup events month
+      && nat_eq (class_on item classes day).month (month_in_quarter startup month) && not (is_month_skipped month)
+
+  -- 3 quarterly (40 CFR 60.482-7a(c)(1)(i))
+  unfoldable pub quarterly : ℕ → Option Duty
+  quarterly month = duty 3 (first_day month) (last_day month) (is_quarter_month month (min (last_day month) t))
+      (routine_in events (first_day month) (last_day month))
+
+  -- on this day a valve that is difficult to monitor, or a valve, pump or compressor with no detectable emissions
+  abbrev pub is_yearly : ℕ → Bool
+  is_yearly day =
+      is_in_service item day
+      && ((is_under_valve_rules item classes day && is_difficult item classes day)
+      || ((is_under_valve_rules item classes day || is_under_pump_rules item classes day || is_under_compressor_rules item classes day) && is_nde item classes day))
+
+  -- with no detectable emissions the reading has to be less than 500 above the background
+  abbrev pub yearly_reading : ℕ → ℕ → ℕ → Option Event
+  yearly_reading day first due =
+      if is_nde item classes day then routine_near_background events first due else routine_in events first due
+
+  -- 4 yearly (40 CFR 60.482-2a(e), 60.482-3a(i), 60.482-7a(f), (h)), in a calendar year
+  unfoldable pub yearly : ℕ → Option Duty
+  yearly year = duty 4 (first_day (12 * year)) (last_day (12 * year + 11)) (is_yearly (min (last_day (12 * year + 11)) t))
+      (yearly_reading (min (last_day (12 * year + 11)) t) (first_day (12 * year)) (last_day (12 * year + 11)))
+
+  -- on this day a valve or pump that is unsafe to monitor, with a plan of so many months of which the month ends a window
+  abbrev pub is_planned : ℕ → ℕ → ℕ → Bool
+  is_planned month plan day =
+      is_in_service item day && is_unsafe item classes day && (is_under_valve_rules item classes day || is_under_pump_rules item classes day)
+      && nat_lt 0 plan && nat_eq ((month - month_of item.begin) % plan) 0
+
+  -- 5 plan (40 CFR 60.482-2a(g)(2), 60.482-7a(g)(2)): in the window of a plan's months that ends with the month; the windows run
+  -- from the month after the beginning
+  abbrev pub planned_by : ℕ → ℕ → Option Duty
+  planned_by month plan = duty 5 (first_day (month + 1 - plan)) (end_by (last_day month))
+      (is_planned month plan (min (end_by (last_day month)) t))
+      (routine_in events (first_day (month + 1 - plan)) (end_by (last_day month)))
+
+  -- .. by the plan of the day on which the window is judged
+  unfoldable pub planned : ℕ → Option Duty
+  planned month = planned_by month (class_on item classes (min (end_by (last_day month)) t)).plan
+
+  -- on this day a pump that is no designated one
+  abbrev pub is_weekly : ℕ → Bool
+  is_weekly day = is_in_service item day && is_under_pump_rules item classes day && is_plain item classes day
+
+  -- 6 weekly (40 CFR 60.482-2a(a)(2))
+  unfoldable pub weekly : ℕ → Option Duty
+  weekly week = duty 6 (week_first week) (week_last week) (is_weekly (min (week_last week) t)) (look_in events (week_first week) (week_last week))
+
+  -- five days after an event
+  abbrev pub five_days : Event → ℕ
+  five_days e = end_by (e.key.day + 5)
+
+  -- 7 drip (40 CFR 60.482-2a(b)(2)): a pump's drips that aren't designated and repeat none
+  unfoldable pub drip : List Event → Event → List Event → Option Duty
+  drip before e later = duty 7 e.key.day (five_days e)
+      (has_undesignated_drips e.what && is_weekly e.key.day && not (is_repeated before))
+      (find (λ x. (is_counting x.what || is_designating x.what) && nat_le x.key.day (five_days e)) later)
+
+  -- 8 release (40 CFR 60.482-4a(b)(2)): a relief device's pressure release
+  unfoldable pub release : List Event → Event → List Event → Option Duty
+  release before e later = duty 8 e.key.day (five_days e)
+      (is_release e.what && is_in_service item e.key.day && is_under_relief_rules item classes e.key.day)
+      (find (λ x. is_near_background x.what && nat_le x.key.day (five_days e)) later)
+
+  -- 9 evidence (40 CFR 60.482-8a(a)): evidence of a potential leak at a component with the limit of 10,000
+  unfoldable pub evidence : List Event → Event → List Event → Option Duty
+  evidence before e later = duty 9 e.key.day (five_days e)
+      (has_evidence e.what && is_in_service item e.key.day && is_under_heavy_liquid_rules item classes e.key.day)
+      (find (λ x. (is_counting x.what || is_evidence_gone x.what) && nat_le x.key.day (five_days e)) later)
+
+  -- the months after the beginning
+  abbrev pub months_after : List ℕ
+  months_after = from_to (month_of item.begin + 1) (month_of t)
+
+  -- the calendar years from that of the thirtieth day on (our own rule)
+  abbrev pub years_after : List ℕ
+  years_after = from_to (month_of (end_by (item.begin + 30)) / 12) (month_of t / 12)
+
+  -- the months with which a window may end that has begun: a plan has at most 60 months
+  abbrev pub window_ends : List ℕ
+  window_ends = from_to (month_of item.begin + 1) (month_of t + 59)
+
+  -- the weeks after the beginning
+  abbrev pub weeks_after : List ℕ
+  weeks_after = from_to (week_of item.begin + 1) (week_of t)
+
+  -- all duties of the component that belong on the list, by cause, due day and event
+  unfoldable pub duties_of : List Duty
+  duties_of =
+      option_to_list first_monitoring
+      ++ (filter_map monthly months_after
+      ++ (filter_map quarterly months_after
+      ++ (filter_map yearly years_after
+      ++ (filter_map planned window_ends
+      ++ (filter_map weekly weeks_after
+      ++ (each_where drip events
+      ++ (each_where release events
+      ++ each_where evidence events)))))))

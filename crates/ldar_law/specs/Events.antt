@@ -1,0 +1,139 @@
+-- The events of a component: its facts in key order, each judged on its own day (40 CFR 60.482-2a(b), 60.482-3a(f), 60.482-7a(b), 60.482-8a(b)).
+use Rattle.std.specs.Prelude.{◌≡◌, ℕ, Bool, true, false, not, ◌&&◌, ◌||◌, nat_lt, nat_le, if◌then◌else◌, Option, Some, None, option_map, List, [], ◌∷◌, drop, filter_map}
+use Rattle.std.specs.List.{cons_option}
+use Rattle.ldar_facts.specs.declared.body.FactBody.{FactBody}
+use Rattle.ldar_facts.specs.declared.body.FactBody.TheVariants.{Retire as RetireFact, Reading, Visual, Attempt as AttemptFact, Delay as DelayFact, Release as ReleaseFact, Indication}
+use Rattle.ldar_facts.specs.declared.body.Purpose.{Purpose}
+use Rattle.ldar_facts.specs.declared.body.Purpose.TheVariants.{Routine, FollowUp}
+use Rattle.ldar_facts.specs.declared.body.VisualState.{VisualState}
+use Rattle.ldar_facts.specs.declared.body.VisualState.TheVariants.{Dry, Drips, Designated}
+use Rattle.ldar_facts.specs.declared.body.Sort.{Sort}
+use Rattle.ldar_facts.specs.declared.body.Sort.TheVariants.{Sensor as SensorSort, Evidence as EvidenceSort}
+use Rattle.ldar_facts.specs.declared.class.Class.{Class}
+use Rattle.ldar_facts.specs.declared.key.Key.{Key}
+use Rattle.ldar_facts.specs.Facts.{Entry}
+use Rattle.ldar_law.specs.declared.equipment.Equipment.{Equipment}
+use Rattle.ldar_law.specs.declared.event.Event.{Event}
+use Rattle.ldar_law.specs.declared.event.Happening.{Happening}
+use Rattle.ldar_law.specs.declared.event.Happening.TheVariants.{Read, Look, Attempt, Delay, Release, Sensor, Evidence, Retire}
+use Rattle.ldar_law.specs.declared.fitness.Fitness.{Fitness}
+use Rattle.ldar_law.specs.declared.fitness.Fitness.TheVariants.{NoCalibration}
+use Rattle.ldar_facts.specs.Named.{reading_instrument}
+use Rattle.ldar_law.specs.Slices.{facts_of_component, facts_of_instrument}
+use Rattle.ldar_law.specs.Fitness.{fitness_of, is_fit}
+use Rattle.ldar_law.specs.Force.{is_in_service, limit_on}
+use Rattle.ldar_law.specs.Standing.{is_under_valve_rules, is_under_pump_rules, is_under_compressor_rules, is_under_heavy_liquid_rules, is_left_out, is_nde}
+
+-- a routine reading
+abbrev pub is_routine_purpose : Purpose → Bool
+is_routine_purpose Routine = true
+is_routine_purpose FollowUp = false
+
+-- what a visual inspection found
+abbrev pub drips_in : VisualState → Bool
+drips_in Dry = false
+drips_in Drips = true
+drips_in Designated = true
+
+abbrev pub designated_in : VisualState → Bool
+designated_in Designated = true
+designated_in _ = false
+
+-- a component with its classes in key order
+module _ (item : Equipment) (classes : List (Key × Class)) where
+  -- a reading of the day counts where it is fit: the component is in service, and in no service that is left out
+  abbrev pub counts_on : ℕ → Bool → Bool
+  counts_on day fit = is_in_service item day && not (is_left_out item classes day) && fit
+
+  -- a counting reading of at least the leak definition is a leak (40 CFR 60.482-2a(b)(1), 60.482-7a(b), 60.482-8a(b))
+  abbrev pub is_reading_leak : ℕ → Bool → ℕ → Bool
+  is_reading_leak day fit ppm =
+      counts_on day fit && nat_le (limit_on item classes day) ppm && not (is_nde item classes day)
+      && (is_under_valve_rules item classes day || is_under_pump_rules item classes day || is_under_heavy_liquid_rules item classes day)
+
+  -- drips of a pump that are designated as a leak (40 CFR 60.482-2a(b)(2)(ii))
+  abbrev pub is_drip_leak : ℕ → VisualState → Bool
+  is_drip_leak day state =
+      designated_in state && is_in_service item day && is_under_pump_rules item classes day && not (is_nde item classes day)
+
+  -- a compressor's sensor indicates a failure (40 CFR 60.482-3a(f))
+  abbrev pub is_sensor_leak : ℕ → Bool → Bool
+  is_sensor_leak day present = present && is_in_service item day && is_under_compressor_rules item classes day && not (is_nde item classes day)
+
+  -- a reading of the day, judged
+  abbrev pub reading_on : ℕ → Bool → Purpose → ℕ → ℕ → Happening
+  reading_on day fit purpose ppm background =
+      Read ppm background (is_routine_purpose purpose) (counts_on day fit)
+      (counts_on day fit && nat_lt ppm (limit_on item classes day)) (is_reading_leak day fit ppm)
+
+  -- an indication of the day, judged
+  abbrev pub indication_on : ℕ → Sort → Bool → Happening
+  indication_on day SensorSort present = Sensor present (is_sensor_leak day present)
+  indication_on day EvidenceSort present = Evidence present
+
+  -- a fact of the component on a day, judged; a reading by its fitness. What the register says of it is no event.
+  abbrev pub happening : ℕ → Fitness → FactBody → Option Happening
+  happening day fitness (Reading _ _ _ purpose ppm background) = Some (reading_on day (is_fit fitness) purpose ppm background)
+  happening day fitness (Visual _ state) = Some (Look (drips_in state) (designated_in state) (is_drip_leak day state))
+  happening day fitness (AttemptFact _ complete) = Some (Attempt complete)
+  happening day fitness (DelayFact _ why signer expected) = Some (Delay why signer expected)
+  happening day fitness (ReleaseFact _) = Some Release
+  happening day fitness (Indication _ sort present) = Some (indication_on day sort present)
+  happening day fitness (RetireFact _) = Some Retire
+  happening day fitness _ = None
+
+  -- a fact with its key, judged
+  abbrev pub event_of : Entry → Fitness → Option Event
+  event_of e fitness = option_map (λ what. record { key = e.0; what = what }) (happening e.0.day fitness e.1.body)
+
+-- a reading
+abbrev pub is_reading : FactBody → Bool
+is_reading (Reading _ _ _ _ _ _) = true
+is_reading _ = false
+
+-- the fitness that is next in a list with one for each reading
+abbrev pub next_fitness : List Fitness → Fitness
+next_fitness [] = NoCalibration
+next_fitness (fitness ∷ rest) = fitness
+
+-- .. and those that are left behind a fact
+abbrev pub fitness_left : FactBody → List Fitness → List Fitness
+fitness_left body fitness = if is_reading body then drop 1 fitness else fitness
+
+-- the events of a component: its facts in key order, each judged; the readings by the fitness in this list, one after the other
+abbrev pub events_with : Equipment → List (Key × Class) → List Entry → List Fitness → List Event
+events_with item classes [] fitness = []
+events_with item classes (e ∷ facts) fitness =
+    cons_option (event_of item classes e (next_fitness fitness)) (events_with item classes facts (fitness_left e.1.body fitness))
+
+-- the fitness of a reading with this key, among facts in key order
+abbrev pub fitness_at : Equipment → List (Key × Class) → List Entry → Key → FactBody → Fitness
+fitness_at item classes facts key (Reading _ instrument _ _ ppm _) = fitness_of facts (limit_on item classes key.day) key instrument ppm
+fitness_at item classes facts key _ = NoCalibration
+
+-- .. of a fact of the component
+abbrev pub fitness_among : Equipment → List (Key × Class) → List Entry → Entry → Fitness
+fitness_among item classes facts e = fitness_at item classes facts e.0 e.1.body
+
+-- .. if it is a reading
+abbrev pub fitness_in : Equipment → List (Key × Class) → List Entry → Entry → Option Fitness
+fitness_in item classes facts e = if is_reading e.1.body then Some (fitness_among item classes facts e) else None
+
+-- the events of a component among facts in key order
+unfoldable pub events_in : Equipment → List (Key × Class) → List Entry → List Event
+events_in item classes facts =
+    filter_map (λ e. event_of item classes e (fitness_among item classes facts e)) (facts_of_component item.component facts)
+
+-- judging each reading where it stands, or by a list with the fitness of each: it is the same
+abbrev pub EventsAreJudgedInOrder : Type 0
+EventsAreJudgedInOrder =
+    (item : Equipment) (classes : List (Key × Class)) (facts : List Entry)
+    → events_with item classes (facts_of_component item.component facts) (filter_map (fitness_in item classes facts) (facts_of_component item.component facts))
+    ≡ events_in item classes facts
+
+-- a reading is judged by the facts of its instrument as by all facts
+abbrev pub ReadingsAreOfInstrument : Type 0
+ReadingsAreOfInstrument =
+    (item : Equipment) (classes : List (Key × Class)) (facts : List Entry) (e : Entry) (instrument : ℕ)
+    → reading_instrument e.1.body ≡ Some instrument
+    → fitness_among item classes (facts_of_instrument instrument facts) e ≡ fitness_among item classes facts e

@@ -1,0 +1,30 @@
+-- Walks to the components that have something to be done.
+use Rattle.std.specs.Prelude.{◌≡◌, ℕ, Bool, ◌&&◌, ◌||◌, nat_eq, nat_lt, is_none, if◌then◌else◌, List, [], ◌∷◌, ◌++◌, filter, map}
+use Rattle.std.specs.List.{list_any, fold}
+use Rattle.list_words.specs.Order.{in_order}
+use Rattle.list_words.specs.Parts.{cut}
+use Rattle.ldar_law.specs.declared.duty.Duty.{Duty}
+use Rattle.ldar_law.specs.declared.route.Route.{Route}
+
+-- the duty with the earlier due day goes first, and of two on a day that of the component with the lower number
+abbrev pub is_more_urgent : Duty → Duty → Bool
+is_more_urgent a b = nat_lt a.due b.due || (nat_eq a.due b.due && nat_lt a.component b.component)
+
+-- the component at the end, unless it is there already
+abbrev pub with_stop : List ℕ → Duty → List ℕ
+with_stop stops duty = if list_any (λ stop. nat_eq stop duty.component) stops then stops else stops ++ duty.component ∷ []
+
+-- the components with a duty that isn't done, each once, by the least due day and then by number
+abbrev pub stops_in_order : List Duty → List ℕ
+stops_in_order duties = fold with_stop [] (in_order is_more_urgent (filter (λ d. is_none d.met) duties))
+
+-- .. in routes of so many stops, the last one shorter
+unfoldable pub routes_of : List Duty → ℕ → List Route
+routes_of duties stops = map (λ part. record { stops = part }) (cut stops (stops_in_order duties))
+
+-- a component is a stop just where it has a duty that isn't done
+abbrev pub StopsAreUndone : Type 0
+StopsAreUndone =
+    (duties : List Duty) (component : ℕ)
+    → list_any (λ stop. nat_eq stop component) (stops_in_order duties)
+    ≡ list_any (λ d. is_none d.met && nat_eq d.component component) duties

@@ -1,0 +1,69 @@
+-- What settles a leak (40 CFR 60.481a "repaired", 60.482-9a(f)). In a list in key order, what stands between two events is what
+-- happened between them.
+use Rattle.std.specs.Prelude.{◌+◌, Bool, true, false, not, ◌&&◌, ◌||◌, nat_eq, nat_le, List}
+use Rattle.std.specs.List.{list_any}
+use Rattle.list_words.specs.Words.{somewhere}
+use Rattle.ldar_days.specs.Calendar.{month_of}
+use Rattle.ldar_facts.specs.declared.class.Kind.{Kind}
+use Rattle.ldar_facts.specs.declared.class.Kind.TheVariants.{Valve, Pump}
+use Rattle.ldar_law.specs.declared.event.Event.{Event}
+use Rattle.ldar_law.specs.Happenings.{is_leak, is_reading_or_drip, is_look, is_sensor, is_below, is_dry, is_attempt, is_complete, delays_with_reading, is_retire}
+
+-- a valve or a pump
+abbrev pub is_valve_or_pump : Kind → Bool
+is_valve_or_pump Valve = true
+is_valve_or_pump Pump = true
+is_valve_or_pump _ = false
+
+-- some attempt lies between, and no leak between it and what settles
+abbrev pub is_attempted : List Event → Bool
+is_attempted between = somewhere (λ _ attempt after. is_attempt attempt.what && not (list_any (λ x. is_leak x.what) after)) between
+
+-- some delay of ground (a), (c), (d) or (e) lies between, at most fifteen days after the leak
+abbrev pub is_delayed : Event → List Event → Bool
+is_delayed leak between = list_any (λ x. delays_with_reading x.what && nat_le x.key.day (leak.key.day + 15)) between
+
+-- some counting reading below the leak definition lies between, in the month before the later one, and no leak since
+abbrev pub was_below : List Event → Event → Bool
+was_below between later =
+    somewhere (λ _ reading after. is_below reading.what
+    && nat_eq (month_of reading.key.day + 1) (month_of later.key.day)
+    && not (list_any (λ x. is_leak x.what) after)) between
+
+-- a reading or a drip: by a counting reading below the leak definition, after an attempt
+abbrev pub settles_by_reading : Event → List Event → Event → Bool
+settles_by_reading leak between later = is_reading_or_drip leak.what && is_below later.what && is_attempted between
+
+-- a drip: by a dry visual inspection, after an attempt
+abbrev pub settles_by_dry_look : Event → List Event → Event → Bool
+settles_by_dry_look leak between later = is_look leak.what && is_dry later.what && is_attempted between
+
+-- a sensor's leak: by an attempt that is complete
+abbrev pub settles_by_complete_attempt : Event → Event → Bool
+settles_by_complete_attempt leak later = is_sensor leak.what && is_complete later.what
+
+-- 40 CFR 60.482-9a(f): a valve's or pump's leak that is delayed, by readings below the leak definition in two months in a row
+abbrev pub settles_by_two_readings : Kind → Event → List Event → Event → Bool
+settles_by_two_readings kind leak between later =
+    is_valve_or_pump kind && is_below later.what && is_delayed leak between && was_below between later
+
+-- a leak of whatever sort: by going out of service (our own rule)
+abbrev pub settles_by_retiring : Event → Bool
+settles_by_retiring later = is_retire later.what
+
+-- the later event settles the leak, with these events between them
+abbrev pub settles : Kind → Event → List Event → Event → Bool
+settles kind leak between later =
+    settles_by_reading leak between later
+    || settles_by_dry_look leak between later
+    || settles_by_complete_attempt leak later
+    || settles_by_two_readings kind leak between later
+    || settles_by_retiring later
+
+-- some of the events that follow settles the leak
+abbrev pub is_settled : Kind → Event → List Event → Bool
+is_settled kind leak after = somewhere (λ between later _. settles kind leak between later) after
+
+-- some leak is settled by none of the events that follow it
+abbrev pub is_unsettled : Kind → List Event → Bool
+is_unsettled kind events = somewhere (λ _ leak after. is_leak leak.what && not (is_settled kind leak after)) events

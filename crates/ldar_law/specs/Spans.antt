@@ -1,0 +1,56 @@
+-- The time from which a leak is known until nothing is left unsettled (40 CFR 60.486a(b)).
+use Rattle.std.specs.Prelude.{ℕ, Bool, true, false, not, ◌&&◌, ◌||◌, Option, Some, None, option_map, if◌then◌else◌, List, [], ◌∷◌, ◌++◌, find}
+use Rattle.std.specs.Option.{option_map_or}
+use Rattle.list_words.specs.Words.{first_from, each_where}
+use Rattle.ldar_days.specs.Calendar.{month_of}
+use Rattle.ldar_facts.specs.declared.class.Kind.{Kind}
+use Rattle.ldar_facts.specs.declared.class.Kind.TheVariants.{Valve}
+use Rattle.ldar_facts.specs.declared.key.Key.{Key}
+use Rattle.ldar_law.specs.declared.event.Event.{Event}
+use Rattle.ldar_law.specs.declared.span.Span.{Span}
+use Rattle.ldar_law.specs.Happenings.{is_leak, is_attempt}
+use Rattle.ldar_law.specs.Settling.{is_unsettled}
+use Rattle.ldar_law.specs.Months.{is_clean_twice_from}
+
+-- the component is a valve
+abbrev pub is_valve : Kind → Bool
+is_valve Valve = true
+is_valve _ = false
+
+-- a tag opens at a leak before which nothing is unsettled
+abbrev pub opens : Kind → List Event → Event → Bool
+opens kind before leak = is_leak leak.what && not (is_unsettled kind before)
+
+-- with this event no leak is left unsettled
+abbrev pub closes : Kind → List Event → Event → Bool
+closes kind before event = not (is_unsettled kind (before ++ event ∷ []))
+
+-- the first event after a leak with which no leak is left unsettled
+abbrev pub closing_of : Kind → List Event → Event → List Event → Option Key
+closing_of kind before leak after = option_map (λ e. e.key) (first_from (λ front e _. closes kind front e) (before ++ leak ∷ []) after)
+
+-- the day of the first attempt after a leak, before or after the tag's closing
+abbrev pub attempt_after : List Event → Option ℕ
+attempt_after after = option_map (λ e. e.key.day) (find (λ e. is_attempt e.what) after)
+
+-- 40 CFR 60.486a(b)(2), (3): the identification may come off a closed tag; a valve's only where two months in a row are clean,
+-- the first of them the month of closing or a later one (our own rule)
+abbrev pub is_removable : Kind → List Event → Option Key → Bool
+is_removable kind events closed = option_map_or (λ key. not (is_valve kind) || is_clean_twice_from events (month_of key.day)) closed false
+
+-- the tag that opens at an event, with the events before and after it
+abbrev pub span_at : Kind → List Event → Event → List Event → Option Span
+span_at kind before leak after =
+    if opens kind before leak then
+    (let closed = closing_of kind before leak after in
+    Some (record {
+      detected = leak.key;
+      attempted = attempt_after after;
+      closed = closed;
+      removable = is_removable kind (before ++ leak ∷ after) closed;
+    }))
+    else None
+
+-- the tags of a component, in the order of their detection
+unfoldable pub spans_of : Kind → List Event → List Span
+spans_of kind events = each_where (span_at kind) events

@@ -1,0 +1,125 @@
+-- What the facts up to a view day say of a process unit: its components with their events and tags, and from these the lists of the unit.
+use Rattle.std.specs.Prelude.{ℕ, ◌-◌, Bool, option_map, unwrap_or, List, filter, filter_map, flat_map, map}
+use Rattle.list_words.specs.Ranges.{from_to}
+use Rattle.ldar_days.specs.Calendar.{month_of}
+use Rattle.ldar_days.specs.Quarters.{quarter_of}
+use Rattle.ldar_facts.specs.declared.class.Class.{Class}
+use Rattle.ldar_facts.specs.declared.key.Key.{Key}
+use Rattle.ldar_facts.specs.Facts.{Entry}
+use Rattle.ldar_law.specs.declared.delay.DelayLine.{DelayLine}
+use Rattle.ldar_law.specs.declared.duty.Duty.{Duty}
+use Rattle.ldar_law.specs.declared.election.ElectionEntry.{ElectionEntry}
+use Rattle.ldar_law.specs.declared.equipment.Equipment.{Equipment}
+use Rattle.ldar_law.specs.declared.event.Event.{Event}
+use Rattle.ldar_law.specs.declared.route.Route.{Route}
+use Rattle.ldar_law.specs.declared.tag.Tag.{Tag}
+use Rattle.ldar_law.specs.declared.tally.Mark.{Mark}
+use Rattle.ldar_law.specs.declared.tally.Tally.{Tally}
+use Rattle.ldar_law.specs.declared.unit_entry.UnitEntry.{UnitEntry}
+use Rattle.ldar_law.specs.Duties.{duties_of}
+use Rattle.ldar_law.specs.Equipment.{equipment_of, classes_of, members_of, elections_of, stops_of}
+use Rattle.ldar_law.specs.Events.{events_in}
+use Rattle.ldar_law.specs.Percent.{mark_of, tally_of, has_delay_on, judging_day}
+use Rattle.ldar_law.specs.Routes.{routes_of}
+use Rattle.ldar_law.specs.Skips.{is_skipped, skipped_to}
+use Rattle.ldar_law.specs.Tags.{tags_of, is_shown, delay_lines}
+
+-- what is known of a component
+pub record Known : Type 0 where
+  pub item : Equipment
+  pub classes : List (Key × Class)
+  pub events : List Event
+  pub tags : List Tag
+
+-- .. with these events of it
+abbrev pub known_by : List Entry → Equipment → List Event → Known
+known_by facts item events = record {
+  item = item;
+  classes = classes_of item.component facts;
+  events = events;
+  tags = tags_of item.component item.kind events (stops_of item.unit facts);
+}
+
+-- .. from the facts in key order
+abbrev pub known_of : List Entry → Equipment → Known
+known_of facts item = known_by facts item (events_in item (classes_of item.component facts) facts)
+
+-- the components of a unit, ascending by number, with what is known of each
+abbrev pub components_of : ℕ → List Entry → List Known
+components_of unit facts = filter_map (λ number. option_map (known_of facts) (equipment_of number facts)) (members_of unit facts)
+
+-- ---- of the components of a unit, on a view day
+
+-- all tags, by component and detection
+abbrev pub all_tags : List Known → List Tag
+all_tags components = flat_map (λ c. c.tags) components
+
+-- the tags that are not closed, or closed at most 366 days before
+abbrev pub tag_list : ℕ → List Known → List Tag
+tag_list t components = filter (is_shown t) (all_tags components)
+
+-- the lines on open tags whose repair is delayed
+abbrev pub delay_list : List Known → List DelayLine
+delay_list components = delay_lines (all_tags components)
+
+-- what a component adds to the counts of a quarter
+abbrev pub mark_in : ℕ → ℕ → ℕ → Known → Mark
+mark_in startup t quarter c =
+    mark_of c.item c.classes startup c.events (has_delay_on (judging_day startup quarter t) c.tags) quarter t
+
+-- the counts of a quarter
+abbrev pub tally_in : ℕ → ℕ → List Known → ℕ → Tally
+tally_in startup t components quarter = tally_of (map (mark_in startup t quarter) components)
+
+-- the counts of the quarters from the first to one
+abbrev pub tallies_to : ℕ → ℕ → List Known → ℕ → List Tally
+tallies_to startup t components quarter = map (tally_in startup t components) (from_to 1 quarter)
+
+-- the number of the quarter in which the day lies; 0 before the first
+abbrev pub quarter_at : ℕ → ℕ → ℕ
+quarter_at startup t = unwrap_or (quarter_of startup (month_of t)) 0
+
+-- a quarter of the unit is skipped
+abbrev pub is_quarter_skipped : ℕ → ℕ → List Known → List ElectionEntry → ℕ → Bool
+is_quarter_skipped startup t components elections quarter =
+    is_skipped (tallies_to startup t components (quarter - 1)) elections startup quarter
+
+-- which quarters are skipped, from the first to the one of the day
+abbrev pub skipped_on : ℕ → ℕ → List Known → List ElectionEntry → List Bool
+skipped_on startup t components elections =
+    skipped_to (tallies_to startup t components (quarter_at startup t - 1)) elections startup (quarter_at startup t)
+
+-- what has to be done at the components, by component, cause, due day and event
+abbrev pub due_list : ℕ → ℕ → List Bool → List Known → List Duty
+due_list startup t skipped components = flat_map (λ c. duties_of c.item c.classes startup c.events skipped t) components
+
+-- ---- of the facts up to a view day
+
+-- the tags of a unit
+abbrev pub tags_of_unit : UnitEntry → ℕ → List Entry → List Tag
+tags_of_unit unit t facts = tag_list t (components_of unit.unit facts)
+
+-- the lines on delayed repairs of a unit
+abbrev pub delays_of_unit : UnitEntry → List Entry → List DelayLine
+delays_of_unit unit facts = delay_list (components_of unit.unit facts)
+
+-- the counts of a quarter of a unit
+abbrev pub tally_of_unit : UnitEntry → ℕ → List Entry → ℕ → Tally
+tally_of_unit unit t facts quarter = tally_in unit.startup t (components_of unit.unit facts) quarter
+
+-- a quarter of a unit is skipped
+abbrev pub is_skipped_of_unit : UnitEntry → ℕ → List Entry → ℕ → Bool
+is_skipped_of_unit unit t facts quarter =
+    is_quarter_skipped unit.startup t (components_of unit.unit facts) (elections_of unit.unit facts) quarter
+
+-- the duties of some components, with the elections of their unit
+abbrev pub duties_by : UnitEntry → ℕ → List ElectionEntry → List Known → List Duty
+duties_by unit t elections components = due_list unit.startup t (skipped_on unit.startup t components elections) components
+
+-- the duties of a unit
+abbrev pub duties_of_unit : UnitEntry → ℕ → List Entry → List Duty
+duties_of_unit unit t facts = duties_by unit t (elections_of unit.unit facts) (components_of unit.unit facts)
+
+-- the routes to the components of a unit that have something to be done
+abbrev pub routes_of_unit : UnitEntry → ℕ → List Entry → ℕ → List Route
+routes_of_unit unit t facts stops = routes_of (duties_of_unit unit t facts) stops

@@ -1,0 +1,14 @@
+//! Laws of quarters: their counts, and those that are skipped.
+
+ghost use Rattle.ldar_law.specs.Percent.{TallyCounts};
+ghost use Rattle.ldar_law.specs.Skips.{StreakIsOfGoodQuarters};
+
+/// The counts of a quarter are those of its marks.
+pub fn tally_counts()
+    ensures { TallyCounts }
+{}
+
+/// A streak reaches so far where so many of the last quarters that were not skipped exist and are good.
+pub fn streak_is_of_good_quarters()
+    ensures { StreakIsOfGoodQuarters }
+{}
