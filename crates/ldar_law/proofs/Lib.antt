@@ -2,7 +2,12 @@ pub mod DelayLemmas
 pub mod EventLemmas
 pub mod FitnessLemmas
 pub mod ForceLemmas
+pub mod Gifts
 pub mod MonthLemmas
 pub mod QuarterLemmas
+pub mod RegisterLemmas
+pub mod ReportLemmas
 pub mod SliceLemmas
 pub mod Tests
+pub mod VerdictLemmas
+pub mod ViewLemmas
