@@ -11,3 +11,4 @@ pub mod SliceLemmas
 pub mod Tests
 pub mod VerdictLemmas
 pub mod ViewLemmas
+pub mod WeakOrder
