@@ -4,5 +4,6 @@ pub mod FitnessLemmas
 pub mod ForceLemmas
 pub mod MonthLemmas
 pub mod QuarterLemmas
+pub mod RouteLemmas
 pub mod SliceLemmas
 pub mod Tests
