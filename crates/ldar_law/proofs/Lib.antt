@@ -2,8 +2,13 @@ pub mod DelayLemmas
 pub mod EventLemmas
 pub mod FitnessLemmas
 pub mod ForceLemmas
+pub mod Gifts
 pub mod MonthLemmas
 pub mod QuarterLemmas
+pub mod RegisterLemmas
+pub mod ReportLemmas
 pub mod RouteLemmas
 pub mod SliceLemmas
 pub mod Tests
+pub mod VerdictLemmas
+pub mod ViewLemmas

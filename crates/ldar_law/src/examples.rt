@@ -1,11 +1,15 @@
 //! Worked examples of the definitions: functions with nothing to do, whose contracts are found by computing.
 
+pub mod denials;
 pub mod duties;
 pub mod histories;
 pub mod leaks;
 pub mod quarters;
 pub mod readings;
 pub mod repairs;
+pub mod reports;
+pub mod texts;
+pub mod views;
 
 ghost use Rattle.ldar_law.specs.RegisterExamples.{LimitsAtTheEdges, ClassFromItsDayOn, LastOfTheDayIsInForce, InServiceUntilRetired, MembersAscend, NothingOfUnknownNumbers, ShutdownsInOrder};
 

@@ -1,9 +1,12 @@
 //! What is true of the definitions: functions with nothing to do, whose contracts are the laws.
 
+pub mod denials;
 pub mod months;
 pub mod quarters;
 pub mod readings;
 pub mod repairs;
+pub mod reports;
+pub mod views;
 
 ghost use Rattle.ldar_law.specs.RegisterLaws.{OwnFactsSuffice, UnitFactsSuffice, RegisterFactsSuffice, RetiredBySome, OneMoreFactInForce};
 

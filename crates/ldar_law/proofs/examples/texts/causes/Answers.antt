@@ -1,0 +1,9 @@
+use Rattle.std.proofs.Common.{refl}
+use Rattle.std.specs.Fmt.{digits}
+use Rattle.ldar_days.specs.Calendar.{first_day, month_of}
+use Rattle.ldar_law.specs.Texts.{due_line}
+use Rattle.ldar_law.proofs.examples.texts.causes.Goals as goal
+
+pub returns : goal.returns
+unfolding digits first_day month_of due_line
+returns c = refl

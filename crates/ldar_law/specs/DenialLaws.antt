@@ -1,0 +1,64 @@
+-- What the verdict on a batch means, as laws.
+use Rattle.std.specs.Prelude.{◌≡◌, ℕ, ◌≤◌, ◌<◌, ◌↔◌, true, false, IsTrue, Some, None, List, ◌∷◌, ◌++◌, Contains, IsPermutation}
+use Rattle.list_words.specs.Words.{GivesFirst}
+use Rattle.ldar_facts.specs.declared.batch.Batch.{Batch}
+use Rattle.ldar_facts.specs.Facts.{Entry, entries_of, facts_of}
+use Rattle.ldar_facts.specs.Identity.{identities_differ}
+use Rattle.ldar_law.specs.declared.verdict.Verdict.TheVariants.{Pass, Denied, Full}
+use Rattle.ldar_law.specs.Judged.{Case}
+use Rattle.ldar_law.specs.Slices.{register_facts}
+use Rattle.ldar_law.specs.Verdicts.{Rule, rules, least_rule, denial_at, denial_after, first_denial, facts_with, verdict_on, is_ruly}
+
+-- a fact is denied by the least of the rules that deny it
+abbrev pub LeastRuleIsTold : Type 0
+LeastRuleIsTold =
+    (case : Case) (number : ℕ) → least_rule case ≡ Some number
+    → ((rule : Rule) × Contains rules rule × (rule.number ≡ number) × (rule.denies case ≡ true))
+    × ((other : Rule) → Contains rules other → other.denies case ≡ true → number ≤ other.number)
+
+-- no rule denies a fact of which none is told
+abbrev pub NoRuleDenies : Type 0
+NoRuleDenies = (case : Case) → least_rule case ≡ None → (rule : Rule) → Contains rules rule → rule.denies case ≡ false
+
+-- a batch is denied exactly for its first fact that a rule denies
+abbrev pub FirstFactIsTold : Type 0
+FirstFactIsTold =
+    (history : List Batch) (batch : Batch) (fact number : ℕ)
+    → (verdict_on history batch ≡ Denied fact number) ↔ GivesFirst (denial_at (facts_of history)) (entries_of batch) (fact, number)
+
+-- no fact of the batch is denied
+abbrev pub IsUndenied : List Batch → Batch → Type 0
+IsUndenied history batch =
+    (before : List Entry) (entry : Entry) (after : List Entry) → entries_of batch ≡ before ++ entry ∷ after
+    → denial_at (facts_of history) before entry after ≡ None
+
+-- a batch passes exactly where no fact of it is denied and the facts fit
+abbrev pub PassesUndenied : Type 0
+PassesUndenied =
+    (history : List Batch) (batch : Batch)
+    → (verdict_on history batch ≡ Pass) ↔ (IsUndenied history batch × (facts_with history batch ≤ 8_000_000))
+
+-- a batch is too much exactly where no fact of it is denied and the facts do not fit
+abbrev pub FullUndenied : Type 0
+FullUndenied =
+    (history : List Batch) (batch : Batch) (facts : ℕ)
+    → (verdict_on history batch ≡ Full facts) ↔ (IsUndenied history batch × (8_000_000 < facts) × (facts ≡ facts_with history batch))
+
+-- a ruly history is one of which each batch passes after those before it
+abbrev pub RulyIsEach : Type 0
+RulyIsEach =
+    (history : List Batch)
+    → IsTrue (is_ruly history) ↔ ((before : List Batch) (batch : Batch) (after : List Batch)
+    → history ≡ before ++ batch ∷ after → verdict_on before batch ≡ Pass)
+
+-- the order in which batches came has no effect on the verdict on another
+abbrev pub VerdictForgetsOrder : Type 0
+VerdictForgetsOrder =
+    (history other : List Batch) (batch : Batch) → IsPermutation history other → IsTrue (identities_differ history)
+    → verdict_on other batch ≡ verdict_on history batch
+
+-- of the facts of a history only those of the register count for what is denied
+abbrev pub RegisterDecides : Type 0
+RegisterDecides =
+    (history : List Batch) (batch : Batch)
+    → denial_after (register_facts (facts_of history)) batch ≡ first_denial history batch

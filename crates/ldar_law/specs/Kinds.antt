@@ -1,0 +1,14 @@
+use Rattle.std.specs.Prelude.{Bool, true, false}
+use Rattle.ldar_facts.specs.declared.class.Kind.{Kind}
+use Rattle.ldar_facts.specs.declared.class.Kind.TheVariants.{Pump, Compressor}
+pub use Rattle.ldar_law.specs.Spans.{is_valve}
+
+-- what a component is
+
+abbrev pub is_pump : Kind → Bool
+is_pump Pump = true
+is_pump _ = false
+
+abbrev pub is_compressor : Kind → Bool
+is_compressor Compressor = true
+is_compressor _ = false

@@ -1,0 +1,103 @@
+//! Worked examples of reports, as contracts of functions with nothing to do: each clause computes.
+#![tactic(auto, unfolding(ldar_days::specs::Calendar::first_day, ldar_days::specs::Calendar::month_of, ldar_days::specs::Calendar::month_length, ldar_days::specs::Quarters::first_quarter, ldar_days::specs::Quarters::last_whole, list_words::specs::Ranges::until, crate::specs::Reports::month_cells, crate::specs::Reports::delay_of, crate::specs::Reports::amended_at))]
+
+ghost use Rattle.std.specs.Prelude.{◌≡◌, ℕ, ◌+◌, ◌*◌, true, false, Some, None, [], ◌∷◌, ◌++◌, codes, filter, replicate};
+ghost use Rattle.std.specs.List.{filter_map};
+ghost use Rattle.ldar_days.specs.Quarters.{quarter_first};
+ghost use Rattle.ldar_facts.specs.declared.class.Kind.TheVariants.{Valve, Pump, Relief};
+ghost use Rattle.ldar_law.specs.declared.delay.Until.TheVariants.{Date, Shutdown};
+ghost use Rattle.ldar_law.specs.Reports.{has_half_begun, half_month, half_first, half_last, month_cells, delay_of, is_stop_in, amended, cells_of};
+ghost use Rattle.ldar_law.specs.Short.{date};
+ghost use Rattle.ldar_law.specs.Tags.{is_late, delay_lines};
+ghost use Rattle.ldar_law.specs.SmallReport.{repaired_late, with_closing, delay_entry, delayed, sheet_of, filed_months};
+
+/// A unit that started up on 2020-01-15 has October 2023 to March 2024 as half 8.
+pub fn months_of_a_half()
+    ensures months { half_month (date 2020 1 15) 8 ≡ 12 * 2023 + 9 }
+    ensures first { half_first (date 2020 1 15) 8 ≡ date 2023 10 1 }
+    ensures last { half_last (date 2020 1 15) 8 ≡ date 2024 3 31 }
+    ensures begun { has_half_begun (date 2020 1 15) 8 (date 2023 10 1) ≡ true }
+    ensures not_begun { has_half_begun (date 2020 1 15) 8 (date 2023 9 30) ≡ false }
+    ensures none { has_half_begun (date 2020 1 15) 0 (date 2023 10 1) ≡ false }
+{}
+
+/// A half that would begin after 2099-12-31 begins after every day, and its first day is given as that one.
+pub fn half_past_the_calendar()
+    ensures last_half { has_half_begun (date 2097 12 31) 4 (date 2099 12 31) ≡ true }
+    ensures next_half { has_half_begun (date 2097 12 31) 5 (date 2099 12 31) ≡ false }
+    ensures first_day { half_first (date 2097 12 31) 5 ≡ date 2099 12 31 }
+{}
+
+/// A tag due on 2024-03-06 is late where it was closed on the day after, or is open then.
+pub fn late_tags()
+    ensures closed_in_time { is_late (date 2024 3 31) (with_closing (Some (date 2024 3 6))) ≡ false }
+    ensures closed_late { is_late (date 2024 3 31) (with_closing (Some (date 2024 3 7))) ≡ true }
+    ensures open_on_its_due_day { is_late (date 2024 3 6) (with_closing None) ≡ false }
+    ensures open_after { is_late (date 2024 3 7) (with_closing None) ≡ true }
+    ensures no_date { is_late (date 2024 12 31) (delayed 1 Shutdown None) ≡ false }
+{}
+
+/// A leak of February with a tag that was due in March and closed late: one number of each month.
+pub fn leak_and_late_tag()
+    ensures february { month_cells (date 2024 3 31) (sheet_of 1 Valve repaired_late ∷ sheet_of 8 Relief repaired_late ∷ []) (12 * 2024 + 1)
+        ≡ 1 ∷ 0 ∷ 0 ∷ 0 ∷ 0 ∷ 0 ∷ [] }
+    ensures march { month_cells (date 2024 3 31) (sheet_of 1 Valve repaired_late ∷ sheet_of 8 Relief repaired_late ∷ []) (12 * 2024 + 2)
+        ≡ 0 ∷ 1 ∷ 0 ∷ 0 ∷ 0 ∷ 0 ∷ [] }
+    ensures of_a_pump { month_cells (date 2024 3 31) (sheet_of 5 Pump repaired_late ∷ []) (12 * 2024 + 2)
+        ≡ 0 ∷ 0 ∷ 0 ∷ 1 ∷ 0 ∷ 0 ∷ [] }
+{}
+
+/// The months after December 2099 have zeros.
+pub fn months_past_the_calendar()
+    ensures { cells_of (date 2097 12 31) 4 (date 2099 12 31) (sheet_of 1 Valve repaired_late ∷ []) []
+        ≡ record { months = replicate 36 0; delays = []; stops = [] } }
+{}
+
+/// The line of a delayed tag in half 8, and where there is none.
+pub fn delays_of_a_half()
+    ensures line { delay_of (date 2023 10 1) (date 2024 3 31) (delayed 1 Shutdown None) ≡ Some (record {
+      component = 1;
+      detected = date 2024 2 20;
+      delay = delay_entry 1;
+      until = Shutdown;
+      closed = None;
+    }) }
+    ensures detected_later { delay_of (date 2023 4 1) (date 2023 9 30) (delayed 1 Shutdown None) ≡ None }
+    ensures closed_earlier { delay_of (date 2024 10 1) (date 2025 3 31) (delayed 1 (Date (date 2024 6 30)) (Some (date 2024 9 30))) ≡ None }
+    ensures not_delayed { delay_of (date 2023 10 1) (date 2024 3 31) repaired_late ≡ None }
+{}
+
+/// A delay that was withdrawn is a line of the report, and none of the delays that hold.
+pub fn withdrawn_delay()
+    ensures reported { delay_of (date 2023 10 1) (date 2024 3 31) (delayed 0 (Date (date 2024 3 6)) None) ≡ Some (record {
+      component = 1;
+      detected = date 2024 2 20;
+      delay = delay_entry 0;
+      until = Date (date 2024 3 6);
+      closed = None;
+    }) }
+    ensures not_listed { delay_lines ((delayed 0 (Date (date 2024 3 6)) None) ∷ []) ≡ [] }
+    ensures while_it_holds { delay_lines (delayed 1 Shutdown None ∷ []) ≡ record {
+      component = 1;
+      detected = date 2024 2 20;
+      delay = delay_entry 1;
+      until = Shutdown;
+      closed = None;
+    } ∷ [] }
+    ensures closed { delay_lines ((delayed 1 (Date (date 2024 6 30)) (Some (date 2024 6 10))) ∷ []) ≡ [] }
+{}
+
+/// Shutdowns with a day in half 8.
+pub fn shutdowns_of_a_half()
+    ensures last_day { is_stop_in (date 2023 10 1) (date 2024 3 31) (record { first = date 2023 9 20; last = date 2023 10 1 }) ≡ true }
+    ensures before { is_stop_in (date 2023 10 1) (date 2024 3 31) (record { first = date 2023 9 20; last = date 2023 9 30 }) ≡ false }
+    ensures first_day { is_stop_in (date 2023 10 1) (date 2024 3 31) (record { first = date 2024 3 31; last = date 2024 4 13 }) ≡ true }
+{}
+
+/// A late valve of the sixth month that turns out to have been repaired in time: one number is amended.
+pub fn amended_number()
+    ensures one { amended (record { months = filed_months 1 1; delays = []; stops = [] }) (record { months = filed_months 1 0; delays = []; stops = [] })
+        ≡ record { month = 6; column = 2; old = 1; new = 0 } ∷ [] }
+    ensures none { amended (record { months = filed_months 1 1; delays = []; stops = [] }) (record { months = filed_months 1 1; delays = []; stops = [] })
+        ≡ [] }
+{}

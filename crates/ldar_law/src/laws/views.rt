@@ -1,0 +1,8 @@
+//! What is true of all views: functions with nothing to do, whose contracts are the laws.
+
+ghost use Rattle.ldar_law.specs.Shown.{ViewsForgetOrder};
+
+/// Histories of the same batches in any order show the same on each view.
+pub fn views_forget_order()
+    ensures { ViewsForgetOrder }
+{}
