@@ -7,6 +7,7 @@ pub mod MonthLemmas
 pub mod QuarterLemmas
 pub mod RegisterLemmas
 pub mod ReportLemmas
+pub mod RouteLemmas
 pub mod SliceLemmas
 pub mod Tests
 pub mod VerdictLemmas

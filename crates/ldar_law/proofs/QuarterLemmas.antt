@@ -24,7 +24,7 @@ reached : {X : Type 0} (p : X → Bool) (xs : List X) (n : ℕ) → n ≤ length
 reached p xs zero h e = omega arith
 reached p [] (suc n) h e = absurd (omega (arith, h))
 reached p (x ∷ xs) (suc n) h e =
-    let rest = reached p xs n (omega (arith, h)) (both e).1 in
+    let rest : n ≤ prefix_len p xs = reached p xs n (omega (arith, h)) (both e).1 in
     let passes : p x ≡ true = (both e).0 in
     rw passes (omega (arith, rest))
 

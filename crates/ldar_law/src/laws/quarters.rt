@@ -1,6 +1,7 @@
-//! Laws of quarters: their counts, and those that are skipped.
+//! Laws of quarters, their counts and those that are skipped, and of routes.
 
 ghost use Rattle.ldar_law.specs.Percent.{TallyCounts};
+ghost use Rattle.ldar_law.specs.Routes.{StopsAreUndone};
 ghost use Rattle.ldar_law.specs.Skips.{StreakIsOfGoodQuarters};
 
 /// The counts of a quarter are those of its marks.
@@ -11,4 +12,9 @@ pub fn tally_counts()
 /// A streak reaches so far where so many of the last quarters that were not skipped exist and are good.
 pub fn streak_is_of_good_quarters()
     ensures { StreakIsOfGoodQuarters }
+{}
+
+/// A component is a stop of the routes just where it has a duty that isn't done.
+pub fn stops_are_undone()
+    ensures { StopsAreUndone }
 {}

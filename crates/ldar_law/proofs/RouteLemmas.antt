@@ -1,0 +1,59 @@
+use Rattle.std.proofs.Common.{◌≡◌, ℕ, Bool, true, false, ◌||◌, ◌&&◌, List, [], ◌∷◌, ◌++◌, filter, refl, sym, ap, subst, ◌∙◌, inl, inr}
+use Rattle.std.specs.Prelude.{nat_eq, fold, is_none}
+use Rattle.std.specs.List.{list_any}
+use Rattle.std.proofs.lemmas.Bool.{cases_Bool, eqb-true}
+use Rattle.std.proofs.lemmas.List.Folds.{list_any-append}
+use Rattle.std.proofs.Math.Bool.{or_assoc}
+use Rattle.list_words.specs.Order.{in_order}
+use Rattle.list_words.proofs.PutLemmas.{list_any-put}
+use Rattle.ldar_law.specs.declared.duty.Duty.{Duty}
+use Rattle.ldar_law.specs.Routes.{is_more_urgent, with_stop, stops_in_order, StopsAreUndone}
+
+or_false : (b : Bool) → (b || false) ≡ b
+or_false true = refl
+or_false false = refl
+
+or_true : (b : Bool) → (b || true) ≡ true
+or_true true = refl
+or_true false = refl
+
+-- in order, the same is there
+in_order_any : {X : Type 0} (p : X → Bool) (before : X → X → Bool) (xs : List X) → list_any p (in_order before xs) ≡ list_any p xs
+in_order_any p before [] = refl
+in_order_any p before (x ∷ xs) = list_any-put p before x (in_order before xs) ∙ ap (λ b. p x || b) (in_order_any p before xs)
+
+-- among what passes one test, some passes another
+filter_any : {X : Type 0} (p q : X → Bool) (xs : List X) → list_any p (filter q xs) ≡ list_any (λ x. q x && p x) xs
+filter_any p q [] = refl
+filter_any p q (x ∷ xs) = elim (cases_Bool (q x)) [
+  | inl t ↦ rw t (ap (λ b. p x || b) (filter_any p q xs))
+  | inr f ↦ rw f (filter_any p q xs)
+]
+
+-- the component is among the stops
+abbrev has : List ℕ → ℕ → Bool
+has stops component = list_any (λ stop. nat_eq stop component) stops
+
+-- a duty adds its component
+stop_added : (stops : List ℕ) (duty : Duty) (component : ℕ) → has (with_stop stops duty) component ≡ (has stops component || nat_eq duty.component component)
+stop_added stops duty component = elim (cases_Bool (has stops duty.component)) [
+  | inl there ↦ rw there (elim (cases_Bool (nat_eq duty.component component)) [
+    | inl same ↦ rw (same, subst (λ c. has stops c ≡ true) (eqb-true duty.component component same) there) refl
+    | inr differs ↦ rw differs (sym (or_false (has stops component)))
+  ])
+  | inr new ↦ rw new
+      (list_any-append (λ stop. nat_eq stop component) stops (duty.component ∷ []) ∙ rw (or_false (nat_eq duty.component component)) refl)
+]
+
+-- and so does each of some duties
+stops_added : (duties : List Duty) (stops : List ℕ) (component : ℕ) → has (fold with_stop stops duties) component ≡ (has stops component || list_any (λ d. nat_eq d.component component) duties)
+stops_added [] stops component = sym (or_false (has stops component))
+stops_added (duty ∷ duties) stops component =
+    stops_added duties (with_stop stops duty) component
+    ∙ rw (stop_added stops duty component) (or_assoc (has stops component) (nat_eq duty.component component) (list_any (λ d. nat_eq d.component component) duties))
+
+pub stops_are_undone : StopsAreUndone
+stops_are_undone duties component =
+    stops_added (in_order is_more_urgent (filter (λ d. is_none d.met) duties)) [] component
+    ∙ in_order_any (λ d. nat_eq d.component component) is_more_urgent (filter (λ d. is_none d.met) duties)
+    ∙ filter_any (λ d. nat_eq d.component component) (λ d. is_none d.met) duties
