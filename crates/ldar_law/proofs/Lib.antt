@@ -1,5 +1,6 @@
 pub mod DelayLemmas
 pub mod DutyLemmas
+pub mod EnteredLemmas
 pub mod EventLemmas
 pub mod FitnessLemmas
 pub mod ForceLemmas
