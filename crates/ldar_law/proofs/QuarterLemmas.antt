@@ -24,9 +24,9 @@ reached : {X : Type 0} (p : X → Bool) (xs : List X) (n : ℕ) → n ≤ length
 reached p xs zero h e = omega arith
 reached p [] (suc n) h e = absurd (omega (arith, h))
 reached p (x ∷ xs) (suc n) h e =
-    let rest : n ≤ prefix_len p xs = reached p xs n (omega (arith, h)) (both e).1 in
-    let passes : p x ≡ true = (both e).0 in
-    rw passes (omega (arith, rest))
+    let parts : (p x ≡ true) × (list_all p (take n xs) ≡ true) = both e in
+    let rest : n ≤ prefix_len p xs = reached p xs n (omega (arith, h)) parts.1 in
+    rw parts.0 (omega (arith, rest))
 
 pub streak_is_of_good_quarters : StreakIsOfGoodQuarters
 unfolding good_streak

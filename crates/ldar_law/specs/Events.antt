@@ -29,12 +29,13 @@ abbrev pub is_routine_purpose : Purpose → Bool
 is_routine_purpose Routine = true
 is_routine_purpose FollowUp = false
 
--- what a visual inspection found
+-- whether a visual inspection found drips
 abbrev pub drips_in : VisualState → Bool
 drips_in Dry = false
 drips_in Drips = true
 drips_in Designated = true
 
+-- .. and whether it designates the drips as a leak
 abbrev pub designated_in : VisualState → Bool
 designated_in Designated = true
 designated_in _ = false

@@ -42,6 +42,8 @@ use Rattle.ldar_law.specs.declared.event.Event.{Event}
 use Rattle.ldar_law.specs.declared.event.Happening.{Happening}
 use Rattle.ldar_law.specs.declared.event.Happening.TheVariants.{Read, Look, Attempt, Delay, Release, Sensor, Evidence, Retire}
 
+-- ---- days
+
 -- a day by year, month and day of the month
 abbrev pub date : ℕ → ℕ → ℕ → ℕ
 date y m d = first_day (12 * y + m - 1) + d - 1
@@ -76,15 +78,17 @@ drifted day minute ppm = fact day minute (Drift 1 500 (ppm, ppm, ppm))
 abbrev pub measured : ℕ → ℕ → ℕ → Entry
 measured day component ppm = fact day 600 (Reading component 1 1 Routine ppm 0)
 
--- ---- components, of unit 1
+-- ---- components of unit 1
 
+-- a class without a plan, monitored in the first month of a quarter
 abbrev pub class : Service → Designation → Class
 class service designation = record { service = service; designation = designation; plan = 0; month = 1 }
 
--- monitored by a plan of so many months
+-- unsafe to monitor, with a plan of so many months
 abbrev pub unsafe_by : Service → ℕ → Class
 unsafe_by service plan = record { service = service; designation = Unsafe; plan = plan; month = 1 }
 
+-- a component of a kind and class, from a day on
 abbrev pub gear : ℕ → Kind → Class → ℕ → Equipment
 gear component kind class begin = record {
   component = component;
@@ -97,173 +101,11 @@ gear component kind class begin = record {
   class = class;
 }
 
--- a valve in gas service, a pump in light liquid service, a compressor and a relief device in gas service
+-- a valve in gas service
 abbrev pub valve : ℕ → ℕ → Equipment
 valve component begin = gear component Valve (class Gas Plain) begin
 
-abbrev pub pump : ℕ → ℕ → Equipment
-pump component begin = gear component Pump (class Light Plain) begin
-
-abbrev pub compressor : ℕ → ℕ → Equipment
-compressor component begin = gear component Compressor (class Gas Plain) begin
-
-abbrev pub relief : ℕ → ℕ → Equipment
-relief component begin = gear component Relief (class Gas Plain) begin
-
--- ---- events
-
--- at minute 600
-abbrev pub event : ℕ → Happening → Event
-event day what = record { key = key day 600; what = what }
-
--- a counting routine reading by a leak definition
-abbrev pub reads_by : ℕ → ℕ → ℕ → Event
-reads_by limit day ppm = event day (Read ppm 0 true true (nat_lt ppm limit) (nat_le limit ppm))
-
--- .. of a valve
-abbrev pub reads : ℕ → ℕ → Event
-reads day ppm = reads_by 500 day ppm
-
--- a pump's visual inspection that is dry, finds drips, or drips that are designated as a leak
-abbrev pub dry : ℕ → Event
-dry day = event day (Look false false false)
-
-abbrev pub drips : ℕ → Event
-drips day = event day (Look true false false)
-
-abbrev pub designates : ℕ → Event
-designates day = event day (Look true true true)
-
-abbrev pub attempts : ℕ → Event
-attempts day = event day (Attempt false)
-
-abbrev pub completes : ℕ → Event
-completes day = event day (Attempt true)
-
--- a delay of repair of a ground, signed by 9, until a day is expected
-abbrev pub delays : ℕ → ℕ → ℕ → Event
-delays day why expected = event day (Delay why 9 (Some expected))
-
--- ---- delays and shutdowns
-
-abbrev pub delay : ℕ → ℕ → DelayEntry
-delay day why = delay_entered (key day 600) why 9 None
-
-abbrev pub stop : ℕ → ℕ → Stop
-stop first last = record { first = first; last = last }
-
--- ---- duties
-
-abbrev pub owes : ℕ → ℕ → ℕ → Duty
-owes component cause due = record { component = component; cause = cause; due = due; met = None }
-
-abbrev pub has_done : ℕ → ℕ → ℕ → ℕ → Duty
-has_done component cause due day = record { component = component; cause = cause; due = due; met = Some (key day 600) }
-
--- ---- more
-
--- a pump that handles polymerizing monomers
-abbrev pub monomer_pump : ℕ → ℕ → Equipment
-monomer_pump component begin = record {
-  component = component;
-  unit = 1;
-  kind = Pump;
-  monomer = true;
-  replaces = false;
-  begin = begin;
-  retired = None;
-  class = class Light Plain;
-}
-
--- whether facts of 2024-02-20 at a component are leaks, with the instrument calibrated
-abbrev pub leaks_of : Equipment → Entry → List Bool
-leaks_of item e = map (λ event. is_leak event.what) (events_in item [] (precise (date 2024 1 2) ∷ calibrated (date 2024 2 20) 300 500 ∷ e ∷ []))
-
--- whether a reading is
-abbrev pub found_at : Equipment → ℕ → List Bool
-found_at item ppm = leaks_of item (measured (date 2024 2 20) item.component ppm)
-
--- whether a sensor's indication is
-abbrev pub sensed : Equipment → Bool → List Bool
-sensed item present = leaks_of item (fact (date 2024 2 20) 600 (Indication item.component SensorSort present))
-
--- whether a designated drip is
-abbrev pub designated_at : Equipment → List Bool
-designated_at item = leaks_of item (fact (date 2024 2 20) 600 (Visual item.component Designated))
-
-abbrev pub sensor_leak : ℕ → Event
-sensor_leak day = event day (Sensor true true)
-
-abbrev pub retires : ℕ → Event
-retires day = event day Retire
-
--- a tag detected on a day at minute 600
-abbrev pub span : ℕ → Option ℕ → Option Key → Bool → Span
-span detected attempted closed removable = record {
-  detected = key detected 600;
-  attempted = attempted;
-  closed = closed;
-  removable = removable;
-}
-
--- a tag as it is shown, detected on a day, with its due days
-abbrev pub tag : ℕ → ℕ → Option ℕ → Until → Option ℕ → Option DelayEntry → Bool → Tag
-tag component detected attempted due closed delayed removable = record {
-  component = component;
-  detected = detected;
-  attempt_due = detected + 5;
-  attempted = attempted;
-  repair_due = due;
-  closed = closed;
-  delay = delayed;
-  removable = removable;
-}
-
--- the delay that `delays` enters
-abbrev pub delay_until : ℕ → ℕ → ℕ → DelayEntry
-delay_until day why expected = delay_entered (key day 600) why 9 (Some expected)
-
-abbrev pub line : ℕ → ℕ → DelayEntry → Until → DelayLine
-line component detected delay until = record { component = component; detected = detected; delay = delay; until = until; closed = None }
-
--- a counting routine reading near its background
-abbrev pub reads_over : ℕ → ℕ → ℕ → Event
-reads_over day ppm background = event day (Read ppm background true true (nat_lt ppm 500) false)
-
-abbrev pub releases : ℕ → Event
-releases day = event day Release
-
-abbrev pub shows_evidence : ℕ → Bool → Event
-shows_evidence day present = event day (Evidence present)
-
--- the duties of a cause
-abbrev pub of_cause : ℕ → List Duty → List Duty
-of_cause cause duties = filter (λ d. nat_eq d.cause cause) duties
-
--- a component of unit 1, which started up on 2020-01-15 and has skipped no quarter, on a day
-abbrev pub duties_on : ℕ → Equipment → List Event → List Duty
-duties_on t item events = duties_of item [] (date 2020 1 15) events [] t
-
--- quarters that are good, and quarters that are not
-abbrev pub good_quarters : ℕ → List Tally
-good_quarters n = replicate n (record { leaking = 0; monitored = 10 })
-
-abbrev pub bad_quarters : ℕ → List Tally
-bad_quarters n = replicate n (record { leaking = 1; monitored = 10 })
-
-abbrev pub elects : ℕ → ℕ → ElectionEntry
-elects day mode = record { key = key day 0; mode = mode }
-
-abbrev pub found : Mark
-found = record { leaking = true; monitored = true }
-
-abbrev pub clean : Mark
-clean = record { leaking = false; monitored = true }
-
-abbrev pub uncounted : Mark
-uncounted = record { leaking = false; monitored = false }
-
--- a valve in gas service that is retired
+-- .. that is retired
 abbrev pub retired_valve : ℕ → ℕ → ℕ → Equipment
 retired_valve component begin retired = record {
   component = component;
@@ -289,6 +131,193 @@ replacing_valve component begin = record {
   class = class Gas Plain;
 }
 
+-- a pump in light liquid service
+abbrev pub pump : ℕ → ℕ → Equipment
+pump component begin = gear component Pump (class Light Plain) begin
+
+-- .. that handles polymerizing monomers
+abbrev pub monomer_pump : ℕ → ℕ → Equipment
+monomer_pump component begin = record {
+  component = component;
+  unit = 1;
+  kind = Pump;
+  monomer = true;
+  replaces = false;
+  begin = begin;
+  retired = None;
+  class = class Light Plain;
+}
+
+-- a compressor in gas service
+abbrev pub compressor : ℕ → ℕ → Equipment
+compressor component begin = gear component Compressor (class Gas Plain) begin
+
+-- a relief device in gas service
+abbrev pub relief : ℕ → ℕ → Equipment
+relief component begin = gear component Relief (class Gas Plain) begin
+
+-- whether facts of 2024-02-20 at a component are leaks, with the instrument calibrated
+abbrev pub leaks_of : Equipment → Entry → List Bool
+leaks_of item e = map (λ event. is_leak event.what) (events_in item [] (precise (date 2024 1 2) ∷ calibrated (date 2024 2 20) 300 500 ∷ e ∷ []))
+
+-- whether a reading is one
+abbrev pub found_at : Equipment → ℕ → List Bool
+found_at item ppm = leaks_of item (measured (date 2024 2 20) item.component ppm)
+
+-- whether a sensor's indication is one
+abbrev pub sensed : Equipment → Bool → List Bool
+sensed item present = leaks_of item (fact (date 2024 2 20) 600 (Indication item.component SensorSort present))
+
+-- whether a designated drip is one
+abbrev pub designated_at : Equipment → List Bool
+designated_at item = leaks_of item (fact (date 2024 2 20) 600 (Visual item.component Designated))
+
+-- ---- events, at minute 600
+
+-- what happened on a day
+abbrev pub event : ℕ → Happening → Event
+event day what = record { key = key day 600; what = what }
+
+-- a counting routine reading by a leak definition
+abbrev pub reads_by : ℕ → ℕ → ℕ → Event
+reads_by limit day ppm = event day (Read ppm 0 true true (nat_lt ppm limit) (nat_le limit ppm))
+
+-- .. by a valve's
+abbrev pub reads : ℕ → ℕ → Event
+reads day ppm = reads_by 500 day ppm
+
+-- .. over a background
+abbrev pub reads_over : ℕ → ℕ → ℕ → Event
+reads_over day ppm background = event day (Read ppm background true true (nat_lt ppm 500) false)
+
+-- a visual inspection that is dry
+abbrev pub dry : ℕ → Event
+dry day = event day (Look false false false)
+
+-- .. that finds drips
+abbrev pub drips : ℕ → Event
+drips day = event day (Look true false false)
+
+-- .. that designates them as a leak
+abbrev pub designates : ℕ → Event
+designates day = event day (Look true true true)
+
+-- an attempt at a repair
+abbrev pub attempts : ℕ → Event
+attempts day = event day (Attempt false)
+
+-- .. that is complete
+abbrev pub completes : ℕ → Event
+completes day = event day (Attempt true)
+
+-- a delay of repair of a ground, signed by 9, until a day is expected
+abbrev pub delays : ℕ → ℕ → ℕ → Event
+delays day why expected = event day (Delay why 9 (Some expected))
+
+-- a sensor indicates a compressor's leak
+abbrev pub sensor_leak : ℕ → Event
+sensor_leak day = event day (Sensor true true)
+
+-- a pressure release
+abbrev pub releases : ℕ → Event
+releases day = event day Release
+
+-- evidence of a leak is present or gone
+abbrev pub shows_evidence : ℕ → Bool → Event
+shows_evidence day present = event day (Evidence present)
+
+-- a component goes out of service
+abbrev pub retires : ℕ → Event
+retires day = event day Retire
+
+-- the tag that is detected on a day
+abbrev pub span : ℕ → Option ℕ → Option Key → Bool → Span
+span detected attempted closed removable = record {
+  detected = key detected 600;
+  attempted = attempted;
+  closed = closed;
+  removable = removable;
+}
+
+-- ---- delays, shutdowns and tags
+
+-- a delay of a ground, entered on a day
+abbrev pub delay : ℕ → ℕ → DelayEntry
+delay day why = delay_entered (key day 600) why 9 None
+
+-- .. until a day is expected
+abbrev pub delay_until : ℕ → ℕ → ℕ → DelayEntry
+delay_until day why expected = delay_entered (key day 600) why 9 (Some expected)
+
+-- a shutdown from its first day to its last
+abbrev pub stop : ℕ → ℕ → Stop
+stop first last = record { first = first; last = last }
+
+-- a tag as it is shown, detected on a day, with its due days
+abbrev pub tag : ℕ → ℕ → Option ℕ → Until → Option ℕ → Option DelayEntry → Bool → Tag
+tag component detected attempted due closed delayed removable = record {
+  component = component;
+  detected = detected;
+  attempt_due = detected + 5;
+  attempted = attempted;
+  repair_due = due;
+  closed = closed;
+  delay = delayed;
+  removable = removable;
+}
+
+-- a line on an open tag
+abbrev pub line : ℕ → ℕ → DelayEntry → Until → DelayLine
+line component detected delay until = record { component = component; detected = detected; delay = delay; until = until; closed = None }
+
+-- ---- duties
+
+-- a duty that nothing has met
+abbrev pub owes : ℕ → ℕ → ℕ → Duty
+owes component cause due = record { component = component; cause = cause; due = due; met = None }
+
+-- a duty that was met on a day
+abbrev pub has_done : ℕ → ℕ → ℕ → ℕ → Duty
+has_done component cause due day = record { component = component; cause = cause; due = due; met = Some (key day 600) }
+
+-- the duties of a cause
+abbrev pub of_cause : ℕ → List Duty → List Duty
+of_cause cause duties = filter (λ d. nat_eq d.cause cause) duties
+
+-- the duties on a day of a component of unit 1, which started up on 2020-01-15 and has skipped no quarter
+abbrev pub duties_on : ℕ → Equipment → List Event → List Duty
+duties_on t item events = duties_of item [] (date 2020 1 15) events [] t
+
+-- ---- quarters and routes
+
+-- so many quarters that are good
+abbrev pub good_quarters : ℕ → List Tally
+good_quarters n = replicate n (record { leaking = 0; monitored = 10 })
+
+-- so many quarters that are not
+abbrev pub bad_quarters : ℕ → List Tally
+bad_quarters n = replicate n (record { leaking = 1; monitored = 10 })
+
+-- an election of a mode from a day on
+abbrev pub elects : ℕ → ℕ → ElectionEntry
+elects day mode = record { key = key day 0; mode = mode }
+
+-- the counts of a quarter
+abbrev pub tally : ℕ → ℕ → Tally
+tally leaking monitored = record { leaking = leaking; monitored = monitored }
+
+-- a valve that is found leaking
+abbrev pub found : Mark
+found = record { leaking = true; monitored = true }
+
+-- a valve that is not
+abbrev pub clean : Mark
+clean = record { leaking = false; monitored = true }
+
+-- a component that is not counted
+abbrev pub uncounted : Mark
+uncounted = record { leaking = false; monitored = false }
+
 -- what a component of unit 1 adds to the counts of a quarter, as known on a day
 abbrev pub mark_on : ℕ → ℕ → Equipment → List Event → Mark
 mark_on t quarter item events = mark_in (date 2020 1 15) t quarter (record {
@@ -298,6 +327,7 @@ mark_on t quarter item events = mark_in (date 2020 1 15) t quarter (record {
   tags = tags_of item.component item.kind events [];
 })
 
+-- a route of these components
 abbrev pub route : List ℕ → Route
 route stops = record { stops = stops }
 
@@ -307,6 +337,7 @@ route stops = record { stops = stops }
 abbrev pub stated : ℕ → ℕ → FactBody → Stated
 stated day minute body = record { day = day; minute = minute; body = body }
 
+-- a batch of some facts
 abbrev pub batch : ℕ → ℕ → List Stated → Batch
 batch handheld number facts = record { handheld = handheld; number = number; facts = facts }
 
@@ -339,6 +370,3 @@ unit_1 = record { unit = 1; name = 67 ∷ []; startup = date 2020 1 15; older = 
 -- the tags of unit 1 on a day, after a history
 abbrev pub tags_on : ℕ → List Batch → List Tag
 tags_on t history = tags_of_unit unit_1 t (facts_to t history)
-
-abbrev pub tally : ℕ → ℕ → Tally
-tally leaking monitored = record { leaking = leaking; monitored = monitored }

@@ -38,19 +38,18 @@ attempt_after after = option_map (λ e. e.key.day) (find (λ e. is_attempt e.wha
 abbrev pub is_removable : Kind → List Event → Option Key → Bool
 is_removable kind events closed = option_map_or (λ key. not (is_valve kind) || is_clean_twice_from events (month_of key.day)) closed false
 
--- the tag that opens at an event, with the events before and after it
-abbrev pub span_at : Kind → List Event → Event → List Event → Option Span
-span_at kind before leak after =
-    if opens kind before leak then
-    (let closed = closing_of kind before leak after in
-    Some (record {
+-- the tag that opens at one of the events, with those before and after it
+abbrev pub span_at : Kind → List Event → List Event → Event → List Event → Option Span
+span_at kind events before leak after =
+    if opens kind before leak
+    then Some (record {
       detected = leak.key;
       attempted = attempt_after after;
-      closed = closed;
-      removable = is_removable kind (before ++ leak ∷ after) closed;
-    }))
+      closed = closing_of kind before leak after;
+      removable = is_removable kind events (closing_of kind before leak after);
+    })
     else None
 
 -- the tags of a component, in the order of their detection
 unfoldable pub spans_of : Kind → List Event → List Span
-spans_of kind events = each_where (span_at kind) events
+spans_of kind events = each_where (span_at kind events) events

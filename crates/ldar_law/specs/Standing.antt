@@ -11,42 +11,52 @@ use Rattle.ldar_law.specs.Force.{class_on, regime_on}
 
 -- ---- tests of a regime and of a designation
 
+-- these are the rules for valves
 abbrev pub are_valve_rules : Regime → Bool
 are_valve_rules ValveRules = true
 are_valve_rules _ = false
 
+-- .. for pumps
 abbrev pub are_pump_rules : Regime → Bool
 are_pump_rules PumpRules = true
 are_pump_rules _ = false
 
+-- .. for compressors
 abbrev pub are_compressor_rules : Regime → Bool
 are_compressor_rules CompressorRules = true
 are_compressor_rules _ = false
 
+-- .. for relief devices
 abbrev pub are_relief_rules : Regime → Bool
 are_relief_rules ReliefRules = true
 are_relief_rules _ = false
 
+-- .. for heavy liquid service
 abbrev pub are_heavy_liquid_rules : Regime → Bool
 are_heavy_liquid_rules HeavyLiquidRules = true
 are_heavy_liquid_rules _ = false
 
+-- these rules leave a component out
 abbrev pub leave_out : Regime → Bool
 leave_out LeftOut = true
 leave_out _ = false
 
+-- no designation
 abbrev pub is_none_designated : Designation → Bool
 is_none_designated Plain = true
 is_none_designated _ = false
 
+-- for no detectable emissions
 abbrev pub is_nde_designated : Designation → Bool
 is_nde_designated Nde = true
 is_nde_designated _ = false
 
+-- unsafe to monitor
 abbrev pub is_unsafe_designated : Designation → Bool
 is_unsafe_designated Unsafe = true
 is_unsafe_designated _ = false
 
+-- difficult to monitor
 abbrev pub is_difficult_designated : Designation → Bool
 is_difficult_designated Difficult = true
 is_difficult_designated _ = false

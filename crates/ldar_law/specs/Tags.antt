@@ -16,13 +16,14 @@ use Rattle.ldar_law.specs.Spans.{spans_of}
 use Rattle.ldar_law.specs.Delays.{delay_entered, repair_due, counted_delay, attempt_by, is_past}
 use Rattle.ldar_law.specs.Happenings.{is_attempt}
 
+-- the delay that happened at a key, if one did
+abbrev pub delay_at : Key → Happening → Option DelayEntry
+delay_at key (Delay why signer expected) = Some (delay_entered key why signer expected)
+delay_at key _ = None
+
 -- the delay that an event is, if it is one
 abbrev pub delay_entry : Event → Option DelayEntry
-delay_entry e = delay_entry_at e.key e.what
-  where
-    delay_entry_at : Key → Happening → Option DelayEntry
-    delay_entry_at key (Delay why signer expected) = Some (delay_entered key why signer expected)
-    delay_entry_at key _ = None
+delay_entry e = delay_at e.key e.what
 
 -- the key lies after the tag's detection, and before its closing where it is closed
 abbrev pub is_within : Span → Key → Bool
