@@ -85,25 +85,7 @@ module _ (number : ℕ) where
   members-push [] e = members-cons e []
   members-push (x ∷ xs) e = members-behind x e xs (xs ++ e ∷ []) (members-push xs e)
 
--- Numbers that are put in order rise.
-
-rises_put : (x : ℕ) (xs : List ℕ) → Ascends nat_le xs → Ascends nat_le (put_in_order nat_lt x xs)
-rises_put x [] up = (tt, tt)
-rises_put x (y ∷ ys) up =
-    elim (cases_lt x y) [
-      | inl below ↦ rw (lt-ltb x y below) (
-        (
-          le-leb x y (omega (arith, below)),
-          all_weaker (λ z. nat_le y z ≡ true) (λ z. nat_le x z ≡ true) (λ z e. le-leb x z (omega (arith, below, leb-true y z e))) ys up.0,
-        ),
-        up,
-      )
-      | inr above ↦ rw (le-ltb x y above) (all_put (λ z. nat_le y z ≡ true) nat_lt x ys (le-leb y x above) up.0, rises_put x ys up.1)
-    ]
-
-pub rises_in_order : (xs : List ℕ) → Ascends nat_le (in_order nat_lt xs)
-rises_in_order [] = tt
-rises_in_order (x ∷ xs) = rises_put x (in_order nat_lt xs) (rises_in_order xs)
+-- Numbers that rise are parted by a test that only the first ones pass.
 
 rises_at : (x : ℕ) (xs : List ℕ) (j : ℕ) (d : ℕ) → AllByRecursion (λ y. nat_le x y ≡ true) xs → j < length xs → nat_le x (get_or xs j d) ≡ true
 rises_at x [] j d all within = absurd (omega arith)

@@ -1,4 +1,5 @@
 pub mod DelayLemmas
+pub mod EnteredLemmas
 pub mod EventLemmas
 pub mod FitnessLemmas
 pub mod ForceLemmas

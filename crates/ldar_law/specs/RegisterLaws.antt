@@ -1,11 +1,13 @@
-use Rattle.std.specs.Prelude.{◌≡◌, ℕ, Bool, ◌&&◌, nat_le, if◌then◌else◌, Option, Some, None, List}
+use Rattle.std.specs.Prelude.{◌≡◌, ◌↔◌, ℕ, Bool, false, ◌&&◌, nat_eq, nat_le, is_some, if◌then◌else◌, Option, Some, None, List, Contains}
 use Rattle.std.specs.List.{list_any}
 use Rattle.list_words.specs.Order.{put_in_order, later_of, Ascends}
+use Rattle.ldar_facts.specs.declared.body.FactBody.{FactBody}
+use Rattle.ldar_facts.specs.declared.body.FactBody.TheVariants.{Unit as UnitFact, Component as ComponentFact, Class as ClassFact}
 use Rattle.ldar_facts.specs.declared.class.Class.{Class}
 use Rattle.ldar_facts.specs.declared.key.Key.{Key}
 use Rattle.ldar_facts.specs.Facts.{Entry, is_earlier, goes_first}
-use Rattle.ldar_law.specs.Equipment.{retires, retired_on, equipment_of, class_at, classes_of, unit_entry_of, members_of, elections_of, stops_of}
-use Rattle.ldar_law.specs.Force.{class_by, has_come}
+use Rattle.ldar_law.specs.Equipment.{retires, retired_on, equipment_of, class_at, classes_of, unit_entry_of, member_entered, members_of, elections_of, stops_of}
+use Rattle.ldar_law.specs.Force.{class_by, class_in_force, has_come}
 use Rattle.ldar_law.specs.Slices.{facts_of_component, facts_of_unit, register_facts}
 
 -- a part of the facts has all that the register holds of a component
@@ -38,6 +40,52 @@ abbrev pub RetiredBySome : Type 0
 RetiredBySome =
     (number day : ℕ) (facts : List Entry) → Ascends goes_first facts
     → has_come (retired_on number facts) day ≡ list_any (λ e. retires number e.1.body && nat_le e.0.day day) facts
+
+-- a fact that enters the component
+abbrev pub enters_component : ℕ → FactBody → Bool
+enters_component number (ComponentFact other _ _ _ _ _) = nat_eq other number
+enters_component number _ = false
+
+-- a fact that enters the process unit
+abbrev pub enters_unit : ℕ → FactBody → Bool
+enters_unit number (UnitFact other _ _) = nat_eq other number
+enters_unit number _ = false
+
+-- a fact that enters a class of the component
+abbrev pub enters_class : ℕ → FactBody → Bool
+enters_class number (ClassFact other _) = nat_eq other number
+enters_class number _ = false
+
+-- there is a component, and a class of it in force on each day, exactly where some fact enters the component
+abbrev pub ComponentWhereEntered : Type 0
+ComponentWhereEntered =
+    (number : ℕ) (facts : List Entry)
+    → (is_some (equipment_of number facts) ≡ list_any (λ e. enters_component number e.1.body) facts)
+    × ((day : ℕ) → is_some (class_in_force number facts day) ≡ list_any (λ e. enters_component number e.1.body) facts)
+
+-- there is a process unit exactly where some fact enters it
+abbrev pub UnitWhereEntered : Type 0
+UnitWhereEntered =
+    (number : ℕ) (facts : List Entry) → is_some (unit_entry_of number facts) ≡ list_any (λ e. enters_unit number e.1.body) facts
+
+-- there is a last class by a day exactly where some fact of a day up to it enters a class of the component
+abbrev pub ClassWhereEntered : Type 0
+ClassWhereEntered =
+    (number day : ℕ) (facts : List Entry)
+    → is_some (class_by day (classes_of number facts)) ≡ list_any (λ e. enters_class number e.1.body && nat_le e.0.day day) facts
+
+-- a fact that enters a component in a process unit
+pub record EntersMember (number component : ℕ) (facts : List Entry) : Type 0 where
+  pub entry : Entry
+  pub held : Contains facts entry
+  pub enters : member_entered number entry.1.body ≡ Some component
+
+-- the members of a process unit are the components that facts enter in it, and none is before a lesser one
+abbrev pub MembersAreEntered : Type 0
+MembersAreEntered =
+    (number : ℕ) (facts : List Entry)
+    → ((component : ℕ) → Contains (members_of number facts) component ↔ EntersMember number component facts)
+    × Ascends nat_le (members_of number facts)
 
 -- the class entered with the earlier key goes first
 abbrev pub class_first : Key × Class → Key × Class → Bool

@@ -9,6 +9,6 @@ pub struct Span {
     pub attempted: Option<Day>,
     /// The fact that leaves no leak unsettled.
     pub closed: Option<Key>,
-    /// The identification may come off (40 CFR 60.482-1a, 60.486a(b)(3)).
+    /// The identification may come off (40 CFR 60.486a(b)).
     pub removable: bool,
 }

@@ -6,7 +6,7 @@ use ldar_days::Day;
 pub struct Tag {
     pub component: u16,
     pub detected: Day,
-    /// Five days after the detection (40 CFR 60.482-7a(d)(2)).
+    /// Five days after the detection (40 CFR 60.482-2a(c), 60.482-7a(d)).
     pub attempt_due: Day,
     /// The day of the first attempt at a repair.
     pub attempted: Option<Day>,

@@ -4,7 +4,7 @@ use Rattle.list_words.specs.Order.{Ascends}
 use Rattle.ldar_law.specs.Equipment.{member_entered}
 use Rattle.component_register.specs.Members.{TakesMember}
 use Rattle.component_register.proofs.HoldLemmas.{room_first, holds_more}
-use Rattle.component_register.proofs.MemberLemmas.{rises_in_order}
+use Rattle.ldar_law.proofs.EnteredLemmas.{rises_in_order}
 use Rattle.component_register.proofs.register.Register.insert.Goals as goal
 
 pub put_member-requires-clause-roomy : goal.put_member-requires-clause-roomy

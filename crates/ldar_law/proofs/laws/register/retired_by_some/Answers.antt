@@ -1,5 +1,5 @@
 use Rattle.ldar_law.proofs.ForceLemmas.{retired_by_some}
-use Rattle.ldar_law.proofs.laws.retired_by_some.Goals as goal
+use Rattle.ldar_law.proofs.laws.register.retired_by_some.Goals as goal
 
 pub returns : goal.returns
 returns c = retired_by_some

@@ -1,5 +1,5 @@
 use Rattle.ldar_law.proofs.SliceLemmas.{unit_facts_suffice}
-use Rattle.ldar_law.proofs.laws.unit_facts_suffice.Goals as goal
+use Rattle.ldar_law.proofs.laws.register.unit_facts_suffice.Goals as goal
 
 pub returns : goal.returns
 returns c = unit_facts_suffice
