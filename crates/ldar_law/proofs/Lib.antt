@@ -11,7 +11,7 @@ pub mod RegisterLemmas
 pub mod ReportLemmas
 pub mod RouteLemmas
 pub mod SliceLemmas
-pub mod Tests
+pub mod TestLemmas
 pub mod VerdictLemmas
 pub mod ViewLemmas
 pub mod WeakOrder
