@@ -12,6 +12,24 @@ const OTHER: [u8; 20] = *b"\x42\0\x07\0\0\0\x0c\0\x01\x07\x4d\x3d\x02\x58\0\x01\
 
 const NEXT: [u8; 20] = *b"\x42\0\x07\0\0\0\x0d\0\x01\x07\x4d\x3d\x02\x58\0\x01\0\0\x01\xf4";
 
+// Handheld 258, batch 16,909,060: one fact of each kind.
+const EVERY_KIND: [u8; 199] = *b"\x42\x01\x02\x01\x02\x03\x04\0\x0f\
+    \x01\x4d\x3d\x02\x58\x02\x01ALKY-2\0\0\0\0\0\0\
+    \x02\x4d\x3d\x02\x58\x01\x03\x02\x02\x01\0\x02\x02\x0c\x03\
+    \x03\x4d\x3d\x02\x58\x01\x03\x01\x03\0\x02\
+    \x04\x4d\x3d\x02\x58\x01\x03\
+    \x05\x4d\x3d\x02\x58\x02\x03\x4c\xe2\
+    \x06\x4d\x3d\x02\x58\x02\x01\x02\
+    \x07\x4d\x3d\x02\x58\0\x05\0\0\x27\x10\
+    \x08\x4d\x3d\x02\x58\0\x05\0\0\x01\xf4\0\0\x01\xf5\0\0\x01\xf6\0\0\x01\xf7\
+    \x09\x4d\x3d\x02\x58\0\x05\0\0\x01\xf8\0\0\x01\xf9\0\0\x01\xfa\0\0\x01\xfb\
+    \x0a\x4d\x3d\x02\x58\x01\x03\0\x05\0\x06\x02\0\x01\x86\xa0\0\0\0\x03\
+    \x0b\x4d\x3d\x02\x58\x01\x03\x01\
+    \x0c\x4d\x3d\x02\x58\x01\x03\x01\
+    \x0d\x4d\x3d\x02\x58\x01\x03\x03\0\x09\x4d\x5a\
+    \x0e\x4d\x3d\x02\x58\x01\x03\
+    \x0f\x4d\x3d\x02\x58\x01\x03\x02\x01";
+
 // The header of a journal and a closed gate.
 const EMPTY: [u8; 17] = *b"LDARJNL1\0\0\0\0\0\0\0\0\0";
 
@@ -94,6 +112,19 @@ fn a_batch_is_docked_once(rt: HostRuntime) -> Result<(), Fail> {
         assert_eq!(rt; got.output.as_slice(), line.as_bytes());
         assert_eq!(rt; disk.bytes().len(), length);
     }
+    Ok(())
+}
+
+#[test]
+fn a_batch_of_every_kind_is_docked(rt: HostRuntime) -> Result<(), Fail> {
+    let mut disk = empty(rt.alloc())?;
+    let got = ran(rt.alloc(), &mut disk, &untroubled(&["dock"], &EVERY_KIND))?;
+    assert_eq!(rt; got.status, 0);
+    assert_eq!(rt;
+        got.output.as_slice(),
+        b"receipt 258 16909060 1\n".as_slice()
+    );
+    assert_eq!(rt; disk.bytes().len(), 17 + 5 + 199);
     Ok(())
 }
 
