@@ -1,7 +1,8 @@
-use Rattle.std.proofs.Common.{◌≡◌, Bool, true, false, not, ◌&&◌, ◌||◌, Option, Some, None, List, [], ◌∷◌, ◌++◌, option_map, refl, sym, ap, ◌∙◌}
+use Rattle.std.proofs.Common.{◌≡◌, Bool, true, false, not, ◌&&◌, Option, Some, None, List, [], ◌∷◌, ◌++◌, option_map, refl, sym, ap, ◌∙◌}
 use Rattle.std.specs.Prelude.{if◌then◌else◌}
 use Rattle.std.specs.List.{AllByRecursion, cons_option}
 use Rattle.std.specs.Option.{option_map_or}
+use Rattle.std.proofs.Math.Bool.{or-true, and-false}
 use Rattle.std.proofs.lemmas.Bool.{false≢true}
 use Rattle.list_words.specs.Order.{Ascends}
 use Rattle.list_words.specs.Words.{somewhere_from, first_from, each_from}
@@ -15,14 +16,6 @@ use Rattle.ldar_law.specs.Settling.{is_settled, is_unsettled}
 use Rattle.ldar_law.specs.Spans.{opens, closes, span_at, spans_of, closes_before, SpansFollow}
 use Rattle.ldar_law.proofs.Tests.{both}
 
-or_true : (b : Bool) → (b || true) ≡ true
-or_true true = refl
-or_true false = refl
-
-and_false : (b : Bool) → (b && false) ≡ false
-and_false true = refl
-and_false false = refl
-
 not_false : (b : Bool) → not b ≡ false → b ≡ true
 not_false true e = refl
 not_false false e = sym e
@@ -30,7 +23,7 @@ not_false false e = sym e
 -- where the last one passes, one does
 last_passes : (q : Event → List Event → Bool) (front rest : List Event) (x : Event) → q x [] ≡ true → somewhere_from (λ _ y after. q y after) front (rest ++ x ∷ []) ≡ true
 last_passes q front [] x h = rw h refl
-last_passes q front (z ∷ rest) x h = rw (last_passes q (front ++ z ∷ []) rest x h) (or_true (q z (rest ++ x ∷ [])))
+last_passes q front (z ∷ rest) x h = rw (last_passes q (front ++ z ∷ []) rest x h) (or-true (q z (rest ++ x ∷ [])))
 
 -- a leak is unsettled when nothing follows it
 leak_unsettled : (kind : Kind) (front : List Event) (leak : Event) → is_leak leak.what ≡ true → is_unsettled kind (front ++ leak ∷ []) ≡ true
@@ -79,15 +72,15 @@ module _ (kind : Kind) (events : List Event) where
   closed_before front [] unsettled asc = tt
   closed_before front (y ∷ ys) unsettled asc =
       all_skipped (opens kind front y) _ (IsBefore (closing front (y ∷ ys))) _
-          (ap (λ b. is_leak y.what && not b) unsettled ∙ and_false (is_leak y.what))
-          (one_event front y ys (closes kind front y) refl asc.0 (λ still. closed_before (front ++ y ∷ []) ys still asc.1))
+      (ap (λ b. is_leak y.what && not b) unsettled ∙ and-false (is_leak y.what))
+      (one_event front y ys (closes kind front y) refl asc.0 (λ still. closed_before (front ++ y ∷ []) ys still asc.1))
 
   follow_from : (front xs : List Event) → Ascends (λ a b. is_earlier a.key b.key) xs → Ascends closes_before (each_from (span_at kind events) front xs)
   follow_from front [] asc = tt
   follow_from front (x ∷ xs) asc =
       one_more (opens kind front x) _ _
-          (λ opened. closed_before (front ++ x ∷ []) xs (leak_unsettled kind front x (both opened).0) asc.1)
-          (follow_from (front ++ x ∷ []) xs asc.1)
+      (λ opened. closed_before (front ++ x ∷ []) xs (leak_unsettled kind front x (both opened).0) asc.1)
+      (follow_from (front ++ x ∷ []) xs asc.1)
 
 pub spans_follow : SpansFollow
 unfolding spans_of

@@ -1,10 +1,10 @@
-use Rattle.std.proofs.Common.{◌≡◌, Bool, true, false, ◌&&◌, cond, Option, Some, None, List, [], ◌∷◌, ◌++◌, filter, filter_map, refl, sym, ap, subst, ◌∙◌}
+use Rattle.std.proofs.Common.{◌≡◌, Bool, true, false, Option, Some, None, List, [], ◌∷◌, ◌++◌, filter, filter_map, refl, sym, ap, subst, ◌∙◌}
 use Rattle.std.specs.List.{AllByRecursion, cons_option}
-use Rattle.std.specs.Option.{option_map_or}
+use Rattle.std.proofs.Math.Bool.{and-false}
 use Rattle.std.proofs.lemmas.Bool.{false≢true}
 use Rattle.std.proofs.lemmas.List.{append-nil}
 use Rattle.std.proofs.lemmas.List.Elements.{filter-append, filter_map-append}
-use Rattle.list_words.specs.Order.{Ascends, IsStrictOrder}
+use Rattle.list_words.specs.Order.{Ascends}
 use Rattle.ldar_facts.specs.declared.key.Key.{Key}
 use Rattle.ldar_facts.specs.Facts.{is_earlier}
 use Rattle.ldar_facts.proofs.KeyOrder.{strict_earlier}
@@ -14,6 +14,7 @@ use Rattle.ldar_law.specs.declared.event.Happening.{Happening}
 use Rattle.ldar_law.specs.declared.event.Happening.TheVariants.{Delay}
 use Rattle.ldar_law.specs.declared.span.Span.{Span}
 use Rattle.ldar_law.specs.Tags.{delay_at, delay_entry, is_within, delays_of, BeginsWithClosing, DelaysLieBetween}
+use Rattle.ldar_law.proofs.Tests.{all_implied}
 
 -- what holds of each of two parts' elements
 all_back : {X : Type 0} (P : X → Type 0) (xs ys : List X) → AllByRecursion P (xs ++ ys) → AllByRecursion P ys
@@ -42,10 +43,6 @@ not_both a b h =
       | false ↦ λ e. refl
     ] refl
 
-and_false : (b : Bool) → (b && false) ≡ false
-and_false true = refl
-and_false false = refl
-
 module _ (span : Span) where
   -- a delay at a key within the tag is kept, and another is not
   kept_at : (key : Key) (what : Happening) (rest : List DelayEntry) → is_within span key ≡ true →
@@ -73,11 +70,6 @@ module _ (span : Span) where
   not_after : (key : Key) → is_earlier span.detected key ≡ false → is_within span key ≡ false
   not_after key h = rw h refl
 
--- each of some elements passes what is implied
-each_implied : {X : Type 0} (P Q : X → Type 0) → ((x : X) → P x → Q x) → (xs : List X) → AllByRecursion P xs → AllByRecursion Q xs
-each_implied P Q implies [] h = tt
-each_implied P Q implies (x ∷ xs) h = (implies x h.0, each_implied P Q implies xs h.1)
-
 -- the closing and what follows it lie outside; the part between lies within
 rest_left : (span : Span) (rest : List Event) → Ascends (λ a b. is_earlier a.key b.key) rest → BeginsWithClosing span.closed rest → delays_of span rest ≡ []
 rest_left span rest asc begins = go span.closed refl begins
@@ -88,10 +80,10 @@ rest_left span rest asc begins = go span.closed refl begins
         let closing = begins.0 in
         let after = begins.1 in
         let out : (x : Event) → is_earlier x.key key ≡ false → is_within span x.key ≡ false =
-        λ x h. rw e (rw h (and_false (is_earlier span.detected x.key))) in
+        λ x h. rw e (rw h (and-false (is_earlier span.detected x.key))) in
         let asc' : Ascends (λ a b. is_earlier a.key b.key) (closing ∷ after) = subst (λ es. Ascends (λ a b. is_earlier a.key b.key) es) begins.3 asc in
         let first : is_earlier closing.key key ≡ false = subst (λ k. is_earlier closing.key k ≡ false) begins.2 ((strict_earlier (λ (k : Key). k)).irreflexive closing.key) in
-        let later = each_implied (λ x. is_earlier closing.key x.key ≡ true) (λ x. is_within span x.key ≡ false)
+        let later = all_implied (λ x. is_earlier closing.key x.key ≡ true) (λ x. is_within span x.key ≡ false)
         (λ x h. out x (subst (λ k. is_earlier x.key k ≡ false) begins.2 (not_both closing.key x.key h))) after asc'.0 in
         subst (λ es. delays_of span es ≡ []) (sym begins.3) (all_left span (closing ∷ after) (out closing first, later))
 
@@ -103,10 +95,10 @@ between_kept span leak between rest asc detected begins = go span.closed refl be
     later = rw detected (all_front (λ x. is_earlier leak.key x.key ≡ true) between rest asc.0)
 
     go : (closed : Option Key) → span.closed ≡ closed → BeginsWithClosing closed rest → AllByRecursion (λ e. is_within span e.key ≡ true) between
-    go None e begins = each_implied (λ x. is_earlier span.detected x.key ≡ true) (λ x. is_within span x.key ≡ true) (λ x h. rw (e, h) refl) between later
+    go None e begins = all_implied (λ x. is_earlier span.detected x.key ≡ true) (λ x. is_within span x.key ≡ true) (λ x h. rw (e, h) refl) between later
     go (Some key) e begins =
         let earlier : AllByRecursion (λ x. is_earlier x.key key ≡ true) between =
-        each_implied (λ x. is_earlier x.key begins.0.key ≡ true) (λ x. is_earlier x.key key ≡ true) (λ x h. subst (λ k. is_earlier x.key k ≡ true) begins.2 h) between
+        all_implied (λ x. is_earlier x.key begins.0.key ≡ true) (λ x. is_earlier x.key key ≡ true) (λ x h. subst (λ k. is_earlier x.key k ≡ true) begins.2 h) between
         (before_one (λ a b. is_earlier a.key b.key) between begins.0 begins.1 (subst (λ es. Ascends (λ a b. is_earlier a.key b.key) (between ++ es)) begins.3 asc.1)) in
         both_hold between later earlier
       where
@@ -117,7 +109,7 @@ between_kept span leak between rest asc detected begins = go span.closed refl be
 pub delays_lie_between : DelaysLieBetween
 delays_lie_between span before leak between rest asc detected begins =
     let back : Ascends (λ a b. is_earlier a.key b.key) (leak ∷ (between ++ rest)) = back_ascends (λ a b. is_earlier a.key b.key) before (leak ∷ (between ++ rest)) asc in
-    let front = each_implied (λ x. is_earlier x.key leak.key ≡ true) (λ x. is_within span x.key ≡ false)
+    let front = all_implied (λ x. is_earlier x.key leak.key ≡ true) (λ x. is_within span x.key ≡ false)
     (λ x h. not_after span x.key (rw detected (not_both x.key leak.key h))) before
     (before_one (λ a b. is_earlier a.key b.key) before leak (between ++ rest) asc) in
     let itself : is_within span leak.key ≡ false = not_after span leak.key (rw detected ((strict_earlier (λ (k : Key). k)).irreflexive leak.key)) in

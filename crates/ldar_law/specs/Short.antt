@@ -1,30 +1,12 @@
 -- Words for the worked examples: days, facts and events in short.
-use Rattle.ldar_facts.specs.declared.batch.Batch.{Batch}
-use Rattle.ldar_facts.specs.declared.body.FactBody.TheVariants.{Unit as UnitFact, Component as ComponentFact, Attempt as AttemptFact}
-use Rattle.ldar_facts.specs.Facts.{facts_to}
-use Rattle.ldar_facts.specs.Stated.{Stated}
-use Rattle.ldar_law.specs.declared.route.Route.{Route}
-use Rattle.ldar_law.specs.declared.unit_entry.UnitEntry.{UnitEntry}
-use Rattle.ldar_law.specs.Tags.{tags_of}
-use Rattle.ldar_law.specs.Units.{mark_in, tags_of_unit}
-use Rattle.ldar_law.specs.Delays.{delay_entered}
-use Rattle.ldar_law.specs.declared.delay.DelayLine.{DelayLine}
-use Rattle.ldar_law.specs.declared.delay.Until.{Until}
-use Rattle.ldar_law.specs.declared.election.ElectionEntry.{ElectionEntry}
-use Rattle.ldar_law.specs.declared.tag.Tag.{Tag}
-use Rattle.ldar_law.specs.declared.tally.Mark.{Mark}
-use Rattle.ldar_law.specs.declared.tally.Tally.{Tally}
-use Rattle.ldar_law.specs.Duties.{duties_of}
-use Rattle.ldar_facts.specs.declared.body.FactBody.TheVariants.{Calibration, Precision, Drift, Reading, Visual, Indication}
-use Rattle.ldar_facts.specs.declared.body.Sort.TheVariants.{Sensor as SensorSort}
-use Rattle.ldar_facts.specs.declared.body.VisualState.TheVariants.{Designated}
-use Rattle.ldar_law.specs.declared.span.Span.{Span}
-use Rattle.ldar_law.specs.Events.{events_in}
-use Rattle.ldar_law.specs.Happenings.{is_leak}
 use Rattle.std.specs.Prelude.{ℕ, ◌+◌, ◌-◌, ◌*◌, Bool, true, false, nat_eq, nat_lt, nat_le, Option, Some, None, List, [], ◌∷◌, replicate, map, filter}
 use Rattle.ldar_days.specs.Calendar.{first_day}
+use Rattle.ldar_facts.specs.declared.batch.Batch.{Batch}
 use Rattle.ldar_facts.specs.declared.body.FactBody.{FactBody}
+use Rattle.ldar_facts.specs.declared.body.FactBody.TheVariants.{Unit as UnitFact, Component as ComponentFact, Attempt as AttemptFact, Calibration, Precision, Drift, Reading, Visual, Indication}
 use Rattle.ldar_facts.specs.declared.body.Purpose.TheVariants.{Routine}
+use Rattle.ldar_facts.specs.declared.body.Sort.TheVariants.{Sensor as SensorSort}
+use Rattle.ldar_facts.specs.declared.body.VisualState.TheVariants.{Designated}
 use Rattle.ldar_facts.specs.declared.class.Class.{Class}
 use Rattle.ldar_facts.specs.declared.class.Designation.{Designation}
 use Rattle.ldar_facts.specs.declared.class.Designation.TheVariants.{Plain, Unsafe}
@@ -33,14 +15,30 @@ use Rattle.ldar_facts.specs.declared.class.Kind.TheVariants.{Valve, Pump, Compre
 use Rattle.ldar_facts.specs.declared.class.Service.{Service}
 use Rattle.ldar_facts.specs.declared.class.Service.TheVariants.{Gas, Light}
 use Rattle.ldar_facts.specs.declared.key.Key.{Key}
-use Rattle.ldar_facts.specs.Facts.{Entry}
+use Rattle.ldar_facts.specs.Facts.{facts_to, Entry}
+use Rattle.ldar_facts.specs.Stated.{Stated}
 use Rattle.ldar_law.specs.declared.delay.DelayEntry.{DelayEntry}
+use Rattle.ldar_law.specs.declared.delay.DelayLine.{DelayLine}
 use Rattle.ldar_law.specs.declared.delay.Stop.{Stop}
+use Rattle.ldar_law.specs.declared.delay.Until.{Until}
 use Rattle.ldar_law.specs.declared.duty.Duty.{Duty}
+use Rattle.ldar_law.specs.declared.election.ElectionEntry.{ElectionEntry}
 use Rattle.ldar_law.specs.declared.equipment.Equipment.{Equipment}
 use Rattle.ldar_law.specs.declared.event.Event.{Event}
 use Rattle.ldar_law.specs.declared.event.Happening.{Happening}
 use Rattle.ldar_law.specs.declared.event.Happening.TheVariants.{Read, Look, Attempt, Delay, Release, Sensor, Evidence, Retire}
+use Rattle.ldar_law.specs.declared.route.Route.{Route}
+use Rattle.ldar_law.specs.declared.span.Span.{Span}
+use Rattle.ldar_law.specs.declared.tag.Tag.{Tag}
+use Rattle.ldar_law.specs.declared.tally.Mark.{Mark}
+use Rattle.ldar_law.specs.declared.tally.Tally.{Tally}
+use Rattle.ldar_law.specs.declared.unit_entry.UnitEntry.{UnitEntry}
+use Rattle.ldar_law.specs.Delays.{delay_entered}
+use Rattle.ldar_law.specs.Duties.{duties_of}
+use Rattle.ldar_law.specs.Events.{events_in}
+use Rattle.ldar_law.specs.Happenings.{is_leak}
+use Rattle.ldar_law.specs.Tags.{tags_of}
+use Rattle.ldar_law.specs.Units.{mark_in, tags_of_unit}
 
 -- ---- days
 

@@ -2,17 +2,17 @@
 use Rattle.std.specs.Prelude.{ℕ, Bool, true, false, not, ◌&&◌, ◌||◌, Option, Some, None, option_map, if◌then◌else◌, List, [], ◌∷◌, ◌++◌, find}
 use Rattle.std.specs.Option.{option_map_or}
 use Rattle.list_words.specs.Order.{Ascends}
-use Rattle.ldar_facts.specs.Facts.{is_earlier}
 use Rattle.list_words.specs.Words.{first_from, each_where}
 use Rattle.ldar_days.specs.Calendar.{month_of}
 use Rattle.ldar_facts.specs.declared.class.Kind.{Kind}
 use Rattle.ldar_facts.specs.declared.class.Kind.TheVariants.{Valve}
 use Rattle.ldar_facts.specs.declared.key.Key.{Key}
+use Rattle.ldar_facts.specs.Facts.{is_earlier}
 use Rattle.ldar_law.specs.declared.event.Event.{Event}
 use Rattle.ldar_law.specs.declared.span.Span.{Span}
 use Rattle.ldar_law.specs.Happenings.{is_leak, is_attempt}
-use Rattle.ldar_law.specs.Settling.{is_unsettled}
 use Rattle.ldar_law.specs.Months.{is_clean_twice_from}
+use Rattle.ldar_law.specs.Settling.{is_unsettled}
 
 -- the component is a valve
 abbrev pub is_valve : Kind → Bool

@@ -13,9 +13,9 @@ use Rattle.ldar_law.specs.declared.event.Happening.{Happening}
 use Rattle.ldar_law.specs.declared.event.Happening.TheVariants.{Delay}
 use Rattle.ldar_law.specs.declared.span.Span.{Span}
 use Rattle.ldar_law.specs.declared.tag.Tag.{Tag}
-use Rattle.ldar_law.specs.Spans.{spans_of}
 use Rattle.ldar_law.specs.Delays.{delay_entered, repair_due, counted_delay, attempt_by, is_past}
 use Rattle.ldar_law.specs.Happenings.{is_attempt}
+use Rattle.ldar_law.specs.Spans.{spans_of}
 
 -- the delay that happened at a key, if one did
 abbrev pub delay_at : Key → Happening → Option DelayEntry
