@@ -1,7 +1,9 @@
 //! Readings that are fit, and those that a drift voids.
-#![tactic(auto, unfolding(ldar_days::specs::Calendar::first_day, ldar_days::specs::Calendar::month_of, ldar_days::specs::Calendar::month_length))]
+#![tactic(auto, unfolding(
+    ldar_days::specs::Calendar::first_day, ldar_days::specs::Calendar::month_of, ldar_days::specs::Calendar::month_length
+))]
 
-ghost use Rattle.std.specs.Prelude.{◌≡◌, List, [], ◌∷◌, true, false};
+ghost use Rattle.std.specs.Prelude.{◌≡◌, [], ◌∷◌, true, false};
 ghost use Rattle.ldar_facts.specs.declared.body.FactBody.TheVariants.{Precision};
 ghost use Rattle.ldar_law.specs.declared.fitness.Fitness.TheVariants.{Fit, NoCalibration, GasTooHigh, NoPrecision, Voided};
 ghost use Rattle.ldar_law.specs.Fitness.{is_precise, fitness_of};
@@ -18,27 +20,34 @@ pub fn a_precision_test_of_500_needs_a_mean_of_450()
 
 /// Without a precision test that was passed no reading is fit.
 pub fn a_failed_precision_test_makes_no_reading_fit()
-    ensures passed { fitness_of (fact (date 2024 1 2) 0 (Precision 1 500 (450, 450, 450)) ∷ calibrated (date 2024 2 20) 300 500 ∷ [])
+    ensures passed { fitness_of (fact (date 2024 1 2) 0 (Precision 1 500 (450, 450, 450))
+        ∷ calibrated (date 2024 2 20) 300 500 ∷ [])
         500 (key (date 2024 2 20) 600) 1 20 ≡ Fit }
-    ensures failed { fitness_of (fact (date 2024 1 2) 0 (Precision 1 500 (449, 450, 450)) ∷ calibrated (date 2024 2 20) 300 500 ∷ [])
+    ensures failed { fitness_of (fact (date 2024 1 2) 0 (Precision 1 500 (449, 450, 450))
+        ∷ calibrated (date 2024 2 20) 300 500 ∷ [])
         500 (key (date 2024 2 20) 600) 1 20 ≡ NoPrecision }
 {}
 
 /// A drift to 440 of 500 voids readings above 440 of a leak definition of 500 (40 CFR 60.485a(b)(2)).
 pub fn a_drift_to_440_voids_441_and_499()
-    ensures counts { fitness_of (precise (date 2024 1 2) ∷ calibrated (date 2024 2 20) 300 500 ∷ drifted (date 2024 2 20) 900 440 ∷ [])
+    ensures counts { fitness_of (precise (date 2024 1 2) ∷ calibrated (date 2024 2 20) 300 500
+        ∷ drifted (date 2024 2 20) 900 440 ∷ [])
         500 (key (date 2024 2 20) 600) 1 440 ≡ Fit }
-    ensures voided { fitness_of (precise (date 2024 1 2) ∷ calibrated (date 2024 2 20) 300 500 ∷ drifted (date 2024 2 20) 900 440 ∷ [])
+    ensures voided { fitness_of (precise (date 2024 1 2) ∷ calibrated (date 2024 2 20) 300 500
+        ∷ drifted (date 2024 2 20) 900 440 ∷ [])
         500 (key (date 2024 2 20) 600) 1 441 ≡ Voided (key (date 2024 2 20) 900) }
-    ensures voided_below_the_limit { fitness_of (precise (date 2024 1 2) ∷ calibrated (date 2024 2 20) 300 500 ∷ drifted (date 2024 2 20) 900 440 ∷ [])
+    ensures voided_below_the_limit { fitness_of (precise (date 2024 1 2) ∷ calibrated (date 2024 2 20) 300 500
+        ∷ drifted (date 2024 2 20) 900 440 ∷ [])
         500 (key (date 2024 2 20) 600) 1 499 ≡ Voided (key (date 2024 2 20) 900) }
-    ensures leak_stands { fitness_of (precise (date 2024 1 2) ∷ calibrated (date 2024 2 20) 300 500 ∷ drifted (date 2024 2 20) 900 440 ∷ [])
+    ensures leak_stands { fitness_of (precise (date 2024 1 2) ∷ calibrated (date 2024 2 20) 300 500
+        ∷ drifted (date 2024 2 20) 900 440 ∷ [])
         500 (key (date 2024 2 20) 600) 1 500 ≡ Fit }
 {}
 
 /// A drift to 450 of 500 is just 10 percent, and voids nothing.
 pub fn a_drift_to_450_voids_nothing()
-    ensures { fitness_of (precise (date 2024 1 2) ∷ calibrated (date 2024 2 20) 300 500 ∷ drifted (date 2024 2 20) 900 450 ∷ [])
+    ensures { fitness_of (precise (date 2024 1 2) ∷ calibrated (date 2024 2 20) 300 500 ∷ drifted (date 2024 2 20) 900 450
+        ∷ [])
         500 (key (date 2024 2 20) 600) 1 499 ≡ Fit }
 {}
 
@@ -61,19 +70,27 @@ pub fn a_reading_needs_an_earlier_calibration_of_its_day()
 /// Three calibrations of a day, of which the first used too strong a gas, and drift assessments after each.
 pub fn three_calibrations_on_a_day()
     // The gas may be 2,000 above the leak definition at most (40 CFR 60.485a(b)(1)).
-    ensures too_strong { fitness_of (precise (date 2024 1 2) ∷ calibrated (date 2024 2 20) 300 2501 ∷ calibrated (date 2024 2 20) 500 2500
-        ∷ drifted (date 2024 2 20) 650 440 ∷ calibrated (date 2024 2 20) 700 500 ∷ drifted (date 2024 2 20) 800 440 ∷ drifted (date 2024 2 20) 900 430 ∷ [])
+    ensures too_strong { fitness_of (precise (date 2024 1 2) ∷ calibrated (date 2024 2 20) 300 2501
+        ∷ calibrated (date 2024 2 20) 500 2500
+        ∷ drifted (date 2024 2 20) 650 440 ∷ calibrated (date 2024 2 20) 700 500 ∷ drifted (date 2024 2 20) 800 440
+        ∷ drifted (date 2024 2 20) 900 430 ∷ [])
         500 (key (date 2024 2 20) 400) 1 20 ≡ GasTooHigh }
     // The first later drift before the next calibration voids.
-    ensures second { fitness_of (precise (date 2024 1 2) ∷ calibrated (date 2024 2 20) 300 2501 ∷ calibrated (date 2024 2 20) 500 2500
-        ∷ drifted (date 2024 2 20) 650 440 ∷ calibrated (date 2024 2 20) 700 500 ∷ drifted (date 2024 2 20) 800 440 ∷ drifted (date 2024 2 20) 900 430 ∷ [])
+    ensures second { fitness_of (precise (date 2024 1 2) ∷ calibrated (date 2024 2 20) 300 2501
+        ∷ calibrated (date 2024 2 20) 500 2500
+        ∷ drifted (date 2024 2 20) 650 440 ∷ calibrated (date 2024 2 20) 700 500 ∷ drifted (date 2024 2 20) 800 440
+        ∷ drifted (date 2024 2 20) 900 430 ∷ [])
         500 (key (date 2024 2 20) 600) 1 499 ≡ Voided (key (date 2024 2 20) 650) }
     // A calibration between a reading and the drifts keeps it.
-    ensures between { fitness_of (precise (date 2024 1 2) ∷ calibrated (date 2024 2 20) 300 2501 ∷ calibrated (date 2024 2 20) 500 2500
-        ∷ drifted (date 2024 2 20) 650 440 ∷ calibrated (date 2024 2 20) 700 500 ∷ drifted (date 2024 2 20) 800 440 ∷ drifted (date 2024 2 20) 900 430 ∷ [])
+    ensures between { fitness_of (precise (date 2024 1 2) ∷ calibrated (date 2024 2 20) 300 2501
+        ∷ calibrated (date 2024 2 20) 500 2500
+        ∷ drifted (date 2024 2 20) 650 440 ∷ calibrated (date 2024 2 20) 700 500 ∷ drifted (date 2024 2 20) 800 440
+        ∷ drifted (date 2024 2 20) 900 430 ∷ [])
         500 (key (date 2024 2 20) 660) 1 499 ≡ Fit }
     // Of two drifts after the last calibration the first names the cause.
-    ensures third { fitness_of (precise (date 2024 1 2) ∷ calibrated (date 2024 2 20) 300 2501 ∷ calibrated (date 2024 2 20) 500 2500
-        ∷ drifted (date 2024 2 20) 650 440 ∷ calibrated (date 2024 2 20) 700 500 ∷ drifted (date 2024 2 20) 800 440 ∷ drifted (date 2024 2 20) 900 430 ∷ [])
+    ensures third { fitness_of (precise (date 2024 1 2) ∷ calibrated (date 2024 2 20) 300 2501
+        ∷ calibrated (date 2024 2 20) 500 2500
+        ∷ drifted (date 2024 2 20) 650 440 ∷ calibrated (date 2024 2 20) 700 500 ∷ drifted (date 2024 2 20) 800 440
+        ∷ drifted (date 2024 2 20) 900 430 ∷ [])
         500 (key (date 2024 2 20) 750) 1 460 ≡ Voided (key (date 2024 2 20) 800) }
 {}
