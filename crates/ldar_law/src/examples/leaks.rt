@@ -1,9 +1,5 @@
 //! Leaks, and the tags that they open and close.
-#![tactic(auto, unfolding(
-    ldar_days::specs::Calendar::first_day, ldar_days::specs::Calendar::month_of, ldar_days::specs::Calendar::month_length,
-    crate::specs::Events::events_in, crate::specs::Spans::spans_of, crate::specs::Months::is_clean,
-    crate::specs::Months::has_leak_in, crate::specs::Months::is_clean_twice_from
-))]
+#![tactic(auto, unfolding(ldar_days::specs::Calendar::first_day, ldar_days::specs::Calendar::month_of, ldar_days::specs::Calendar::month_length, crate::specs::Events::events_in, crate::specs::Spans::spans_of, crate::specs::Months::is_clean, crate::specs::Months::has_leak_in, crate::specs::Months::is_clean_twice_from))]
 
 ghost use Rattle.std.specs.Prelude.{◌≡◌, [], ◌∷◌, Some, None, true, false};
 ghost use Rattle.ldar_facts.specs.declared.class.Designation.TheVariants.{Plain, Nde};
@@ -46,19 +42,17 @@ pub fn a_sensor_and_a_designated_drip_are_leaks()
 pub fn a_tag_closes_by_a_reading_after_an_attempt()
     ensures without { spans_of Valve (reads (date 2024 2 20) 620 ∷ reads (date 2024 3 6) 20 ∷ [])
         ≡ span (date 2024 2 20) None None false ∷ [] }
-    ensures with_one { spans_of Valve (reads (date 2024 2 20) 620 ∷ attempts (date 2024 2 22) ∷ reads (date 2024 3 6) 20
-        ∷ [])
+    ensures with_one { spans_of Valve (reads (date 2024 2 20) 620 ∷ attempts (date 2024 2 22)
+        ∷ reads (date 2024 3 6) 20 ∷ [])
         ≡ span (date 2024 2 20) (Some (date 2024 2 22)) (Some (key (date 2024 3 6) 600)) false ∷ [] }
     ensures at_the_limit { spans_of Valve (reads (date 2024 2 20) 620 ∷ attempts (date 2024 2 22)
-        ∷ reads (date 2024 3 6) 500 ∷ [])
-        ≡ span (date 2024 2 20) (Some (date 2024 2 22)) None false ∷ [] }
+        ∷ reads (date 2024 3 6) 500 ∷ []) ≡ span (date 2024 2 20) (Some (date 2024 2 22)) None false ∷ [] }
 {}
 
 /// A leak after the attempt asks for another one.
 pub fn a_leak_after_the_attempt_keeps_the_tag()
     ensures broken { spans_of Valve (reads (date 2024 2 20) 620 ∷ attempts (date 2024 2 22) ∷ reads (date 2024 2 23) 700
-        ∷ reads (date 2024 3 6) 20 ∷ [])
-        ≡ span (date 2024 2 20) (Some (date 2024 2 22)) None false ∷ [] }
+        ∷ reads (date 2024 3 6) 20 ∷ []) ≡ span (date 2024 2 20) (Some (date 2024 2 22)) None false ∷ [] }
     ensures again { spans_of Valve (reads (date 2024 2 20) 620 ∷ attempts (date 2024 2 22) ∷ reads (date 2024 2 23) 700
         ∷ attempts (date 2024 2 24) ∷ reads (date 2024 3 6) 20 ∷ [])
         ≡ span (date 2024 2 20) (Some (date 2024 2 22)) (Some (key (date 2024 3 6) 600)) false ∷ [] }
@@ -67,8 +61,7 @@ pub fn a_leak_after_the_attempt_keeps_the_tag()
 /// A leak while a tag is open opens no other; after the closing the next one does.
 pub fn a_tag_stands_for_each_leak_until_it_closes()
     ensures { spans_of Valve (reads (date 2024 2 20) 620 ∷ reads (date 2024 2 21) 700 ∷ attempts (date 2024 2 22)
-        ∷ reads (date 2024 3 6) 20
-        ∷ reads (date 2024 4 10) 900 ∷ [])
+        ∷ reads (date 2024 3 6) 20 ∷ reads (date 2024 4 10) 900 ∷ [])
         ≡ span (date 2024 2 20) (Some (date 2024 2 22)) (Some (key (date 2024 3 6) 600)) false
         ∷ span (date 2024 4 10) None None false ∷ [] }
 {}
@@ -83,18 +76,16 @@ pub fn a_drip_is_settled_by_a_dry_look_after_an_attempt()
         ∷ reads_by 2000 (date 2024 3 11) 1999 ∷ [])
         ≡ span (date 2024 3 4) (Some (date 2024 3 6)) (Some (key (date 2024 3 11) 600)) true ∷ [] }
     // A dry look settles no reading.
-    ensures no_reading { spans_of Pump (reads_by 2000 (date 2024 3 4) 2000 ∷ attempts (date 2024 3 6) ∷ dry (date 2024 3 11)
-        ∷ [])
-        ≡ span (date 2024 3 4) (Some (date 2024 3 6)) None false ∷ [] }
+    ensures no_reading { spans_of Pump (reads_by 2000 (date 2024 3 4) 2000 ∷ attempts (date 2024 3 6)
+        ∷ dry (date 2024 3 11) ∷ []) ≡ span (date 2024 3 4) (Some (date 2024 3 6)) None false ∷ [] }
 {}
 
 /// A sensor's leak is settled by a complete attempt, and by nothing less.
 pub fn a_sensor_leak_is_settled_by_a_complete_attempt()
     ensures complete { spans_of Compressor (sensor_leak (date 2024 3 4) ∷ completes (date 2024 3 6) ∷ [])
         ≡ span (date 2024 3 4) (Some (date 2024 3 6)) (Some (key (date 2024 3 6) 600)) true ∷ [] }
-    ensures attempt { spans_of Compressor (sensor_leak (date 2024 3 4) ∷ attempts (date 2024 3 6) ∷ reads (date 2024 3 7) 20
-        ∷ [])
-        ≡ span (date 2024 3 4) (Some (date 2024 3 6)) None false ∷ [] }
+    ensures attempt { spans_of Compressor (sensor_leak (date 2024 3 4) ∷ attempts (date 2024 3 6)
+        ∷ reads (date 2024 3 7) 20 ∷ []) ≡ span (date 2024 3 4) (Some (date 2024 3 6)) None false ∷ [] }
 {}
 
 /// Under a delay two readings below the leak definition in consecutive months settle a leak without an attempt
@@ -108,18 +99,14 @@ pub fn two_readings_settle_a_delayed_leak()
         ∷ delays (date 2024 3 1) 1 (date 2024 6 10) ∷ reads (date 2024 3 10) 20 ∷ [])
         ≡ span (date 2024 2 20) None (Some (key (date 2024 3 10) 600)) false ∷ [] }
     ensures one_month { spans_of Valve (reads (date 2024 2 20) 620 ∷ delays (date 2024 3 1) 1 (date 2024 6 10)
-        ∷ reads (date 2024 3 10) 20 ∷ reads (date 2024 3 20) 20 ∷ [])
-        ≡ span (date 2024 2 20) None None false ∷ [] }
+        ∷ reads (date 2024 3 10) 20 ∷ reads (date 2024 3 20) 20 ∷ []) ≡ span (date 2024 2 20) None None false ∷ [] }
     ensures gap { spans_of Valve (reads (date 2024 2 20) 620 ∷ delays (date 2024 3 1) 1 (date 2024 6 10)
-        ∷ reads (date 2024 3 10) 20 ∷ reads (date 2024 5 10) 20 ∷ [])
-        ≡ span (date 2024 2 20) None None false ∷ [] }
+        ∷ reads (date 2024 3 10) 20 ∷ reads (date 2024 5 10) 20 ∷ []) ≡ span (date 2024 2 20) None None false ∷ [] }
     // Ground (b), a delay on the sixteenth day, and no delay at all do not serve.
     ensures isolated { spans_of Valve (reads (date 2024 2 20) 620 ∷ delays (date 2024 3 1) 2 (date 2024 6 10)
-        ∷ reads (date 2024 3 10) 20 ∷ reads (date 2024 4 10) 20 ∷ [])
-        ≡ span (date 2024 2 20) None None false ∷ [] }
+        ∷ reads (date 2024 3 10) 20 ∷ reads (date 2024 4 10) 20 ∷ []) ≡ span (date 2024 2 20) None None false ∷ [] }
     ensures late { spans_of Valve (reads (date 2024 2 20) 620 ∷ delays (date 2024 3 7) 1 (date 2024 6 10)
-        ∷ reads (date 2024 3 10) 20 ∷ reads (date 2024 4 10) 20 ∷ [])
-        ≡ span (date 2024 2 20) None None false ∷ [] }
+        ∷ reads (date 2024 3 10) 20 ∷ reads (date 2024 4 10) 20 ∷ []) ≡ span (date 2024 2 20) None None false ∷ [] }
     ensures none { spans_of Valve (reads (date 2024 2 20) 620 ∷ reads (date 2024 3 10) 20 ∷ reads (date 2024 4 10) 20 ∷ [])
         ≡ span (date 2024 2 20) None None false ∷ [] }
 {}

@@ -1,9 +1,5 @@
 //! Until when a leak must be repaired, and which delays count (40 CFR 60.482-9a).
-#![tactic(auto, unfolding(
-    ldar_days::specs::Calendar::first_day, ldar_days::specs::Calendar::month_of, ldar_days::specs::Calendar::month_length,
-    crate::specs::Spans::spans_of, crate::specs::Tags::tag_of, crate::specs::Months::is_clean,
-    crate::specs::Months::has_leak_in, crate::specs::Months::is_clean_twice_from
-))]
+#![tactic(auto, unfolding(ldar_days::specs::Calendar::first_day, ldar_days::specs::Calendar::month_of, ldar_days::specs::Calendar::month_length, crate::specs::Spans::spans_of, crate::specs::Tags::tag_of, crate::specs::Months::is_clean, crate::specs::Months::has_leak_in, crate::specs::Months::is_clean_twice_from))]
 
 ghost use Rattle.std.specs.Prelude.{◌≡◌, [], ◌∷◌, Some, None, true, false, map};
 ghost use Rattle.ldar_facts.specs.declared.class.Kind.TheVariants.{Valve};
@@ -20,16 +16,12 @@ pub fn without_a_delay_fifteen_days()
 /// Ground (a): until the end of the first shutdown that begins after the detection.
 pub fn infeasible_without_a_shutdown()
     ensures unknown { repair_due (date 2024 2 20) [] [] (delay (date 2024 3 1) 1 ∷ []) ≡ Shutdown }
-    ensures known { repair_due (date 2024 2 20) [] (stop (date 2024 6 1) (date 2024 6 14) ∷ []) (delay (date 2024 3 1) 1
-        ∷ []) ≡ Date (date 2024 6 14) }
+    ensures known { repair_due (date 2024 2 20) [] (stop (date 2024 6 1) (date 2024 6 14) ∷ []) (delay (date 2024 3 1) 1 ∷ []) ≡ Date (date 2024 6 14) }
     // An attempt in the shutdown leaves fifteen days after the startup to verify it.
-    ensures attempted { repair_due (date 2024 2 20) (date 2024 6 5 ∷ []) (stop (date 2024 6 1) (date 2024 6 14)
-        ∷ []) (delay (date 2024 3 1) 1 ∷ []) ≡ Date (date 2024 6 30) }
-    ensures attempted_after { repair_due (date 2024 2 20) (date 2024 6 15 ∷ []) (stop (date 2024 6 1) (date 2024 6 14)
-        ∷ []) (delay (date 2024 3 1) 1 ∷ []) ≡ Date (date 2024 6 14) }
+    ensures attempted { repair_due (date 2024 2 20) (date 2024 6 5 ∷ []) (stop (date 2024 6 1) (date 2024 6 14) ∷ []) (delay (date 2024 3 1) 1 ∷ []) ≡ Date (date 2024 6 30) }
+    ensures attempted_after { repair_due (date 2024 2 20) (date 2024 6 15 ∷ []) (stop (date 2024 6 1) (date 2024 6 14) ∷ []) (delay (date 2024 3 1) 1 ∷ []) ≡ Date (date 2024 6 14) }
     // A shutdown that began on the day of the detection or before does not serve.
-    ensures begun { repair_due (date 2024 2 20) [] (stop (date 2024 2 20) (date 2024 3 10) ∷ []) (delay (date 2024 3 1) 1
-        ∷ []) ≡ Shutdown }
+    ensures begun { repair_due (date 2024 2 20) [] (stop (date 2024 2 20) (date 2024 3 10) ∷ []) (delay (date 2024 3 1) 1 ∷ []) ≡ Shutdown }
 {}
 
 /// Ground (b): as long as the component is isolated.
@@ -53,21 +45,19 @@ pub fn valve_stock_until_the_second_shutdown()
     ensures one { repair_due (date 2024 2 20) [] (stop (date 2024 4 1) (date 2024 4 10) ∷ []) (delay (date 2024 3 1) 5 ∷ [])
         ≡ Shutdown }
     ensures two { repair_due (date 2024 2 20) [] (stop (date 2024 4 1) (date 2024 4 10)
-        ∷ stop (date 2024 10 1) (date 2024 10 10) ∷ [])
-        (delay (date 2024 3 1) 5 ∷ []) ≡ Date (date 2024 10 10) }
+        ∷ stop (date 2024 10 1) (date 2024 10 10) ∷ []) (delay (date 2024 3 1) 5 ∷ []) ≡ Date (date 2024 10 10) }
 {}
 
 /// Ground (e): where the second shutdown begins sooner than six months after the first began, the third one.
 pub fn valve_stock_until_the_third_shutdown()
     ensures unknown { repair_due (date 2024 2 20) [] (stop (date 2024 4 1) (date 2024 4 10)
-        ∷ stop (date 2024 9 30) (date 2024 10 9) ∷ [])
-        (delay (date 2024 3 1) 5 ∷ []) ≡ Shutdown }
+        ∷ stop (date 2024 9 30) (date 2024 10 9) ∷ []) (delay (date 2024 3 1) 5 ∷ []) ≡ Shutdown }
     ensures known { repair_due (date 2024 2 20) [] (stop (date 2024 4 1) (date 2024 4 10)
-        ∷ stop (date 2024 9 30) (date 2024 10 9) ∷ stop (date 2025 1 7) (date 2025 1 12) ∷ [])
-        (delay (date 2024 3 1) 5 ∷ []) ≡ Date (date 2025 1 12) }
+        ∷ stop (date 2024 9 30) (date 2024 10 9)
+        ∷ stop (date 2025 1 7) (date 2025 1 12) ∷ []) (delay (date 2024 3 1) 5 ∷ []) ≡ Date (date 2025 1 12) }
     ensures attempted { repair_due (date 2024 2 20) (date 2025 1 12 ∷ []) (stop (date 2024 4 1) (date 2024 4 10)
-        ∷ stop (date 2024 9 30) (date 2024 10 9) ∷ stop (date 2025 1 7) (date 2025 1 12) ∷ [])
-        (delay (date 2024 3 1) 5 ∷ []) ≡ Date (date 2025 1 28) }
+        ∷ stop (date 2024 9 30) (date 2024 10 9)
+        ∷ stop (date 2025 1 7) (date 2025 1 12) ∷ []) (delay (date 2024 3 1) 5 ∷ []) ≡ Date (date 2025 1 28) }
 {}
 
 /// A delay that is withdrawn leaves the fifteenth day, or the day of the withdrawal if that is later (our own rule).
@@ -138,11 +128,11 @@ pub fn a_closed_tag_is_shown_for_a_year()
 
 /// The list of delays has the open tags whose last delay that counts has a ground (a) to (e).
 pub fn the_list_of_delays()
-    ensures delayed { delay_lines (tags_of 1 Valve (reads (date 2024 2 20) 620 ∷ delays (date 2024 3 1) 1 (date 2024 6 10)
-        ∷ []) [])
+    ensures delayed { delay_lines (tags_of 1 Valve (reads (date 2024 2 20) 620
+        ∷ delays (date 2024 3 1) 1 (date 2024 6 10) ∷ []) [])
         ≡ line 1 (date 2024 2 20) (delay_until (date 2024 3 1) 1 (date 2024 6 10)) Shutdown ∷ [] }
-    ensures ignored { delay_lines (tags_of 1 Valve (reads (date 2024 2 20) 620 ∷ delays (date 2024 3 7) 1 (date 2024 6 10)
-        ∷ []) []) ≡ [] }
+    ensures ignored { delay_lines (tags_of 1 Valve (reads (date 2024 2 20) 620
+        ∷ delays (date 2024 3 7) 1 (date 2024 6 10) ∷ []) []) ≡ [] }
     ensures withdrawn { delay_lines (tags_of 1 Valve (reads (date 2024 2 20) 620 ∷ delays (date 2024 3 1) 1 (date 2024 6 10)
         ∷ delays (date 2024 3 2) 0 (date 2024 6 10) ∷ []) []) ≡ [] }
     ensures closed { delay_lines (tags_of 1 Valve (reads (date 2024 2 20) 620 ∷ delays (date 2024 3 1) 1 (date 2024 6 10)
