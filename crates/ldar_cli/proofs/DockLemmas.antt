@@ -1,5 +1,5 @@
 -- Steps of docking a batch: its place in the history, what stays, and what each reply says.
-use Rattle.std.proofs.Common.{◌≡◌, ℕ, ◌+◌, ◌-◌, ◌<◌, ◌≤◌, ◌⊎◌, Bool, true, false, List, [], ◌∷◌, ◌++◌, length, take, Option, Some, None, is_some, refl, sym, ap, subst, ◌∙◌, inl, inr, arith, cond}
+use Rattle.std.proofs.Common.{◌≡◌, ℕ, ◌+◌, ◌<◌, ◌≤◌, ◌⊎◌, Bool, true, false, List, [], ◌∷◌, ◌++◌, length, take, Option, Some, None, refl, sym, ap, subst, ◌∙◌, inl, inr, arith}
 use Rattle.std.specs.List.{position_from}
 use Rattle.std.proofs.lemmas.Bool.{cases_Bool}
 use Rattle.std.proofs.lemmas.Grind.{common_steps}
@@ -9,9 +9,9 @@ use Rattle.ldar_ports.specs.Source.{Takes, HasEnded}
 use Rattle.ldar_ports.specs.Sink.{Piece, Puts}
 use Rattle.ldar_facts.specs.declared.batch.Batch.{Batch}
 use Rattle.ldar_facts.specs.Grammar.{Spells}
-use Rattle.ldar_facts.specs.Identity.{identity_of, is_of, position_of}
+use Rattle.ldar_facts.specs.Identity.{identity_of, position_of}
 use Rattle.ldar_facts.proofs.GrammarLaws.{spelling_length}
-use Rattle.ldar_journal.specs.Image.{header, fact_count, Opens}
+use Rattle.ldar_journal.specs.Image.{header, Opens}
 use Rattle.ldar_journal.specs.Damage.{IsDamagedAt}
 use Rattle.ldar_journal.specs.Shelf.{OpensEither}
 use Rattle.ldar_journal.specs.Opening.{IsRefused}
@@ -21,8 +21,8 @@ use Rattle.ldar_journal.proofs.Histories.{damaged_opens_to_none, no_header_opens
 use Rattle.ldar_cli.specs.declared.status.Status.{Status}
 use Rattle.ldar_cli.specs.declared.status.Status.TheVariants.{Done, Usage, ReadFault, WriteFault, DiskFault, Memory, NoJournal, BadInput, NotEmpty}
 use Rattle.ldar_cli.specs.declared.reply.Reply.{Reply}
-use Rattle.ldar_cli.specs.declared.reply.Reply.TheVariants.{Receipt, Conflict, Full}
-use Rattle.ldar_cli.specs.Dock.{line_of, batch_at, IsNew, Accepts, Docks, Answered, IsBadInput}
+use Rattle.ldar_cli.specs.declared.reply.Reply.TheVariants.{Receipt, Conflict}
+use Rattle.ldar_cli.specs.Dock.{line_of, batch_at, IsDue, Accepts, Docks, Answered}
 use Rattle.ldar_cli.specs.Run.{Same, DockEnds}
 use Rattle.ldar_cli.specs.Carried.{Carries, AfterFault, refusal_of}
 
@@ -132,9 +132,9 @@ ends_after_fault Usage taken left old new history batch is after = absurd after
 ends_after_fault ReadFault taken left old new history batch is after = absurd after
 ends_after_fault WriteFault taken left old new history batch is after = absurd after
 ends_after_fault DiskFault taken left None None history batch is after = (refl, tt)
-ends_after_fault DiskFault taken left None (Some new) history batch is after = absurd after
-ends_after_fault DiskFault taken left (Some old) None history batch is after = absurd after
-ends_after_fault DiskFault taken left (Some old) (Some new) history batch is after = (refl, inr (history, batch, after.0, is, after.1))
+ends_after_fault DiskFault taken left None (Some new) history batch is after = absurd after.1
+ends_after_fault DiskFault taken left (Some old) None history batch is after = absurd after.1
+ends_after_fault DiskFault taken left (Some old) (Some new) history batch is after = (refl, inr (history, batch, after.1.0, is, after.0, after.1.1))
 ends_after_fault Memory taken left old new history batch is after = (refl, after)
 ends_after_fault NoJournal taken left old new history batch is after = absurd after
 ends_after_fault BadInput taken left old new history batch is after = absurd after
@@ -168,16 +168,17 @@ none_opens P none None (Some new) same told = absurd same
 none_opens P none (Some old) None same told = absurd same
 none_opens P none (Some old) (Some new) same told = (same, none old told)
 
-same_either : (P : List ℕ → List ℕ → Type 0) (old new : Option (List ℕ)) → Same old new → BothTold old new (λ old new. (new ≡ old) ⊎ P old new)
-same_either P None None same = tt
-same_either P None (Some new) same = absurd same
-same_either P (Some old) None same = absurd same
-same_either P (Some old) (Some new) same = inl same
+untouched_or : (taken : List ℕ) → taken ≡ [] → (P : List ℕ → List ℕ → Type 0) (old new : Option (List ℕ)) → Same old new
+    → BothTold old new (λ old new. ((taken ≡ []) × (new ≡ old)) ⊎ P old new)
+untouched_or taken none P None None same = tt
+untouched_or taken none P None (Some new) same = absurd same
+untouched_or taken none P (Some old) None same = absurd same
+untouched_or taken none P (Some old) (Some new) same = inl (none, same)
 
 -- a journal that was not opened
 pub ends_refused : (why : OpenWhy) (left old new : Option (List ℕ)) → IsRefused old new why → DockEnds (refusal_of why) [] left [] old new
 ends_refused Disk left old new refused =
-    (refl, same_either (λ old new. (history : List Batch) × (batch : Batch) × Opens old history × Spells [] batch × OpensEither new history (batch ∷ [])) old new refused.unchanged)
+    (refl, untouched_or [] refl (λ old new. (history : List Batch) × (batch : Batch) × Opens old history × Spells [] batch × IsDue history batch × OpensEither new history (batch ∷ [])) old new refused.unchanged)
 ends_refused NotAJournal left old new refused =
     (refl, refl, none_opens (λ bytes. ¬ (take 16 bytes ≡ header)) (λ bytes not history. no_header_opens_to_none bytes history not) old new refused.unchanged refused.not_a_journal)
 ends_refused (Damaged at) left old new refused =

@@ -1,5 +1,5 @@
 -- What keeping a batch does to the disk.
-use Rattle.std.specs.Prelude.{◌≡◌, ◌⊎◌, ℕ, Option, List, [], ◌∷◌}
+use Rattle.std.specs.Prelude.{◌≡◌, ℕ, Option, List, [], ◌∷◌}
 use Rattle.disk_model.specs.Told.{BothTold}
 use Rattle.ldar_facts.specs.declared.batch.Batch.{Batch}
 use Rattle.ldar_journal.specs.Image.{Opens}
@@ -9,7 +9,7 @@ use Rattle.ldar_journal.specs.declared.opening.OpenWhy.TheVariants.{Disk, NotAJo
 use Rattle.ldar_cli.specs.declared.status.Status.{Status}
 use Rattle.ldar_cli.specs.declared.status.Status.TheVariants.{DiskFault, Memory, NoJournal}
 use Rattle.ldar_cli.specs.declared.reply.Reply.{Reply}
-use Rattle.ldar_cli.specs.Dock.{line_of, Docks}
+use Rattle.ldar_cli.specs.Dock.{line_of, Docks, IsDue}
 use Rattle.ldar_cli.specs.Run.{Same}
 
 -- the bytes opened to the history, and open to what the reply says
@@ -21,9 +21,10 @@ pub record Carries (history : List Batch) (batch : Batch) (line : List ℕ) (old
   pub docks : Docks history batch reply after
   pub says : line ≡ line_of reply
 
--- what a call that kept no batch leaves: all as it was where memory was wanted; after a fault of the disk the history, with the batch or without
+-- what a call that kept no batch leaves: all as it was where memory was wanted; after a fault of the disk the history, with the batch that
+-- was to be added or without
 abbrev pub AfterFault : Option (List ℕ) → Option (List ℕ) → List Batch → Batch → Status → Type 0
-AfterFault old new history batch DiskFault = BothTold old new (λ old new. Opens old history × OpensEither new history (batch ∷ []))
+AfterFault old new history batch DiskFault = IsDue history batch × BothTold old new (λ old new. Opens old history × OpensEither new history (batch ∷ []))
 AfterFault old new history batch Memory = Same old new
 AfterFault old new history batch _ = ⊥
 

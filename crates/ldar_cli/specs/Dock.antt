@@ -27,10 +27,14 @@ IsNew history batch = position_of (identity_of batch) history ≡ None
 abbrev pub Stands : List Batch → Batch → ℕ → Batch → Type 0
 Stands history batch position kept = (position_of (identity_of batch) history ≡ Some position) × (batch_at history position ≡ Some kept)
 
--- a new batch goes behind the others
-pub record Accepts (history : List Batch) (batch : Batch) (position : ℕ) (after : List Batch) : Type 0 where
+-- a batch is to be added: it is new, and with it the facts are not too many
+pub record IsDue (history : List Batch) (batch : Batch) : Type 0 where
   pub is_new : IsNew history batch
   pub fits : fact_count history + length batch.facts ≤ 8_000_000
+
+-- a batch that is to be added goes behind the others
+pub record Accepts (history : List Batch) (batch : Batch) (position : ℕ) (after : List Batch) : Type 0 where
+  pub due : IsDue history batch
   pub last : position ≡ length history + 1
   pub added : after ≡ history ++ batch ∷ []
 

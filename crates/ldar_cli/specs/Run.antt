@@ -1,8 +1,7 @@
 -- What a run of the program does to its source, its sink and its disk.
-use Rattle.std.specs.Prelude.{◌≡◌, ℕ, ◌<◌, ◌⊎◌, Option, Some, None, List, [], ◌∷◌, ◌++◌, length}
-use Rattle.disk_model.specs.Told.{Told, BothTold}
-use Rattle.ldar_ports.specs.Source.{Takes, HasEnded}
-use Rattle.ldar_ports.specs.Sink.{Piece, Puts, bytes_of}
+use Rattle.std.specs.Prelude.{◌≡◌, ℕ, ◌<◌, ◌≤◌, ◌⊎◌, Option, Some, None, List, [], ◌∷◌, ◌++◌, length}
+use Rattle.disk_model.specs.Told.{BothTold}
+use Rattle.ldar_ports.specs.Source.{HasEnded}
 use Rattle.ldar_facts.specs.declared.batch.Batch.{Batch}
 use Rattle.ldar_facts.specs.Grammar.{Spells}
 use Rattle.ldar_journal.specs.Image.{Opens}
@@ -11,8 +10,7 @@ use Rattle.ldar_cli.specs.declared.command.Command.{Command}
 use Rattle.ldar_cli.specs.declared.command.Command.TheVariants.{Init, Dock}
 use Rattle.ldar_cli.specs.declared.status.Status.{Status}
 use Rattle.ldar_cli.specs.declared.status.Status.TheVariants.{Done, Usage, ReadFault, WriteFault, DiskFault, Memory, NoJournal, BadInput, NotEmpty}
-use Rattle.ldar_cli.specs.declared.reply.Reply.{Reply}
-use Rattle.ldar_cli.specs.Dock.{line_of, Docks, Answered, IsBadInput}
+use Rattle.ldar_cli.specs.Dock.{IsDue, Answered, IsBadInput}
 
 -- the number of a status
 abbrev pub status_number : Status → ℕ
@@ -30,10 +28,11 @@ status_number NotEmpty = 9
 abbrev pub Same : Option (List ℕ) → Option (List ℕ) → Type 0
 Same old new = BothTold old new (λ old new. new ≡ old)
 
--- how the making of a journal ends: made where the disk was empty, refused exactly where it was not
+-- how the making of a journal ends: made where the disk was empty, refused exactly where it was not; after a fault of the disk it is as
+-- it was, or it was empty and holds no more than the bytes of the empty journal
 abbrev pub InitEnds : Status → Option (List ℕ) → Option (List ℕ) → Type 0
 InitEnds Done old new = BothTold old new (λ old new. (old ≡ []) × Opens new [])
-InitEnds DiskFault old new = Unit {0}
+InitEnds DiskFault old new = BothTold old new (λ old new. (new ≡ old) ⊎ ((old ≡ []) × (length new ≤ 17)))
 InitEnds NotEmpty old new = BothTold old new (λ old new. (0 < length old) × (new ≡ old))
 InitEnds _ old new = ⊥
 
@@ -41,18 +40,19 @@ InitEnds _ old new = ⊥
 -- Done: the input was taken to its end, and the line of the reply was written whole.
 -- A read fault, want of memory, no journal, bad input: nothing was written, and the content stays; it opens to no history exactly
 -- where there is no journal, and the input is neither empty nor one batch exactly where it is bad.
--- A write fault: the line was written in part. A disk fault: nothing was written, and the content stays, or opens to the history with or
--- without the batch.
+-- A write fault: the line was written in part.
+-- A disk fault: nothing was written. It came before the input was touched, and the content stays; or while a batch was added that is new
+-- and fits, and the content opens to the history with it or without.
 abbrev pub DockEnds : Status → List ℕ → Option (List ℕ) → List ℕ → Option (List ℕ) → Option (List ℕ) → Type 0
 DockEnds Done taken left put old new =
     HasEnded left × BothTold old new (λ old new. (history : List Batch) × (after : List Batch) × Opens old history × Opens new after × Answered taken history put after)
-DockEnds ReadFault taken left put old new = (put ≡ []) × Same old new
+DockEnds ReadFault taken left put old new = (put ≡ []) × BothTold old new (λ old new. (new ≡ old) × (history : List Batch) × Opens old history)
 DockEnds WriteFault taken left put old new =
     HasEnded left × BothTold old new (λ old new. (history : List Batch) × (after : List Batch) × (unsaid : List ℕ)
     × Opens old history × Opens new after × Answered taken history (put ++ unsaid) after)
 DockEnds DiskFault taken left put old new =
-    (put ≡ []) × BothTold old new (λ old new. (new ≡ old) ⊎ ((history : List Batch) × (batch : Batch)
-    × Opens old history × Spells taken batch × OpensEither new history (batch ∷ [])))
+    (put ≡ []) × BothTold old new (λ old new. ((taken ≡ []) × (new ≡ old)) ⊎ ((history : List Batch) × (batch : Batch)
+    × Opens old history × Spells taken batch × IsDue history batch × OpensEither new history (batch ∷ [])))
 DockEnds Memory taken left put old new = (put ≡ []) × Same old new
 DockEnds NoJournal taken left put old new = (taken ≡ []) × (put ≡ []) × BothTold old new (λ old new. (new ≡ old) × ((history : List Batch) → ¬ (Opens old history)))
 DockEnds BadInput taken left put old new =

@@ -1,14 +1,14 @@
 -- What a reading of the form of a batch says of the grammar.
-use Rattle.std.proofs.Common.{◌≡◌, ℕ, zero, suc, ◌+◌, ◌-◌, ◌<◌, ◌≤◌, List, [], ◌∷◌, ◌++◌, length, take, drop, Result, Ok, Err, refl, sym, ap, subst, ◌∙◌, append_assoc, length-append, arith}
+use Rattle.std.proofs.Common.{◌≡◌, ℕ, suc, ◌+◌, ◌-◌, ◌≤◌, List, [], ◌∷◌, ◌++◌, length, take, drop, Result, Ok, Err, sym, ap, subst, ◌∙◌, append_assoc, length-append, arith}
 use Rattle.std.specs.Prelude.{IfOk}
-use Rattle.std.proofs.lemmas.List.{append-nil, take_at, drop_at, take-append-drop, length-take, length-drop}
+use Rattle.std.proofs.lemmas.List.{append-nil, take_at, take-append-drop, length-drop}
 use Rattle.ldar_facts.specs.declared.batch.Batch.{Batch}
 use Rattle.ldar_facts.specs.declared.read.Read.{Read}
 use Rattle.ldar_facts.specs.declared.read.Read.TheVariants as reads
 use Rattle.ldar_facts.specs.declared.stop.Stop.{Stop}
 use Rattle.ldar_facts.specs.declared.stop.Stop.TheVariants.{Short, Wrong}
-use Rattle.ldar_facts.specs.Form.{Form, Outcome, IsBytes, IsWrong}
-use Rattle.ldar_facts.specs.Front.{IsWithin, read_of, read_of_stop}
+use Rattle.ldar_facts.specs.Form.{Outcome, IsBytes}
+use Rattle.ldar_facts.specs.Front.{IsWithin, read_of}
 use Rattle.ldar_facts.specs.Grammar.{spelled, batch_fields, Spells, Begins, HasNoBatch, IsFirstWrongPlace, IfWhole, OnShort, IfBad}
 use Rattle.ldar_facts.specs.FactForms.{batch}
 use Rattle.ldar_facts.proofs.FactTies as tie

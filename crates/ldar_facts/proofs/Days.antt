@@ -1,6 +1,6 @@
 -- A day of the table is a day of the calendar.
-use Rattle.std.proofs.Common.{◌≡◌, ℕ, ◌≤◌, Bool, true, false, Option, Some, None, refl, sym, ap, subst, ◌∙◌, inl, inr, arith}
-use Rattle.std.specs.Prelude.{IsNone, IsSome, IfSome, ◌==◌}
+use Rattle.std.proofs.Common.{◌≡◌, ℕ, Option, Some, None, refl, inl, inr, arith}
+use Rattle.std.specs.Prelude.{IsNone, IsSome, IfSome}
 use Rattle.std.proofs.lemmas.Bool.{eq-eqb, ne_eqb}
 use Rattle.ldar_days.specs.Calendar.{IsDay}
 use Rattle.ldar_facts.specs.Fields.{IsAmong, days_or_none}

@@ -1,5 +1,5 @@
 -- The derived test of facts answers yes exactly of the same two.
-use Rattle.std.proofs.Common.{◌≡◌, ◌&&◌, ◌↔◌, ℕ, zero, suc, ◌+◌, ◌-◌, Bool, true, false, List, [], ◌∷◌, ◌++◌, length, take, replicate, Option, Some, None, refl, sym, ap, ◌∙◌, eqb, arith}
+use Rattle.std.proofs.Common.{◌≡◌, ◌&&◌, ◌↔◌, ℕ, ◌-◌, Bool, true, false, List, [], ◌∷◌, length, take, replicate, Option, refl, sym, ap, ◌∙◌, eqb, arith}
 use Rattle.std.proofs.lemmas.Bool.{eqb-true, eq-eqb, and_parts, and_from}
 use Rattle.std.proofs.lemmas.Bool.Decides.{nat_tests}
 use Rattle.std.proofs.lemmas.List.{take_at}

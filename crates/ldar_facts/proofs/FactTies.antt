@@ -1,14 +1,13 @@
 -- The forms of a fact and of a batch have the texts of the grammar, and each fact and batch is read.
-use Rattle.std.proofs.Common.{◌≡◌, ℕ, zero, suc, ◌+◌, ◌<◌, ◌≤◌, List, [], ◌∷◌, ◌++◌, length, refl, sym, ap, subst, ◌∙◌, arith}
+use Rattle.std.proofs.Common.{◌≡◌, ℕ, zero, suc, List, [], ◌∷◌, ◌++◌, length, refl, sym, ap, subst, arith}
 use Rattle.std.specs.List.{flat_map, AllByRecursion}
 use Rattle.std.proofs.lemmas.List.{append-nil}
 use Rattle.std.proofs.lemmas.List.Concat.{flat_map-append}
 use Rattle.ldar_facts.specs.declared.batch.Batch.{Batch}
 use Rattle.ldar_facts.specs.declared.body.FactBody.{FactBody}
 use Rattle.ldar_facts.specs.Stated.{Stated}
-use Rattle.ldar_facts.specs.Fields.{Field, IsFilled, IsAmong, bytes_of, fact_kinds, counts, body_number, body_fields, fact_fields}
+use Rattle.ldar_facts.specs.Fields.{Field, IsFilled, IsAmong, bytes_of, counts, body_number, fact_fields}
 use Rattle.ldar_facts.specs.Grammar.{spelled, batch_fields}
-use Rattle.ldar_facts.specs.Form.{Form}
 use Rattle.ldar_facts.specs.FactForms as forms
 use Rattle.ldar_facts.proofs.FieldTies as field
 use Rattle.ldar_facts.proofs.FieldTies.{AreFields}

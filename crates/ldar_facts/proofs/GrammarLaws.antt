@@ -1,5 +1,5 @@
 -- Laws of the grammar.
-use Rattle.std.proofs.Common.{◌≡◌, ℕ, zero, suc, ◌+◌, ◌-◌, ◌*◌, ◌<◌, ◌≤◌, List, [], ◌∷◌, ◌++◌, length, take, drop, replicate, Option, Some, None, Ok, Err, refl, sym, ap, subst, ◌∙◌, append_assoc, length-append, arith, inl, inr}
+use Rattle.std.proofs.Common.{◌≡◌, ℕ, suc, ◌+◌, ◌-◌, ◌*◌, ◌<◌, ◌≤◌, List, [], ◌∷◌, ◌++◌, length, take, drop, replicate, Some, None, Ok, refl, sym, ap, subst, ◌∙◌, append_assoc, length-append, arith, inl, inr}
 use Rattle.std.specs.List.{flat_map, AllByRecursion}
 use Rattle.std.proofs.lemmas.Bool.{cases_lt}
 use Rattle.std.proofs.lemmas.List.{append-nil, length-replicate, take-append-drop, take-take}
@@ -8,8 +8,8 @@ use Rattle.ldar_facts.specs.declared.body.FactBody.{FactBody}
 use Rattle.ldar_facts.specs.declared.body.FactBody.TheVariants.{Unit as UnitFact, Component as ComponentFact, Class as ClassFact, Retire, Election, Shutdown, Calibration, Precision, Drift, Reading, Visual, Attempt, Delay, Release, Indication}
 use Rattle.ldar_facts.specs.Stated.{Stated}
 use Rattle.ldar_facts.specs.Name.{IsName, spelled_name}
-use Rattle.ldar_facts.specs.Fields.{IsFilled, IsFact, body_fields, fact_fields, bytes_of}
-use Rattle.ldar_facts.specs.Grammar.{spelled, batch_fields, Spells, Begins, IsFirstWrongPlace}
+use Rattle.ldar_facts.specs.Fields.{IsFilled, IsFact, body_fields, fact_fields}
+use Rattle.ldar_facts.specs.Grammar.{spelled, Spells, Begins, IsFirstWrongPlace}
 use Rattle.ldar_facts.specs.Compose.{ok_pair}
 use Rattle.ldar_facts.specs.FactForms.{batch}
 use Rattle.ldar_facts.proofs.Batches.{read_again}

@@ -1,12 +1,12 @@
 -- Writing the facts of a batch, as a loop does.
-use Rattle.std.proofs.Common.{◌≡◌, ℕ, ◌+◌, ◌<◌, ◌≤◌, List, [], ◌∷◌, ◌++◌, length, get_or, take, refl, sym, ap, subst, ◌∙◌, append_assoc, arith}
+use Rattle.std.proofs.Common.{◌≡◌, ℕ, ◌+◌, ◌<◌, ◌≤◌, List, [], ◌∷◌, ◌++◌, length, get_or, take, sym, ap, ◌∙◌, append_assoc, arith}
 use Rattle.std.specs.List.{flat_map, AllByRecursion}
 use Rattle.std.proofs.lemmas.List.{append-nil, take_more, take_all}
 use Rattle.std.proofs.lemmas.List.Concat.{flat_map-append}
 use Rattle.ldar_facts.specs.declared.batch.Batch.{Batch}
 use Rattle.ldar_facts.specs.Stated.{Stated}
 use Rattle.ldar_facts.specs.Fields.{Field, number, IsFilled, IsFact, first_letters, handhelds, batch_numbers, counts, fact_fields}
-use Rattle.ldar_facts.specs.Grammar.{spelled, batch_fields, Spells}
+use Rattle.ldar_facts.specs.Grammar.{spelled, Spells}
 use Rattle.ldar_facts.proofs.FactTies.{spelled-append, filled-append}
 
 -- what stands before the facts

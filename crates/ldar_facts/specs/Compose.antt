@@ -1,7 +1,7 @@
 -- One form behind another: if each is read rightly, so are both.
-use Rattle.std.specs.Prelude.{◌≡◌, ℕ, suc, ◌+◌, ◌<◌, Bool, true, false, if◌then◌else◌, ◌⊎◌, List, [], ◌∷◌, ◌++◌, length, get_or, Result, Ok, Err, refl}
-use Rattle.std.proofs.Common.{sym, ap, subst, ◌∙◌, inl, inr, append_assoc, length-append, arith}
-use Rattle.std.proofs.lemmas.List.{append-nil, get_or-append-add}
+use Rattle.std.specs.Prelude.{◌≡◌, ℕ, ◌+◌, ◌<◌, Bool, true, false, if◌then◌else◌, ◌⊎◌, List, [], ◌∷◌, ◌++◌, length, get_or, Ok, Err, refl}
+use Rattle.std.proofs.Common.{sym, ap, subst, ◌∙◌, inl, inr, append_assoc}
+use Rattle.std.proofs.lemmas.List.{get_or-append-add}
 use Rattle.ldar_facts.specs.declared.stop.Stop.{Stop}
 use Rattle.ldar_facts.specs.declared.stop.Stop.TheVariants.{Short, Wrong}
 use Rattle.ldar_facts.specs.Form.{Outcome, ◌then◌, IsBytes, IsWrong, Reads, Form}

@@ -1,5 +1,5 @@
-use Rattle.std.specs.Prelude.{◌≡◌, ℕ, ◌+◌, ◌↔◌, Bool, true, not, ◌&&◌, nat_le, IsTrue, Some, List, [], ◌∷◌, ◌++◌, length, filter, take_while, slice_get, sum_by, Contains, IsPermutation}
-use Rattle.std.specs.List.{list_any, flat_map}
+use Rattle.std.specs.Prelude.{◌≡◌, ℕ, ◌+◌, ◌↔◌, Bool, nat_le, IsTrue, Some, List, [], ◌∷◌, ◌++◌, length, filter, take_while, slice_get, sum_by, Contains, IsPermutation}
+use Rattle.std.specs.List.{flat_map}
 use Rattle.std.specs.Ordering.{is_lt, nat_cmp, on, then_cmp}
 use Rattle.std.specs.declared.cmp.Ordering.{Ordering}
 use Rattle.list_words.specs.Order.{in_order, put_each, Ascends}

@@ -1,5 +1,5 @@
 -- What stands at the front of some bytes, from how the form of a batch was read.
-use Rattle.std.specs.Prelude.{ℕ, ◌-◌, ◌≤◌, List, length, Ok, Err}
+use Rattle.std.specs.Prelude.{ℕ, ◌-◌, ◌≤◌, length, Ok, Err}
 use Rattle.ldar_facts.specs.declared.batch.Batch.{Batch}
 use Rattle.ldar_facts.specs.declared.read.Read.{Read}
 use Rattle.ldar_facts.specs.declared.read.Read.TheVariants as reads

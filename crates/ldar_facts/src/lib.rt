@@ -37,3 +37,6 @@ pub use order::precedes;
 pub use read::{Read, read_batch};
 pub use std::alloc::AllocError as Memory;
 pub use write::write_batch;
+
+#[cfg(test)]
+mod tests;

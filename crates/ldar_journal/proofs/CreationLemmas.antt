@@ -1,10 +1,6 @@
 -- The bytes of an empty journal.
-use Rattle.std.proofs.Common.{◌≡◌, ℕ, ◌+◌, ◌<◌, ◌≤◌, List, [], ◌∷◌, ◌++◌, length, take, drop, Option, refl, sym, ◌∙◌, ap, arith}
-use Rattle.disk_model.specs.Disk.{Reads, Torn, Holds}
-use Rattle.disk_model.specs.Told.{Told, BothTold}
-use Rattle.disk_model.proofs.ToldLemmas.{BothTold-joins, BothTold-weaker}
-use Rattle.ldar_facts.specs.declared.batch.Batch.{Batch}
-use Rattle.ldar_journal.specs.Image.{header, frame, IsFront, IsKept, EndsAt, Opens}
+use Rattle.std.proofs.Common.{[], ◌∷◌, ◌++◌, refl, arith}
+use Rattle.ldar_journal.specs.Image.{header, Opens}
 
 -- the header and a closed gate open to the empty history
 pub empty_opens : Opens (header ++ 0 ∷ []) []

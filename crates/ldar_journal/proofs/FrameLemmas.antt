@@ -1,6 +1,6 @@
 -- What a reader of one frame has found at each of its exits.
-use Rattle.std.proofs.Common.{◌≡◌, ◌≢◌, ℕ, zero, suc, ◌+◌, ◌-◌, ◌*◌, ◌/◌, ◌%◌, ◌<◌, ◌≤◌, List, [], ◌∷◌, ◌++◌, length, take, drop, get_or, refl, sym, ◌∙◌, ap, ap₂, subst, arith, append_assoc, length-append, add-one, drop-cons}
-use Rattle.std.specs.List.{flat_map, AllByRecursion}
+use Rattle.std.proofs.Common.{◌≡◌, ℕ, zero, suc, ◌+◌, ◌/◌, ◌<◌, ◌≤◌, List, [], ◌∷◌, ◌++◌, length, take, drop, get_or, refl, sym, ◌∙◌, ap, ap₂, subst, arith, append_assoc, length-append}
+use Rattle.std.specs.List.{AllByRecursion}
 use Rattle.std.specs.Int.{w32, to_be_bytes, from_be_bytes}
 use Rattle.std.proofs.lemmas.Grind.{flat_map-append}
 use Rattle.std.proofs.lemmas.List.{append-nil, take-append-drop, length-take-le}
@@ -10,8 +10,7 @@ use Rattle.ldar_facts.specs.declared.batch.Batch.{Batch}
 use Rattle.ldar_facts.specs.Fields.{big_endian}
 use Rattle.ldar_facts.specs.Grammar.{Spells, HasNoBatch}
 use Rattle.ldar_journal.specs.Image.{IsBatch, spelling, payload, frame, IsFrame}
-use Rattle.ldar_journal.specs.FrameAt.{IsPayloadAt, IsFrameOf, HasNoFrame}
-use Rattle.ldar_journal.proofs.GrammarLaws.{length-spelling}
+use Rattle.ldar_journal.specs.FrameAt.{IsPayloadAt, IsFrameOf}
 use Rattle.ldar_journal.proofs.Frames.{length-payload, payload_goes_on, PayloadGoesOn, big_endian-one, fronts}
 
 -- a payload of one more batch

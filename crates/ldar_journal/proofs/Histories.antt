@@ -1,13 +1,13 @@
 -- What the fronts of a journal's bytes say of the history that the whole opens to.
-use Rattle.std.proofs.Common.{◌≡◌, ◌≢◌, ◌⊎◌, inl, inr, ℕ, ◌+◌, ◌*◌, ◌-◌, ◌<◌, ◌≤◌, Bool, true, false, ◌&&◌, ◌||◌, not, List, [], ◌∷◌, ◌++◌, length, take, drop, get_or, refl, sym, ◌∙◌, ap, ap₂, arith, append_assoc, length-append, take-add, sum_by, IsTrue, slice_index, subst, drop-cons, add-one, length-drop}
-use Rattle.std.specs.List.{flat_map, list_any, AllByRecursion}
+use Rattle.std.proofs.Common.{◌≡◌, ◌≢◌, ◌⊎◌, inl, inr, ℕ, ◌+◌, ◌*◌, ◌-◌, ◌<◌, ◌≤◌, true, List, [], ◌∷◌, ◌++◌, length, take, drop, get_or, refl, sym, ◌∙◌, ap, ap₂, arith, append_assoc, length-append, take-add, slice_index, subst, drop-cons, add-one, length-drop}
+use Rattle.std.specs.List.{flat_map, AllByRecursion}
 use Rattle.std.proofs.lemmas.Grind.{flat_map-append, common_steps}
 use Rattle.std.proofs.lemmas.List.{take-append-drop, append_cancel_left, append-nil, length-take-le}
 use Rattle.std.proofs.lemmas.List.Sums.{sum_by-append}
 use Rattle.std.proofs.lemmas.List.Folds.{list_any-append}
 use Rattle.ldar_facts.specs.declared.batch.Batch.{Batch}
 use Rattle.ldar_facts.specs.Identity.{is_same_identity, identities_differ}
-use Rattle.ldar_journal.specs.Image.{header, payload, frame, IsFrame, IsFront, fact_count, IsKept, EndsAt, Opens}
+use Rattle.ldar_journal.specs.Image.{header, frame, IsFrame, IsFront, fact_count, IsKept, EndsAt, Opens}
 use Rattle.ldar_journal.specs.Damage.{IsNextFrame, IsDamagedAt}
 use Rattle.ldar_journal.specs.FrameAt.{IsFrameOf}
 use Rattle.std.proofs.Math.Seq.{take-append_seam}

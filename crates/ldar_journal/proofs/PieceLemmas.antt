@@ -1,5 +1,5 @@
 -- Reading a file in pieces.
-use Rattle.std.proofs.Common.{◌≡◌, ℕ, ◌+◌, ◌<◌, ◌≤◌, List, ◌++◌, length, take, min, Option, Some, None, sym, ◌∙◌, ap, subst, length-take}
+use Rattle.std.proofs.Common.{◌≡◌, ℕ, ◌+◌, List, ◌++◌, length, take, Option, Some, None, sym, ◌∙◌, ap, length-take}
 use Rattle.std.proofs.lemmas.List.{take_min}
 use Rattle.disk_model.specs.Disk.{Reads}
 use Rattle.disk_model.specs.Told.{Told, BothTold}

@@ -1,6 +1,5 @@
 -- What an append leaves of the bytes of a journal, step by step.
-use Rattle.std.proofs.Common.{◌≡◌, ◌≢◌, ◌⊎◌, inl, inr, ℕ, ◌+◌, ◌*◌, ◌-◌, ◌<◌, ◌≤◌, Option, Result, Ok, Err, OnOk, is_err, Bool, false, true, List, [], ◌∷◌, ◌++◌, length, take, drop, get_or, slice_index, refl, sym, ◌∙◌, ap, ap₂, subst, arith, append_assoc, length-append, length-drop, add-one, take-add}
-use Rattle.std.specs.List.{AllByRecursion}
+use Rattle.std.proofs.Common.{◌≡◌, ◌≢◌, ◌⊎◌, inl, inr, ℕ, ◌+◌, ◌*◌, ◌-◌, ◌<◌, ◌≤◌, Option, Result, Ok, Err, OnOk, is_err, false, List, [], ◌∷◌, ◌++◌, length, take, drop, get_or, slice_index, refl, sym, ◌∙◌, ap, ap₂, subst, arith, append_assoc, length-append, length-drop}
 use Rattle.std.proofs.lemmas.Bool.{cases_eq, false≢true}
 use Rattle.std.proofs.lemmas.List.Sums.{sum_by-append}
 use Rattle.std.proofs.Math.Seq.{drop-append_seam}
@@ -9,7 +8,7 @@ use Rattle.disk_model.specs.Told.{Told, BothTold}
 use Rattle.disk_model.proofs.ToldLemmas.{Told-after, Told-weaker, Told-both}
 use Rattle.ldar_facts.specs.declared.batch.Batch.{Batch}
 use Rattle.ldar_facts.specs.Fields.{big_endian}
-use Rattle.ldar_journal.specs.Image.{IsBatch, payload, frame, fact_count, IsFrame, IsFront, IsKept, EndsAt, Opens}
+use Rattle.ldar_journal.specs.Image.{payload, frame, fact_count, IsFrame, IsFront, IsKept, EndsAt}
 use Rattle.ldar_journal.specs.FrameAt.{IsFrameOf}
 use Rattle.ldar_journal.specs.Gates.{PutsBehind, HoldsBehind, SameButGate}
 use Rattle.ldar_journal.specs.Shelf.{behind_gate, IsInDoubt, Stands, IsShelved, OpensEither}

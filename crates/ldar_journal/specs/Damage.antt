@@ -1,5 +1,5 @@
 -- Why the bytes of a file open to no history.
-use Rattle.std.specs.Prelude.{◌≡◌, ◌⊎◌, ℕ, ◌<◌, ◌≤◌, List, ◌++◌, length, take, drop, slice_index}
+use Rattle.std.specs.Prelude.{◌≡◌, ◌⊎◌, ℕ, ◌≤◌, List, ◌++◌, length, take, drop, slice_index}
 use Rattle.ldar_facts.specs.declared.batch.Batch.{Batch}
 use Rattle.ldar_journal.specs.declared.opening.OpenWhy.{OpenWhy}
 use Rattle.ldar_journal.specs.declared.opening.OpenWhy.TheVariants.{Disk, NotAJournal, Damaged, Memory}

@@ -1,5 +1,5 @@
 -- What the writes of an append do to the bytes.
-use Rattle.std.specs.Prelude.{◌≡◌, ℕ, ◌+◌, ◌<◌, ◌≤◌, List, ◌++◌, length, take, drop, slice_index}
+use Rattle.std.specs.Prelude.{◌≡◌, ℕ, ◌+◌, ◌<◌, List, ◌++◌, length, take, drop}
 
 -- the bytes up to a gate and the gate itself are as they were
 pub record PutsBehind (gate : ℕ) (old new : List ℕ) : Type 0 where

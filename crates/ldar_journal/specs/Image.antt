@@ -1,5 +1,5 @@
 -- The bytes of a journal, and the history that they open to.
-use Rattle.std.specs.Prelude.{◌≡◌, ◌≢◌, ℕ, ◌+◌, ◌<◌, ◌≤◌, List, [], ◌∷◌, ◌++◌, length, take, drop, codes, replicate, sum_by, slice_index, IsTrue}
+use Rattle.std.specs.Prelude.{◌≡◌, ◌≢◌, ℕ, ◌<◌, ◌≤◌, List, ◌∷◌, ◌++◌, length, take, codes, replicate, sum_by, slice_index, IsTrue}
 use Rattle.std.specs.List.{flat_map, AllByRecursion}
 use Rattle.ldar_facts.specs.declared.batch.Batch.{Batch}
 use Rattle.ldar_facts.specs.Fields.{IsFilled, big_endian}

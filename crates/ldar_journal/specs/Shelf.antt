@@ -1,9 +1,9 @@
 -- A journal over its disk.
-use Rattle.std.specs.Prelude.{◌≡◌, ◌≢◌, ◌⊎◌, ℕ, ◌+◌, ◌*◌, ◌<◌, ◌≤◌, Option, List, [], ◌∷◌, ◌++◌, length, take, drop}
+use Rattle.std.specs.Prelude.{◌≡◌, ◌⊎◌, ℕ, ◌+◌, ◌*◌, ◌<◌, ◌≤◌, Option, List, [], ◌∷◌, ◌++◌, length, take, drop}
 use Rattle.disk_model.specs.Told.{Told}
 use Rattle.ldar_facts.specs.declared.batch.Batch.{Batch}
 use Rattle.ldar_facts.specs.Fields.{big_endian}
-use Rattle.ldar_journal.specs.Image.{payload, frame, fact_count, IsFrame, IsFront, IsKept, EndsAt, Opens}
+use Rattle.ldar_journal.specs.Image.{payload, fact_count, IsFrame, IsFront, IsKept, EndsAt, Opens}
 
 -- a journal as contracts see it: its disk, its batches, and the batches of a frame that may stand or not, if any
 pub record Shelf (D : Type 0) : Type 0 where

@@ -1,4 +1,4 @@
-ghost use Rattle.std.specs.Prelude.{◌≡◌, ◌<◌, ◌≤◌, [], ◌∷◌, ◌++◌, length, OnOk, Err};
+ghost use Rattle.std.specs.Prelude.{◌≡◌, ◌⊎◌, ◌<◌, ◌≤◌, [], ◌∷◌, ◌++◌, length, OnOk, Err};
 ghost use Rattle.disk_model.specs.Faults.{Rose};
 ghost use Rattle.disk_model.specs.Told.{BothTold};
 ghost use Rattle.ldar_journal.specs.Image.{header};
@@ -13,7 +13,7 @@ const EMPTY: [u8; 17] = *b"LDARJNL1\0\0\0\0\0\0\0\0\0";
 pub enum CreateError {
     /// A byte stands on the disk already. Nothing was written.
     NotEmpty,
-    /// A call of the disk failed. What it holds then is no journal, or the empty one.
+    /// A call of the disk failed. It is as it was, or it was empty and holds the empty journal in part.
     Disk,
 }
 
@@ -35,6 +35,8 @@ pub fn create<D: Disk>(disk: &mut D) -> Result<(), CreateError>
         (λ old new. (old ≡ []) × (new ≡ header ++ 0 ∷ []))) }
     ensures not_empty { result ≡ Err CreateError.NotEmpty → BothTold (D.content disk.old) (D.content disk.new)
         (λ old new. (0 < length old) × (new ≡ old)) }
+    ensures after_fault { result ≡ Err CreateError.Disk → BothTold (D.content disk.old) (D.content disk.new)
+        (λ old new. (new ≡ old) ⊎ ((old ≡ []) × (length new ≤ 17))) }
 
     ensures time { D.clock disk.old ≤ D.clock disk.new }
     ensures name { D.name disk.new ≡ D.name disk.old }

@@ -1,4 +1,6 @@
-use crate::{CreateError, OpenWhy, create, open_accepted, open_journal};
+use crate::{
+    CreateError, Journal, MOST_FACTS, OpenWhy, Torn, create, open_accepted, open_journal, prepare,
+};
 use disk_model::MemoryDisk;
 use ldar_facts::{Batch, Read, read_batch};
 use std::alloc::Global;
@@ -30,6 +32,26 @@ fn image(alloc: Global) -> Result<Vec<u8>, Fail> {
     bytes.extend_from_slice(&BATCH)?;
     bytes.push(0)?;
     Ok(bytes)
+}
+
+// Adds a batch to the journal on a disk, and gives the journal and what the call answered.
+fn added(
+    alloc: Global,
+    disk: MemoryDisk,
+    batch: Batch,
+) -> Result<(Journal<MemoryDisk>, Result<(), Torn>), Fail> {
+    let Ok((mut journal, accepted)) = open_accepted(alloc, disk) else {
+        return Err(Fail::from("a journal"));
+    };
+    let None = accepted.position(batch.identity()) else {
+        return Err(Fail::from("a new batch"));
+    };
+    if accepted.facts() + batch.facts.as_slice().len() as u64 > MOST_FACTS {
+        return Err(Fail::from("a batch that fits"));
+    }
+    let frame = prepare(alloc, &[batch])?;
+    let appended = journal.append(&frame);
+    Ok((journal, appended))
 }
 
 #[test]
@@ -92,6 +114,33 @@ fn a_fault_of_the_disk_is_told(rt: HostRuntime) -> Result<(), Fail> {
             Ok(_) => return Err(Fail::from("no journal")),
             Err(error) => assert_eq!(rt; error.why, OpenWhy::Disk),
         }
+    }
+    Ok(())
+}
+
+#[test]
+fn a_batch_is_added_in_four_calls(rt: HostRuntime) -> Result<(), Fail> {
+    let kept = batch(rt.alloc(), &BATCH)?;
+    let (journal, appended) = added(rt.alloc(), empty(rt.alloc(), &[])?, kept)?;
+    assert_eq!(rt; appended, Ok(()));
+    assert!(rt; !journal.settling());
+    assert_eq!(rt; journal.disk().calls(), 7);
+    let disk = journal.into_disk();
+    assert_eq!(rt; disk.bytes(), image(rt.alloc())?.as_slice());
+    Ok(())
+}
+
+#[test]
+fn a_fault_while_a_batch_is_added_says_what_is_in_doubt(rt: HostRuntime) -> Result<(), Fail> {
+    // The call that fails, whether the gate was being opened, and how long the file is then.
+    let cases = [(3, false, 17), (4, false, 42), (5, true, 42), (6, true, 42)];
+    for (call, gate, length) in cases {
+        let kept = batch(rt.alloc(), &BATCH)?;
+        let (journal, appended) = added(rt.alloc(), empty(rt.alloc(), &[call])?, kept)?;
+        assert_eq!(rt; appended, Err(Torn { gate }));
+        assert_eq!(rt; journal.settling(), gate);
+        assert_eq!(rt; journal.disk().bytes().len(), length);
+        assert_eq!(rt; journal.disk().calls(), call + 1);
     }
     Ok(())
 }

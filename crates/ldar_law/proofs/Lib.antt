@@ -1,4 +1,5 @@
 pub mod DelayLemmas
+pub mod DutyLemmas
 pub mod EnteredLemmas
 pub mod EventLemmas
 pub mod FitnessLemmas
@@ -10,6 +11,8 @@ pub mod RegisterLemmas
 pub mod ReportLemmas
 pub mod RouteLemmas
 pub mod SliceLemmas
+pub mod SpanLemmas
+pub mod TagLemmas
 pub mod TestLemmas
 pub mod VerdictLemmas
 pub mod ViewLemmas

@@ -1,4 +1,4 @@
-use Rattle.std.proofs.Common.{◌≡◌, ℕ, Bool, true, false, ◌||◌, ◌&&◌, List, [], ◌∷◌, ◌++◌, filter, refl, sym, ap, subst, ◌∙◌, inl, inr}
+use Rattle.std.proofs.Common.{◌≡◌, ℕ, Bool, true, false, ◌||◌, ◌&&◌, List, [], ◌∷◌, filter, refl, sym, ap, subst, ◌∙◌, inl, inr}
 use Rattle.std.specs.Prelude.{nat_eq, fold, is_none}
 use Rattle.std.specs.List.{list_any}
 use Rattle.std.proofs.lemmas.Bool.{cases_Bool, eqb-true}
@@ -7,7 +7,7 @@ use Rattle.std.proofs.Math.Bool.{or_assoc}
 use Rattle.list_words.specs.Order.{in_order}
 use Rattle.list_words.proofs.PutLemmas.{list_any-put}
 use Rattle.ldar_law.specs.declared.duty.Duty.{Duty}
-use Rattle.ldar_law.specs.Routes.{is_more_urgent, with_stop, stops_in_order, StopsAreUndone}
+use Rattle.ldar_law.specs.Routes.{is_more_urgent, with_stop, StopsAreUndone}
 
 or_false : (b : Bool) → (b || false) ≡ b
 or_false true = refl

@@ -4,7 +4,8 @@ use Rattle.std.specs.Option.{option_map_or}
 use Rattle.std.specs.List.{list_any}
 use Rattle.list_words.specs.Words.{somewhere, each_where}
 use Rattle.list_words.specs.Ranges.{from_to}
-use Rattle.ldar_days.specs.Calendar.{first_day, last_day, month_of, end_by, week_of, week_first, week_last}
+use Rattle.list_words.specs.Order.{Ascends}
+use Rattle.ldar_days.specs.Calendar.{IsDay, first_day, last_day, month_of, end_by, week_of, week_first, week_last}
 use Rattle.ldar_days.specs.Quarters.{quarter_of}
 use Rattle.ldar_facts.specs.declared.class.Class.{Class}
 use Rattle.ldar_facts.specs.declared.key.Key.{Key}
@@ -184,3 +185,14 @@ module _ (item : Equipment) (classes : List (Key × Class)) (startup : ℕ) (eve
       ++ (each_where drip events
       ++ (each_where release events
       ++ each_where evidence events)))))))
+
+-- by cause, and for one cause by due day
+abbrev pub comes_no_later : Duty → Duty → Bool
+comes_no_later a b = nat_lt a.cause b.cause || (nat_eq a.cause b.cause && nat_le a.due b.due)
+
+-- the duties of a component stand by cause and due day, where its events stand by their days
+abbrev pub DutiesStandInOrder : Type 0
+DutiesStandInOrder =
+    (item : Equipment) (classes : List (Key × Class)) (startup : ℕ) (events : List Event) (skipped : List Bool) (t : ℕ)
+    → IsDay item.begin → Ascends (λ a b. nat_le a.key.day b.key.day) events
+    → Ascends comes_no_later (duties_of item classes startup events skipped t)

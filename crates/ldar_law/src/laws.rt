@@ -1,6 +1,7 @@
 //! What is true of the definitions: functions with nothing to do, whose contracts are the laws.
 
 pub mod denials;
+pub mod duties;
 pub mod months;
 pub mod quarters;
 pub mod readings;

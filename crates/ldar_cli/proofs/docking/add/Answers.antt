@@ -1,12 +1,10 @@
-use Rattle.std.proofs.Common.{◌≡◌, ◌+◌, ◌≤◌, ◌<◌, ℕ, List, [], ◌∷◌, ◌++◌, length, is_some, false, refl, sym, ap, subst, ◌∙◌, arith}
-use Rattle.std.proofs.lemmas.Grind.{common_steps}
+use Rattle.std.proofs.Common.{◌≡◌, ◌+◌, ◌≤◌, ◌<◌, List, [], ◌∷◌, ◌++◌, length, is_some, refl, sym, ap, subst, ◌∙◌, arith}
 use Rattle.std.specs.String.{string_bytes}
 use Rattle.ldar_facts.specs.declared.batch.Batch.{Batch}
-use Rattle.ldar_facts.specs.Identity.{identity_of, position_of}
 use Rattle.ldar_journal.specs.Image.{fact_count, IsKept}
 use Rattle.ldar_journal.proofs.Positions.{IsKept-push}
-use Rattle.ldar_cli.specs.Dock.{line_of, Docks, Accepts}
-use Rattle.ldar_cli.specs.declared.reply.Reply.TheVariants.{Receipt, Full}
+use Rattle.ldar_cli.specs.Dock.{Accepts}
+use Rattle.ldar_cli.specs.declared.reply.Reply.TheVariants.{Full}
 use Rattle.ldar_cli.proofs.DockLemmas.{Carries-stays, Carries-added}
 use Rattle.ldar_cli.proofs.docking.add.Goals as goal
 
@@ -36,7 +34,7 @@ returns-in-Ok-clause-value g c =
     c.in-Ok.ensures.value.0 ∙ ap (λ (history : List Batch). history ++ c.in_ok-frame.frame) c.requires.same ∙ ap (λ (frame : List Batch). c.args.accepted.now ++ frame) frame in
     let last : length c.as_slice-2.result.now ≡ length c.args.accepted.now = ap length c.as_slice-2.ensures.value in
     let accepts : Accepts c.args.accepted.now c.args.batch (length c.as_slice-2.result.now + 1) c.append.new.self.history
-    = record { is_new = c.requires.is_new; fits = fits; last = omega (arith, last); added = added } in
+    = record { due = record { is_new = c.requires.is_new; fits = fits }; last = omega (arith, last); added = added } in
     Carries-added (g.D.Disk.content c.args.journal.now.disk) (g.D.Disk.content c.append.new.self.disk) c.args.accepted.now c.append.new.self.history
     c.append.new.self.doubt c.args.batch (length c.as_slice-2.result.now + 1) (string_bytes c.in_ok-line-2.line)
     c.requires.opens c.in-Ok.ensures.grows c.in-Ok.ensures.opens c.in-Ok.ensures.value.1 accepts

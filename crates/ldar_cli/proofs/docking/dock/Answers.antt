@@ -1,5 +1,4 @@
-use Rattle.std.proofs.Common.{◌≡◌, ℕ, List, Option, [], refl, sym, ap, subst, ◌∙◌}
-use Rattle.disk_model.specs.Told.{BothTold}
+use Rattle.std.proofs.Common.{◌≡◌, ℕ, List, Option, [], sym, subst}
 use Rattle.disk_model.proofs.ToldLemmas.{BothTold-weaker}
 use Rattle.ldar_ports.specs.Sink.{bytes_of}
 use Rattle.ldar_journal.specs.Image.{Opens}

@@ -3,7 +3,6 @@ use Rattle.std.proofs.lemmas.Bool.Decides.{nat_tests}
 use Rattle.std.proofs.lemmas.List.{append-nil}
 use Rattle.std.specs.String.{string_bytes}
 use Rattle.std.specs.Option.{MatchOption}
-use Rattle.ldar_ports.specs.Source.{HasEnded}
 use Rattle.ldar_ports.specs.Sink.{bytes_of}
 use Rattle.ldar_facts.specs.declared.batch.Batch.{Batch}
 use Rattle.ldar_facts.specs.Grammar.{Spells}

@@ -1,7 +1,5 @@
-use Rattle.std.proofs.Common.{◌≡◌, ℕ, List, Option, Some, None, [], refl, sym, ap, subst, ◌∙◌, map}
-use Rattle.std.specs.String.{string_bytes}
+use Rattle.std.proofs.Common.{Option, Some, [], refl, sym, ap, subst, ◌∙◌}
 use Rattle.ldar_cli.specs.declared.command.Command.{Command}
-use Rattle.ldar_cli.specs.declared.command.Command.TheVariants.{Init}
 use Rattle.ldar_cli.specs.declared.status.Status.TheVariants.{Usage}
 use Rattle.ldar_cli.specs.Run.{Ends}
 use Rattle.ldar_cli.proofs.DockLemmas.{Takes-none, Puts-none}

@@ -1,9 +1,7 @@
-use Rattle.std.proofs.Common.{◌≡◌, ℕ, zero, suc, ◌+◌, ◌*◌, ◌-◌, ◌^◌, ◌<◌, ◌≤◌, Bool, true, false, List, [], ◌∷◌, length, get_or, drop, Err, refl, sym, ap, ◌∙◌, add-one, arith}
+use Rattle.std.proofs.Common.{◌≡◌, ℕ, suc, ◌+◌, ◌*◌, ◌-◌, ◌^◌, ◌<◌, ◌≤◌, true, false, List, length, get_or, drop, sym, ap, ◌∙◌, add-one, arith}
 use Rattle.std.proofs.lemmas.List.{drop_more, drop_all, length-drop}
 use Rattle.std.proofs.Math.Nat.{pow-suc, pow-le-pow_right}
-use Rattle.ldar_facts.specs.declared.stop.Stop.{Stop}
 use Rattle.ldar_facts.specs.declared.stop.Stop.TheVariants.{Short, Wrong}
-use Rattle.ldar_facts.specs.Form.{IsBytes}
 use Rattle.ldar_facts.specs.Number.{number_from, may_be, stop_of}
 use Rattle.ldar_facts.proofs.read_number.first_wrong.Goals as goal
 

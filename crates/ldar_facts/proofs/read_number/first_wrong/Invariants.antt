@@ -1,4 +1,4 @@
-use Rattle.std.proofs.Common.{◌≡◌, ◌-◌, ◌^◌, ◌<◌, ◌≤◌, drop}
+use Rattle.std.proofs.Common.{◌≡◌, ◌-◌, ◌^◌, ◌<◌, drop}
 use Rattle.ldar_facts.specs.Number.{number_from, stop_of}
 use Rattle.ldar_facts.proofs.read_number.first_wrong.Given as goal
 

@@ -1,4 +1,4 @@
-use Rattle.std.proofs.Common.{◌≡◌, ℕ, ◌<◌, List, [], ◌∷◌, length, get_or, ap, sym, ◌∙◌, arith}
+use Rattle.std.proofs.Common.{◌≡◌, ℕ, ◌<◌, List, [], ◌∷◌, length, get_or, arith}
 use Rattle.ldar_facts.specs.Number.{value_from}
 use Rattle.ldar_facts.proofs.Digits.{whole, none, early, front_2}
 use Rattle.ldar_facts.proofs.read_number.two_bytes.Goals as goal

@@ -1,4 +1,4 @@
-use Rattle.std.proofs.Common.{◌≡◌, ◌<◌, ◌≤◌, length, get_or, subst, ◌∙◌, ap, arith}
+use Rattle.std.proofs.Common.{◌≡◌, ◌<◌, ◌≤◌, length, get_or, subst, ap, arith}
 use Rattle.ldar_facts.specs.Grammar.{spelled}
 use Rattle.ldar_facts.proofs.Spelling.{head_fields, head_written, one_more, all_written}
 use Rattle.ldar_facts.proofs.write.spelling_of.Goals as goal

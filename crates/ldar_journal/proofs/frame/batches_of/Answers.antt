@@ -1,9 +1,7 @@
-use Rattle.std.proofs.Common.{◌≡◌, ℕ, ◌<◌, ◌≤◌, List, [], ◌∷◌, ◌++◌, length, take, drop, refl, sym, ◌∙◌, ap, subst, arith, append_assoc, length-append}
+use Rattle.std.proofs.Common.{◌≡◌, [], ◌∷◌, ◌++◌, length, take, arith, length-append}
 use Rattle.std.proofs.lemmas.Bool.Decides.{nat_tests}
-use Rattle.std.proofs.lemmas.List.{take-append-drop}
-use Rattle.ldar_facts.specs.declared.batch.Batch.{Batch}
 use Rattle.ldar_facts.specs.Grammar.{HasNoBatch}
-use Rattle.ldar_journal.specs.Image.{payload, IsFrame, IsBatch}
+use Rattle.ldar_journal.specs.Image.{IsBatch}
 use Rattle.ldar_journal.proofs.FrameLemmas.{AllByRecursion-push, Spells-is, too_many, no_batch, one_more, nothing_left}
 use Rattle.ldar_journal.proofs.frame.batches_of.Goals as goal
 

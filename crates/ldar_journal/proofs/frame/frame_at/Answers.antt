@@ -1,4 +1,4 @@
-use Rattle.std.proofs.Common.{◌≡◌, ℕ, List, sym, ◌∙◌}
+use Rattle.std.proofs.Common.{sym}
 use Rattle.ldar_journal.specs.Image.{payload}
 use Rattle.ldar_journal.proofs.FrameLemmas.{payload_of_frame, one_payload_at, frame_stands}
 use Rattle.ldar_journal.proofs.frame.frame_at.Goals as goal

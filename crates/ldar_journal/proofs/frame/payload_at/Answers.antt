@@ -1,5 +1,4 @@
-use Rattle.std.proofs.Common.{◌≡◌, ℕ, ◌<◌, ◌≤◌, length, arith}
-use Rattle.std.proofs.lemmas.Bool.Decides.{nat_tests}
+use Rattle.std.proofs.Common.{arith}
 use Rattle.ldar_journal.proofs.FrameLemmas.{payload_stands}
 use Rattle.ldar_journal.proofs.frame.payload_at.Goals as goal
 

@@ -1,6 +1,5 @@
 use Rattle.std.proofs.Common.{◌≡◌, ◌++◌}
 use Rattle.std.specs.Vec.Iter.{into_iter_items}
-use Rattle.ldar_journal.specs.Image.{IsKept}
 use Rattle.ldar_journal.proofs.image.adopt_all.Given as goal
 
 -- what was taken, and then what is left, are all

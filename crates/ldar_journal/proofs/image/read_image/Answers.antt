@@ -1,7 +1,4 @@
-use Rattle.std.proofs.Common.{◌≡◌, ℕ, ◌+◌, ◌≤◌, List, ◌++◌, length, take, drop, refl, sym, ◌∙◌, ap, subst, arith, inl, inr, length-drop}
-use Rattle.ldar_facts.specs.declared.batch.Batch.{Batch}
-use Rattle.ldar_journal.specs.Image.{IsFront, IsKept}
-use Rattle.ldar_journal.specs.FrameAt.{IsFrameOf}
+use Rattle.std.proofs.Common.{arith, inr, length-drop}
 use Rattle.ldar_journal.proofs.Histories.{front_grows, bad_frame, IsFront-fits}
 use Rattle.ldar_journal.proofs.image.read_image.Goals as goal
 

@@ -1,5 +1,5 @@
-use Rattle.std.proofs.Common.{◌≡◌, ◌-◌, ◌≤◌, length, take}
-use Rattle.ldar_journal.specs.Image.{header, IsFront, IsKept}
+use Rattle.std.proofs.Common.{◌-◌, ◌≤◌, length, take}
+use Rattle.ldar_journal.specs.Image.{IsFront, IsKept}
 use Rattle.ldar_journal.proofs.image.read_image.Given as goal
 
 -- the front up to the place is the header and whole frames of what was taken

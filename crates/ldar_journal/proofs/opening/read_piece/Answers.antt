@@ -1,4 +1,4 @@
-use Rattle.std.proofs.Common.{◌≡◌, ℕ, List, length, subst, sym, ◌∙◌}
+use Rattle.std.proofs.Common.{◌≡◌, ℕ, List, subst, sym, ◌∙◌}
 use Rattle.disk_model.specs.Disk.{Reads}
 use Rattle.disk_model.proofs.ToldLemmas.{BothTold-weaker}
 use Rattle.ldar_journal.specs.Piece.{IsFrontOf}

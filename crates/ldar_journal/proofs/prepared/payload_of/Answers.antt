@@ -1,9 +1,7 @@
-use Rattle.std.proofs.Common.{◌≡◌, ℕ, ◌+◌, ◌<◌, List, [], ◌∷◌, ◌++◌, take, sym, ◌∙◌, ap, ap₂, arith}
-use Rattle.std.specs.List.{AllByRecursion}
+use Rattle.std.proofs.Common.{◌≡◌, ℕ, ◌+◌, List, [], ◌∷◌, ◌++◌, take, sym, ◌∙◌, ap, arith}
 use Rattle.std.proofs.lemmas.List.{take_more}
 use Rattle.ldar_facts.specs.declared.batch.Batch.{Batch}
-use Rattle.ldar_facts.specs.Grammar.{spelled, batch_fields}
-use Rattle.ldar_journal.specs.Image.{IsBatch, spelling, payload}
+use Rattle.ldar_journal.specs.Image.{IsBatch, spelling}
 use Rattle.ldar_journal.proofs.FrameLemmas.{payload-push, AllByRecursion-push}
 use Rattle.ldar_journal.proofs.prepared.payload_of.Goals as goal
 

@@ -1,4 +1,4 @@
-use Rattle.std.proofs.Common.{◌≡◌, ℕ, ◌≤◌, length, ap, arith}
+use Rattle.std.proofs.Common.{length, ap, arith}
 use Rattle.ldar_journal.proofs.Frames.{length-payload}
 use Rattle.ldar_journal.proofs.prepared.prepare.Goals as goal
 

@@ -1,4 +1,4 @@
-use Rattle.std.proofs.Common.{◌≡◌, ◌∙◌, sym}
+use Rattle.std.proofs.Common.{◌∙◌, sym}
 use Rattle.ldar_facts.proofs.Equality.{facts_agree}
 use Rattle.ldar_facts.proofs.batch.FactList.same_facts.Goals as goal
 

@@ -1,4 +1,4 @@
-use Rattle.std.proofs.Common.{◌≡◌, ℕ, sym, subst, arith}
+use Rattle.std.proofs.Common.{sym, subst, arith}
 use Rattle.ldar_days.specs.Calendar.{IsDay}
 use Rattle.ldar_facts.specs.Fields.{days}
 use Rattle.ldar_facts.specs.Number.{read_among}

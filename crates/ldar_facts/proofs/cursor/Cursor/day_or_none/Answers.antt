@@ -1,4 +1,4 @@
-use Rattle.std.proofs.Common.{◌≡◌, ℕ, Ok, refl, sym, ap, subst, ◌∙◌, arith}
+use Rattle.std.proofs.Common.{sym, subst, arith}
 use Rattle.ldar_facts.specs.Fields.{IsAmong, days_or_none}
 use Rattle.ldar_facts.specs.FieldForms.{day_or_none}
 use Rattle.ldar_facts.specs.Number.{read_among}

@@ -1,4 +1,4 @@
-use Rattle.std.proofs.Common.{◌≡◌, Ok, refl, subst}
+use Rattle.std.proofs.Common.{◌≡◌, Ok, subst}
 use Rattle.ldar_facts.specs.Stated.{Stated}
 use Rattle.ldar_facts.specs.Fields.{IsFact}
 use Rattle.ldar_facts.specs.FactForms as forms

@@ -1,4 +1,4 @@
-use Rattle.std.proofs.Common.{◌≡◌, ◌+◌, ◌≤◌, ◌++◌, ◌∷◌, [], vec_len, Ok, sym, ap, ◌∙◌, arith}
+use Rattle.std.proofs.Common.{Ok, ap, ◌∙◌, arith}
 use Rattle.std.proofs.lemmas.Result.{err_from_is_err_and}
 use Rattle.ldar_facts.proofs.FactSteps.{goes_on, stops, ends, same_list}
 use Rattle.ldar_facts.proofs.cursor.Cursor.facts.Goals as goal

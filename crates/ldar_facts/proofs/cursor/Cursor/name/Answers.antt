@@ -1,4 +1,4 @@
-use Rattle.std.proofs.Common.{◌≡◌, ◌-◌, ◌+◌, ◌<◌, ◌≤◌, ℕ, length, take, set, sym, ◌∙◌, Ok, ap, arith}
+use Rattle.std.proofs.Common.{take, sym, ◌∙◌, Ok, ap, arith}
 use Rattle.std.proofs.lemmas.Result.{err_from_is_err_and}
 use Rattle.std.proofs.lemmas.List.{length-set, take_more_set}
 use Rattle.ldar_facts.proofs.NameSteps.{behind_stop, behind_letter, is_name, is_some, same_name, zeros_follow, zeros_fail, all_letters}

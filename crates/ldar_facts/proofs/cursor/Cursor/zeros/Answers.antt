@@ -1,4 +1,4 @@
-use Rattle.std.proofs.Common.{◌≡◌, sym, ◌∙◌, arith}
+use Rattle.std.proofs.Common.{sym, ◌∙◌, arith}
 use Rattle.std.proofs.lemmas.Result.{err_from_is_err_and}
 use Rattle.ldar_facts.proofs.NameSteps.{zeros_stop, zeros_step, zeros_end}
 use Rattle.ldar_facts.proofs.cursor.Cursor.zeros.Goals as goal

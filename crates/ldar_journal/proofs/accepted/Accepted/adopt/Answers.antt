@@ -1,11 +1,11 @@
-use Rattle.std.proofs.Common.{◌≡◌, ℕ, ◌+◌, ◌<◌, ◌≤◌, [], ◌∷◌, ◌++◌, length, Some, Bool, true, false, List, is_some, refl, sym, ◌∙◌, ap, subst, cond, arith}
+use Rattle.std.proofs.Common.{◌≡◌, ◌+◌, ◌<◌, ◌≤◌, [], ◌∷◌, ◌++◌, length, Some, true, false, List, is_some, refl, sym, ◌∙◌, ap, subst, cond, arith}
 use Rattle.std.specs.Ordering.{is_eq}
 use Rattle.std.specs.BTreeMap.{get}
 use Rattle.ldar_facts.specs.declared.batch.Batch.{Batch}
 use Rattle.ldar_facts.specs.declared.identity.Identity.{Identity}
 use Rattle.ldar_facts.specs.Identity.{identity_of, position_of}
-use Rattle.ldar_journal.specs.Image.{fact_count, IsKept}
-use Rattle.ldar_journal.specs.Accepted.{identity_cmp, IsIndexed}
+use Rattle.ldar_journal.specs.Image.{fact_count}
+use Rattle.ldar_journal.specs.Accepted.{identity_cmp}
 use Rattle.ldar_journal.proofs.Positions.{IsKept-twice, IsKept-push, IsIndexed-push}
 use Rattle.ldar_journal.proofs.accepted.Accepted.adopt.Goals as goal
 

@@ -1,11 +1,8 @@
-use Rattle.std.proofs.Common.{◌≡◌, ℕ, ◌+◌, ◌<◌, ◌≤◌, Bool, true, false, List, [], ◌++◌, length, slice_index, refl, sym, ◌∙◌, ap, arith, subst}
+use Rattle.std.proofs.Common.{◌≡◌, ◌+◌, List, [], ◌++◌, length, sym, ◌∙◌, ap, arith}
 use Rattle.std.proofs.lemmas.Bool.{false≢true}
-use Rattle.disk_model.specs.Told.{Told, BothTold}
 use Rattle.ldar_facts.specs.declared.batch.Batch.{Batch}
-use Rattle.ldar_journal.specs.Gates.{HoldsBehind}
 use Rattle.ldar_journal.specs.Image.{IsKept}
-use Rattle.ldar_journal.specs.Shelf.{Shelf, IsShelved, behind_gate, OpensEither}
-use Rattle.ldar_journal.proofs.ShelfLemmas.{IsReady, ready, stays, IsShelved-torn, IsShelved-appended, told_opens, from_ok}
+use Rattle.ldar_journal.proofs.ShelfLemmas.{ready, stays, IsShelved-torn, IsShelved-appended, told_opens, from_ok}
 use Rattle.ldar_journal.proofs.journal.Journal.append.Goals as goal
 
 pub returns-then-is_err-clause-opens : goal.returns-then-is_err-clause-opens

@@ -1,5 +1,3 @@
-use Rattle.std.proofs.Common.{◌≡◌}
-use Rattle.ldar_journal.specs.Shelf.{Shelf, OpensEither}
 use Rattle.ldar_journal.proofs.ShelfLemmas.{told_opens}
 use Rattle.ldar_journal.proofs.journal.Journal.into_disk.Goals as goal
 

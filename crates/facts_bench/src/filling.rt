@@ -1,0 +1,58 @@
+ghost use Rattle.std.specs.Prelude.{◌≡◌, IfOk};
+ghost use Rattle.facts_bench.specs.Numbered.{AreNumbered};
+
+use crate::sort::{Sort, fact_at};
+use fact_store::FactStore;
+use ldar_facts::{Fact, Key, Memory};
+use std::alloc::{AllocError, Global};
+
+/// How many facts room is made for at once: as many as a batch may have.
+const AT_ONCE: usize = 512;
+
+/// A store into which the facts of these places came one after the other.
+pub fn filled(alloc: Global, places: &[u32], sort: Sort) -> Result<FactStore, Memory> {
+    let mut store = FactStore::new(alloc);
+    let mut came = 0;
+    for some in places.chunks(AT_ONCE) {
+        let facts = facts_at(alloc, some, sort)?;
+        came = add_facts(&mut store, came, &facts)?;
+    }
+    Ok(store)
+}
+
+fn facts_at(alloc: Global, places: &[u32], sort: Sort) -> Result<Vec<Fact>, AllocError> {
+    places
+        .iter()
+        .map(|place| fact_at(*place, sort))
+        .collect(alloc)
+}
+
+/// Adds facts, each as a batch of its own with the next number. The result is how many there are then.
+fn add_facts(store: &mut FactStore, before: u32, facts: &[Fact]) -> Result<u32, Memory>
+    requires numbered { AreNumbered before store.old.arrived }
+    ensures numbered { IfOk result (λ came. AreNumbered came store.new.arrived) }
+{
+    store.reserve(facts)?;
+    let mut came = before;
+    for fact in facts {
+        if came >= 8_000_000 {
+            break;
+        }
+        store.insert(key_of(fact, came), *fact);
+        came += 1;
+    }
+    Ok(came)
+}
+
+/// The key of a fact that is alone in its batch.
+fn key_of(fact: &Fact, number: u32) -> Key
+    ensures number { result.number ≡ number }
+{
+    Key {
+        day: fact.day,
+        minute: fact.minute,
+        handheld: 1,
+        number,
+        index: 0,
+    }
+}

@@ -1,0 +1,27 @@
+use std::alloc::{AllocError, Global};
+
+/// The order in which facts come, by their places in key order.
+#[derive(Clone, Copy)]
+pub enum Order {
+    Key,
+    Reverse,
+    Shuffled,
+}
+
+/// The places of so many facts, in the order in which they come.
+pub fn places(alloc: Global, order: Order, count: u32) -> Result<Vec<u32>, AllocError> {
+    let mut places: Vec<u32> = (0..count).collect(alloc)?;
+    match order {
+        Order::Key => {}
+        Order::Reverse => places.reverse(),
+        Order::Shuffled => places.sort_by_key(|place| mixed(*place))?,
+    }
+    Ok(places)
+}
+
+/// A number that says little about the place, and is another for each.
+fn mixed(place: u32) -> u32 {
+    let once = (place ^ (place >> 16)).wrapping_mul(0x7feb_352d);
+    let twice = (once ^ (once >> 15)).wrapping_mul(0x846c_a68b);
+    twice ^ (twice >> 16)
+}

@@ -1,0 +1,23 @@
+use ldar_facts::{Fact, component_of};
+
+/// How many facts were read, and a sum over them, so that no reading can be left out.
+#[derive(Clone, Copy)]
+pub struct Total {
+    pub facts: u64,
+    pub sum: u64,
+}
+
+impl Total {
+    pub fn new() -> Total {
+        Total { facts: 0, sum: 0 }
+    }
+
+    pub fn add(&mut self, fact: &Fact) {
+        let component = component_of(&fact.body).unwrap_or(0);
+        let said = u64::from(fact.day.number())
+            ^ u64::from(fact.minute) << 16
+            ^ u64::from(component) << 32;
+        self.facts = self.facts.saturating_add(1);
+        self.sum = self.sum.wrapping_mul(3).wrapping_add(said);
+    }
+}

@@ -1,0 +1,5 @@
+use Rattle.ldar_law.proofs.DutyLemmas.{duties_stand_in_order}
+use Rattle.ldar_law.proofs.laws.duties.duties_stand_in_order.Goals as goal
+
+pub returns : goal.returns
+returns c = duties_stand_in_order

@@ -1,0 +1,8 @@
+//! Laws of duties.
+
+ghost use Rattle.ldar_law.specs.Duties.{DutiesStandInOrder};
+
+/// The duties of a component stand by cause and due day, without being sorted.
+pub fn duties_stand_in_order()
+    ensures { DutiesStandInOrder }
+{}
