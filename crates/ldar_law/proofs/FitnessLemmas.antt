@@ -8,7 +8,7 @@ use Rattle.ldar_facts.specs.Facts.{Entry}
 use Rattle.ldar_facts.specs.Named.{tested_instrument, is_numbered}
 use Rattle.ldar_law.specs.Fitness.{is_calibration, is_calibration_within, is_passed_precision, is_drift_past, is_calibrated, is_calibrated_within, is_tested, is_calibrated_before, is_voided_by, FitnessIsOfInstrument}
 use Rattle.ldar_law.specs.Slices.{facts_of_instrument}
-use Rattle.ldar_law.proofs.Tests.{both}
+use Rattle.ldar_law.proofs.TestLemmas.{both}
 
 -- the fact is the instrument's own
 abbrev is_own : ℕ → Entry → Bool

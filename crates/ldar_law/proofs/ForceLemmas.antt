@@ -92,7 +92,8 @@ class_is_keyed : (number : ℕ) (e : Entry) (o : Option Class) (y : Key × Class
 class_is_keyed number e None y is = cc
 class_is_keyed number e (Some class) y is = cc
 
-class_keyed : (number : ℕ) (e : Entry) (y : Key × Class) → class_at number e ≡ Some y → y.0 ≡ e.0
+-- a class is entered with the key of its fact
+pub class_keyed : (number : ℕ) (e : Entry) (y : Key × Class) → class_at number e ≡ Some y → y.0 ≡ e.0
 class_keyed number e y is = class_is_keyed number e (class_entered number e.1.body) y is
 
 pub one_more_fact_in_force : OneMoreFactInForce

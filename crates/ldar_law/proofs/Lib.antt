@@ -13,6 +13,7 @@ pub mod RouteLemmas
 pub mod SliceLemmas
 pub mod SpanLemmas
 pub mod TagLemmas
-pub mod Tests
+pub mod TestLemmas
 pub mod VerdictLemmas
 pub mod ViewLemmas
+pub mod WeakOrder

@@ -6,7 +6,7 @@ use Rattle.ldar_days.specs.Quarters.{first_quarter}
 use Rattle.ldar_law.specs.declared.event.Event.{Event}
 use Rattle.ldar_law.specs.Happenings.{is_routine_below, is_in_month}
 use Rattle.ldar_law.specs.Months.{is_clean, is_clean_twice, is_clean_twice_from, begins_quarterly, is_quarterly, CleanTwiceFromDecides, QuarterlyDecides}
-use Rattle.ldar_law.proofs.Tests.{both, list_any_implied, passing}
+use Rattle.ldar_law.proofs.TestLemmas.{both, list_any_implied, passing}
 
 -- a clean month has an event: what holds of the month holds of some event's
 of_some_event : (events : List Event) (holds : ℕ → Bool) (k : ℕ) → is_clean events k ≡ true → holds k ≡ true → list_any (λ e. holds (month_of e.key.day)) events ≡ true

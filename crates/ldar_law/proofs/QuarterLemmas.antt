@@ -8,7 +8,7 @@ use Rattle.ldar_law.specs.declared.tally.Tally.{Tally}
 use Rattle.ldar_law.specs.Percent.{TallyCounts}
 use Rattle.ldar_law.specs.Skips.{good_streak, StreakIsOfGoodQuarters}
 use Rattle.ldar_law.specs.Tallies.{with_mark}
-use Rattle.ldar_law.proofs.Tests.{both}
+use Rattle.ldar_law.proofs.TestLemmas.{both}
 
 -- what a prefix reaches passes
 reaches : {X : Type 0} (p : X → Bool) (xs : List X) (n : ℕ) → n ≤ prefix_len p xs → (n ≤ length xs) × (list_all p (take n xs) ≡ true)

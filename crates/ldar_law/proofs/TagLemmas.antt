@@ -14,7 +14,7 @@ use Rattle.ldar_law.specs.declared.event.Happening.{Happening}
 use Rattle.ldar_law.specs.declared.event.Happening.TheVariants.{Delay}
 use Rattle.ldar_law.specs.declared.span.Span.{Span}
 use Rattle.ldar_law.specs.Tags.{delay_at, delay_entry, is_within, delays_of, BeginsWithClosing, DelaysLieBetween}
-use Rattle.ldar_law.proofs.Tests.{all_implied}
+use Rattle.ldar_law.proofs.TestLemmas.{all_implied}
 
 -- what holds of each of two parts' elements
 all_back : {X : Type 0} (P : X → Type 0) (xs ys : List X) → AllByRecursion P (xs ++ ys) → AllByRecursion P ys

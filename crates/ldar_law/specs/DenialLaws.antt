@@ -1,11 +1,16 @@
 -- What the verdict on a batch means, as laws.
-use Rattle.std.specs.Prelude.{◌≡◌, ℕ, ◌≤◌, ◌<◌, ◌↔◌, true, false, IsTrue, Some, None, List, ◌∷◌, ◌++◌, Contains, IsPermutation}
+use Rattle.std.specs.Prelude.{◌≡◌, ℕ, ◌≤◌, ◌<◌, ◌↔◌, true, false, IsTrue, Option, Some, None, List, [], ◌∷◌, ◌++◌, Contains, IsPermutation}
 use Rattle.list_words.specs.Words.{GivesFirst}
 use Rattle.ldar_facts.specs.declared.batch.Batch.{Batch}
+use Rattle.ldar_facts.specs.declared.class.Class.{Class}
+use Rattle.ldar_facts.specs.declared.key.Key.{Key}
 use Rattle.ldar_facts.specs.Facts.{Entry, entries_of, facts_of}
 use Rattle.ldar_facts.specs.Identity.{identities_differ}
 use Rattle.ldar_law.specs.declared.verdict.Verdict.TheVariants.{Pass, Denied, Full}
-use Rattle.ldar_law.specs.Judged.{Case}
+use Rattle.ldar_law.specs.Equipment.{class_at, classes_of}
+use Rattle.ldar_law.specs.Force.{class_by}
+use Rattle.ldar_law.specs.Judged.{Case, register_with}
+use Rattle.ldar_law.specs.RegisterLaws.{with_class}
 use Rattle.ldar_law.specs.Slices.{register_facts}
 use Rattle.ldar_law.specs.Verdicts.{Rule, rules, least_rule, denial_at, denial_after, first_denial, facts_with, verdict_on, is_ruly}
 
@@ -62,3 +67,15 @@ abbrev pub RegisterDecides : Type 0
 RegisterDecides =
     (history : List Batch) (batch : Batch)
     → denial_after (register_facts (facts_of history)) batch ≡ first_denial history batch
+
+-- the last class entered for a component by a day, after some facts one after the other
+abbrev pub later_class : ℕ → ℕ → List Entry → Option (Key × Class) → Option (Key × Class)
+later_class number day [] latest = latest
+later_class number day (entry ∷ entries) latest = later_class number day entries (with_class day (class_at number entry) latest)
+
+-- where a batch is judged, the class in force is the later one of the history's and of those that the batch enters
+abbrev pub ClassAfterFacts : Type 0
+ClassAfterFacts =
+    (number day : ℕ) (history : List Batch) (more : List Entry)
+    → class_by day (classes_of number (register_with (facts_of history) more).in_order)
+    ≡ later_class number day more (class_by day (classes_of number (facts_of history)))

@@ -77,7 +77,7 @@ component_asked (Release c) = Some c
 component_asked (Indication c _ _) = Some c
 component_asked _ = None
 
--- 1 (40 CFR 60.486a(e)(1)): the component was not entered
+-- rule 1 (40 CFR 60.486a(e)(1)): the component was not entered
 abbrev pub component_unknown : Case → Bool
 component_unknown case = elim (component_asked case.entry.1.body) [ None ↦ false | Some c ↦ is_none (first_entry c case.known.entered) ]
 
@@ -91,34 +91,34 @@ component_looked_at _ = None
 abbrev pub is_look_in : (Service → Bool) → Case → Bool
 is_look_in test case = elim (component_looked_at case.entry.1.body) [ None ↦ false | Some c ↦ is_so_of case c (λ kind class. test class.service) ]
 
--- 2 (40 CFR 60.482-1a(d)): a reading or a visual inspection in vacuum service
+-- rule 2 (40 CFR 60.482-1a(d)): a reading or a visual inspection in vacuum service
 abbrev pub looked_in_vacuum : Case → Bool
 looked_in_vacuum case = is_look_in is_vacuum case
 
--- 3 (40 CFR 60.482-1a(e)): .. in VOC service less than 300 hours a year
+-- rule 3 (40 CFR 60.482-1a(e)): .. in VOC service less than 300 hours a year
 abbrev pub looked_under_300_hours : Case → Bool
 looked_under_300_hours case = is_look_in is_under_300 case
 
--- 4 (40 CFR 60.486a(a)(3)): a reading without its instrument or its operator
+-- rule 4 (40 CFR 60.486a(a)(3)): a reading without its instrument or its operator
 abbrev pub reading_unsigned : Case → Bool
 reading_unsigned case = elim case.entry.1.body [ Reading c instrument operator purpose ppm background ↦ nat_eq instrument 0 || nat_eq operator 0 | _ ↦ false ]
 
--- 5 (40 CFR 60.482-2a(a)(2)): a visual inspection of what is no pump in light liquid service
+-- rule 5 (40 CFR 60.482-2a(a)(2)): a visual inspection of what is no pump in light liquid service
 abbrev pub no_pump_to_see : Case → Bool
 no_pump_to_see case = elim case.entry.1.body [ Visual c state ↦ is_so_of case c (is_not_under are_pump_rules) | _ ↦ false ]
 
--- 6 (40 CFR 60.482-3a(f)): a sensor's indication at what is no compressor in gas service
+-- rule 6 (40 CFR 60.482-3a(f)): a sensor's indication at what is no compressor in gas service
 abbrev pub no_compressor_to_sense : Case → Bool
 no_compressor_to_sense case = elim case.entry.1.body [
   | Indication c sort present ↦ is_sensor sort && is_so_of case c (is_not_under are_compressor_rules)
   | _ ↦ false
 ]
 
--- 7 (40 CFR 60.482-4a(b)): a pressure release of what is no relief device in gas service
+-- rule 7 (40 CFR 60.482-4a(b)): a pressure release of what is no relief device in gas service
 abbrev pub no_relief_device : Case → Bool
 no_relief_device case = elim case.entry.1.body [ Release c ↦ is_so_of case c (is_not_under are_relief_rules) | _ ↦ false ]
 
--- 8 (40 CFR 60.482-8a(a)): evidence of a potential leak where only readings tell
+-- rule 8 (40 CFR 60.482-8a(a)): evidence of a potential leak at what the rule on evidence is not for
 abbrev pub no_evidence_counts : Case → Bool
 no_evidence_counts case = elim case.entry.1.body [
   | Indication c sort present ↦ not (is_sensor sort) && is_so_of case c (is_not_under are_heavy_liquid_rules)
@@ -134,29 +134,29 @@ is_ground_for_another wanted test case = elim case.entry.1.body [
   | _ ↦ false
 ]
 
--- 9 (40 CFR 60.482-9a(c)): the purge would emit more, at what is no valve
+-- rule 9 (40 CFR 60.482-9a(c)): the purge would emit more, at what is no valve
 abbrev pub purges_no_valve : Case → Bool
 purges_no_valve case = is_ground_for_another 3 is_valve case
 
--- 10 (40 CFR 60.482-9a(d)): a dual seal for what is no pump
+-- rule 10 (40 CFR 60.482-9a(d)): a dual seal for what is no pump
 abbrev pub seals_no_pump : Case → Bool
 seals_no_pump case = is_ground_for_another 4 is_pump case
 
--- 11 (40 CFR 60.482-9a(e)): valves out of stock for what is no valve
+-- rule 11 (40 CFR 60.482-9a(e)): valves out of stock for what is no valve
 abbrev pub stocks_no_valve : Case → Bool
 stocks_no_valve case = is_ground_for_another 5 is_valve case
 
--- 12 (40 CFR 60.486a(c)(6)): a delay for want of a shutdown has no signature of whose decision it was
+-- rule 12 (40 CFR 60.486a(c)(6)): a delay for want of a shutdown has no signature of whose decision it was
 abbrev pub delay_unsigned : Case → Bool
 delay_unsigned case = elim case.entry.1.body [ Delay c why signer expected ↦ nat_eq why 1 && nat_eq signer 0 | _ ↦ false ]
 
--- 13 (40 CFR 60.486a(c)(7)): a delay that is not withdrawn names no expected day of repair
+-- rule 13 (40 CFR 60.486a(c)(7)): a delay that is not withdrawn names no expected day of repair
 abbrev pub repair_not_expected : Case → Bool
 repair_not_expected case = elim case.entry.1.body [ Delay c why signer expected ↦ nat_le 1 why && is_none expected | _ ↦ false ]
 
 -- ---- the rules on programmes and shares
 
--- 14 (40 CFR 60.487a(d)): skip periods are elected with less than 90 days' notice
+-- rule 14 (40 CFR 60.487a(d)): skip periods are elected with less than 90 days' notice
 abbrev pub notified_late : Case → Bool
 notified_late case = elim case.entry.1.body [ Election u mode notified ↦ nat_le 1 mode && nat_lt case.entry.0.day (notified + 90) | _ ↦ false ]
 
@@ -210,13 +210,13 @@ unit_with_one_more case = elim case.entry.1.body [
   | _ ↦ None
 ]
 
--- 15 (40 CFR 60.482-7a(h)(2)(ii)): one valve more is made difficult to monitor, and so 3 percent of the unit's valves are
+-- rule 15 (40 CFR 60.482-7a(h)(2)(ii)): one valve more is made difficult to monitor, and so 3 percent of the unit's valves are
 abbrev pub too_many_difficult : Case → Bool
 too_many_difficult case = elim (unit_with_one_more case) [ None ↦ false | Some unit ↦ is_bounded case unit && is_share_reached case unit ]
 
 -- ---- the rules of the office (our own)
 
--- 16: a handheld other than the office's own, which is 0, enters into the register
+-- rule 16: a handheld other than the office's own, which is 0, enters into the register
 abbrev pub entered_by_a_handheld : Case → Bool
 entered_by_a_handheld case = is_registered case.entry.1.body && nat_lt 0 case.entry.0.handheld
 
@@ -227,11 +227,11 @@ unit_asked (Election unit _ _) = Some unit
 unit_asked (Shutdown unit _) = Some unit
 unit_asked _ = None
 
--- 17: the unit was not entered
+-- rule 17: the unit was not entered
 abbrev pub unit_unknown : Case → Bool
 unit_unknown case = elim (unit_asked case.entry.1.body) [ None ↦ false | Some unit ↦ is_none (unit_entry_of unit case.known.entered) ]
 
--- 18: a unit or a component is entered a second time
+-- rule 18: a unit or a component is entered a second time
 abbrev pub entered_twice : Case → Bool
 entered_twice case = elim case.entry.1.body [
   | UnitFact unit older name ↦ is_some (unit_entry_of unit case.known.entered)
@@ -239,7 +239,7 @@ entered_twice case = elim case.entry.1.body [
   | _ ↦ false
 ]
 
--- 19: the fact's day is past 2097-12-31
+-- rule 19: the fact's day is past 2097-12-31
 abbrev pub day_too_late : Case → Bool
 day_too_late case = nat_lt 46_751 case.entry.0.day
 
@@ -247,14 +247,14 @@ day_too_late case = nat_lt 46_751 case.entry.0.day
 abbrev pub begins_quarter : ℕ → ℕ → Bool
 begins_quarter startup day = elim (quarter_of startup (month_of day)) [ None ↦ false | Some quarter ↦ nat_eq (quarter_first startup quarter) day ]
 
--- 20: an election that does not begin with a quarter of its unit
+-- rule 20: an election that does not begin with a quarter of its unit
 abbrev pub elected_within_a_quarter : Case → Bool
 elected_within_a_quarter case = elim case.entry.1.body [
   | Election unit mode notified ↦ elim (unit_entry_of unit case.known.entered) [ None ↦ false | Some u ↦ not (begins_quarter u.startup case.entry.0.day) ]
   | _ ↦ false
 ]
 
--- 21: the service or the designation does not suit the kind of component
+-- rule 21: the service or the designation does not suit the kind of component
 abbrev pub class_unsuited : Case → Bool
 class_unsuited case = elim case.entry.1.body [
   | ComponentFact c unit kind monomer replaces class ↦ not (suits kind class)

@@ -1,6 +1,6 @@
 //! What the verdict on a batch means: functions with nothing to do, whose contracts are the laws.
 
-ghost use Rattle.ldar_law.specs.DenialLaws.{LeastRuleIsTold, NoRuleDenies, FirstFactIsTold, PassesUndenied, FullUndenied, RulyIsEach, VerdictForgetsOrder, RegisterDecides};
+ghost use Rattle.ldar_law.specs.DenialLaws.{LeastRuleIsTold, NoRuleDenies, FirstFactIsTold, PassesUndenied, FullUndenied, RulyIsEach, VerdictForgetsOrder, RegisterDecides, ClassAfterFacts};
 
 /// A fact is denied by the least of the rules that deny it.
 pub fn least_rule()
@@ -36,4 +36,9 @@ pub fn verdict_forgets_order()
 /// Of the facts of a history only those of the register count for what is denied.
 pub fn register_decides()
     ensures { RegisterDecides }
+{}
+
+/// Where a batch is judged, the class in force is the later one of the history's and of those that the batch enters.
+pub fn class_after_facts()
+    ensures { ClassAfterFacts }
 {}
