@@ -1,6 +1,7 @@
-use Rattle.std.proofs.Common.{◌≡◌, ℕ, zero, suc, ◌+◌, ◌*◌, ◌/◌, ◌-◌, ◌≤◌, Bool, true, false, ◌||◌, nat_le, Option, Some, None, IfSome, List, [], ◌∷◌, ◌++◌, refl, sym, ◌∙◌, arith}
+use Rattle.std.proofs.Common.{◌≡◌, ℕ, zero, suc, ◌+◌, ◌*◌, ◌/◌, ◌-◌, ◌≤◌, Bool, true, false, nat_le, Option, Some, None, IfSome, List, [], ◌∷◌, ◌++◌, refl, sym, ◌∙◌, arith}
 use Rattle.std.specs.Prelude.{nat_lt, if◌then◌else◌, filter_map, option_to_list}
 use Rattle.std.specs.List.{AllByRecursion, cons_option, range_with_len}
+use Rattle.std.proofs.Math.Bool.{or-true}
 use Rattle.std.proofs.lemmas.Bool.{eq-eqb, leb-true, le-leb}
 use Rattle.list_words.specs.Order.{Ascends}
 use Rattle.list_words.specs.Ranges.{until}
@@ -13,19 +14,11 @@ use Rattle.ldar_law.specs.declared.duty.Duty.{Duty}
 use Rattle.ldar_law.specs.declared.equipment.Equipment.{Equipment}
 use Rattle.ldar_law.specs.declared.event.Event.{Event}
 use Rattle.ldar_law.specs.Duties.{first_due, first_monitoring, monthly, quarterly, yearly, planned, weekly, drip, release, evidence, duties_of, comes_no_later, DutiesStandInOrder}
-
--- what holds of each is weakened
-all_weaker : {X : Type 0} (P Q : X → Type 0) → ((x : X) → P x → Q x) → (xs : List X) → AllByRecursion P xs → AllByRecursion Q xs
-all_weaker P Q weaker [] h = tt
-all_weaker P Q weaker (x ∷ xs) h = (weaker x h.0, all_weaker P Q weaker xs h.1)
+use Rattle.ldar_law.proofs.TestLemmas.{all_implied}
 
 all_joined : {X : Type 0} (P : X → Type 0) (xs ys : List X) → AllByRecursion P xs → AllByRecursion P ys → AllByRecursion P (xs ++ ys)
 all_joined P [] ys h h' = h'
 all_joined P (x ∷ xs) ys h h' = (h.0, all_joined P xs ys h.1 h')
-
-or_true : (b : Bool) → (b || true) ≡ true
-or_true true = refl
-or_true false = refl
 
 -- a duty of this cause and due day
 abbrev IsOf : ℕ → ℕ → Duty → Type 0
@@ -49,18 +42,18 @@ within cause low d e this that =
     let due : d.due ≡ low = this.1 in
     let later : low ≤ e.due = that.1 in
     let le : d.due ≤ e.due = omega (arith, due, later) in
-    rw (eq-eqb d.cause e.cause same, le-leb d.due e.due le) (or_true (nat_lt d.cause e.cause))
+    rw (eq-eqb d.cause e.cause same, le-leb d.due e.due le) (or-true (nat_lt d.cause e.cause))
 
 block_later : (cause low later : ℕ) (ds : List Duty) → low ≤ later → IsBlock cause later ds → IsBlock cause low ds
 block_later cause low later ds le block =
-    (block.0, all_weaker (IsFrom cause later) (IsFrom cause low) (λ d h. let due : later ≤ d.due = h.1 in (h.0, omega (arith, le, due))) ds block.1)
+    (block.0, all_implied (IsFrom cause later) (IsFrom cause low) (λ d h. let due : later ≤ d.due = h.1 in (h.0, omega (arith, le, due))) ds block.1)
 
 -- one more in front
 block_more : (cause low : ℕ) (o : Option Duty) (ds : List Duty) → IfSome o (IsOf cause low) → IsBlock cause low ds → IsBlock cause low (cons_option o ds)
 block_more cause low None ds this block = block
 block_more cause low (Some d) ds this block =
     let due : d.due ≡ low = this.1 in (
-      (all_weaker (IsFrom cause low) (λ e. comes_no_later d e ≡ true) (λ e that. within cause low d e this that) ds block.1, block.0),
+      (all_implied (IsFrom cause low) (λ e. comes_no_later d e ≡ true) (λ e that. within cause low d e this that) ds block.1, block.0),
       ((this.0, omega (arith, due)), block.1),
     )
 
@@ -94,7 +87,7 @@ block_events : (cause : ℕ) (f : List Event → Event → List Event → Option
     (front events : List Event) (low : ℕ) → Ascends (λ a b. nat_le a.key.day b.key.day) events → AllByRecursion (λ e. low ≤ e.key.day) events → IsBlock cause (five_after low) (each_from f front events)
 block_events cause f gives front [] low asc from = (tt, tt)
 block_events cause f gives front (e ∷ events) low asc from =
-    let later = all_weaker (λ x. nat_le e.key.day x.key.day ≡ true) (λ x. e.key.day ≤ x.key.day) (λ x h. leb-true e.key.day x.key.day h) events asc.0 in
+    let later = all_implied (λ x. nat_le e.key.day x.key.day ≡ true) (λ x. e.key.day ≤ x.key.day) (λ x h. leb-true e.key.day x.key.day h) events asc.0 in
     block_later cause (five_after low) (five_after e.key.day) (cons_option (f front e events) (each_from f (front ++ e ∷ []) events)) (five_grow low e.key.day from.0)
     (block_more cause (five_after e.key.day) (f front e events) (each_from f (front ++ e ∷ []) events) (gives front e events)
     (block_events cause f gives (front ++ e ∷ []) events e.key.day asc.1 later))
@@ -105,11 +98,11 @@ any_day (e ∷ events) = (omega arith, any_day events)
 
 -- a block before the rest
 joined : (cause low : ℕ) (xs ys : List Duty) → IsBlock cause low xs → IsRest (suc cause) ys → IsRest cause (xs ++ ys)
-joined cause low [] ys block rest = (rest.0, all_weaker (λ d. suc cause ≤ d.cause) (λ d. cause ≤ d.cause) (λ d h. omega (arith, h)) ys rest.1)
+joined cause low [] ys block rest = (rest.0, all_implied (λ d. suc cause ≤ d.cause) (λ d. cause ≤ d.cause) (λ d h. omega (arith, h)) ys rest.1)
 joined cause low (x ∷ xs) ys block rest =
     let both = joined cause low xs ys (block.0.1, block.1.1) rest in
     let of : x.cause ≡ cause = block.1.0.0 in
-    let before_rest = all_weaker (λ d. suc cause ≤ d.cause) (λ d. comes_no_later x d ≡ true)
+    let before_rest = all_implied (λ d. suc cause ≤ d.cause) (λ d. comes_no_later x d ≡ true)
     (λ d h. let lt : suc x.cause ≤ d.cause = omega (arith, of, h) in rw (le-leb (suc x.cause) d.cause lt) refl) ys rest.1 in (
       (all_joined (λ d. comes_no_later x d ≡ true) xs ys block.0.0 before_rest, both.0),
       (omega (arith, of), both.1),
@@ -118,7 +111,7 @@ joined cause low (x ∷ xs) ys block rest =
 -- a block alone
 last_block : (cause low : ℕ) (xs : List Duty) → IsBlock cause low xs → IsRest cause xs
 last_block cause low xs block =
-    (block.0, all_weaker (IsFrom cause low) (λ d. cause ≤ d.cause) (λ d h. let of : d.cause ≡ cause = h.0 in omega (arith, of)) xs block.1)
+    (block.0, all_implied (IsFrom cause low) (λ d. cause ≤ d.cause) (λ d h. let of : d.cause ≡ cause = h.0 in omega (arith, of)) xs block.1)
 
 -- what is given under a test is as it is written
 given : (b : Bool) (d : Duty) (P : Duty → Type 0) → P d → IfSome (if b then Some d else None) P

@@ -1,9 +1,8 @@
-use Rattle.std.proofs.Common.{◌≡◌, ◌↔◌, ℕ, ◌+◌, ◌<◌, ◌≤◌, Bool, true, false, ◌||◌, ◌&&◌, not, cond, nat_eq, nat_lt, nat_le, Option, Some, None, List, [], ◌∷◌, slice_get, refl, sym, ap, ◌∙◌, subst, inl, inr, arith}
-use Rattle.std.specs.List.{AllByRecursion, list_any, filter_map, cons_option, Contains}
+use Rattle.std.proofs.Common.{◌≡◌, ℕ, Bool, true, false, ◌||◌, ◌&&◌, cond, nat_eq, nat_lt, nat_le, Option, Some, None, List, [], ◌∷◌, slice_get, refl, sym, ap, ◌∙◌, inl, inr, arith}
+use Rattle.std.specs.List.{list_any, filter_map, cons_option}
 use Rattle.std.specs.Option.{is_some, option_map}
-use Rattle.std.proofs.lemmas.Bool.{cases_Bool, cases_lt, lt-ltb, le-ltb, le-leb, leb-true}
+use Rattle.std.proofs.lemmas.Bool.{cases_lt, lt-ltb, le-ltb, le-leb, leb-true}
 use Rattle.list_words.specs.Order.{put_in_order, in_order, Ascends}
-use Rattle.list_words.specs.Words.{last_such}
 use Rattle.list_words.proofs.Ascending.{all_put, among_in_order}
 use Rattle.list_words.proofs.Members.{Among, among_from_Contains, Contains-from_among, all_weaker}
 use Rattle.list_words.proofs.WordLaws.{last_such_finds}
@@ -12,10 +11,9 @@ use Rattle.ldar_facts.specs.declared.body.FactBody.TheVariants.{Unit as UnitFact
 use Rattle.ldar_facts.specs.declared.key.Key.{Key}
 use Rattle.ldar_facts.specs.declared.class.Class.{Class}
 use Rattle.ldar_facts.specs.Facts.{Entry}
-use Rattle.ldar_law.specs.declared.equipment.Equipment.{Equipment}
-use Rattle.ldar_law.specs.Equipment.{retired_on, component_entered, equipment_of, class_entered, class_at, classes_of, unit_entered, unit_entry_of, member_entered, members_of}
-use Rattle.ldar_law.specs.Force.{class_by, class_on, class_in_force}
-use Rattle.ldar_law.specs.RegisterLaws.{enters_component, enters_unit, enters_class, ComponentWhereEntered, UnitWhereEntered, ClassWhereEntered, EntersMember, MembersAreEntered}
+use Rattle.ldar_law.specs.Equipment.{retired_on, component_entered, equipment_of, class_entered, classes_of, unit_entered, member_entered, members_of}
+use Rattle.ldar_law.specs.Force.{class_on}
+use Rattle.ldar_law.specs.RegisterLaws.{enters_component, enters_unit, enters_class, ComponentWhereEntered, UnitWhereEntered, ClassWhereEntered, MembersAreEntered}
 
 some_if : {X : Type 0} (b : Bool) (x : X) → is_some (cond b (Some x) None) ≡ b
 some_if true x = refl

@@ -1,8 +1,5 @@
-use Rattle.std.proofs.Common.{subst}
-use Rattle.std.specs.Prelude.{unwrap_or}
-use Rattle.ldar_law.specs.Fitness.{fitness_of}
-use Rattle.std.proofs.Common.{◌≡◌, ℕ, false, Some, None, List, [], ◌∷◌, refl, sym, ap, inl, inr}
-use Rattle.std.specs.Prelude.{if◌then◌else◌, filter_map}
+use Rattle.std.proofs.Common.{subst, ◌≡◌, ℕ, false, Some, None, List, [], ◌∷◌, refl, sym, ap, inl, inr}
+use Rattle.std.specs.Prelude.{unwrap_or, if◌then◌else◌, filter_map}
 use Rattle.std.specs.List.{cons_option}
 use Rattle.std.proofs.lemmas.Bool.{cases_Bool, false≢true}
 use Rattle.ldar_facts.specs.declared.body.FactBody.{FactBody}
@@ -10,10 +7,11 @@ use Rattle.ldar_facts.specs.declared.body.FactBody.TheVariants.{Reading}
 use Rattle.ldar_facts.specs.declared.class.Class.{Class}
 use Rattle.ldar_facts.specs.declared.key.Key.{Key}
 use Rattle.ldar_facts.specs.Facts.{Entry}
+use Rattle.ldar_facts.specs.Named.{reading_instrument}
 use Rattle.ldar_law.specs.declared.equipment.Equipment.{Equipment}
 use Rattle.ldar_law.specs.declared.fitness.Fitness.{Fitness}
 use Rattle.ldar_law.specs.Events.{happening, event_of, events_with, events_in, is_reading, next_fitness, fitness_among, EventsAreJudgedInOrder, fitness_at, ReadingsAreOfInstrument}
-use Rattle.ldar_facts.specs.Named.{reading_instrument}
+use Rattle.ldar_law.specs.Fitness.{fitness_of}
 use Rattle.ldar_law.specs.Force.{limit_on}
 use Rattle.ldar_law.specs.Slices.{facts_of_component, facts_of_instrument}
 use Rattle.ldar_law.proofs.FitnessLemmas.{fitness_is_of_instrument}

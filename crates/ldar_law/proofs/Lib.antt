@@ -11,6 +11,8 @@ pub mod RegisterLemmas
 pub mod ReportLemmas
 pub mod RouteLemmas
 pub mod SliceLemmas
+pub mod SpanLemmas
+pub mod TagLemmas
 pub mod TestLemmas
 pub mod VerdictLemmas
 pub mod ViewLemmas

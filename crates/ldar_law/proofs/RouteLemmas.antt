@@ -1,21 +1,13 @@
-use Rattle.std.proofs.Common.{◌≡◌, ℕ, Bool, true, false, ◌||◌, ◌&&◌, List, [], ◌∷◌, filter, refl, sym, ap, subst, ◌∙◌, inl, inr}
+use Rattle.std.proofs.Common.{◌≡◌, ℕ, Bool, true, ◌||◌, ◌&&◌, List, [], ◌∷◌, filter, refl, sym, ap, subst, ◌∙◌, inl, inr}
 use Rattle.std.specs.Prelude.{nat_eq, fold, is_none}
 use Rattle.std.specs.List.{list_any}
+use Rattle.std.proofs.Math.Bool.{or-false, or_assoc}
 use Rattle.std.proofs.lemmas.Bool.{cases_Bool, eqb-true}
 use Rattle.std.proofs.lemmas.List.Folds.{list_any-append}
-use Rattle.std.proofs.Math.Bool.{or_assoc}
 use Rattle.list_words.specs.Order.{in_order}
 use Rattle.list_words.proofs.PutLemmas.{list_any-put}
 use Rattle.ldar_law.specs.declared.duty.Duty.{Duty}
 use Rattle.ldar_law.specs.Routes.{is_more_urgent, with_stop, StopsAreUndone}
-
-or_false : (b : Bool) → (b || false) ≡ b
-or_false true = refl
-or_false false = refl
-
-or_true : (b : Bool) → (b || true) ≡ true
-or_true true = refl
-or_true false = refl
 
 -- in order, the same is there
 in_order_any : {X : Type 0} (p : X → Bool) (before : X → X → Bool) (xs : List X) → list_any p (in_order before xs) ≡ list_any p xs
@@ -39,15 +31,15 @@ stop_added : (stops : List ℕ) (duty : Duty) (component : ℕ) → has (with_st
 stop_added stops duty component = elim (cases_Bool (has stops duty.component)) [
   | inl there ↦ rw there (elim (cases_Bool (nat_eq duty.component component)) [
     | inl same ↦ rw (same, subst (λ c. has stops c ≡ true) (eqb-true duty.component component same) there) refl
-    | inr differs ↦ rw differs (sym (or_false (has stops component)))
+    | inr differs ↦ rw differs (sym (or-false (has stops component)))
   ])
   | inr new ↦ rw new
-      (list_any-append (λ stop. nat_eq stop component) stops (duty.component ∷ []) ∙ rw (or_false (nat_eq duty.component component)) refl)
+      (list_any-append (λ stop. nat_eq stop component) stops (duty.component ∷ []) ∙ rw (or-false (nat_eq duty.component component)) refl)
 ]
 
 -- and so does each of some duties
 stops_added : (duties : List Duty) (stops : List ℕ) (component : ℕ) → has (fold with_stop stops duties) component ≡ (has stops component || list_any (λ d. nat_eq d.component component) duties)
-stops_added [] stops component = sym (or_false (has stops component))
+stops_added [] stops component = sym (or-false (has stops component))
 stops_added (duty ∷ duties) stops component =
     stops_added duties (with_stop stops duty) component
     ∙ rw (stop_added stops duty component) (or_assoc (has stops component) (nat_eq duty.component component) (list_any (λ d. nat_eq d.component component) duties))

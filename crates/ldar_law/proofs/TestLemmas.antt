@@ -1,5 +1,5 @@
 use Rattle.std.proofs.Common.{◌≡◌, Bool, true, false, ◌&&◌, ◌||◌, List, [], ◌∷◌, refl, subst, inl, inr}
-use Rattle.std.specs.List.{list_any}
+use Rattle.std.specs.List.{AllByRecursion, list_any}
 use Rattle.std.proofs.lemmas.Bool.{cases_Bool, false≢true}
 
 both_of : (a b : Bool) → (a && b) ≡ true → (a ≡ true) × (b ≡ true)
@@ -26,3 +26,8 @@ passing p (x ∷ xs) e = elim (cases_Bool (p x)) [
   | inl t ↦ (x, t)
   | inr f ↦ passing p xs (subst (λ b. (b || list_any p xs) ≡ true) f e)
 ]
+
+-- what holds of each is implied of each
+pub all_implied : {X : Type 0} (P Q : X → Type 0) → ((x : X) → P x → Q x) → (xs : List X) → AllByRecursion P xs → AllByRecursion Q xs
+all_implied P Q implies [] h = tt
+all_implied P Q implies (x ∷ xs) h = (implies x h.0, all_implied P Q implies xs h.1)

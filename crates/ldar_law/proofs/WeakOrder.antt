@@ -99,7 +99,7 @@ module _ {X : Type 0} (before : X → X → Bool) (weak : IsWeakOrder before) wh
     put_front x (y ∷ ys) all = rw all.0 refl
 
     -- what passes of a list with one element more
-    put_filter : (x : X) (ys : List X) → InOrder before ys
+    pub put_filter : (x : X) (ys : List X) → InOrder before ys
         → filter q (put_in_order before x ys) ≡ cond (q x) (put_in_order before x (filter q ys)) (filter q ys)
     put_filter x [] o = refl
     put_filter x (y ∷ ys) o =

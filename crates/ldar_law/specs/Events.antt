@@ -5,23 +5,23 @@ use Rattle.ldar_facts.specs.declared.body.FactBody.{FactBody}
 use Rattle.ldar_facts.specs.declared.body.FactBody.TheVariants.{Retire as RetireFact, Reading, Visual, Attempt as AttemptFact, Delay as DelayFact, Release as ReleaseFact, Indication}
 use Rattle.ldar_facts.specs.declared.body.Purpose.{Purpose}
 use Rattle.ldar_facts.specs.declared.body.Purpose.TheVariants.{Routine, FollowUp}
-use Rattle.ldar_facts.specs.declared.body.VisualState.{VisualState}
-use Rattle.ldar_facts.specs.declared.body.VisualState.TheVariants.{Dry, Drips, Designated}
 use Rattle.ldar_facts.specs.declared.body.Sort.{Sort}
 use Rattle.ldar_facts.specs.declared.body.Sort.TheVariants.{Sensor as SensorSort, Evidence as EvidenceSort}
+use Rattle.ldar_facts.specs.declared.body.VisualState.{VisualState}
+use Rattle.ldar_facts.specs.declared.body.VisualState.TheVariants.{Dry, Drips, Designated}
 use Rattle.ldar_facts.specs.declared.class.Class.{Class}
 use Rattle.ldar_facts.specs.declared.key.Key.{Key}
 use Rattle.ldar_facts.specs.Facts.{Entry}
+use Rattle.ldar_facts.specs.Named.{reading_instrument}
 use Rattle.ldar_law.specs.declared.equipment.Equipment.{Equipment}
 use Rattle.ldar_law.specs.declared.event.Event.{Event}
 use Rattle.ldar_law.specs.declared.event.Happening.{Happening}
 use Rattle.ldar_law.specs.declared.event.Happening.TheVariants.{Read, Look, Attempt, Delay, Release, Sensor, Evidence, Retire}
 use Rattle.ldar_law.specs.declared.fitness.Fitness.{Fitness}
 use Rattle.ldar_law.specs.declared.fitness.Fitness.TheVariants.{NoCalibration}
-use Rattle.ldar_facts.specs.Named.{reading_instrument}
-use Rattle.ldar_law.specs.Slices.{facts_of_component, facts_of_instrument}
 use Rattle.ldar_law.specs.Fitness.{fitness_of, is_fit}
 use Rattle.ldar_law.specs.Force.{is_in_service, limit_on}
+use Rattle.ldar_law.specs.Slices.{facts_of_component, facts_of_instrument}
 use Rattle.ldar_law.specs.Standing.{is_under_valve_rules, is_under_pump_rules, is_under_compressor_rules, is_under_heavy_liquid_rules, is_left_out, is_nde}
 
 -- a routine reading

@@ -6,9 +6,9 @@ use Rattle.ldar_facts.specs.declared.body.FactBody.{FactBody}
 use Rattle.ldar_facts.specs.declared.body.FactBody.TheVariants.{Calibration, Precision, Drift}
 use Rattle.ldar_facts.specs.declared.key.Key.{Key}
 use Rattle.ldar_facts.specs.Facts.{Entry, is_earlier}
-use Rattle.ldar_law.specs.Slices.{facts_of_instrument}
 use Rattle.ldar_law.specs.declared.fitness.Fitness.{Fitness}
 use Rattle.ldar_law.specs.declared.fitness.Fitness.TheVariants.{Fit, NoCalibration, GasTooHigh, NoPrecision, Voided}
+use Rattle.ldar_law.specs.Slices.{facts_of_instrument}
 
 -- the sum of three readings
 abbrev pub sum_of : ℕ × ℕ × ℕ → ℕ

@@ -1,6 +1,7 @@
 -- Percent of valves leaking in a quarter (40 CFR 60.483-2a, 60.485a(h)).
 use Rattle.std.specs.Prelude.{◌≡◌, count_by, ℕ, ◌*◌, Bool, true, not, ◌&&◌, ◌||◌, nat_lt, nat_le, min, is_none, List, fold}
 use Rattle.std.specs.List.{list_any}
+use Rattle.std.specs.Option.{option_map_or}
 use Rattle.ldar_days.specs.Calendar.{month_of}
 use Rattle.ldar_days.specs.Quarters.{quarter_of, quarter_last}
 use Rattle.ldar_facts.specs.declared.class.Class.{Class}
@@ -11,12 +12,11 @@ use Rattle.ldar_law.specs.declared.event.Event.{Event}
 use Rattle.ldar_law.specs.declared.tag.Tag.{Tag}
 use Rattle.ldar_law.specs.declared.tally.Mark.{Mark}
 use Rattle.ldar_law.specs.declared.tally.Tally.{Tally}
-use Rattle.ldar_law.specs.Tallies.{with_mark}
-use Rattle.ldar_law.specs.Happenings.{is_routine, is_routine_leak}
 use Rattle.ldar_law.specs.Duties.{first_due, is_first_owed, routine_in}
+use Rattle.ldar_law.specs.Happenings.{is_routine, is_routine_leak}
 use Rattle.ldar_law.specs.Standing.{is_under_valve_rules, is_nde}
 use Rattle.ldar_law.specs.Tags.{is_delayed}
-use Rattle.std.specs.Option.{option_map_or}
+use Rattle.ldar_law.specs.Tallies.{with_mark}
 
 -- the day lies in the quarter
 abbrev pub is_in_quarter : ℕ → ℕ → ℕ → Bool

@@ -1,30 +1,12 @@
 -- Words for the worked examples: days, facts and events in short.
-use Rattle.ldar_facts.specs.declared.batch.Batch.{Batch}
-use Rattle.ldar_facts.specs.declared.body.FactBody.TheVariants.{Unit as UnitFact, Component as ComponentFact, Attempt as AttemptFact}
-use Rattle.ldar_facts.specs.Facts.{facts_to}
-use Rattle.ldar_facts.specs.Stated.{Stated}
-use Rattle.ldar_law.specs.declared.route.Route.{Route}
-use Rattle.ldar_law.specs.declared.unit_entry.UnitEntry.{UnitEntry}
-use Rattle.ldar_law.specs.Tags.{tags_of}
-use Rattle.ldar_law.specs.Units.{mark_in, tags_of_unit}
-use Rattle.ldar_law.specs.Delays.{delay_entered}
-use Rattle.ldar_law.specs.declared.delay.DelayLine.{DelayLine}
-use Rattle.ldar_law.specs.declared.delay.Until.{Until}
-use Rattle.ldar_law.specs.declared.election.ElectionEntry.{ElectionEntry}
-use Rattle.ldar_law.specs.declared.tag.Tag.{Tag}
-use Rattle.ldar_law.specs.declared.tally.Mark.{Mark}
-use Rattle.ldar_law.specs.declared.tally.Tally.{Tally}
-use Rattle.ldar_law.specs.Duties.{duties_of}
-use Rattle.ldar_facts.specs.declared.body.FactBody.TheVariants.{Calibration, Precision, Drift, Reading, Visual, Indication}
-use Rattle.ldar_facts.specs.declared.body.Sort.TheVariants.{Sensor as SensorSort}
-use Rattle.ldar_facts.specs.declared.body.VisualState.TheVariants.{Designated}
-use Rattle.ldar_law.specs.declared.span.Span.{Span}
-use Rattle.ldar_law.specs.Events.{events_in}
-use Rattle.ldar_law.specs.Happenings.{is_leak}
 use Rattle.std.specs.Prelude.{ℕ, ◌+◌, ◌-◌, ◌*◌, Bool, true, false, nat_eq, nat_lt, nat_le, Option, Some, None, List, [], ◌∷◌, replicate, map, filter}
 use Rattle.ldar_days.specs.Calendar.{first_day}
+use Rattle.ldar_facts.specs.declared.batch.Batch.{Batch}
 use Rattle.ldar_facts.specs.declared.body.FactBody.{FactBody}
+use Rattle.ldar_facts.specs.declared.body.FactBody.TheVariants.{Unit as UnitFact, Component as ComponentFact, Attempt as AttemptFact, Calibration, Precision, Drift, Reading, Visual, Indication}
 use Rattle.ldar_facts.specs.declared.body.Purpose.TheVariants.{Routine}
+use Rattle.ldar_facts.specs.declared.body.Sort.TheVariants.{Sensor as SensorSort}
+use Rattle.ldar_facts.specs.declared.body.VisualState.TheVariants.{Designated}
 use Rattle.ldar_facts.specs.declared.class.Class.{Class}
 use Rattle.ldar_facts.specs.declared.class.Designation.{Designation}
 use Rattle.ldar_facts.specs.declared.class.Designation.TheVariants.{Plain, Unsafe}
@@ -33,14 +15,32 @@ use Rattle.ldar_facts.specs.declared.class.Kind.TheVariants.{Valve, Pump, Compre
 use Rattle.ldar_facts.specs.declared.class.Service.{Service}
 use Rattle.ldar_facts.specs.declared.class.Service.TheVariants.{Gas, Light}
 use Rattle.ldar_facts.specs.declared.key.Key.{Key}
-use Rattle.ldar_facts.specs.Facts.{Entry}
+use Rattle.ldar_facts.specs.Facts.{facts_to, Entry}
+use Rattle.ldar_facts.specs.Stated.{Stated}
 use Rattle.ldar_law.specs.declared.delay.DelayEntry.{DelayEntry}
+use Rattle.ldar_law.specs.declared.delay.DelayLine.{DelayLine}
 use Rattle.ldar_law.specs.declared.delay.Stop.{Stop}
+use Rattle.ldar_law.specs.declared.delay.Until.{Until}
 use Rattle.ldar_law.specs.declared.duty.Duty.{Duty}
+use Rattle.ldar_law.specs.declared.election.ElectionEntry.{ElectionEntry}
 use Rattle.ldar_law.specs.declared.equipment.Equipment.{Equipment}
+use Rattle.ldar_law.specs.declared.fitness.Fitness.{Fitness}
 use Rattle.ldar_law.specs.declared.event.Event.{Event}
 use Rattle.ldar_law.specs.declared.event.Happening.{Happening}
 use Rattle.ldar_law.specs.declared.event.Happening.TheVariants.{Read, Look, Attempt, Delay, Release, Sensor, Evidence, Retire}
+use Rattle.ldar_law.specs.declared.route.Route.{Route}
+use Rattle.ldar_law.specs.declared.span.Span.{Span}
+use Rattle.ldar_law.specs.declared.tag.Tag.{Tag}
+use Rattle.ldar_law.specs.declared.tally.Mark.{Mark}
+use Rattle.ldar_law.specs.declared.tally.Tally.{Tally}
+use Rattle.ldar_law.specs.declared.unit_entry.UnitEntry.{UnitEntry}
+use Rattle.ldar_law.specs.Delays.{delay_entered}
+use Rattle.ldar_law.specs.Duties.{duties_of}
+use Rattle.ldar_law.specs.Events.{events_in}
+use Rattle.ldar_law.specs.Fitness.{fitness_of}
+use Rattle.ldar_law.specs.Happenings.{is_leak}
+use Rattle.ldar_law.specs.Tags.{tags_of}
+use Rattle.ldar_law.specs.Units.{mark_in, tags_of_unit}
 
 -- ---- days
 
@@ -77,6 +77,21 @@ drifted day minute ppm = fact day minute (Drift 1 500 (ppm, ppm, ppm))
 -- a routine reading at a component with instrument 1, at minute 600
 abbrev pub measured : ℕ → ℕ → ℕ → Entry
 measured day component ppm = fact day 600 (Reading component 1 1 Routine ppm 0)
+
+-- the fitness of a reading of 2024-02-20 at a minute, by a leak definition of 500, among these facts and a precision test of
+-- 2024-01-02
+abbrev pub judged_at : List Entry → ℕ → ℕ → Fitness
+judged_at facts minute ppm = fitness_of (precise (date 2024 1 2) ∷ facts) 500 (key (date 2024 2 20) minute) 1 ppm
+
+-- a day with a calibration at minute 300 and a drift assessment at minute 900
+abbrev pub drifted_to : ℕ → List Entry
+drifted_to ppm = calibrated (date 2024 2 20) 300 500 ∷ drifted (date 2024 2 20) 900 ppm ∷ []
+
+-- a day with three calibrations, the first with too strong a gas, and three drift assessments
+abbrev pub busy_day : List Entry
+busy_day =
+    calibrated (date 2024 2 20) 300 2501 ∷ calibrated (date 2024 2 20) 500 2500 ∷ drifted (date 2024 2 20) 650 440
+    ∷ calibrated (date 2024 2 20) 700 500 ∷ drifted (date 2024 2 20) 800 440 ∷ drifted (date 2024 2 20) 900 430 ∷ []
 
 -- ---- components of unit 1
 
@@ -287,6 +302,10 @@ of_cause cause duties = filter (λ d. nat_eq d.cause cause) duties
 -- the duties on a day of a component of unit 1, which started up on 2020-01-15 and has skipped no quarter
 abbrev pub duties_on : ℕ → Equipment → List Event → List Duty
 duties_on t item events = duties_of item [] (date 2020 1 15) events [] t
+
+-- the duties on a day of valve 30, which begins with the startup of its unit on 2024-01-15
+abbrev pub duties_of_30 : List Event → List Bool → ℕ → List Duty
+duties_of_30 events skipped t = duties_of (valve 30 (date 2024 1 15)) [] (date 2024 1 15) events skipped t
 
 -- ---- quarters and routes
 

@@ -1,5 +1,6 @@
 -- What each view shows of a history on a day: its text, or what there is none of.
-use Rattle.std.specs.Prelude.{◌≡◌, ℕ, nat_eq, if◌then◌else◌, Option, Some, None, List, filter, map, IsTrue, IsPermutation}
+use Rattle.std.specs.Prelude.{◌≡◌, ℕ, ◌<◌, nat_eq, if◌then◌else◌, Option, Some, None, List, [], ◌∷◌, ◌++◌, filter, map, IsTrue, IsPermutation}
+use Rattle.std.specs.List.{AllByRecursion}
 use Rattle.ldar_days.specs.Calendar.{month_of}
 use Rattle.ldar_facts.specs.declared.batch.Batch.{Batch}
 use Rattle.ldar_facts.specs.Facts.{Entry, facts_to}
@@ -102,3 +103,10 @@ abbrev pub ViewsForgetOrder : Type 0
 ViewsForgetOrder =
     (history other : List Batch) (request : Request) → IsPermutation history other → IsTrue (identities_differ history)
     → shown other request ≡ shown history request
+
+-- .. nor have facts of days after the view day
+abbrev pub ViewsForgetLaterDays : Type 0
+ViewsForgetLaterDays =
+    (history : List Batch) (batch : Batch) (request : Request) → IsTrue (identities_differ (history ++ batch ∷ []))
+    → AllByRecursion (λ fact. view_day request < fact.day) batch.facts
+    → shown (history ++ batch ∷ []) request ≡ shown history request

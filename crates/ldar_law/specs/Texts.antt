@@ -1,5 +1,5 @@
 -- What views show, byte for byte: a first line that names the view, its lines, and a last line that counts these.
-use Rattle.std.specs.Prelude.{ℕ, ◌+◌, ◌*◌, nat_le, nat_eq, if◌then◌else◌, Bool, Option, Some, None, List, [], ◌∷◌, ◌++◌, length, codes, slice_index_or}
+use Rattle.std.specs.Prelude.{ℕ, ◌+◌, ◌-◌, ◌*◌, nat_le, nat_eq, if◌then◌else◌, Bool, Option, Some, None, List, [], ◌∷◌, ◌++◌, length, codes, slice_index_or}
 use Rattle.std.specs.List.{flat_map}
 use Rattle.std.specs.Fmt.{decimal}
 use Rattle.list_words.specs.Ranges.{until}
@@ -40,12 +40,14 @@ until_text NoDate = codes "purge"
 abbrev pub ground_text : DelayEntry → List ℕ
 ground_text delay = if nat_eq delay.ground 0 then codes "withdrawn" else (96 + delay.ground) ∷ []
 
--- the cause of a duty
+-- the causes of duties in order, from 1
+abbrev pub causes : List (List ℕ)
+causes =
+    codes "first" ∷ codes "monthly" ∷ codes "quarterly" ∷ codes "yearly" ∷ codes "plan" ∷ codes "weekly"
+    ∷ codes "drip" ∷ codes "release" ∷ codes "evidence" ∷ []
+
 abbrev pub cause_text : ℕ → List ℕ
-cause_text cause =
-    if nat_eq cause 1 then codes "first" else if nat_eq cause 2 then codes "monthly" else if nat_eq cause 3 then codes "quarterly"
-    else if nat_eq cause 4 then codes "yearly" else if nat_eq cause 5 then codes "plan" else if nat_eq cause 6 then codes "weekly"
-    else if nat_eq cause 7 then codes "drip" else if nat_eq cause 8 then codes "release" else codes "evidence"
+cause_text cause = slice_index_or causes (cause - 1) []
 
 -- ---- due UNIT DAY
 

@@ -1,30 +1,34 @@
 //! From batches to what a unit's facts say on a view day.
 #![tactic(auto, unfolding(ldar_days::specs::Calendar::first_day, ldar_days::specs::Calendar::month_of, ldar_days::specs::Calendar::month_length, ldar_days::specs::Quarters::last_whole, ldar_days::specs::Quarters::first_quarter, list_words::specs::Ranges::until, crate::specs::Events::events_in, crate::specs::Spans::spans_of, crate::specs::Tags::tag_of, crate::specs::Months::is_clean, crate::specs::Months::has_leak_in, crate::specs::Months::is_quarterly, crate::specs::Months::is_clean_twice_from, crate::specs::Percent::mark_of, crate::specs::Skips::good_streak, crate::specs::Skips::skips_run, crate::specs::Skips::quarters, crate::specs::Skips::is_skipped, crate::specs::Routes::routes_of, crate::specs::Duties::duties_of, crate::specs::Duties::first_monitoring, crate::specs::Duties::monthly, crate::specs::Duties::quarterly, crate::specs::Duties::yearly, crate::specs::Duties::planned, crate::specs::Duties::weekly, crate::specs::Duties::drip, crate::specs::Duties::release, crate::specs::Duties::evidence))]
 
-ghost use Rattle.std.specs.Prelude.{◌≡◌, List, [], ◌∷◌, Some, None, true, false};
+ghost use Rattle.std.specs.Prelude.{◌≡◌, [], ◌∷◌, Some, None, true, false};
 ghost use Rattle.ldar_facts.specs.Facts.{facts_to};
 ghost use Rattle.ldar_law.specs.declared.delay.Until.TheVariants.{Date};
-ghost use Rattle.ldar_law.specs.Short.{date, tag, register_of_1, precision_of_1, calibration, reading, attempt, unit_1, tags_on, owes, route, found, tally};
-ghost use Rattle.ldar_law.specs.Units.{duties_of_unit, tally_of_unit, routes_of_unit, delays_of_unit};
+ghost use Rattle.ldar_law.specs.Short.{date, tag, register_of_1, precision_of_1, calibration, reading, attempt, unit_1, tags_on, owes, route, tally};
+ghost use Rattle.ldar_law.specs.Units.{duties_of_unit, tally_of_unit, routes_of_unit};
 
 /// A reading opens a tag once the calibration of its day is known, in whatever order the batches come.
 pub fn a_late_calibration_opens_a_tag()
-    ensures before { tags_on (date 2024 2 28) (register_of_1 ∷ precision_of_1 ∷ reading 2 (date 2024 2 20) 1 620 ∷ []) ≡ [] }
-    ensures after { tags_on (date 2024 2 28) (register_of_1 ∷ precision_of_1 ∷ reading 2 (date 2024 2 20) 1 620 ∷ calibration 3 (date 2024 2 20) ∷ [])
-        ≡ tag 1 (date 2024 2 20) None (Date (date 2024 3 6)) None None false ∷ [] }
-    ensures other_order { tags_on (date 2024 2 28) (calibration 3 (date 2024 2 20) ∷ reading 2 (date 2024 2 20) 1 620 ∷ precision_of_1 ∷ register_of_1 ∷ [])
-        ≡ tag 1 (date 2024 2 20) None (Date (date 2024 3 6)) None None false ∷ [] }
+    ensures before { tags_on (date 2024 2 28) (register_of_1 ∷ precision_of_1 ∷ reading 2 (date 2024 2 20) 1 620 ∷ [])
+        ≡ [] }
+    ensures after { tags_on (date 2024 2 28) (register_of_1 ∷ precision_of_1 ∷ reading 2 (date 2024 2 20) 1 620
+        ∷ calibration 3 (date 2024 2 20) ∷ []) ≡ tag 1 (date 2024 2 20) None (Date (date 2024 3 6)) None None false ∷ [] }
+    ensures other_order { tags_on (date 2024 2 28) (calibration 3 (date 2024 2 20) ∷ reading 2 (date 2024 2 20) 1 620
+        ∷ precision_of_1 ∷ register_of_1 ∷ []) ≡ tag 1 (date 2024 2 20) None (Date (date 2024 3 6)) None None false ∷ [] }
     // What happened after the view day does not count.
-    ensures day_before { tags_on (date 2024 2 19) (register_of_1 ∷ precision_of_1 ∷ reading 2 (date 2024 2 20) 1 620 ∷ calibration 3 (date 2024 2 20) ∷ []) ≡ [] }
+    ensures day_before { tags_on (date 2024 2 19) (register_of_1 ∷ precision_of_1 ∷ reading 2 (date 2024 2 20) 1 620
+        ∷ calibration 3 (date 2024 2 20) ∷ []) ≡ [] }
 {}
 
 /// A tag from its detection to the second clean month.
 pub fn a_tag_from_detection_to_removal()
-    ensures closed { tags_on (date 2024 3 31) (register_of_1 ∷ precision_of_1 ∷ reading 2 (date 2024 2 20) 1 620 ∷ calibration 3 (date 2024 2 20)
-        ∷ attempt 4 (date 2024 2 22) 1 ∷ calibration 5 (date 2024 3 6) ∷ reading 6 (date 2024 3 6) 1 20 ∷ [])
+    ensures closed { tags_on (date 2024 3 31) (register_of_1 ∷ precision_of_1 ∷ reading 2 (date 2024 2 20) 1 620
+        ∷ calibration 3 (date 2024 2 20) ∷ attempt 4 (date 2024 2 22) 1 ∷ calibration 5 (date 2024 3 6)
+        ∷ reading 6 (date 2024 3 6) 1 20 ∷ [])
         ≡ tag 1 (date 2024 2 20) (Some (date 2024 2 22)) (Date (date 2024 3 6)) (Some (date 2024 3 6)) None false ∷ [] }
-    ensures removable { tags_on (date 2024 4 2) (register_of_1 ∷ precision_of_1 ∷ reading 2 (date 2024 2 20) 1 620 ∷ calibration 3 (date 2024 2 20)
-        ∷ attempt 4 (date 2024 2 22) 1 ∷ calibration 5 (date 2024 3 6) ∷ reading 6 (date 2024 3 6) 1 20 ∷ calibration 7 (date 2024 4 2) ∷ reading 8 (date 2024 4 2) 1 20 ∷ [])
+    ensures removable { tags_on (date 2024 4 2) (register_of_1 ∷ precision_of_1 ∷ reading 2 (date 2024 2 20) 1 620
+        ∷ calibration 3 (date 2024 2 20) ∷ attempt 4 (date 2024 2 22) 1 ∷ calibration 5 (date 2024 3 6)
+        ∷ reading 6 (date 2024 3 6) 1 20 ∷ calibration 7 (date 2024 4 2) ∷ reading 8 (date 2024 4 2) 1 20 ∷ [])
         ≡ tag 1 (date 2024 2 20) (Some (date 2024 2 22)) (Date (date 2024 3 6)) (Some (date 2024 3 6)) None true ∷ [] }
 {}
 
@@ -32,8 +36,10 @@ pub fn a_tag_from_detection_to_removal()
 pub fn duties_and_percent_of_a_unit()
     ensures duties { duties_of_unit unit_1 (date 2020 4 20) (facts_to (date 2020 4 20) (register_of_1 ∷ []))
         ≡ owes 1 2 (date 2020 2 29) ∷ owes 1 2 (date 2020 3 31) ∷ owes 1 2 (date 2020 4 30) ∷ [] }
-    ensures routes { routes_of_unit unit_1 (date 2020 4 20) (facts_to (date 2020 4 20) (register_of_1 ∷ [])) 3 ≡ route (1 ∷ []) ∷ [] }
-    ensures percent { tally_of_unit unit_1 (date 2024 3 31) (facts_to (date 2024 3 31) (register_of_1 ∷ precision_of_1 ∷ reading 2 (date 2024 2 20) 1 620 ∷ calibration 3 (date 2024 2 20) ∷ [])) 16
-        ≡ tally 1 1 }
-    ensures none { tally_of_unit unit_1 (date 2024 3 31) (facts_to (date 2024 3 31) (register_of_1 ∷ precision_of_1 ∷ [])) 16 ≡ tally 0 0 }
+    ensures routes { routes_of_unit unit_1 (date 2020 4 20) (facts_to (date 2020 4 20) (register_of_1 ∷ [])) 3
+        ≡ route (1 ∷ []) ∷ [] }
+    ensures percent { tally_of_unit unit_1 (date 2024 3 31) (facts_to (date 2024 3 31) (register_of_1 ∷ precision_of_1
+        ∷ reading 2 (date 2024 2 20) 1 620 ∷ calibration 3 (date 2024 2 20) ∷ [])) 16 ≡ tally 1 1 }
+    ensures none { tally_of_unit unit_1 (date 2024 3 31) (facts_to (date 2024 3 31) (register_of_1
+        ∷ precision_of_1 ∷ [])) 16 ≡ tally 0 0 }
 {}

@@ -1,14 +1,11 @@
 //! Leaks, and the tags that they open and close.
 #![tactic(auto, unfolding(ldar_days::specs::Calendar::first_day, ldar_days::specs::Calendar::month_of, ldar_days::specs::Calendar::month_length, crate::specs::Events::events_in, crate::specs::Spans::spans_of, crate::specs::Months::is_clean, crate::specs::Months::has_leak_in, crate::specs::Months::is_clean_twice_from))]
 
-ghost use Rattle.std.specs.Prelude.{◌≡◌, List, [], ◌∷◌, Some, None, true, false, map};
-ghost use Rattle.ldar_facts.specs.declared.body.FactBody.TheVariants.{Class as ClassFact, Indication, Visual};
-ghost use Rattle.ldar_facts.specs.declared.body.Sort.TheVariants.{Sensor as SensorSort};
-ghost use Rattle.ldar_facts.specs.declared.body.VisualState.TheVariants.{Designated};
+ghost use Rattle.std.specs.Prelude.{◌≡◌, [], ◌∷◌, Some, None, true, false};
 ghost use Rattle.ldar_facts.specs.declared.class.Designation.TheVariants.{Plain, Nde};
 ghost use Rattle.ldar_facts.specs.declared.class.Kind.TheVariants.{Valve, Pump, Compressor, Relief};
-ghost use Rattle.ldar_facts.specs.declared.class.Service.TheVariants.{Gas, Light, Heavy, Vacuum};
-ghost use Rattle.ldar_law.specs.Short.{date, key, fact, calibrated, precise, measured, class, gear, valve, pump, compressor, monomer_pump, found_at, sensed, designated_at, reads, reads_by, dry, drips, designates, attempts, completes, delays, sensor_leak, retires, span};
+ghost use Rattle.ldar_facts.specs.declared.class.Service.TheVariants.{Gas, Heavy, Vacuum};
+ghost use Rattle.ldar_law.specs.Short.{date, key, class, gear, valve, pump, compressor, monomer_pump, found_at, sensed, designated_at, reads, reads_by, dry, designates, attempts, completes, delays, sensor_leak, retires, span};
 ghost use Rattle.ldar_law.specs.Spans.{spans_of};
 
 /// A reading at the leak definition is a leak, and one below it is not (40 CFR 60.482-2a(b)(1), 60.482-7a(b), 60.482-8a(b)).
@@ -45,24 +42,26 @@ pub fn a_sensor_and_a_designated_drip_are_leaks()
 pub fn a_tag_closes_by_a_reading_after_an_attempt()
     ensures without { spans_of Valve (reads (date 2024 2 20) 620 ∷ reads (date 2024 3 6) 20 ∷ [])
         ≡ span (date 2024 2 20) None None false ∷ [] }
-    ensures with_one { spans_of Valve (reads (date 2024 2 20) 620 ∷ attempts (date 2024 2 22) ∷ reads (date 2024 3 6) 20 ∷ [])
+    ensures with_one { spans_of Valve (reads (date 2024 2 20) 620 ∷ attempts (date 2024 2 22)
+        ∷ reads (date 2024 3 6) 20 ∷ [])
         ≡ span (date 2024 2 20) (Some (date 2024 2 22)) (Some (key (date 2024 3 6) 600)) false ∷ [] }
-    ensures at_the_limit { spans_of Valve (reads (date 2024 2 20) 620 ∷ attempts (date 2024 2 22) ∷ reads (date 2024 3 6) 500 ∷ [])
-        ≡ span (date 2024 2 20) (Some (date 2024 2 22)) None false ∷ [] }
+    ensures at_the_limit { spans_of Valve (reads (date 2024 2 20) 620 ∷ attempts (date 2024 2 22)
+        ∷ reads (date 2024 3 6) 500 ∷ []) ≡ span (date 2024 2 20) (Some (date 2024 2 22)) None false ∷ [] }
 {}
 
 /// A leak after the attempt asks for another one.
 pub fn a_leak_after_the_attempt_keeps_the_tag()
-    ensures broken { spans_of Valve (reads (date 2024 2 20) 620 ∷ attempts (date 2024 2 22) ∷ reads (date 2024 2 23) 700 ∷ reads (date 2024 3 6) 20 ∷ [])
-        ≡ span (date 2024 2 20) (Some (date 2024 2 22)) None false ∷ [] }
-    ensures again { spans_of Valve (reads (date 2024 2 20) 620 ∷ attempts (date 2024 2 22) ∷ reads (date 2024 2 23) 700 ∷ attempts (date 2024 2 24) ∷ reads (date 2024 3 6) 20 ∷ [])
+    ensures broken { spans_of Valve (reads (date 2024 2 20) 620 ∷ attempts (date 2024 2 22) ∷ reads (date 2024 2 23) 700
+        ∷ reads (date 2024 3 6) 20 ∷ []) ≡ span (date 2024 2 20) (Some (date 2024 2 22)) None false ∷ [] }
+    ensures again { spans_of Valve (reads (date 2024 2 20) 620 ∷ attempts (date 2024 2 22) ∷ reads (date 2024 2 23) 700
+        ∷ attempts (date 2024 2 24) ∷ reads (date 2024 3 6) 20 ∷ [])
         ≡ span (date 2024 2 20) (Some (date 2024 2 22)) (Some (key (date 2024 3 6) 600)) false ∷ [] }
 {}
 
 /// A leak while a tag is open opens no other; after the closing the next one does.
 pub fn a_tag_stands_for_each_leak_until_it_closes()
-    ensures { spans_of Valve (reads (date 2024 2 20) 620 ∷ reads (date 2024 2 21) 700 ∷ attempts (date 2024 2 22) ∷ reads (date 2024 3 6) 20
-        ∷ reads (date 2024 4 10) 900 ∷ [])
+    ensures { spans_of Valve (reads (date 2024 2 20) 620 ∷ reads (date 2024 2 21) 700 ∷ attempts (date 2024 2 22)
+        ∷ reads (date 2024 3 6) 20 ∷ reads (date 2024 4 10) 900 ∷ [])
         ≡ span (date 2024 2 20) (Some (date 2024 2 22)) (Some (key (date 2024 3 6) 600)) false
         ∷ span (date 2024 4 10) None None false ∷ [] }
 {}
@@ -73,38 +72,41 @@ pub fn a_drip_is_settled_by_a_dry_look_after_an_attempt()
         ≡ span (date 2024 3 4) (Some (date 2024 3 6)) (Some (key (date 2024 3 11) 600)) true ∷ [] }
     ensures no_attempt { spans_of Pump (designates (date 2024 3 4) ∷ dry (date 2024 3 11) ∷ [])
         ≡ span (date 2024 3 4) None None false ∷ [] }
-    ensures reading { spans_of Pump (designates (date 2024 3 4) ∷ attempts (date 2024 3 6) ∷ reads_by 2000 (date 2024 3 11) 1999 ∷ [])
+    ensures reading { spans_of Pump (designates (date 2024 3 4) ∷ attempts (date 2024 3 6)
+        ∷ reads_by 2000 (date 2024 3 11) 1999 ∷ [])
         ≡ span (date 2024 3 4) (Some (date 2024 3 6)) (Some (key (date 2024 3 11) 600)) true ∷ [] }
     // A dry look settles no reading.
-    ensures no_reading { spans_of Pump (reads_by 2000 (date 2024 3 4) 2000 ∷ attempts (date 2024 3 6) ∷ dry (date 2024 3 11) ∷ [])
-        ≡ span (date 2024 3 4) (Some (date 2024 3 6)) None false ∷ [] }
+    ensures no_reading { spans_of Pump (reads_by 2000 (date 2024 3 4) 2000 ∷ attempts (date 2024 3 6)
+        ∷ dry (date 2024 3 11) ∷ []) ≡ span (date 2024 3 4) (Some (date 2024 3 6)) None false ∷ [] }
 {}
 
 /// A sensor's leak is settled by a complete attempt, and by nothing less.
 pub fn a_sensor_leak_is_settled_by_a_complete_attempt()
     ensures complete { spans_of Compressor (sensor_leak (date 2024 3 4) ∷ completes (date 2024 3 6) ∷ [])
         ≡ span (date 2024 3 4) (Some (date 2024 3 6)) (Some (key (date 2024 3 6) 600)) true ∷ [] }
-    ensures attempt { spans_of Compressor (sensor_leak (date 2024 3 4) ∷ attempts (date 2024 3 6) ∷ reads (date 2024 3 7) 20 ∷ [])
-        ≡ span (date 2024 3 4) (Some (date 2024 3 6)) None false ∷ [] }
+    ensures attempt { spans_of Compressor (sensor_leak (date 2024 3 4) ∷ attempts (date 2024 3 6)
+        ∷ reads (date 2024 3 7) 20 ∷ []) ≡ span (date 2024 3 4) (Some (date 2024 3 6)) None false ∷ [] }
 {}
 
 /// Under a delay two readings below the leak definition in consecutive months settle a leak without an attempt
 /// (40 CFR 60.482-9a(f)).
 pub fn two_readings_settle_a_delayed_leak()
-    ensures two_months { spans_of Valve (reads (date 2024 2 20) 620 ∷ delays (date 2024 3 1) 1 (date 2024 6 10) ∷ reads (date 2024 3 10) 20 ∷ reads (date 2024 4 10) 20 ∷ [])
+    ensures two_months { spans_of Valve (reads (date 2024 2 20) 620 ∷ delays (date 2024 3 1) 1 (date 2024 6 10)
+        ∷ reads (date 2024 3 10) 20 ∷ reads (date 2024 4 10) 20 ∷ [])
         ≡ span (date 2024 2 20) None (Some (key (date 2024 4 10) 600)) false ∷ [] }
     // The first of the two may stand before the delay.
-    ensures before { spans_of Valve (reads (date 2024 2 20) 620 ∷ reads (date 2024 2 28) 20 ∷ delays (date 2024 3 1) 1 (date 2024 6 10) ∷ reads (date 2024 3 10) 20 ∷ [])
+    ensures before { spans_of Valve (reads (date 2024 2 20) 620 ∷ reads (date 2024 2 28) 20
+        ∷ delays (date 2024 3 1) 1 (date 2024 6 10) ∷ reads (date 2024 3 10) 20 ∷ [])
         ≡ span (date 2024 2 20) None (Some (key (date 2024 3 10) 600)) false ∷ [] }
-    ensures one_month { spans_of Valve (reads (date 2024 2 20) 620 ∷ delays (date 2024 3 1) 1 (date 2024 6 10) ∷ reads (date 2024 3 10) 20 ∷ reads (date 2024 3 20) 20 ∷ [])
-        ≡ span (date 2024 2 20) None None false ∷ [] }
-    ensures gap { spans_of Valve (reads (date 2024 2 20) 620 ∷ delays (date 2024 3 1) 1 (date 2024 6 10) ∷ reads (date 2024 3 10) 20 ∷ reads (date 2024 5 10) 20 ∷ [])
-        ≡ span (date 2024 2 20) None None false ∷ [] }
+    ensures one_month { spans_of Valve (reads (date 2024 2 20) 620 ∷ delays (date 2024 3 1) 1 (date 2024 6 10)
+        ∷ reads (date 2024 3 10) 20 ∷ reads (date 2024 3 20) 20 ∷ []) ≡ span (date 2024 2 20) None None false ∷ [] }
+    ensures gap { spans_of Valve (reads (date 2024 2 20) 620 ∷ delays (date 2024 3 1) 1 (date 2024 6 10)
+        ∷ reads (date 2024 3 10) 20 ∷ reads (date 2024 5 10) 20 ∷ []) ≡ span (date 2024 2 20) None None false ∷ [] }
     // Ground (b), a delay on the sixteenth day, and no delay at all do not serve.
-    ensures isolated { spans_of Valve (reads (date 2024 2 20) 620 ∷ delays (date 2024 3 1) 2 (date 2024 6 10) ∷ reads (date 2024 3 10) 20 ∷ reads (date 2024 4 10) 20 ∷ [])
-        ≡ span (date 2024 2 20) None None false ∷ [] }
-    ensures late { spans_of Valve (reads (date 2024 2 20) 620 ∷ delays (date 2024 3 7) 1 (date 2024 6 10) ∷ reads (date 2024 3 10) 20 ∷ reads (date 2024 4 10) 20 ∷ [])
-        ≡ span (date 2024 2 20) None None false ∷ [] }
+    ensures isolated { spans_of Valve (reads (date 2024 2 20) 620 ∷ delays (date 2024 3 1) 2 (date 2024 6 10)
+        ∷ reads (date 2024 3 10) 20 ∷ reads (date 2024 4 10) 20 ∷ []) ≡ span (date 2024 2 20) None None false ∷ [] }
+    ensures late { spans_of Valve (reads (date 2024 2 20) 620 ∷ delays (date 2024 3 7) 1 (date 2024 6 10)
+        ∷ reads (date 2024 3 10) 20 ∷ reads (date 2024 4 10) 20 ∷ []) ≡ span (date 2024 2 20) None None false ∷ [] }
     ensures none { spans_of Valve (reads (date 2024 2 20) 620 ∷ reads (date 2024 3 10) 20 ∷ reads (date 2024 4 10) 20 ∷ [])
         ≡ span (date 2024 2 20) None None false ∷ [] }
 {}
@@ -118,21 +120,26 @@ pub fn retiring_settles_a_leak()
 /// The identification comes off a valve after two clean months in a row, the first of them that of the closing or a later one
 /// (40 CFR 60.486a(b)(2)).
 pub fn a_valve_is_removable_after_two_clean_months()
-    ensures removable { spans_of Valve (reads (date 2024 2 20) 620 ∷ attempts (date 2024 2 22) ∷ reads (date 2024 3 6) 20 ∷ reads (date 2024 4 2) 20 ∷ [])
+    ensures removable { spans_of Valve (reads (date 2024 2 20) 620 ∷ attempts (date 2024 2 22) ∷ reads (date 2024 3 6) 20
+        ∷ reads (date 2024 4 2) 20 ∷ [])
         ≡ span (date 2024 2 20) (Some (date 2024 2 22)) (Some (key (date 2024 3 6) 600)) true ∷ [] }
     // A month between them, or a leak in the second, keeps it.
-    ensures gap { spans_of Valve (reads (date 2024 2 20) 620 ∷ attempts (date 2024 2 22) ∷ reads (date 2024 3 6) 20 ∷ reads (date 2024 5 2) 20 ∷ [])
+    ensures gap { spans_of Valve (reads (date 2024 2 20) 620 ∷ attempts (date 2024 2 22) ∷ reads (date 2024 3 6) 20
+        ∷ reads (date 2024 5 2) 20 ∷ [])
         ≡ span (date 2024 2 20) (Some (date 2024 2 22)) (Some (key (date 2024 3 6) 600)) false ∷ [] }
-    ensures leak { spans_of Valve (reads (date 2024 2 20) 620 ∷ attempts (date 2024 2 22) ∷ reads (date 2024 3 6) 20 ∷ reads (date 2024 4 2) 20 ∷ reads (date 2024 4 20) 700 ∷ [])
+    ensures leak { spans_of Valve (reads (date 2024 2 20) 620 ∷ attempts (date 2024 2 22) ∷ reads (date 2024 3 6) 20
+        ∷ reads (date 2024 4 2) 20 ∷ reads (date 2024 4 20) 700 ∷ [])
         ≡ span (date 2024 2 20) (Some (date 2024 2 22)) (Some (key (date 2024 3 6) 600)) false
         ∷ span (date 2024 4 20) None None false ∷ [] }
     // Two later months serve as well.
-    ensures later { spans_of Valve (reads (date 2024 2 20) 620 ∷ attempts (date 2024 2 22) ∷ reads (date 2024 3 6) 20 ∷ reads (date 2024 6 2) 20 ∷ reads (date 2024 7 2) 20 ∷ [])
+    ensures later { spans_of Valve (reads (date 2024 2 20) 620 ∷ attempts (date 2024 2 22) ∷ reads (date 2024 3 6) 20
+        ∷ reads (date 2024 6 2) 20 ∷ reads (date 2024 7 2) 20 ∷ [])
         ≡ span (date 2024 2 20) (Some (date 2024 2 22)) (Some (key (date 2024 3 6) 600)) true ∷ [] }
 {}
 
 /// An attempt after the closing is the tag's first attempt where none lay before.
 pub fn the_first_attempt_may_be_after_the_closing()
-    ensures { spans_of Valve (reads (date 2024 2 20) 620 ∷ delays (date 2024 3 1) 1 (date 2024 6 10) ∷ reads (date 2024 3 10) 20 ∷ reads (date 2024 4 10) 20 ∷ attempts (date 2024 4 12) ∷ [])
+    ensures { spans_of Valve (reads (date 2024 2 20) 620 ∷ delays (date 2024 3 1) 1 (date 2024 6 10)
+        ∷ reads (date 2024 3 10) 20 ∷ reads (date 2024 4 10) 20 ∷ attempts (date 2024 4 12) ∷ [])
         ≡ span (date 2024 2 20) (Some (date 2024 4 12)) (Some (key (date 2024 4 10) 600)) false ∷ [] }
 {}

@@ -1,7 +1,7 @@
 //! Percent leaking, quarters that are skipped, and routes.
 #![tactic(auto, unfolding(ldar_days::specs::Calendar::first_day, ldar_days::specs::Calendar::month_of, ldar_days::specs::Calendar::month_length, ldar_days::specs::Quarters::last_whole, ldar_days::specs::Quarters::first_quarter, list_words::specs::Ranges::until, crate::specs::Spans::spans_of, crate::specs::Tags::tag_of, crate::specs::Months::is_clean, crate::specs::Months::has_leak_in, crate::specs::Months::is_clean_twice_from, crate::specs::Percent::mark_of, crate::specs::Skips::good_streak, crate::specs::Skips::skips_run, crate::specs::Skips::quarters, crate::specs::Skips::is_skipped, crate::specs::Routes::routes_of))]
 
-ghost use Rattle.std.specs.Prelude.{◌≡◌, ◌++◌, List, [], ◌∷◌, Some, None, true, false, replicate};
+ghost use Rattle.std.specs.Prelude.{◌≡◌, ◌++◌, [], ◌∷◌, true, false, replicate};
 ghost use Rattle.ldar_facts.specs.declared.class.Designation.TheVariants.{Nde};
 ghost use Rattle.ldar_facts.specs.declared.class.Kind.TheVariants.{Valve};
 ghost use Rattle.ldar_facts.specs.declared.class.Service.TheVariants.{Gas};
@@ -21,21 +21,30 @@ pub fn two_percent_are_good()
 /// A valve counts by its counting routine readings of the quarter (40 CFR 60.485a(h)). Quarter 17 of the unit is April to June 2024.
 pub fn a_valve_counts_by_its_readings()
     ensures clean { mark_on (date 2024 6 30) 17 (valve 1 (date 2020 1 15)) (reads (date 2024 4 1) 499 ∷ []) ≡ clean }
-    ensures leaking { mark_on (date 2024 6 30) 17 (valve 1 (date 2020 1 15)) (reads (date 2024 4 1) 10 ∷ reads (date 2024 6 30) 500 ∷ []) ≡ found }
-    ensures day_before { mark_on (date 2024 6 30) 17 (valve 1 (date 2020 1 15)) (reads (date 2024 3 31) 700 ∷ []) ≡ uncounted }
-    ensures nde { mark_on (date 2024 6 30) 17 (gear 1 Valve (class Gas Nde) (date 2020 1 15)) (reads (date 2024 4 1) 499 ∷ []) ≡ uncounted }
+    ensures leaking { mark_on (date 2024 6 30) 17 (valve 1 (date 2020 1 15)) (reads (date 2024 4 1) 10
+        ∷ reads (date 2024 6 30) 500 ∷ []) ≡ found }
+    ensures day_before { mark_on (date 2024 6 30) 17 (valve 1 (date 2020 1 15)) (reads (date 2024 3 31) 700 ∷ [])
+        ≡ uncounted }
+    ensures nde { mark_on (date 2024 6 30) 17 (gear 1 Valve (class Gas Nde) (date 2020 1 15))
+        (reads (date 2024 4 1) 499 ∷ []) ≡ uncounted }
     ensures pump { mark_on (date 2024 6 30) 17 (pump 5 (date 2020 1 15)) (reads (date 2024 4 1) 499 ∷ []) ≡ uncounted }
 {}
 
 /// A valve whose repair is delayed counts as monitored and leaking without a reading in the quarter.
 pub fn a_delayed_valve_counts()
-    ensures delayed { mark_on (date 2024 6 30) 17 (valve 1 (date 2020 1 15)) (reads (date 2024 2 20) 620 ∷ delays (date 2024 3 1) 1 (date 2024 8 10) ∷ []) ≡ found }
-    ensures isolated { mark_on (date 2024 6 30) 17 (valve 1 (date 2020 1 15)) (reads (date 2024 2 20) 620 ∷ delays (date 2024 3 1) 2 (date 2024 8 10) ∷ []) ≡ found }
-    ensures withdrawn { mark_on (date 2024 6 30) 17 (valve 1 (date 2020 1 15)) (reads (date 2024 2 20) 620 ∷ delays (date 2024 3 1) 1 (date 2024 8 10) ∷ delays (date 2024 3 5) 0 (date 2024 8 10) ∷ []) ≡ uncounted }
-    ensures ignored { mark_on (date 2024 6 30) 17 (valve 1 (date 2020 1 15)) (reads (date 2024 2 20) 620 ∷ delays (date 2024 3 7) 1 (date 2024 8 10) ∷ []) ≡ uncounted }
+    ensures delayed { mark_on (date 2024 6 30) 17 (valve 1 (date 2020 1 15)) (reads (date 2024 2 20) 620
+        ∷ delays (date 2024 3 1) 1 (date 2024 8 10) ∷ []) ≡ found }
+    ensures isolated { mark_on (date 2024 6 30) 17 (valve 1 (date 2020 1 15)) (reads (date 2024 2 20) 620
+        ∷ delays (date 2024 3 1) 2 (date 2024 8 10) ∷ []) ≡ found }
+    ensures withdrawn { mark_on (date 2024 6 30) 17 (valve 1 (date 2020 1 15)) (reads (date 2024 2 20) 620
+        ∷ delays (date 2024 3 1) 1 (date 2024 8 10) ∷ delays (date 2024 3 5) 0 (date 2024 8 10) ∷ []) ≡ uncounted }
+    ensures ignored { mark_on (date 2024 6 30) 17 (valve 1 (date 2020 1 15)) (reads (date 2024 2 20) 620
+        ∷ delays (date 2024 3 7) 1 (date 2024 8 10) ∷ []) ≡ uncounted }
     // Closed on the quarter's last day it is closed.
-    ensures closed { mark_on (date 2024 7 31) 17 (valve 1 (date 2020 1 15)) (reads (date 2024 2 20) 620 ∷ delays (date 2024 3 1) 1 (date 2024 8 10) ∷ attempts (date 2024 6 30) ∷ reads (date 2024 6 30) 10 ∷ []) ≡ clean }
-    ensures closed_after { mark_on (date 2024 7 31) 17 (valve 1 (date 2020 1 15)) (reads (date 2024 2 20) 620 ∷ delays (date 2024 3 1) 1 (date 2024 8 10) ∷ attempts (date 2024 6 30) ∷ reads (date 2024 7 1) 10 ∷ []) ≡ found }
+    ensures closed { mark_on (date 2024 7 31) 17 (valve 1 (date 2020 1 15)) (reads (date 2024 2 20) 620
+        ∷ delays (date 2024 3 1) 1 (date 2024 8 10) ∷ attempts (date 2024 6 30) ∷ reads (date 2024 6 30) 10 ∷ []) ≡ clean }
+    ensures closed_after { mark_on (date 2024 7 31) 17 (valve 1 (date 2020 1 15)) (reads (date 2024 2 20) 620
+        ∷ delays (date 2024 3 1) 1 (date 2024 8 10) ∷ attempts (date 2024 6 30) ∷ reads (date 2024 7 1) 10 ∷ []) ≡ found }
 {}
 
 /// A valve that begins in the quarter and misses its first monitoring counts as monitored and leaking (our own rule).
@@ -49,12 +58,17 @@ pub fn a_missed_first_monitoring_counts()
 
 /// In mode 1 one quarter is skipped after two good ones (40 CFR 60.483-2a(b)(2)). Quarter 18 begins on 2024-07-01.
 pub fn mode_1_skips_every_other_quarter()
-    ensures skipped { is_skipped (bad_quarters 15 ++ good_quarters 2) (elects (date 2024 7 1) 1 ∷ []) (date 2020 1 15) 18 ≡ true }
-    ensures not_the_next { is_skipped (bad_quarters 15 ++ good_quarters 3) (elects (date 2024 7 1) 1 ∷ []) (date 2020 1 15) 19 ≡ false }
-    ensures after_19 { is_skipped (bad_quarters 15 ++ good_quarters 4) (elects (date 2024 7 1) 1 ∷ []) (date 2020 1 15) 20 ≡ true }
-    ensures bad_17 { is_skipped (bad_quarters 15 ++ good_quarters 1 ++ bad_quarters 1) (elects (date 2024 7 1) 1 ∷ []) (date 2020 1 15) 18 ≡ false }
+    ensures skipped { is_skipped (bad_quarters 15 ++ good_quarters 2) (elects (date 2024 7 1) 1 ∷ []) (date 2020 1 15) 18
+        ≡ true }
+    ensures not_the_next { is_skipped
+        (bad_quarters 15 ++ good_quarters 3) (elects (date 2024 7 1) 1 ∷ []) (date 2020 1 15) 19 ≡ false }
+    ensures after_19 { is_skipped (bad_quarters 15 ++ good_quarters 4) (elects (date 2024 7 1) 1 ∷ []) (date 2020 1 15) 20
+        ≡ true }
+    ensures bad_17 { is_skipped
+        (bad_quarters 15 ++ good_quarters 1 ++ bad_quarters 1) (elects (date 2024 7 1) 1 ∷ []) (date 2020 1 15) 18 ≡ false }
     // The counts of a skipped quarter do not matter: 17 and 19 are the last two.
-    ensures bad_18 { is_skipped (bad_quarters 15 ++ good_quarters 2 ++ bad_quarters 1 ++ good_quarters 1) (elects (date 2024 7 1) 1 ∷ []) (date 2020 1 15) 20 ≡ true }
+    ensures bad_18 { is_skipped
+        (bad_quarters 15 ++ good_quarters 2 ++ bad_quarters 1 ++ good_quarters 1) (elects (date 2024 7 1) 1 ∷ []) (date 2020 1 15) 20 ≡ true }
     ensures no_quarter_before { is_skipped [] (elects (date 2020 1 15) 1 ∷ []) (date 2020 1 15) 1 ≡ false }
 {}
 
@@ -67,16 +81,20 @@ pub fn mode_3_skips_three_quarters_in_a_row()
 /// In mode 3 a bad quarter asks for five good ones again.
 pub fn mode_3_wants_five_good_quarters()
     ensures four { is_skipped (good_quarters 4) (elects (date 2020 1 15) 3 ∷ []) (date 2020 1 15) 5 ≡ false }
-    ensures bad { skipped_to (good_quarters 8 ++ bad_quarters 1 ++ good_quarters 5) (elects (date 2020 1 15) 3 ∷ []) (date 2020 1 15) 15
-        ≡ false ∷ false ∷ false ∷ false ∷ false ∷ true ∷ true ∷ true ∷ false ∷ false ∷ false ∷ false ∷ false ∷ false ∷ true ∷ [] }
+    ensures bad { skipped_to
+        (good_quarters 8 ++ bad_quarters 1 ++ good_quarters 5) (elects (date 2020 1 15) 3 ∷ []) (date 2020 1 15) 15
+        ≡ false ∷ false ∷ false ∷ false ∷ false ∷ true ∷ true ∷ true ∷ false ∷ false ∷ false ∷ false ∷ false ∷ false ∷ true
+        ∷ [] }
 {}
 
 /// The election in force is the last one with a day up to the quarter's first day.
 pub fn the_last_election_is_in_force()
     ensures none { is_skipped (good_quarters 17) [] (date 2020 1 15) 18 ≡ false }
-    ensures ended { is_skipped (good_quarters 17) (elects (date 2024 1 1) 1 ∷ elects (date 2024 7 1) 0 ∷ []) (date 2020 1 15) 18 ≡ false }
+    ensures ended { is_skipped (good_quarters 17) (elects (date 2024 1 1) 1
+        ∷ elects (date 2024 7 1) 0 ∷ []) (date 2020 1 15) 18 ≡ false }
     ensures later { is_skipped (good_quarters 17) (elects (date 2024 7 2) 1 ∷ []) (date 2020 1 15) 18 ≡ false }
-    ensures changed { is_skipped (good_quarters 17) (elects (date 2024 1 1) 0 ∷ elects (date 2024 7 1) 1 ∷ []) (date 2020 1 15) 18 ≡ true }
+    ensures changed { is_skipped (good_quarters 17) (elects (date 2024 1 1) 0
+        ∷ elects (date 2024 7 1) 1 ∷ []) (date 2020 1 15) 18 ≡ true }
 {}
 
 /// Components with something to be done, each once, by due day and number, in routes of two.
@@ -88,7 +106,7 @@ pub fn routes_by_due_day()
     ensures enough { routes_of (owes 3 2 (date 2024 2 29) ∷ owes 1 2 (date 2024 2 25) ∷ owes 2 2 (date 2024 2 29) ∷ []) 9
         ≡ route (1 ∷ 2 ∷ 3 ∷ []) ∷ [] }
     // A duty that is done asks for no visit, and two duties of a component for one.
-    ensures done { routes_of (has_done 1 2 (date 2024 2 25) (date 2024 2 20) ∷ owes 2 2 (date 2024 2 29) ∷ owes 2 6 (date 2024 2 25) ∷ owes 3 2 (date 2024 2 26) ∷ []) 2
-        ≡ route (2 ∷ 3 ∷ []) ∷ [] }
+    ensures done { routes_of (has_done 1 2 (date 2024 2 25) (date 2024 2 20) ∷ owes 2 2 (date 2024 2 29)
+        ∷ owes 2 6 (date 2024 2 25) ∷ owes 3 2 (date 2024 2 26) ∷ []) 2 ≡ route (2 ∷ 3 ∷ []) ∷ [] }
     ensures nothing { routes_of [] 2 ≡ [] }
 {}

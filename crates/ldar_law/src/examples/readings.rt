@@ -1,11 +1,11 @@
 //! Readings that are fit, and those that a drift voids.
 #![tactic(auto, unfolding(ldar_days::specs::Calendar::first_day, ldar_days::specs::Calendar::month_of, ldar_days::specs::Calendar::month_length))]
 
-ghost use Rattle.std.specs.Prelude.{◌≡◌, List, [], ◌∷◌, true, false};
+ghost use Rattle.std.specs.Prelude.{◌≡◌, [], ◌∷◌, true, false};
 ghost use Rattle.ldar_facts.specs.declared.body.FactBody.TheVariants.{Precision};
 ghost use Rattle.ldar_law.specs.declared.fitness.Fitness.TheVariants.{Fit, NoCalibration, GasTooHigh, NoPrecision, Voided};
 ghost use Rattle.ldar_law.specs.Fitness.{is_precise, fitness_of};
-ghost use Rattle.ldar_law.specs.Short.{date, key, fact, calibrated, precise, drifted};
+ghost use Rattle.ldar_law.specs.Short.{date, key, fact, calibrated, precise, judged_at, drifted_to, busy_day};
 
 /// A mean of 450 is within 10 percent of 500, and three readings of 449, 450 and 450 are not
 /// (EPA Method 21, section 8.1.2).
@@ -18,62 +18,47 @@ pub fn a_precision_test_of_500_needs_a_mean_of_450()
 
 /// Without a precision test that was passed no reading is fit.
 pub fn a_failed_precision_test_makes_no_reading_fit()
-    ensures passed { fitness_of (fact (date 2024 1 2) 0 (Precision 1 500 (450, 450, 450)) ∷ calibrated (date 2024 2 20) 300 500 ∷ [])
-        500 (key (date 2024 2 20) 600) 1 20 ≡ Fit }
-    ensures failed { fitness_of (fact (date 2024 1 2) 0 (Precision 1 500 (449, 450, 450)) ∷ calibrated (date 2024 2 20) 300 500 ∷ [])
-        500 (key (date 2024 2 20) 600) 1 20 ≡ NoPrecision }
+    ensures passed { fitness_of (fact (date 2024 1 2) 0 (Precision 1 500 (450, 450, 450))
+        ∷ calibrated (date 2024 2 20) 300 500 ∷ []) 500 (key (date 2024 2 20) 600) 1 20 ≡ Fit }
+    ensures failed { fitness_of (fact (date 2024 1 2) 0 (Precision 1 500 (449, 450, 450))
+        ∷ calibrated (date 2024 2 20) 300 500 ∷ []) 500 (key (date 2024 2 20) 600) 1 20 ≡ NoPrecision }
 {}
 
 /// A drift to 440 of 500 voids readings above 440 of a leak definition of 500 (40 CFR 60.485a(b)(2)).
 pub fn a_drift_to_440_voids_441_and_499()
-    ensures counts { fitness_of (precise (date 2024 1 2) ∷ calibrated (date 2024 2 20) 300 500 ∷ drifted (date 2024 2 20) 900 440 ∷ [])
-        500 (key (date 2024 2 20) 600) 1 440 ≡ Fit }
-    ensures voided { fitness_of (precise (date 2024 1 2) ∷ calibrated (date 2024 2 20) 300 500 ∷ drifted (date 2024 2 20) 900 440 ∷ [])
-        500 (key (date 2024 2 20) 600) 1 441 ≡ Voided (key (date 2024 2 20) 900) }
-    ensures voided_below_the_limit { fitness_of (precise (date 2024 1 2) ∷ calibrated (date 2024 2 20) 300 500 ∷ drifted (date 2024 2 20) 900 440 ∷ [])
-        500 (key (date 2024 2 20) 600) 1 499 ≡ Voided (key (date 2024 2 20) 900) }
-    ensures leak_stands { fitness_of (precise (date 2024 1 2) ∷ calibrated (date 2024 2 20) 300 500 ∷ drifted (date 2024 2 20) 900 440 ∷ [])
-        500 (key (date 2024 2 20) 600) 1 500 ≡ Fit }
+    ensures counts { judged_at (drifted_to 440) 600 440 ≡ Fit }
+    ensures voided { judged_at (drifted_to 440) 600 441 ≡ Voided (key (date 2024 2 20) 900) }
+    ensures voided_below_the_limit { judged_at (drifted_to 440) 600 499 ≡ Voided (key (date 2024 2 20) 900) }
+    ensures leak_stands { judged_at (drifted_to 440) 600 500 ≡ Fit }
 {}
 
 /// A drift to 450 of 500 is just 10 percent, and voids nothing.
 pub fn a_drift_to_450_voids_nothing()
-    ensures { fitness_of (precise (date 2024 1 2) ∷ calibrated (date 2024 2 20) 300 500 ∷ drifted (date 2024 2 20) 900 450 ∷ [])
-        500 (key (date 2024 2 20) 600) 1 499 ≡ Fit }
+    ensures { judged_at (drifted_to 450) 600 499 ≡ Fit }
 {}
 
 /// Three months after 30 November is the last day of February: a test of 2023-11-30 serves up to 2024-02-29.
 pub fn a_precision_test_serves_for_three_months()
-    ensures last { fitness_of (precise (date 2023 11 30) ∷ calibrated (date 2024 2 29) 300 500 ∷ [])
-        500 (key (date 2024 2 29) 600) 1 20 ≡ Fit }
-    ensures past { fitness_of (precise (date 2023 11 30) ∷ calibrated (date 2024 3 1) 300 500 ∷ [])
-        500 (key (date 2024 3 1) 600) 1 20 ≡ NoPrecision }
+    ensures last { fitness_of (precise (date 2023 11 30)
+        ∷ calibrated (date 2024 2 29) 300 500 ∷ []) 500 (key (date 2024 2 29) 600) 1 20 ≡ Fit }
+    ensures past { fitness_of (precise (date 2023 11 30)
+        ∷ calibrated (date 2024 3 1) 300 500 ∷ []) 500 (key (date 2024 3 1) 600) 1 20 ≡ NoPrecision }
 {}
 
 /// A calibration of the day before does not serve, nor does a later one of the day.
 pub fn a_reading_needs_an_earlier_calibration_of_its_day()
-    ensures day_before { fitness_of (precise (date 2024 1 2) ∷ calibrated (date 2024 2 19) 300 500 ∷ [])
-        500 (key (date 2024 2 20) 600) 1 20 ≡ NoCalibration }
-    ensures later { fitness_of (precise (date 2024 1 2) ∷ calibrated (date 2024 2 20) 700 500 ∷ [])
-        500 (key (date 2024 2 20) 600) 1 20 ≡ NoCalibration }
+    ensures day_before { judged_at (calibrated (date 2024 2 19) 300 500 ∷ []) 600 20 ≡ NoCalibration }
+    ensures later { judged_at (calibrated (date 2024 2 20) 700 500 ∷ []) 600 20 ≡ NoCalibration }
 {}
 
 /// Three calibrations of a day, of which the first used too strong a gas, and drift assessments after each.
 pub fn three_calibrations_on_a_day()
     // The gas may be 2,000 above the leak definition at most (40 CFR 60.485a(b)(1)).
-    ensures too_strong { fitness_of (precise (date 2024 1 2) ∷ calibrated (date 2024 2 20) 300 2501 ∷ calibrated (date 2024 2 20) 500 2500
-        ∷ drifted (date 2024 2 20) 650 440 ∷ calibrated (date 2024 2 20) 700 500 ∷ drifted (date 2024 2 20) 800 440 ∷ drifted (date 2024 2 20) 900 430 ∷ [])
-        500 (key (date 2024 2 20) 400) 1 20 ≡ GasTooHigh }
+    ensures too_strong { judged_at busy_day 400 20 ≡ GasTooHigh }
     // The first later drift before the next calibration voids.
-    ensures second { fitness_of (precise (date 2024 1 2) ∷ calibrated (date 2024 2 20) 300 2501 ∷ calibrated (date 2024 2 20) 500 2500
-        ∷ drifted (date 2024 2 20) 650 440 ∷ calibrated (date 2024 2 20) 700 500 ∷ drifted (date 2024 2 20) 800 440 ∷ drifted (date 2024 2 20) 900 430 ∷ [])
-        500 (key (date 2024 2 20) 600) 1 499 ≡ Voided (key (date 2024 2 20) 650) }
+    ensures second { judged_at busy_day 600 499 ≡ Voided (key (date 2024 2 20) 650) }
     // A calibration between a reading and the drifts keeps it.
-    ensures between { fitness_of (precise (date 2024 1 2) ∷ calibrated (date 2024 2 20) 300 2501 ∷ calibrated (date 2024 2 20) 500 2500
-        ∷ drifted (date 2024 2 20) 650 440 ∷ calibrated (date 2024 2 20) 700 500 ∷ drifted (date 2024 2 20) 800 440 ∷ drifted (date 2024 2 20) 900 430 ∷ [])
-        500 (key (date 2024 2 20) 660) 1 499 ≡ Fit }
+    ensures between { judged_at busy_day 660 499 ≡ Fit }
     // Of two drifts after the last calibration the first names the cause.
-    ensures third { fitness_of (precise (date 2024 1 2) ∷ calibrated (date 2024 2 20) 300 2501 ∷ calibrated (date 2024 2 20) 500 2500
-        ∷ drifted (date 2024 2 20) 650 440 ∷ calibrated (date 2024 2 20) 700 500 ∷ drifted (date 2024 2 20) 800 440 ∷ drifted (date 2024 2 20) 900 430 ∷ [])
-        500 (key (date 2024 2 20) 750) 1 460 ≡ Voided (key (date 2024 2 20) 800) }
+    ensures third { judged_at busy_day 750 460 ≡ Voided (key (date 2024 2 20) 800) }
 {}

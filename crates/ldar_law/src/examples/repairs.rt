@@ -1,8 +1,8 @@
 //! Until when a leak must be repaired, and which delays count (40 CFR 60.482-9a).
 #![tactic(auto, unfolding(ldar_days::specs::Calendar::first_day, ldar_days::specs::Calendar::month_of, ldar_days::specs::Calendar::month_length, crate::specs::Spans::spans_of, crate::specs::Tags::tag_of, crate::specs::Months::is_clean, crate::specs::Months::has_leak_in, crate::specs::Months::is_clean_twice_from))]
 
-ghost use Rattle.std.specs.Prelude.{◌≡◌, List, [], ◌∷◌, Some, None, true, false, map};
-ghost use Rattle.ldar_facts.specs.declared.class.Kind.TheVariants.{Valve, Pump};
+ghost use Rattle.std.specs.Prelude.{◌≡◌, [], ◌∷◌, Some, None, true, false, map};
+ghost use Rattle.ldar_facts.specs.declared.class.Kind.TheVariants.{Valve};
 ghost use Rattle.ldar_law.specs.declared.delay.Until.TheVariants.{Date, Shutdown, WhileIsolated, NoDate};
 ghost use Rattle.ldar_law.specs.Delays.{repair_due, counted_place};
 ghost use Rattle.ldar_law.specs.Tags.{tags_of, is_late, is_shown, delay_lines};
@@ -42,26 +42,32 @@ pub fn a_dual_seal_within_six_months()
 /// Ground (e): the end of the second shutdown after the detection.
 pub fn valve_stock_until_the_second_shutdown()
     ensures none { repair_due (date 2024 2 20) [] [] (delay (date 2024 3 1) 5 ∷ []) ≡ Shutdown }
-    ensures one { repair_due (date 2024 2 20) [] (stop (date 2024 4 1) (date 2024 4 10) ∷ []) (delay (date 2024 3 1) 5 ∷ []) ≡ Shutdown }
-    ensures two { repair_due (date 2024 2 20) [] (stop (date 2024 4 1) (date 2024 4 10) ∷ stop (date 2024 10 1) (date 2024 10 10) ∷ [])
-        (delay (date 2024 3 1) 5 ∷ []) ≡ Date (date 2024 10 10) }
+    ensures one { repair_due (date 2024 2 20) [] (stop (date 2024 4 1) (date 2024 4 10) ∷ []) (delay (date 2024 3 1) 5 ∷ [])
+        ≡ Shutdown }
+    ensures two { repair_due (date 2024 2 20) [] (stop (date 2024 4 1) (date 2024 4 10)
+        ∷ stop (date 2024 10 1) (date 2024 10 10) ∷ []) (delay (date 2024 3 1) 5 ∷ []) ≡ Date (date 2024 10 10) }
 {}
 
 /// Ground (e): where the second shutdown begins sooner than six months after the first began, the third one.
 pub fn valve_stock_until_the_third_shutdown()
-    ensures unknown { repair_due (date 2024 2 20) [] (stop (date 2024 4 1) (date 2024 4 10) ∷ stop (date 2024 9 30) (date 2024 10 9) ∷ [])
-        (delay (date 2024 3 1) 5 ∷ []) ≡ Shutdown }
-    ensures known { repair_due (date 2024 2 20) [] (stop (date 2024 4 1) (date 2024 4 10) ∷ stop (date 2024 9 30) (date 2024 10 9) ∷ stop (date 2025 1 7) (date 2025 1 12) ∷ [])
-        (delay (date 2024 3 1) 5 ∷ []) ≡ Date (date 2025 1 12) }
-    ensures attempted { repair_due (date 2024 2 20) (date 2025 1 12 ∷ []) (stop (date 2024 4 1) (date 2024 4 10) ∷ stop (date 2024 9 30) (date 2024 10 9) ∷ stop (date 2025 1 7) (date 2025 1 12) ∷ [])
-        (delay (date 2024 3 1) 5 ∷ []) ≡ Date (date 2025 1 28) }
+    ensures unknown { repair_due (date 2024 2 20) [] (stop (date 2024 4 1) (date 2024 4 10)
+        ∷ stop (date 2024 9 30) (date 2024 10 9) ∷ []) (delay (date 2024 3 1) 5 ∷ []) ≡ Shutdown }
+    ensures known { repair_due (date 2024 2 20) [] (stop (date 2024 4 1) (date 2024 4 10)
+        ∷ stop (date 2024 9 30) (date 2024 10 9)
+        ∷ stop (date 2025 1 7) (date 2025 1 12) ∷ []) (delay (date 2024 3 1) 5 ∷ []) ≡ Date (date 2025 1 12) }
+    ensures attempted { repair_due (date 2024 2 20) (date 2025 1 12 ∷ []) (stop (date 2024 4 1) (date 2024 4 10)
+        ∷ stop (date 2024 9 30) (date 2024 10 9)
+        ∷ stop (date 2025 1 7) (date 2025 1 12) ∷ []) (delay (date 2024 3 1) 5 ∷ []) ≡ Date (date 2025 1 28) }
 {}
 
 /// A delay that is withdrawn leaves the fifteenth day, or the day of the withdrawal if that is later (our own rule).
 pub fn a_withdrawn_delay()
-    ensures early { repair_due (date 2024 2 20) [] [] (delay (date 2024 2 25) 1 ∷ delay (date 2024 3 1) 0 ∷ []) ≡ Date (date 2024 3 6) }
-    ensures late { repair_due (date 2024 2 20) [] [] (delay (date 2024 2 25) 1 ∷ delay (date 2024 5 2) 0 ∷ []) ≡ Date (date 2024 5 2) }
-    ensures counts { counted_place (date 2024 2 20) [] [] (delay (date 2024 2 25) 1 ∷ delay (date 2024 5 2) 0 ∷ []) ≡ Some 1 }
+    ensures early { repair_due (date 2024 2 20) [] [] (delay (date 2024 2 25) 1 ∷ delay (date 2024 3 1) 0 ∷ [])
+        ≡ Date (date 2024 3 6) }
+    ensures late { repair_due (date 2024 2 20) [] [] (delay (date 2024 2 25) 1 ∷ delay (date 2024 5 2) 0 ∷ [])
+        ≡ Date (date 2024 5 2) }
+    ensures counts { counted_place (date 2024 2 20) [] [] (delay (date 2024 2 25) 1 ∷ delay (date 2024 5 2) 0 ∷ [])
+        ≡ Some 1 }
 {}
 
 /// A delay whose day is past the due day so far is ignored (our own rule).
@@ -72,35 +78,44 @@ pub fn a_late_delay_is_ignored()
     // After an ignored delay the due day is still the one before.
     ensures both { counted_place (date 2024 2 20) [] [] (delay (date 2024 3 7) 3 ∷ delay (date 2024 3 8) 1 ∷ []) ≡ None }
     // A due day that is no date is never passed.
-    ensures no_date { counted_place (date 2024 2 20) [] [] (delay (date 2024 3 1) 3 ∷ delay (date 2026 3 1) 1 ∷ []) ≡ Some 1 }
+    ensures no_date { counted_place (date 2024 2 20) [] [] (delay (date 2024 3 1) 3 ∷ delay (date 2026 3 1) 1 ∷ [])
+        ≡ Some 1 }
 {}
 
 /// A shutdown that becomes known later can change which delay is ignored.
 pub fn a_known_shutdown_ends_a_delay()
-    ensures unknown { counted_place (date 2024 2 20) [] [] (delay (date 2024 3 1) 1 ∷ delay (date 2024 7 1) 3 ∷ []) ≡ Some 1 }
-    ensures known { counted_place (date 2024 2 20) [] (stop (date 2024 6 1) (date 2024 6 14) ∷ []) (delay (date 2024 3 1) 1 ∷ delay (date 2024 7 1) 3 ∷ []) ≡ Some 0 }
+    ensures unknown { counted_place (date 2024 2 20) [] [] (delay (date 2024 3 1) 1 ∷ delay (date 2024 7 1) 3 ∷ [])
+        ≡ Some 1 }
+    ensures known { counted_place (date 2024 2 20) [] (stop (date 2024 6 1) (date 2024 6 14) ∷ []) (delay (date 2024 3 1) 1
+        ∷ delay (date 2024 7 1) 3 ∷ []) ≡ Some 0 }
 {}
 
 /// A tag that is closed on its due day is not late, and a day later it is.
 pub fn a_tag_is_late_after_its_due_day()
-    ensures in_time { map (is_late (date 2024 3 31)) (tags_of 1 Valve (reads (date 2024 2 20) 620 ∷ attempts (date 2024 2 22) ∷ reads (date 2024 3 6) 20 ∷ []) []) ≡ false ∷ [] }
-    ensures late { map (is_late (date 2024 3 31)) (tags_of 1 Valve (reads (date 2024 2 20) 620 ∷ attempts (date 2024 2 22) ∷ reads (date 2024 3 7) 20 ∷ []) []) ≡ true ∷ [] }
+    ensures in_time { map (is_late (date 2024 3 31)) (tags_of 1 Valve (reads (date 2024 2 20) 620
+        ∷ attempts (date 2024 2 22) ∷ reads (date 2024 3 6) 20 ∷ []) []) ≡ false ∷ [] }
+    ensures late { map (is_late (date 2024 3 31)) (tags_of 1 Valve (reads (date 2024 2 20) 620 ∷ attempts (date 2024 2 22)
+        ∷ reads (date 2024 3 7) 20 ∷ []) []) ≡ true ∷ [] }
     ensures open { map (is_late (date 2024 3 6)) (tags_of 1 Valve (reads (date 2024 2 20) 620 ∷ []) []) ≡ false ∷ [] }
     ensures open_past { map (is_late (date 2024 3 7)) (tags_of 1 Valve (reads (date 2024 2 20) 620 ∷ []) []) ≡ true ∷ [] }
-    ensures delayed { map (is_late (date 2024 12 31)) (tags_of 1 Valve (reads (date 2024 2 20) 620 ∷ delays (date 2024 3 1) 1 (date 2024 6 10) ∷ []) []) ≡ false ∷ [] }
+    ensures delayed { map (is_late (date 2024 12 31)) (tags_of 1 Valve (reads (date 2024 2 20) 620
+        ∷ delays (date 2024 3 1) 1 (date 2024 6 10) ∷ []) []) ≡ false ∷ [] }
 {}
 
 /// A tag with its due days, its first attempt and its closing (40 CFR 60.486a(c)).
 pub fn tags_with_their_due_days()
     ensures open { tags_of 1 Valve (reads (date 2024 2 20) 620 ∷ []) []
         ≡ tag 1 (date 2024 2 20) None (Date (date 2024 3 6)) None None false ∷ [] }
-    ensures removable { tags_of 1 Valve (reads (date 2024 2 20) 620 ∷ attempts (date 2024 2 22) ∷ reads (date 2024 3 6) 20 ∷ reads (date 2024 4 2) 20 ∷ []) []
+    ensures removable { tags_of 1 Valve (reads (date 2024 2 20) 620 ∷ attempts (date 2024 2 22) ∷ reads (date 2024 3 6) 20
+        ∷ reads (date 2024 4 2) 20 ∷ []) []
         ≡ tag 1 (date 2024 2 20) (Some (date 2024 2 22)) (Date (date 2024 3 6)) (Some (date 2024 3 6)) None true ∷ [] }
     // The tag's own attempts and those made for another count for a shutdown.
-    ensures delayed { tags_of 1 Valve (reads (date 2024 2 20) 620 ∷ delays (date 2024 3 1) 1 (date 2024 6 10) ∷ attempts (date 2024 6 5) ∷ []) (stop (date 2024 6 1) (date 2024 6 14) ∷ [])
+    ensures delayed { tags_of 1 Valve (reads (date 2024 2 20) 620 ∷ delays (date 2024 3 1) 1 (date 2024 6 10)
+        ∷ attempts (date 2024 6 5) ∷ []) (stop (date 2024 6 1) (date 2024 6 14) ∷ [])
         ≡ tag 1 (date 2024 2 20) (Some (date 2024 6 5)) (Date (date 2024 6 30)) None (Some (delay_until (date 2024 3 1) 1 (date 2024 6 10))) false ∷ [] }
     // A delay after the closing is no delay of the tag.
-    ensures closed { tags_of 1 Valve (reads (date 2024 2 20) 620 ∷ attempts (date 2024 2 22) ∷ reads (date 2024 3 1) 20 ∷ delays (date 2024 3 2) 1 (date 2024 6 10) ∷ []) []
+    ensures closed { tags_of 1 Valve (reads (date 2024 2 20) 620 ∷ attempts (date 2024 2 22) ∷ reads (date 2024 3 1) 20
+        ∷ delays (date 2024 3 2) 1 (date 2024 6 10) ∷ []) []
         ≡ tag 1 (date 2024 2 20) (Some (date 2024 2 22)) (Date (date 2024 3 6)) (Some (date 2024 3 1)) None false ∷ [] }
 {}
 
@@ -113,9 +128,13 @@ pub fn a_closed_tag_is_shown_for_a_year()
 
 /// The list of delays has the open tags whose last delay that counts has a ground (a) to (e).
 pub fn the_list_of_delays()
-    ensures delayed { delay_lines (tags_of 1 Valve (reads (date 2024 2 20) 620 ∷ delays (date 2024 3 1) 1 (date 2024 6 10) ∷ []) [])
+    ensures delayed { delay_lines (tags_of 1 Valve (reads (date 2024 2 20) 620
+        ∷ delays (date 2024 3 1) 1 (date 2024 6 10) ∷ []) [])
         ≡ line 1 (date 2024 2 20) (delay_until (date 2024 3 1) 1 (date 2024 6 10)) Shutdown ∷ [] }
-    ensures ignored { delay_lines (tags_of 1 Valve (reads (date 2024 2 20) 620 ∷ delays (date 2024 3 7) 1 (date 2024 6 10) ∷ []) []) ≡ [] }
-    ensures withdrawn { delay_lines (tags_of 1 Valve (reads (date 2024 2 20) 620 ∷ delays (date 2024 3 1) 1 (date 2024 6 10) ∷ delays (date 2024 3 2) 0 (date 2024 6 10) ∷ []) []) ≡ [] }
-    ensures closed { delay_lines (tags_of 1 Valve (reads (date 2024 2 20) 620 ∷ delays (date 2024 3 1) 1 (date 2024 6 10) ∷ retires (date 2024 3 5) ∷ []) []) ≡ [] }
+    ensures ignored { delay_lines (tags_of 1 Valve (reads (date 2024 2 20) 620
+        ∷ delays (date 2024 3 7) 1 (date 2024 6 10) ∷ []) []) ≡ [] }
+    ensures withdrawn { delay_lines (tags_of 1 Valve (reads (date 2024 2 20) 620 ∷ delays (date 2024 3 1) 1 (date 2024 6 10)
+        ∷ delays (date 2024 3 2) 0 (date 2024 6 10) ∷ []) []) ≡ [] }
+    ensures closed { delay_lines (tags_of 1 Valve (reads (date 2024 2 20) 620 ∷ delays (date 2024 3 1) 1 (date 2024 6 10)
+        ∷ retires (date 2024 3 5) ∷ []) []) ≡ [] }
 {}

@@ -1,6 +1,8 @@
-//! Laws of delays of repair.
+//! Laws of tags and of delays of repair.
 
 ghost use Rattle.ldar_law.specs.Delays.{OneMoreDelay, CountedPlaceIsOfDelay};
+ghost use Rattle.ldar_law.specs.Spans.{SpansFollow};
+ghost use Rattle.ldar_law.specs.Tags.{DelaysLieBetween};
 
 /// One more delay counts, or is ignored where its day is past the due day that those before it give.
 pub fn one_more_delay()
@@ -10,4 +12,14 @@ pub fn one_more_delay()
 /// The place of the last delay that counts is its place among the delays.
 pub fn counted_place_is_of_delay()
     ensures { CountedPlaceIsOfDelay }
+{}
+
+/// The delays of a tag are those of the part of the events between its detection and its closing.
+pub fn delays_lie_between()
+    ensures { DelaysLieBetween }
+{}
+
+/// Each tag of a component is closed before the next is detected.
+pub fn spans_follow()
+    ensures { SpansFollow }
 {}
