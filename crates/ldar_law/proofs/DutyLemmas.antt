@@ -10,11 +10,13 @@ use Rattle.ldar_days.specs.Calendar.{IsDay, last_day, month_of, end_by, week_las
 use Rattle.ldar_days.proofs.Months.{first_day-le, month_of-month}
 use Rattle.ldar_facts.specs.declared.class.Class.{Class}
 use Rattle.ldar_facts.specs.declared.key.Key.{Key}
+use Rattle.ldar_facts.specs.Facts.{is_earlier}
+use Rattle.ldar_facts.proofs.Cuts.{earlier_day}
 use Rattle.ldar_law.specs.declared.duty.Duty.{Duty}
 use Rattle.ldar_law.specs.declared.equipment.Equipment.{Equipment}
 use Rattle.ldar_law.specs.declared.event.Event.{Event}
 use Rattle.ldar_law.specs.Duties.{first_due, first_monitoring, monthly, quarterly, yearly, planned, weekly, drip, release, evidence, duties_of, comes_no_later, DutiesStandInOrder}
-use Rattle.ldar_law.proofs.TestLemmas.{all_implied}
+use Rattle.ldar_law.proofs.TestLemmas.{all_implied, ascends_implied}
 
 all_joined : {X : Type 0} (P : X → Type 0) (xs ys : List X) → AllByRecursion P xs → AllByRecursion P ys → AllByRecursion P (xs ++ ys)
 all_joined P [] ys h h' = h'
@@ -170,7 +172,9 @@ weeks_grow n h = omega arith
 
 pub duties_stand_in_order : DutiesStandInOrder
 unfolding duties_of
-duties_stand_in_order item classes startup events skipped t begins in_order =
+duties_stand_in_order item classes startup events skipped t begins by_key =
+    let in_order : Ascends (λ a b. nat_le a.key.day b.key.day) events =
+    ascends_implied (λ a b. is_earlier a.key b.key) (λ a b. nat_le a.key.day b.key.day) (λ a b h. le-leb a.key.day b.key.day (earlier_day a.key b.key h)) events by_key in
     let low : 23_640 ≤ month_of item.begin + 1 = omega (arith, month_of-month item.begin begins) in
     let day : IsDay (end_by (item.begin + 30)) = (omega (arith, begins), omega arith) in
     let year : 1_970 ≤ month_of (end_by (item.begin + 30)) / 12 = omega (arith, month_of-month (end_by (item.begin + 30)) day) in

@@ -1,16 +1,21 @@
-use Rattle.std.proofs.Common.{subst, ◌≡◌, ℕ, false, Some, None, List, [], ◌∷◌, refl, sym, ap, inl, inr}
-use Rattle.std.specs.Prelude.{unwrap_or, if◌then◌else◌, filter_map}
-use Rattle.std.specs.List.{cons_option}
+use Rattle.std.proofs.Common.{subst, ◌≡◌, ℕ, false, Some, None, List, [], ◌∷◌, refl, sym, ap, inl, inr, Option, true}
+use Rattle.std.specs.Prelude.{unwrap_or, if◌then◌else◌, filter_map, option_map}
+use Rattle.std.specs.List.{cons_option, AllByRecursion}
 use Rattle.std.proofs.lemmas.Bool.{cases_Bool, false≢true}
+use Rattle.list_words.specs.Order.{Ascends}
+use Rattle.list_words.proofs.PutLemmas.{ascends_filter}
 use Rattle.ldar_facts.specs.declared.body.FactBody.{FactBody}
 use Rattle.ldar_facts.specs.declared.body.FactBody.TheVariants.{Reading}
 use Rattle.ldar_facts.specs.declared.class.Class.{Class}
 use Rattle.ldar_facts.specs.declared.key.Key.{Key}
-use Rattle.ldar_facts.specs.Facts.{Entry}
-use Rattle.ldar_facts.specs.Named.{reading_instrument}
+use Rattle.ldar_facts.specs.Facts.{Entry, is_earlier, goes_first}
+use Rattle.ldar_facts.specs.Named.{reading_instrument, component_of, is_numbered}
+use Rattle.ldar_facts.proofs.KeyOrder.{strict_goes_first}
 use Rattle.ldar_law.specs.declared.equipment.Equipment.{Equipment}
+use Rattle.ldar_law.specs.declared.event.Event.{Event}
+use Rattle.ldar_law.specs.declared.event.Happening.{Happening}
 use Rattle.ldar_law.specs.declared.fitness.Fitness.{Fitness}
-use Rattle.ldar_law.specs.Events.{happening, event_of, events_with, events_in, is_reading, next_fitness, fitness_among, EventsAreJudgedInOrder, fitness_at, ReadingsAreOfInstrument}
+use Rattle.ldar_law.specs.Events.{happening, event_of, events_with, events_in, is_reading, next_fitness, fitness_among, EventsAreJudgedInOrder, fitness_at, ReadingsAreOfInstrument, EventsAscend}
 use Rattle.ldar_law.specs.Fitness.{fitness_of}
 use Rattle.ldar_law.specs.Force.{limit_on}
 use Rattle.ldar_law.specs.Slices.{facts_of_component, facts_of_instrument}
@@ -53,3 +58,32 @@ by_instrument item classes facts key _ instrument e = refl
 
 pub readings_are_of_instrument : ReadingsAreOfInstrument
 readings_are_of_instrument item classes facts e instrument of = by_instrument item classes facts e.0 e.1.body instrument of
+
+-- an event has the key of its fact
+module _ (item : Equipment) (classes : List (Key × Class)) (fit : Entry → Fitness) where
+  later_at : (key : Key) (e : Entry) (o : Option Happening) (rest : List Event) → is_earlier key e.0 ≡ true → AllByRecursion (λ x. is_earlier key x.key ≡ true) rest →
+      AllByRecursion (λ x. is_earlier key x.key ≡ true) (cons_option (option_map (λ what. record { key = e.0; what = what }) o) rest)
+  later_at key e None rest h all = all
+  later_at key e (Some what) rest h all = (h, all)
+
+  all_later : (key : Key) (facts : List Entry) → AllByRecursion (λ e. is_earlier key e.0 ≡ true) facts →
+      AllByRecursion (λ x. is_earlier key x.key ≡ true) (filter_map (λ e. event_of item classes e (fit e)) facts)
+  all_later key [] h = tt
+  all_later key (e ∷ facts) h =
+      later_at key e (happening item classes e.0.day (fit e) e.1.body) (filter_map (λ e. event_of item classes e (fit e)) facts) h.0 (all_later key facts h.1)
+
+  one_more_event : (e : Entry) (o : Option Happening) (rest : List Event) → AllByRecursion (λ x. is_earlier e.0 x.key ≡ true) rest → Ascends (λ a b. is_earlier a.key b.key) rest →
+      Ascends (λ a b. is_earlier a.key b.key) (cons_option (option_map (λ what. record { key = e.0; what = what }) o) rest)
+  one_more_event e None rest all asc = asc
+  one_more_event e (Some what) rest all asc = (all, asc)
+
+  events_ascend_by : (facts : List Entry) → Ascends goes_first facts → Ascends (λ a b. is_earlier a.key b.key) (filter_map (λ e. event_of item classes e (fit e)) facts)
+  events_ascend_by [] h = tt
+  events_ascend_by (e ∷ facts) h =
+      one_more_event e (happening item classes e.0.day (fit e) e.1.body) (filter_map (λ e. event_of item classes e (fit e)) facts) (all_later e.0 facts h.0) (events_ascend_by facts h.1)
+
+pub events_ascend : EventsAscend
+unfolding events_in
+events_ascend item classes facts asc =
+    events_ascend_by item classes (fitness_among item classes facts) (facts_of_component item.component facts)
+    (ascends_filter goes_first strict_goes_first (λ e. is_numbered (component_of e.1.body) item.component) facts asc)

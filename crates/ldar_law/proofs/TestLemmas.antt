@@ -1,6 +1,7 @@
 use Rattle.std.proofs.Common.{◌≡◌, Bool, true, false, ◌&&◌, ◌||◌, List, [], ◌∷◌, refl, subst, inl, inr}
 use Rattle.std.specs.List.{AllByRecursion, list_any}
 use Rattle.std.proofs.lemmas.Bool.{cases_Bool, false≢true}
+use Rattle.list_words.specs.Order.{Ascends}
 
 both_of : (a b : Bool) → (a && b) ≡ true → (a ≡ true) × (b ≡ true)
 both_of true true e = (refl, refl)
@@ -31,3 +32,8 @@ passing p (x ∷ xs) e = elim (cases_Bool (p x)) [
 pub all_implied : {X : Type 0} (P Q : X → Type 0) → ((x : X) → P x → Q x) → (xs : List X) → AllByRecursion P xs → AllByRecursion Q xs
 all_implied P Q implies [] h = tt
 all_implied P Q implies (x ∷ xs) h = (implies x h.0, all_implied P Q implies xs h.1)
+
+-- an ascending list ascends by what its order implies
+pub ascends_implied : {X : Type 0} (b c : X → X → Bool) → ((x y : X) → b x y ≡ true → c x y ≡ true) → (xs : List X) → Ascends b xs → Ascends c xs
+ascends_implied b c implies [] h = tt
+ascends_implied b c implies (x ∷ xs) h = (all_implied (λ y. b x y ≡ true) (λ y. c x y ≡ true) (implies x) xs h.0, ascends_implied b c implies xs h.1)

@@ -9,6 +9,7 @@ use Rattle.ldar_days.specs.Calendar.{IsDay, first_day, last_day, month_of, end_b
 use Rattle.ldar_days.specs.Quarters.{quarter_of}
 use Rattle.ldar_facts.specs.declared.class.Class.{Class}
 use Rattle.ldar_facts.specs.declared.key.Key.{Key}
+use Rattle.ldar_facts.specs.Facts.{is_earlier}
 use Rattle.ldar_law.specs.declared.duty.Duty.{Duty}
 use Rattle.ldar_law.specs.declared.equipment.Equipment.{Equipment}
 use Rattle.ldar_law.specs.declared.event.Event.{Event}
@@ -190,9 +191,9 @@ module _ (item : Equipment) (classes : List (Key × Class)) (startup : ℕ) (eve
 abbrev pub comes_no_later : Duty → Duty → Bool
 comes_no_later a b = nat_lt a.cause b.cause || (nat_eq a.cause b.cause && nat_le a.due b.due)
 
--- the duties of a component stand by cause and due day, where its events stand by their days
+-- the duties of a component stand by cause and due day, where its events are in key order
 abbrev pub DutiesStandInOrder : Type 0
 DutiesStandInOrder =
     (item : Equipment) (classes : List (Key × Class)) (startup : ℕ) (events : List Event) (skipped : List Bool) (t : ℕ)
-    → IsDay item.begin → Ascends (λ a b. nat_le a.key.day b.key.day) events
+    → IsDay item.begin → Ascends (λ a b. is_earlier a.key b.key) events
     → Ascends comes_no_later (duties_of item classes startup events skipped t)

@@ -1,6 +1,7 @@
 -- The events of a component: its facts in key order, each judged on its own day (40 CFR 60.482-2a(b), 60.482-3a(f), 60.482-7a(b), 60.482-8a(b)).
 use Rattle.std.specs.Prelude.{◌≡◌, ℕ, Bool, true, false, not, ◌&&◌, ◌||◌, nat_lt, nat_le, if◌then◌else◌, Option, Some, None, option_map, List, [], ◌∷◌, drop, filter_map}
 use Rattle.std.specs.List.{cons_option}
+use Rattle.list_words.specs.Order.{Ascends}
 use Rattle.ldar_facts.specs.declared.body.FactBody.{FactBody}
 use Rattle.ldar_facts.specs.declared.body.FactBody.TheVariants.{Retire as RetireFact, Reading, Visual, Attempt as AttemptFact, Delay as DelayFact, Release as ReleaseFact, Indication}
 use Rattle.ldar_facts.specs.declared.body.Purpose.{Purpose}
@@ -11,7 +12,7 @@ use Rattle.ldar_facts.specs.declared.body.VisualState.{VisualState}
 use Rattle.ldar_facts.specs.declared.body.VisualState.TheVariants.{Dry, Drips, Designated}
 use Rattle.ldar_facts.specs.declared.class.Class.{Class}
 use Rattle.ldar_facts.specs.declared.key.Key.{Key}
-use Rattle.ldar_facts.specs.Facts.{Entry}
+use Rattle.ldar_facts.specs.Facts.{Entry, is_earlier, goes_first}
 use Rattle.ldar_facts.specs.Named.{reading_instrument}
 use Rattle.ldar_law.specs.declared.equipment.Equipment.{Equipment}
 use Rattle.ldar_law.specs.declared.event.Event.{Event}
@@ -138,3 +139,9 @@ ReadingsAreOfInstrument =
     (item : Equipment) (classes : List (Key × Class)) (facts : List Entry) (e : Entry) (instrument : ℕ)
     → reading_instrument e.1.body ≡ Some instrument
     → fitness_among item classes (facts_of_instrument instrument facts) e ≡ fitness_among item classes facts e
+
+-- the events of a component are in key order, as the facts are
+abbrev pub EventsAscend : Type 0
+EventsAscend =
+    (item : Equipment) (classes : List (Key × Class)) (facts : List Entry)
+    → Ascends goes_first facts → Ascends (λ a b. is_earlier a.key b.key) (events_in item classes facts)

@@ -1,6 +1,6 @@
 //! Laws of readings: a part of the facts judges them as all facts do.
 
-ghost use Rattle.ldar_law.specs.Events.{EventsAreJudgedInOrder, ReadingsAreOfInstrument};
+ghost use Rattle.ldar_law.specs.Events.{EventsAreJudgedInOrder, ReadingsAreOfInstrument, EventsAscend};
 ghost use Rattle.ldar_law.specs.Fitness.{FitnessIsOfInstrument};
 
 /// A reading is judged by its instrument's own facts as by all facts.
@@ -16,4 +16,9 @@ pub fn events_are_judged_in_order()
 /// A reading of a component is judged by the facts of its instrument as by all facts.
 pub fn readings_are_of_instrument()
     ensures { ReadingsAreOfInstrument }
+{}
+
+/// The events of a component are in key order, as the facts are.
+pub fn events_ascend()
+    ensures { EventsAscend }
 {}

@@ -1,0 +1,5 @@
+use Rattle.ldar_law.proofs.EventLemmas.{events_ascend}
+use Rattle.ldar_law.proofs.laws.readings.events_ascend.Goals as goal
+
+pub returns : goal.returns
+returns c = events_ascend
