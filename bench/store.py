@@ -1,6 +1,6 @@
 #!/usr/bin/env python3
 """Measures fact_store: facts of 20,000 components that come in key order, in reverse and shuffled, and each component's
-list read once, beside a plain Rust program of the same job (store.rs).
+list read, beside a plain Rust program of the same job (store.rs).
 
 Attempts stand in the list of their component; readings also in that of one of 200 instruments. What making the facts
 takes is left out. The program crates/facts_bench is proved and built first, so rt and rustc have to be on the path.
@@ -14,6 +14,7 @@ import tempfile
 
 FACTS = int(sys.argv[1]) if len(sys.argv) > 1 else 1_000_000
 RUNS = 3
+READS = 20
 
 here = pathlib.Path(__file__).parent
 crate = here.parent / "crates/facts_bench"
@@ -35,14 +36,16 @@ def measured(program, words):
 
 
 def figures(program, order, sort):
-    """Nanoseconds a fact to insert and to read again, and bytes a fact."""
+    """Nanoseconds a fact to insert and to read again, bytes a fact, and what was read."""
     words = [order, sort, str(FACTS)]
-    (make, made, _), (insert, kept, _), (listed, _, told) = (measured(program, [phase, *words]) for phase in ("make", "insert", "list"))
-    return (insert - make) / FACTS * 1e9, (listed - insert) / FACTS * 1e9, (kept - made) / FACTS, told
+    make, made, _ = measured(program, ["none", *words])
+    insert, kept, _ = measured(program, ["0", *words])
+    read, _, told = measured(program, [str(READS), *words])
+    return (insert - make) / FACTS * 1e9, (read - insert) / READS / FACTS * 1e9, (kept - made) / FACTS, told
 
 
 def main():
-    subprocess.run(["rt", "run", "--", "make", "key", "attempts", "1"], cwd=crate, check=True, stdout=subprocess.DEVNULL, stderr=subprocess.DEVNULL)
+    subprocess.run(["rt", "run", "--", "none", "key", "attempts", "1"], cwd=crate, check=True, stdout=subprocess.DEVNULL, stderr=subprocess.DEVNULL)
     with tempfile.TemporaryDirectory() as folder:
         rust = pathlib.Path(folder) / "rust"
         subprocess.run(["rustc", "-O", "--edition", "2021", "-o", rust, here / "store.rs"], check=True)

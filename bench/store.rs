@@ -1,5 +1,5 @@
 // A plain Rust store of facts by component and instrument in key order: the yardstick of store.py.
-// usage: store PHASE ORDER SORT FACTS    as crates/facts_bench has them
+// usage: store READS ORDER SORT FACTS    as crates/facts_bench has them
 #[derive(Clone, Copy, PartialEq, Eq, PartialOrd, Ord)]
 struct Key { day: u16, minute: u16, handheld: u16, number: u32, index: u16 }
 
@@ -62,7 +62,7 @@ fn mixed(place: u32) -> u32 {
 
 fn main() {
     let words: Vec<String> = std::env::args().skip(1).collect();
-    let [phase, order, sort, count] = &words[..] else { panic!("four words") };
+    let [reads, order, sort, count] = &words[..] else { panic!("four words") };
     let mut places: Vec<u32> = (0..count.parse().expect("a number")).collect();
     match order.as_str() {
         "reverse" => places.reverse(),
@@ -75,20 +75,21 @@ fn main() {
         let said = u64::from(fact.day) ^ u64::from(fact.minute) << 16 ^ u64::from(component_of(fact)) << 32;
         sum = sum.wrapping_mul(3).wrapping_add(said);
     };
+    let times = reads.parse::<u32>();
     let mut store = Store::default();
     for (number, place) in places.iter().enumerate() {
         let fact = fact_at(*place, sort);
-        if phase == "make" {
+        if times.is_err() {
             add(&fact);
         } else {
             let key = Key { day: fact.day, minute: fact.minute, handheld: 1, number: number as u32, index: 0 };
             store.insert(key, fact);
         }
     }
-    if phase == "list" {
+    for _ in 0..times.unwrap_or(0) {
         for place in store.components.iter().flatten() {
             add(&store.arrived[*place as usize].1);
         }
     }
-    println!("{phase} {order} {sort}: {facts} facts, {sum}");
+    println!("{reads} {order} {sort}: {facts} facts, {sum}");
 }

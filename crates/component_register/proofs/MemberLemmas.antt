@@ -3,8 +3,6 @@ use Rattle.std.specs.List.{AllByRecursion, filter_map, cons_option}
 use Rattle.std.specs.List.Sorted.{IsPartitionedBy}
 use Rattle.std.proofs.lemmas.Bool.{cases_Bool, cases_lt, cases_eq, lt-ltb, le-ltb, leb-true, le-leb}
 use Rattle.list_words.specs.Order.{put_in_order, in_order, Ascends}
-use Rattle.list_words.proofs.Ascending.{all_put}
-use Rattle.list_words.proofs.Members.{all_weaker}
 use Rattle.ldar_facts.specs.declared.body.FactBody.{FactBody}
 use Rattle.ldar_facts.specs.declared.body.FactBody.TheVariants.{Component as ComponentFact}
 use Rattle.ldar_facts.specs.Facts.{Entry, goes_first}

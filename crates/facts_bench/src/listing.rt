@@ -5,16 +5,18 @@ use crate::total::Total;
 use fact_store::{FactStore, Place, Steps};
 use std::sync::ledger::{Blank, Ledger};
 
-/// Reads the facts of each component once, list by list.
-pub fn listed<L: Ledger>(blank: Blank, store: &FactStore) -> Total
+/// The total of the facts of each component, list by list, and all of them so many times.
+pub fn listed<L: Ledger>(blank: Blank, store: &FactStore, reads: u32) -> Total
     requires name { blank.name ≡ L.name }
     requires parts { blank.parts ≡ L.parts }
     requires some_part { 0 < L.parts }
 {
     let mut steps = Steps::<L>::new(blank);
     let mut total = Total::new();
-    for component in 1..=COMPONENTS {
-        add_facts(&mut total, store, store.of_component(component), &mut steps);
+    for _ in 0..reads {
+        for component in 1..=COMPONENTS {
+            add_facts(&mut total, store, store.of_component(component), &mut steps);
+        }
     }
     total
 }

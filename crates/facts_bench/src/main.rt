@@ -1,9 +1,9 @@
 //! What `bench/batches.py` and `bench/store.py` measure.
 //!
-//! With `read FILE PASSES` it reads the batches of a file so many times. With `PHASE ORDER SORT FACTS` it makes so many
-//! facts of 20,000 components (`make`), puts them into a store too (`insert`), and reads each component's list too
-//! (`list`); they come in `key`, `reverse` or `shuffled` order, and are `attempts` or `readings`. With no words it does
-//! a little of each.
+//! With `read FILE PASSES` it reads the batches of a file so many times. With `READS ORDER SORT FACTS` it makes so many
+//! facts of 20,000 components, puts them into a store, and reads each component's list so many times; where READS is no
+//! number it makes them alone. They come in `key`, `reverse` or `shuffled` order, and are `attempts` or `readings`. With
+//! no words it does a little of each.
 #![tactic(auto)]
 
 mod filling;
@@ -14,10 +14,12 @@ mod sort;
 mod total;
 
 use filling::filled;
+use ldar_facts::Memory;
 use listing::listed;
 use order::{Order, places};
 use reading::read_all;
 use sort::{Sort, fact_at};
+use std::alloc::Global;
 use std::marker::Brand;
 use std::sync::ledger::Blank;
 use std::{env, fs};
@@ -28,7 +30,7 @@ fn main(rt: HostRuntime) -> Result<(), anyhow::Error> {
     let words: Vec<&str> = words.iter().map(|word| word.as_str()).collect(rt.alloc())?;
     match words.as_slice() {
         ["read", path, passes] => read(&rt, path, passes.parse().unwrap_or(1)),
-        [phase, order, sort, facts] => store(&rt, phase, order, sort, facts.parse().unwrap_or(0)),
+        [reads, order, sort, facts] => store(&rt, reads, order, sort, facts.parse().unwrap_or(0)),
         _ => a_little(&rt),
     }
 }
@@ -47,61 +49,43 @@ fn read(rt: &HostRuntime, path: &str, passes: u32) -> Result<(), anyhow::Error> 
 
 fn store(
     rt: &HostRuntime,
-    phase: &str,
+    reads: &str,
     order: &str,
     sort: &str,
     facts: u32,
 ) -> Result<(), anyhow::Error> {
-    let total = run(rt, phase, order_of(order), sort_of(sort), facts)?;
+    let places = places(rt.alloc(), Order::of(order), facts)?;
+    let total = match reads.parse::<u32>() {
+        Ok(reads) => stored(rt.alloc(), &places, Sort::of(sort), reads)?,
+        Err(_) => made(&places, Sort::of(sort)),
+    };
     println!(rt;
-        "{phase} {order} {sort}: {} facts, {}",
+        "{reads} {order} {sort}: {} facts, {}",
         total.facts, total.sum
     )?;
     Ok(())
 }
 
-fn order_of(word: &str) -> Order {
-    match word {
-        "reverse" => Order::Reverse,
-        "shuffled" => Order::Shuffled,
-        _ => Order::Key,
-    }
-}
-
-fn sort_of(word: &str) -> Sort {
-    match word {
-        "readings" => Sort::Readings,
-        _ => Sort::Attempts,
-    }
-}
-
-fn run(
-    rt: &HostRuntime,
-    phase: &str,
-    order: Order,
-    sort: Sort,
-    facts: u32,
-) -> Result<Total, anyhow::Error> {
-    let places = places(rt.alloc(), order, facts)?;
+/// The total of the facts of these places, which are put into no store.
+fn made(places: &[u32], sort: Sort) -> Total {
     let mut total = Total::new();
-    if phase == "make" {
-        for place in &places {
-            total.add(&fact_at(*place, sort));
-        }
-        return Ok(total);
+    for place in places {
+        total.add(&fact_at(*place, sort));
     }
-    let store = filled(rt.alloc(), &places, sort)?;
-    if phase == "list" {
-        return Ok(listed::<Brand>(Blank::new(1), &store));
-    }
-    Ok(total)
+    total
+}
+
+/// The total of the facts of these places, which are read so many times from a store, component by component.
+fn stored(alloc: Global, places: &[u32], sort: Sort, reads: u32) -> Result<Total, Memory> {
+    let store = filled(alloc, places, sort)?;
+    Ok(listed::<Brand>(Blank::new(1), &store, reads))
 }
 
 fn a_little(rt: &HostRuntime) -> Result<(), anyhow::Error> {
     read(rt, "batches", 2)?;
     for order in ["key", "reverse", "shuffled"] {
         for sort in ["attempts", "readings"] {
-            store(rt, "list", order, sort, 40_000)?;
+            store(rt, "1", order, sort, 40_000)?;
         }
     }
     Ok(())

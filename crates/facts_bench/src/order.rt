@@ -8,6 +8,17 @@ pub enum Order {
     Shuffled,
 }
 
+impl Order {
+    /// The order that a word names: `key` where it names no other.
+    pub fn of(word: &str) -> Order {
+        match word {
+            "reverse" => Order::Reverse,
+            "shuffled" => Order::Shuffled,
+            _ => Order::Key,
+        }
+    }
+}
+
 /// The places of so many facts, in the order in which they come.
 pub fn places(alloc: Global, order: Order, count: u32) -> Result<Vec<u32>, AllocError> {
     let mut places: Vec<u32> = (0..count).collect(alloc)?;

@@ -9,6 +9,16 @@ pub enum Sort {
     Readings,
 }
 
+impl Sort {
+    /// The sort that a word names: `attempts` where it names no other.
+    pub fn of(word: &str) -> Sort {
+        match word {
+            "readings" => Sort::Readings,
+            _ => Sort::Attempts,
+        }
+    }
+}
+
 /// How many components the facts are of.
 pub const COMPONENTS: u16 = 20_000;
 

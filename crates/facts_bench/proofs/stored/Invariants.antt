@@ -1,4 +1,4 @@
-use Rattle.facts_bench.proofs.run.Given as goal
+use Rattle.facts_bench.proofs.stored.Given as goal
 
 abbrev pub ghosts-listed : goal.ghosts-listed
 ghosts-listed a = record { name = a.blank.name; parts = a.blank.parts }
