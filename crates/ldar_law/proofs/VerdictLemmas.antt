@@ -3,19 +3,20 @@ use Rattle.std.specs.Prelude.{Contains, find}
 use Rattle.std.specs.Option.{option_map}
 use Rattle.std.proofs.lemmas.Bool.{cases_Bool, false≢true}
 use Rattle.std.proofs.lemmas.Bool.Decides.{nat_tests}
+use Rattle.std.proofs.lemmas.List.Sums.{sum_by-cons, sum_by-append}
 use Rattle.list_words.specs.Words.{first_given, somewhere, Passes}
 use Rattle.list_words.specs.Order.{Ascends}
 use Rattle.list_words.proofs.Members.{Among, all_at, among_from_Contains, Contains-from_among}
 use Rattle.list_words.proofs.WordLaws.{somewhere_decides, first_given_is_first, first_given_finds}
 use Rattle.ldar_facts.specs.declared.batch.Batch.{Batch}
 use Rattle.ldar_facts.specs.Facts.{Entry, entries_of, facts_of}
-use Rattle.ldar_facts.proofs.OrderFree.{order_free}
+use Rattle.ldar_facts.proofs.OrderFree.{order_free, facts_count}
 use Rattle.ldar_law.specs.declared.verdict.Verdict.{Verdict}
 use Rattle.ldar_law.specs.declared.verdict.Verdict.TheVariants.{Pass, Denied, Full}
 use Rattle.ldar_law.proofs.Gifts.{cases_Option}
 use Rattle.ldar_law.specs.Judged.{Case}
-use Rattle.ldar_law.specs.Verdicts.{Rule, rules, denial_at, first_denial, facts_with, verdict_by, verdict_on, is_pass, is_ruly}
-use Rattle.ldar_law.specs.DenialLaws.{LeastRuleIsTold, NoRuleDenies, FirstFactIsTold, PassesUndenied, FullUndenied, RulyIsEach, VerdictForgetsOrder}
+use Rattle.ldar_law.specs.Verdicts.{Rule, rules, denial_at, first_denial, facts_with, verdict_by, verdict_on, is_pass, is_ruly, unruly_at}
+use Rattle.ldar_law.specs.DenialLaws.{LeastRuleIsTold, NoRuleDenies, FirstFactIsTold, PassesUndenied, FullUndenied, RulyIsEach, RulyHasNoUnruly, VerdictForgetsOrder}
 
 -- ---- the least rule
 
@@ -210,6 +211,41 @@ ruly_is_each history =
             | inr nowhere ↦ ap not nowhere
           ],
     )
+
+-- a batch of a history has no more facts, with those before it, than the history has
+facts_before : (before : List Batch) (batch : Batch) (after : List Batch)
+    → facts_with before batch ≤ length (facts_of (before ++ batch ∷ after))
+facts_before before batch after =
+    let size : Batch → ℕ = λ b. length b.facts in
+    let whole = facts_count (before ++ batch ∷ after) in
+    let front = facts_count before in
+    let split = sum_by-append size before (batch ∷ after) in
+    let first = sum_by-cons size batch after in
+    omega (arith, whole, front, split, first)
+
+-- .. so that it passes where it is not denied
+passes_there : (before : List Batch) (batch : Batch) (after : List Batch) → length (facts_of (before ++ batch ∷ after)) ≤ 8_000_000
+    → first_denial before batch ≡ None → verdict_on before batch ≡ Pass
+passes_there before batch after fits none =
+    let within = facts_before before batch after in
+    ap (λ o. verdict_by o (facts_with before batch)) none ∙ pass_of (facts_with before batch) (omega (arith, within, fits))
+
+-- what is unruly is denied
+undenied : {X Y : Type 0} (f : X → Y) (o : Option X) → option_map f o ≡ None → o ≡ None
+undenied f None e = refl
+undenied f (Some x) e = absurd cc
+
+pub ruly_has_no_unruly : RulyHasNoUnruly
+ruly_has_no_unruly history fits = (
+  λ ruly. none_first unruly_at history (λ before batch after stands.
+      let passes = (ruly_is_each history).0 ruly before batch after stands in
+      let placed : ℕ × ℕ → ℕ × ℕ = λ denial. (length before + 1, denial.1) in
+      ap (option_map placed) ((pass_told (first_denial before batch) (facts_with before batch) passes).0)),
+  λ none. (ruly_is_each history).1 (λ before batch after stands.
+      let placed : ℕ × ℕ → ℕ × ℕ = λ denial. (length before + 1, denial.1) in
+      passes_there before batch after (subst (λ h. length (facts_of h) ≤ 8_000_000) stands fits)
+      (undenied placed (first_denial before batch) (none_given unruly_at history none before batch after stands))),
+)
 
 pub verdict_forgets_order : VerdictForgetsOrder
 verdict_forgets_order history other batch moved differ =

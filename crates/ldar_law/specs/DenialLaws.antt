@@ -1,5 +1,5 @@
 -- What the verdict on a batch means, as laws.
-use Rattle.std.specs.Prelude.{◌≡◌, ℕ, ◌≤◌, ◌<◌, ◌↔◌, true, false, IsTrue, Option, Some, None, List, [], ◌∷◌, ◌++◌, Contains, IsPermutation}
+use Rattle.std.specs.Prelude.{◌≡◌, ℕ, ◌≤◌, ◌<◌, ◌↔◌, true, false, IsTrue, Option, Some, None, List, [], ◌∷◌, ◌++◌, length, Contains, IsPermutation}
 use Rattle.list_words.specs.Words.{GivesFirst}
 use Rattle.ldar_facts.specs.declared.batch.Batch.{Batch}
 use Rattle.ldar_facts.specs.declared.class.Class.{Class}
@@ -12,7 +12,7 @@ use Rattle.ldar_law.specs.Force.{class_by}
 use Rattle.ldar_law.specs.Judged.{Case, register_with}
 use Rattle.ldar_law.specs.RegisterLaws.{with_class}
 use Rattle.ldar_law.specs.Slices.{register_facts}
-use Rattle.ldar_law.specs.Verdicts.{Rule, rules, least_rule, denial_at, denial_after, first_denial, facts_with, verdict_on, is_ruly}
+use Rattle.ldar_law.specs.Verdicts.{Rule, rules, least_rule, denial_at, denial_after, first_denial, facts_with, verdict_on, is_ruly, first_unruly}
 
 -- a fact is denied by the least of the rules that deny it
 abbrev pub LeastRuleIsTold : Type 0
@@ -55,6 +55,11 @@ RulyIsEach =
     (history : List Batch)
     → IsTrue (is_ruly history) ↔ ((before : List Batch) (batch : Batch) (after : List Batch)
     → history ≡ before ++ batch ∷ after → verdict_on before batch ≡ Pass)
+
+-- a history that is no more than it may be is ruly exactly where it has no unruly batch
+abbrev pub RulyHasNoUnruly : Type 0
+RulyHasNoUnruly =
+    (history : List Batch) → length (facts_of history) ≤ 8_000_000 → IsTrue (is_ruly history) ↔ (first_unruly history ≡ None)
 
 -- the order in which batches came has no effect on the verdict on another
 abbrev pub VerdictForgetsOrder : Type 0

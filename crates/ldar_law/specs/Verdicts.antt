@@ -85,6 +85,10 @@ is_pass _ = false
 abbrev pub is_ruly : List Batch → Bool
 is_ruly history = not (somewhere (λ before batch after. not (is_pass (verdict_on before batch))) history)
 
--- the first batch that is denied after those before it: its position, from 1, and the rule
+-- a batch that is denied after those before it: its position, from 1, and the rule
+abbrev pub unruly_at : List Batch → Batch → List Batch → Option (ℕ × ℕ)
+unruly_at before batch after = option_map (λ denial. (length before + 1, denial.1)) (first_denial before batch)
+
+-- the first batch that is denied after those before it
 abbrev pub first_unruly : List Batch → Option (ℕ × ℕ)
-first_unruly history = first_given (λ before batch after. option_map (λ denial. (length before + 1, denial.1)) (first_denial before batch)) history
+first_unruly history = first_given unruly_at history

@@ -1,6 +1,6 @@
 //! What the verdict on a batch means: functions with nothing to do, whose contracts are the laws.
 
-ghost use Rattle.ldar_law.specs.DenialLaws.{LeastRuleIsTold, NoRuleDenies, FirstFactIsTold, PassesUndenied, FullUndenied, RulyIsEach, VerdictForgetsOrder, RegisterDecides, ClassAfterFacts};
+ghost use Rattle.ldar_law.specs.DenialLaws.{LeastRuleIsTold, NoRuleDenies, FirstFactIsTold, PassesUndenied, FullUndenied, RulyIsEach, RulyHasNoUnruly, VerdictForgetsOrder, RegisterDecides, ClassAfterFacts};
 
 /// A fact is denied by the least of the rules that deny it.
 pub fn least_rule()
@@ -23,9 +23,11 @@ pub fn full_history()
     ensures { FullUndenied }
 {}
 
-/// A history is ruly exactly where each batch passes after those before it.
+/// A history is ruly exactly where each batch passes after those before it, and where it has 8,000,000 facts at most,
+/// exactly where no batch is denied.
 pub fn ruly_history()
-    ensures { RulyIsEach }
+    ensures each { RulyIsEach }
+    ensures none_unruly { RulyHasNoUnruly }
 {}
 
 /// The order in which batches came has no effect on the verdict on another.
