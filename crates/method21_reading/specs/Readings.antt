@@ -1,0 +1,34 @@
+use Rattle.std.specs.Prelude.{ℕ, Bool, false, not, ◌&&◌, nat_eq, nat_lt, if◌then◌else◌, Option, Some, None, List}
+use Rattle.ldar_facts.specs.declared.body.FactBody.{FactBody}
+use Rattle.ldar_facts.specs.declared.body.FactBody.TheVariants.{Reading}
+use Rattle.ldar_facts.specs.declared.key.Key.{Key}
+use Rattle.ldar_facts.specs.Facts.{Entry, is_earlier}
+use Rattle.ldar_law.specs.declared.fitness.Fitness.{Fitness}
+use Rattle.ldar_law.specs.declared.fitness.Fitness.TheVariants.{NoCalibration}
+use Rattle.ldar_law.specs.Fitness.{fitness_of, is_calibration, is_drift_past}
+
+-- the fitness of a reading with this key by a leak definition, among facts in key order; what is no reading has no calibration
+abbrev pub fitness_by : ℕ → List Entry → Key → FactBody → Fitness
+fitness_by limit facts key (Reading _ instrument _ _ ppm _) = fitness_of facts limit key instrument ppm
+fitness_by limit facts key _ = NoCalibration
+
+-- the key, if there is one, is earlier than another
+abbrev pub is_before : Option Key → Key → Bool
+is_before None later = false
+is_before (Some key) later = is_earlier key later
+
+-- the earlier of a key and another, if there is one
+abbrev pub earlier_of : Option Key → Key → Option Key
+earlier_of None key = Some key
+earlier_of (Some nearest) key = if is_earlier key nearest then Some key else Some nearest
+
+-- the next calibration after a reading, when one more fact has been looked at
+abbrev pub nearer : Key → ℕ → Option Key → Entry → Option Key
+nearer key instrument next e =
+    if is_calibration instrument e.1.body && is_earlier key e.0 then earlier_of next e.0 else next
+
+-- the fact voids a reading, where this is the next calibration after the reading
+abbrev pub is_voided_until : Option Key → Key → ℕ → ℕ → ℕ → Entry → Bool
+is_voided_until next key instrument limit ppm e =
+    nat_lt ppm limit && is_drift_past instrument limit ppm e.1.body && nat_eq e.0.day key.day && is_earlier key e.0
+    && not (is_before next e.0)

@@ -1,0 +1,11 @@
+//! Readings by EPA Method 21: the leak definition, whether a reading is fit, and the events of a component.
+#![tactic(auto)]
+
+mod calibration;
+mod drift;
+mod fitness;
+mod leak_definition;
+mod precision;
+
+pub use fitness::fit;
+pub use leak_definition::limit;
