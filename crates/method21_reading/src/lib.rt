@@ -3,9 +3,13 @@
 
 mod calibration;
 mod drift;
+mod events;
 mod fitness;
+mod happening;
 mod leak_definition;
 mod precision;
+mod standing;
 
+pub use events::events_of;
 pub use fitness::fit;
 pub use leak_definition::limit;
