@@ -1,11 +1,16 @@
-use Rattle.std.specs.Prelude.{ℕ, Bool, false, not, ◌&&◌, nat_eq, nat_lt, if◌then◌else◌, Option, Some, None, List}
+use Rattle.std.specs.Prelude.{◌≡◌, ℕ, Bool, false, not, ◌&&◌, nat_eq, nat_lt, if◌then◌else◌, Option, Some, None, List, filter_map}
 use Rattle.ldar_facts.specs.declared.body.FactBody.{FactBody}
 use Rattle.ldar_facts.specs.declared.body.FactBody.TheVariants.{Reading}
+use Rattle.ldar_facts.specs.declared.class.Class.{Class}
 use Rattle.ldar_facts.specs.declared.key.Key.{Key}
 use Rattle.ldar_facts.specs.Facts.{Entry, is_earlier}
+use Rattle.ldar_law.specs.declared.equipment.Equipment.{Equipment}
+use Rattle.ldar_law.specs.declared.event.Event.{Event}
 use Rattle.ldar_law.specs.declared.fitness.Fitness.{Fitness}
 use Rattle.ldar_law.specs.declared.fitness.Fitness.TheVariants.{NoCalibration}
+use Rattle.ldar_law.specs.Events.{events_in, fitness_in}
 use Rattle.ldar_law.specs.Fitness.{fitness_of, is_calibration, is_drift_past}
+use Rattle.ldar_law.specs.Slices.{facts_of_component}
 
 -- the fitness of a reading with this key by a leak definition, among facts in key order; what is no reading has no calibration
 abbrev pub fitness_by : ℕ → List Entry → Key → FactBody → Fitness
@@ -32,3 +37,12 @@ abbrev pub is_voided_until : Option Key → Key → ℕ → ℕ → ℕ → Entr
 is_voided_until next key instrument limit ppm e =
     nat_lt ppm limit && is_drift_past instrument limit ppm e.1.body && nat_eq e.0.day key.day && is_earlier key e.0
     && not (is_before next e.0)
+
+-- where the facts are those of the component among all, and the fitness that of each reading among all, the events are the
+-- component's among all
+abbrev pub AreEventsAmongAll : Equipment → List (Key × Class) → List Entry → List Fitness → List Event → Type 0
+AreEventsAmongAll item classes facts fitness events =
+    (all : List Entry)
+    → facts ≡ facts_of_component item.component all
+    → fitness ≡ filter_map (fitness_in item classes all) facts
+    → events ≡ events_in item classes all

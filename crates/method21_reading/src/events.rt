@@ -1,6 +1,7 @@
 ghost use Rattle.std.specs.Prelude.{◌≡◌, ◌++◌, OnOk, IfOk};
 ghost use Rattle.std.specs.Option.{option_to_list};
 ghost use Rattle.ldar_law.specs.Events as law;
+ghost use Rattle.method21_reading.specs.Readings.{AreEventsAmongAll};
 
 use crate::happening::happening;
 use crate::standing::as_it_stands;
@@ -19,6 +20,7 @@ pub fn events_of(
     fitness: &[Fitness],
 ) -> Result<Vec<Event>, Memory>
     ensures value { IfOk result (λ events. events.items ≡ law.events_with equipment.now classes.now facts.now fitness.now) }
+    ensures of_all { IfOk result (λ events. AreEventsAmongAll equipment.now classes.now facts.now fitness.now events.items) }
 {
     let mut events = Vec::new(alloc);
     let mut left = fitness;
