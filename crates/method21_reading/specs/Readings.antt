@@ -4,18 +4,27 @@ use Rattle.ldar_facts.specs.declared.body.FactBody.TheVariants.{Reading}
 use Rattle.ldar_facts.specs.declared.class.Class.{Class}
 use Rattle.ldar_facts.specs.declared.key.Key.{Key}
 use Rattle.ldar_facts.specs.Facts.{Entry, is_earlier}
+use Rattle.ldar_facts.specs.Named.{reading_instrument}
 use Rattle.ldar_law.specs.declared.equipment.Equipment.{Equipment}
 use Rattle.ldar_law.specs.declared.event.Event.{Event}
 use Rattle.ldar_law.specs.declared.fitness.Fitness.{Fitness}
 use Rattle.ldar_law.specs.declared.fitness.Fitness.TheVariants.{NoCalibration}
 use Rattle.ldar_law.specs.Events.{events_in, fitness_in}
 use Rattle.ldar_law.specs.Fitness.{fitness_of, is_calibration, is_drift_past}
-use Rattle.ldar_law.specs.Slices.{facts_of_component}
+use Rattle.ldar_law.specs.Slices.{facts_of_component, facts_of_instrument}
 
 -- the fitness of a reading with this key by a leak definition, among facts in key order; what is no reading has no calibration
 abbrev pub fitness_by : ℕ → List Entry → Key → FactBody → Fitness
 fitness_by limit facts key (Reading _ instrument _ _ ppm _) = fitness_of facts limit key instrument ppm
 fitness_by limit facts key _ = NoCalibration
+
+-- where the facts are those of the reading's instrument among all, the fitness is that among all
+abbrev pub IsFitnessAmongAll : ℕ → List Entry → Key → FactBody → Fitness → Type 0
+IsFitnessAmongAll limit facts key body fitness =
+    (all : List Entry) (instrument : ℕ)
+    → reading_instrument body ≡ Some instrument
+    → facts ≡ facts_of_instrument instrument all
+    → fitness ≡ fitness_by limit all key body
 
 -- the key, if there is one, is earlier than another
 abbrev pub is_before : Option Key → Key → Bool

@@ -1,6 +1,6 @@
 ghost use Rattle.std.specs.Prelude.{◌≡◌};
 ghost use Rattle.ldar_law.specs.Fitness.{fitness_of};
-ghost use Rattle.method21_reading.specs.Readings.{fitness_by};
+ghost use Rattle.method21_reading.specs.Readings.{fitness_by, IsFitnessAmongAll};
 
 use crate::calibration::{is_calibrated, is_calibrated_within};
 use crate::drift::voiding_drift;
@@ -13,6 +13,7 @@ use ldar_law::Fitness;
 /// are in key order; facts of others among them have no effect. A fact that is no reading has no calibration.
 pub fn fit(reading: &Fact, key: &Key, limit: u32, instrument: &[(Key, Fact)]) -> Fitness
     ensures value { result ≡ fitness_by limit instrument.now key.now reading.now.body }
+    ensures of_all { IsFitnessAmongAll limit instrument.now key.now reading.now.body result }
 {
     match reading.body {
         FactBody::Reading {
