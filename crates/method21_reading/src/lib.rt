@@ -13,3 +13,6 @@ mod standing;
 pub use events::events_of;
 pub use fitness::fit;
 pub use leak_definition::limit;
+
+#[cfg(test)]
+mod tests;
