@@ -15,7 +15,7 @@ fn has_drifted(value: u32, readings: (u32, u32, u32)) -> bool
     known < known.saturating_sub(sum_of(readings)) * 10
 }
 
-/// The product of a number and one below 3,000,000.
+/// The product of a number and one of at most 3,000,000.
 fn times(number: u32, other: u64) -> u64
     requires { other ≤ 3_000_000 }
     ensures value { result ≡ number * other }

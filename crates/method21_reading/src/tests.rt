@@ -1,5 +1,5 @@
-ghost use Rattle.std.specs.Prelude.{◌≤◌};
-ghost use Rattle.std.specs.List.{AllByRecursion};
+ghost use Rattle.std.specs.Prelude.{◌≡◌, ◌≤◌};
+ghost use Rattle.ldar_facts.specs.declared.class.Designation.TheVariants.{Plain};
 ghost use Rattle.ldar_facts.specs.Fields.{IsFact};
 
 use crate::{events_of, fit, limit};
@@ -8,6 +8,7 @@ use ldar_facts::{
     Class, Designation, Fact, FactBody, Key, Kind, Purpose, Service, Sort, VisualState,
 };
 use ldar_law::{Equipment, Event, Fitness, Happening};
+use std::alloc::Global;
 use std::test::Fail;
 
 /// A day by its text.
@@ -95,7 +96,9 @@ fn judged(day: Day, minute: u16, ppm: u16, facts: &[(Key, Fact)]) -> Fitness {
 }
 
 /// A class with no designation.
-fn plain(service: Service) -> Class {
+fn plain(service: Service) -> Class
+    ensures { result ≡ record { service = service; designation = Plain; plan = 0; month = 1 } }
+{
     Class {
         service,
         designation: Designation::Plain,
@@ -311,4 +314,158 @@ fn a_reading_at_the_leak_definition_is_a_leak(rt: HostRuntime) -> Result<(), Fai
         assert_eq!(rt; events.as_slice(), [event].as_slice(), "{ppm}");
     }
     Ok(())
+}
+
+/// The events of one fact of a pump in light liquid service.
+fn event_of_pump(alloc: Global, fact: (Key, Fact)) -> Result<Option<Happening>, Fail> {
+    let item = component(day("2020-01-15")?, Kind::Pump, false, plain(Service::Light));
+    let events = events_of(alloc, &item, &[], &[fact], &[Fitness::Fit])?;
+    Ok(events.first().map(|event| event.what))
+}
+
+/// A visual inspection, judged.
+fn look(drips: bool, designated: bool, leak: bool) -> Option<Happening> {
+    Some(Happening::Look {
+        drips,
+        designated,
+        leak,
+    })
+}
+
+#[test]
+fn a_visual_inspection_and_an_indication_are_judged(rt: HostRuntime) -> Result<(), Fail> {
+    let on = day("2024-02-20")?;
+    let states = [
+        (VisualState::Dry, look(false, false, false)),
+        (VisualState::Drips, look(true, false, false)),
+        (VisualState::Designated, look(true, true, true)),
+    ];
+    for (state, what) in states {
+        let body = FactBody::Visual {
+            component: 1,
+            state,
+        };
+        assert_eq!(rt; event_of_pump(rt.alloc(), at(on, 600, body))?, what);
+    }
+    // A pump has no sensor whose indications are leaks.
+    let leak = false;
+    for present in [false, true] {
+        let sorts = [
+            (Sort::Sensor, Happening::Sensor { present, leak }),
+            (Sort::Evidence, Happening::Evidence { present }),
+        ];
+        for (sort, what) in sorts {
+            let body = FactBody::Indication {
+                component: 1,
+                sort,
+                present,
+            };
+            assert_eq!(rt; event_of_pump(rt.alloc(), at(on, 600, body))?, Some(what));
+        }
+    }
+    Ok(())
+}
+
+#[test]
+fn other_facts_are_events_as_they_stand(rt: HostRuntime) -> Result<(), Fail> {
+    let on = day("2024-02-20")?;
+    let expected = Some(day("2024-06-10")?);
+    let attempt = FactBody::Attempt {
+        component: 1,
+        complete: true,
+    };
+    let delay = FactBody::Delay {
+        component: 1,
+        ground: 1,
+        signer: 9,
+        expected,
+    };
+    let delayed = Happening::Delay {
+        ground: 1,
+        signer: 9,
+        expected,
+    };
+    let class = FactBody::Class {
+        component: 1,
+        class: plain(Service::Gas),
+    };
+    let cases = [
+        (
+            at(on, 600, attempt),
+            Some(Happening::Attempt { complete: true }),
+        ),
+        (at(on, 600, delay), Some(delayed)),
+        (
+            at(on, 600, FactBody::Release { component: 1 }),
+            Some(Happening::Release),
+        ),
+        (
+            at(on, 600, FactBody::Retire { component: 1 }),
+            Some(Happening::Retire),
+        ),
+        // What the register says of the component is no event.
+        (at(on, 600, class), None),
+    ];
+    for (fact, what) in cases {
+        assert_eq!(rt; event_of_pump(rt.alloc(), fact)?, what);
+    }
+    Ok(())
+}
+
+#[test]
+fn a_reading_counts_by_its_own_day_and_fitness(rt: HostRuntime) -> Result<(), Fail> {
+    let alloc = rt.alloc();
+    let first = day("2024-02-20")?;
+    let second = day("2024-03-20")?;
+    let mut item = component(day("2024-02-21")?, Kind::Valve, false, plain(Service::Gas));
+    let retire = at(second, 0, FactBody::Retire { component: 1 });
+    let facts = [reading(first, 700), retire, reading(second, 700)];
+    let fitness = [Fitness::NoPrecision, Fitness::Fit];
+    let fit = [Fitness::Fit, Fitness::Fit];
+    let nde = Class {
+        designation: Designation::Nde,
+        ..plain(Service::Gas)
+    };
+    let leak = read(700, true, false, true);
+    let kept = read(700, true, false, false);
+    let lost = read(700, false, false, false);
+    // The component is not in service on the first day.
+    let found = two_readings(alloc, &item, &[], &facts, &fit)?;
+    assert_eq!(rt; found, (lost, leak));
+    item.begin = first;
+    let found = two_readings(alloc, &item, &[], &facts, &fit)?;
+    assert_eq!(rt; found, (leak, leak));
+    // The first reading is not fit; the fact between them takes no fitness.
+    let found = two_readings(alloc, &item, &[], &facts, &fitness)?;
+    assert_eq!(rt; found, (lost, leak));
+    // It is retired from the second day on.
+    item.retired = Some(second);
+    let found = two_readings(alloc, &item, &[], &facts, &fit)?;
+    assert_eq!(rt; found, (leak, lost));
+    // From the second day on it has no detectable emissions, and then another class.
+    item.retired = None;
+    let classes = [(key(second, 0), nde)];
+    let found = two_readings(alloc, &item, &classes, &facts, &fit)?;
+    assert_eq!(rt; found, (leak, kept));
+    let classes = [
+        (key(first, 0), nde),
+        (key(second, 0), plain(Service::Vacuum)),
+    ];
+    let found = two_readings(alloc, &item, &classes, &facts, &fit)?;
+    assert_eq!(rt; found, (kept, lost));
+    Ok(())
+}
+
+/// The first and the last event.
+fn two_readings(
+    alloc: Global,
+    item: &Equipment,
+    classes: &[(Key, Class)],
+    facts: &[(Key, Fact)],
+    fitness: &[Fitness],
+) -> Result<(Happening, Happening), Fail> {
+    let events = events_of(alloc, item, classes, facts, fitness)?;
+    let first = events.first().ok_or("no event")?.what;
+    let last = events.last().ok_or("no event")?.what;
+    Ok((first, last))
 }
