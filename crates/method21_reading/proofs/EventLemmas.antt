@@ -1,0 +1,19 @@
+use Rattle.std.proofs.Common.{◌≡◌, List, ap, ◌∙◌}
+use Rattle.std.specs.List.{filter_map}
+use Rattle.ldar_facts.specs.declared.class.Class.{Class}
+use Rattle.ldar_facts.specs.declared.key.Key.{Key}
+use Rattle.ldar_facts.specs.Facts.{Entry}
+use Rattle.ldar_law.specs.declared.equipment.Equipment.{Equipment}
+use Rattle.ldar_law.specs.declared.event.Event.{Event}
+use Rattle.ldar_law.specs.declared.fitness.Fitness.{Fitness}
+use Rattle.ldar_law.specs.Events.{events_with, fitness_in}
+use Rattle.ldar_law.proofs.EventLemmas.{events_are_judged_in_order}
+use Rattle.method21_reading.specs.Readings.{AreEventsAmongAll}
+
+pub events_among_all : (item : Equipment) (classes : List (Key × Class)) (facts : List Entry) (fitness : List Fitness) (events : List Event) → events ≡ events_with item classes facts fitness → AreEventsAmongAll item classes facts fitness events
+events_among_all item classes facts fitness events given =
+    λ all own judged.
+    given
+    ∙ ap (events_with item classes facts) judged
+    ∙ ap (λ es. events_with item classes es (filter_map (fitness_in item classes all) es)) own
+    ∙ events_are_judged_in_order item classes all

@@ -1,0 +1,57 @@
+use Rattle.std.specs.Prelude.{◌≡◌, ℕ, Bool, false, not, ◌&&◌, nat_eq, nat_lt, if◌then◌else◌, Option, Some, None, List, filter_map}
+use Rattle.ldar_facts.specs.declared.body.FactBody.{FactBody}
+use Rattle.ldar_facts.specs.declared.body.FactBody.TheVariants.{Reading}
+use Rattle.ldar_facts.specs.declared.class.Class.{Class}
+use Rattle.ldar_facts.specs.declared.key.Key.{Key}
+use Rattle.ldar_facts.specs.Facts.{Entry, is_earlier}
+use Rattle.ldar_facts.specs.Named.{reading_instrument}
+use Rattle.ldar_law.specs.declared.equipment.Equipment.{Equipment}
+use Rattle.ldar_law.specs.declared.event.Event.{Event}
+use Rattle.ldar_law.specs.declared.fitness.Fitness.{Fitness}
+use Rattle.ldar_law.specs.declared.fitness.Fitness.TheVariants.{NoCalibration}
+use Rattle.ldar_law.specs.Events.{events_in, fitness_in}
+use Rattle.ldar_law.specs.Fitness.{fitness_of, is_calibration, is_drift_past}
+use Rattle.ldar_law.specs.Slices.{facts_of_component, facts_of_instrument}
+
+-- the fitness of a reading with this key by a leak definition, among facts in key order; what is no reading has no calibration
+abbrev pub fitness_by : ℕ → List Entry → Key → FactBody → Fitness
+fitness_by limit facts key (Reading _ instrument _ _ ppm _) = fitness_of facts limit key instrument ppm
+fitness_by limit facts key _ = NoCalibration
+
+-- where the facts are those of the reading's instrument among all, the fitness is that among all
+abbrev pub IsFitnessAmongAll : ℕ → List Entry → Key → FactBody → Fitness → Type 0
+IsFitnessAmongAll limit facts key body fitness =
+    (all : List Entry) (instrument : ℕ)
+    → reading_instrument body ≡ Some instrument
+    → facts ≡ facts_of_instrument instrument all
+    → fitness ≡ fitness_by limit all key body
+
+-- the key, if there is one, is earlier than another
+abbrev pub is_before : Option Key → Key → Bool
+is_before None later = false
+is_before (Some key) later = is_earlier key later
+
+-- the earlier of a key and another, if there is one
+abbrev pub earlier_of : Option Key → Key → Option Key
+earlier_of None key = Some key
+earlier_of (Some nearest) key = if is_earlier key nearest then Some key else Some nearest
+
+-- the next calibration after a reading, when one more fact has been looked at
+abbrev pub nearer : Key → ℕ → Option Key → Entry → Option Key
+nearer key instrument next e =
+    if is_calibration instrument e.1.body && is_earlier key e.0 then earlier_of next e.0 else next
+
+-- the fact voids a reading, where this is the next calibration after the reading
+abbrev pub is_voided_until : Option Key → Key → ℕ → ℕ → ℕ → Entry → Bool
+is_voided_until next key instrument limit ppm e =
+    nat_lt ppm limit && is_drift_past instrument limit ppm e.1.body && nat_eq e.0.day key.day && is_earlier key e.0
+    && not (is_before next e.0)
+
+-- where the facts are those of the component among all, and the fitness that of each reading among all, the events are the
+-- component's among all
+abbrev pub AreEventsAmongAll : Equipment → List (Key × Class) → List Entry → List Fitness → List Event → Type 0
+AreEventsAmongAll item classes facts fitness events =
+    (all : List Entry)
+    → facts ≡ facts_of_component item.component all
+    → fitness ≡ filter_map (fitness_in item classes all) facts
+    → events ≡ events_in item classes all

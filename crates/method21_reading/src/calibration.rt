@@ -1,0 +1,88 @@
+ghost use Rattle.std.specs.Prelude.{◌≡◌, ◌||◌};
+ghost use Rattle.std.specs.List.{list_any};
+ghost use Rattle.ldar_facts.specs.Facts.{is_earlier};
+ghost use Rattle.ldar_law.specs.Fitness as law;
+ghost use Rattle.method21_reading.specs.Readings as readings;
+
+use ldar_facts::{Fact, FactBody, Key, precedes};
+
+/// Whether a fact is a calibration of the instrument.
+fn is_calibration(instrument: u16, body: &FactBody) -> bool
+    ensures value { result ≡ law.is_calibration instrument body.now }
+{
+    match *body {
+        FactBody::Calibration { instrument: of, .. } => of == instrument,
+        _ => false,
+    }
+}
+
+/// Whether a fact is a calibration of the instrument with a gas of at most so many parts per million.
+fn is_calibration_within(instrument: u16, most: u64, body: &FactBody) -> bool
+    ensures value { result ≡ law.is_calibration_within instrument most body.now }
+{
+    match *body {
+        FactBody::Calibration {
+            instrument: of,
+            gas,
+        } => of == instrument && u64::from(gas) <= most,
+        _ => false,
+    }
+}
+
+/// Whether some calibration of the day is earlier than the reading with this key (40 CFR 60.485a(b)(1)).
+pub fn is_calibrated(facts: &[(Key, Fact)], key: &Key, instrument: u16) -> bool
+    ensures value { result ≡ law.is_calibrated facts.now key.now instrument }
+{
+    facts.iter().any(|e| {
+        is_calibration(instrument, &e.1.body) && e.0.day == key.day && precedes(&e.0, key)
+    })
+}
+
+/// Whether one of these used a gas of at most so many parts per million.
+pub fn is_calibrated_within(facts: &[(Key, Fact)], key: &Key, instrument: u16, most: u64) -> bool
+    ensures value { result ≡ law.is_calibrated_within facts.now key.now instrument most }
+{
+    facts.iter().any(|e| {
+        is_calibration_within(instrument, most, &e.1.body)
+            && e.0.day == key.day
+            && precedes(&e.0, key)
+    })
+}
+
+/// The key of the next calibration of the instrument after a reading, if there is one.
+pub fn next_calibration(facts: &[(Key, Fact)], key: &Key, instrument: u16) -> Option<Key>
+    ensures value { (later : Key) → law.is_calibrated_before facts.now key.now instrument later ≡ readings.is_before result later }
+{
+    let mut next = None;
+    for e in facts {
+        next = nearer(key, instrument, next, e);
+    }
+    next
+}
+
+/// The next calibration, when one more fact has been looked at.
+fn nearer(key: &Key, instrument: u16, next: Option<Key>, e: &(Key, Fact)) -> Option<Key>
+    ensures value { result ≡ readings.nearer key.now instrument next e.now }
+{
+    if is_calibration(instrument, &e.1.body) && precedes(key, &e.0) {
+        earlier_of(next, &e.0)
+    } else {
+        next
+    }
+}
+
+/// The earlier of a key and another, if there is one.
+fn earlier_of(nearest: Option<Key>, key: &Key) -> Option<Key>
+    ensures value { result ≡ readings.earlier_of nearest key.now }
+{
+    match nearest {
+        Some(other) => {
+            if precedes(key, &other) {
+                Some(*key)
+            } else {
+                Some(other)
+            }
+        }
+        None => Some(*key),
+    }
+}

@@ -1,0 +1,90 @@
+ghost use Rattle.std.specs.Prelude.{◌≡◌, ◌++◌, OnOk, IfOk};
+ghost use Rattle.std.specs.Option.{option_to_list};
+ghost use Rattle.ldar_law.specs.Events as law;
+ghost use Rattle.method21_reading.specs.Readings.{AreEventsAmongAll};
+
+use crate::happening::happening;
+use crate::standing::as_it_stands;
+use ldar_facts::{Class, Fact, FactBody, Key, Memory};
+use ldar_law::{Equipment, Event, Fitness, Happening};
+use std::alloc::Global;
+
+/// The events of a component: its facts in key order, each judged on its own day by the classes entered for it,
+/// in key order too (40 CFR 60.482-2a(b), 60.482-3a(f), 60.482-7a(b), 60.482-8a(b)). The readings are judged by
+/// the fitness of each, one after the other; one for which none is left is not fit.
+pub fn events_of(
+    alloc: Global,
+    equipment: &Equipment,
+    classes: &[(Key, Class)],
+    facts: &[(Key, Fact)],
+    fitness: &[Fitness],
+) -> Result<Vec<Event>, Memory>
+    ensures value { IfOk result (λ events. events.items ≡ law.events_with equipment.now classes.now facts.now fitness.now) }
+    ensures of_all { IfOk result (λ events. AreEventsAmongAll equipment.now classes.now facts.now fitness.now events.items) }
+{
+    let mut events = Vec::new(alloc);
+    let mut left = fitness;
+    for e in facts {
+        push_event(&mut events, equipment, classes, e, &next_fitness(left))?;
+        left = fitness_left(&e.1.body, left);
+    }
+    Ok(events)
+}
+
+/// A fact of the component, judged on its own day; a reading by this fitness.
+fn judged(
+    equipment: &Equipment,
+    classes: &[(Key, Class)],
+    e: &(Key, Fact),
+    fitness: &Fitness,
+) -> Option<Happening>
+    ensures value { result ≡ law.happening equipment.now classes.now e.now.0.day fitness.now e.now.1.body }
+{
+    let day = e.0.day;
+    let item = as_it_stands(equipment, classes, day);
+    happening(&item, day, fitness, &e.1.body)
+}
+
+/// Adds what a fact of the component is as an event, if it is one.
+fn push_event(
+    events: &mut Vec<Event>,
+    equipment: &Equipment,
+    classes: &[(Key, Class)],
+    e: &(Key, Fact),
+    fitness: &Fitness,
+) -> Result<(), Memory>
+    ensures pushed { OnOk result (events.new.items ≡ events.old.items ++ option_to_list (law.event_of equipment.now classes.now e.now fitness.now)) }
+{
+    if let Some(what) = judged(equipment, classes, e, fitness) {
+        events.push(Event { key: e.0, what })?;
+    }
+    Ok(())
+}
+
+/// Whether a fact is a reading.
+fn is_reading(body: &FactBody) -> bool
+    ensures value { result ≡ law.is_reading body.now }
+{
+    matches!(*body, FactBody::Reading { .. })
+}
+
+/// The fitness that is next.
+fn next_fitness(left: &[Fitness]) -> Fitness
+    ensures value { result ≡ law.next_fitness left.now }
+{
+    match left.first() {
+        Some(fitness) => *fitness,
+        None => Fitness::NoCalibration,
+    }
+}
+
+/// The fitness of the readings behind a fact.
+fn fitness_left<'a>(body: &FactBody, left: &'a [Fitness]) -> &'a [Fitness]
+    ensures value { result.now ≡ law.fitness_left body.now left.now }
+{
+    if is_reading(body) && !left.is_empty() {
+        &left[1..]
+    } else {
+        left
+    }
+}

@@ -1,0 +1,45 @@
+ghost use Rattle.std.specs.Prelude.{◌≡◌};
+ghost use Rattle.ldar_law.specs.Fitness.{fitness_of};
+ghost use Rattle.method21_reading.specs.Readings.{fitness_by, IsFitnessAmongAll};
+
+use crate::calibration::{is_calibrated, is_calibrated_within};
+use crate::drift::voiding_drift;
+use crate::precision::is_tested;
+use ldar_facts::{Fact, FactBody, Key};
+use ldar_law::Fitness;
+
+/// Whether a reading with this key may be used, judged by a leak definition in parts per million by volume, and the
+/// first reason why not (40 CFR 60.485a(b); EPA Method 21, sections 8.1.2 and 10.1). The facts of its instrument
+/// are in key order; facts of others among them have no effect. A fact that is no reading has no calibration.
+pub fn fit(reading: &Fact, key: &Key, limit: u32, instrument: &[(Key, Fact)]) -> Fitness
+    ensures value { result ≡ fitness_by limit instrument.now key.now reading.now.body }
+    ensures of_all { IsFitnessAmongAll limit instrument.now key.now reading.now.body result }
+{
+    match reading.body {
+        FactBody::Reading {
+            instrument: number,
+            ppm,
+            ..
+        } => judged(instrument, limit, key, number, ppm),
+        _ => Fitness::NoCalibration,
+    }
+}
+
+/// Whether a reading of so many parts per million with this instrument may be used.
+fn judged(facts: &[(Key, Fact)], limit: u32, key: &Key, instrument: u16, ppm: u32) -> Fitness
+    ensures value { result ≡ fitness_of facts.now limit key.now instrument ppm }
+{
+    if !is_calibrated(facts, key, instrument) {
+        return Fitness::NoCalibration;
+    }
+    if !is_calibrated_within(facts, key, instrument, u64::from(limit) + 2000) {
+        return Fitness::GasTooHigh;
+    }
+    if !is_tested(facts, key, instrument) {
+        return Fitness::NoPrecision;
+    }
+    match voiding_drift(facts, key, instrument, limit, ppm) {
+        Some(drift) => Fitness::Voided { drift },
+        None => Fitness::Fit,
+    }
+}

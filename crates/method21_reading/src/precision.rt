@@ -1,0 +1,55 @@
+ghost use Rattle.std.specs.Prelude.{◌≡◌, nat_le};
+ghost use Rattle.ldar_days.specs.Calendar.{later_by};
+ghost use Rattle.ldar_law.specs.Fitness as law;
+
+use ldar_days::Day;
+use ldar_facts::{Fact, FactBody, Key, precedes};
+
+/// The sum of three readings.
+pub fn sum_of(readings: (u32, u32, u32)) -> u64
+    ensures value { result ≡ law.sum_of readings }
+{
+    u64::from(readings.0) + u64::from(readings.1) + u64::from(readings.2)
+}
+
+/// Whether the mean of three readings lies within 10 percent of the known value (EPA Method 21, section 8.1.2).
+fn is_precise(value: u32, readings: (u32, u32, u32)) -> bool
+    ensures precise { result ≡ law.is_precise value (law.sum_of readings) }
+{
+    let known = 3 * u64::from(value);
+    let sum = sum_of(readings);
+    sum.saturating_sub(known) * 10 <= known && known.saturating_sub(sum) * 10 <= known
+}
+
+/// Whether a fact is a precision test of the instrument that was passed.
+fn is_passed_precision(instrument: u16, body: &FactBody) -> bool
+    ensures value { result ≡ law.is_passed_precision instrument body.now }
+{
+    match *body {
+        FactBody::Precision {
+            instrument: of,
+            value,
+            readings,
+        } => of == instrument && is_precise(value, readings),
+        _ => false,
+    }
+}
+
+/// Whether some precision test that was passed is earlier than the reading with this key, and three months old at
+/// most (EPA Method 21, section 8.1.2).
+pub fn is_tested(facts: &[(Key, Fact)], key: &Key, instrument: u16) -> bool
+    ensures value { result ≡ law.is_tested facts.now key.now instrument }
+{
+    facts.iter().any(|e| {
+        is_passed_precision(instrument, &e.1.body)
+            && precedes(&e.0, key)
+            && is_within_three_months(key.day, e.0.day)
+    })
+}
+
+/// Whether a day is at most three months after another.
+fn is_within_three_months(day: Day, tested: Day) -> bool
+    ensures value { result ≡ nat_le day (later_by 3 tested) }
+{
+    day <= tested.plus_months(3)
+}
