@@ -1,0 +1,3 @@
+mod RouteLemmas
+mod Sorted
+mod VisitLemmas
