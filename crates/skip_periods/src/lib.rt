@@ -10,3 +10,6 @@ mod streak;
 pub use ldar_law::{Mark, Tally};
 pub use percent::mark;
 pub use programme::skipped;
+
+#[cfg(test)]
+mod tests;

@@ -3,9 +3,7 @@ ghost use Rattle.ldar_law.specs.Duties as duties;
 ghost use Rattle.ldar_law.specs.Percent as law;
 
 use crate::readings::{has_routine_in, is_found_leaking, is_in_quarter, is_read};
-use crate::standing::{
-    is_in_service, is_nde, is_plain, is_under_pump_rules, is_under_valve_rules,
-};
+use crate::standing::{is_in_service, is_nde, is_plain, is_under_pump_rules, is_under_valve_rules};
 use ldar_days::{Day, quarter_last};
 use ldar_facts::{Class, Key};
 use ldar_law::{Equipment, Event, Mark};
@@ -28,12 +26,7 @@ fn is_counted(
 }
 
 /// Whether a first monitoring is owed, judged on a day (40 CFR 60.482-2a(a)(1), 60.482-7a(a)(2)).
-fn is_first_owed(
-    equipment: &Equipment,
-    classes: &[(Key, Class)],
-    startup: Day,
-    day: Day,
-) -> bool
+fn is_first_owed(equipment: &Equipment, classes: &[(Key, Class)], startup: Day, day: Day) -> bool
     ensures value { result ≡ duties.is_first_owed equipment.now classes.now startup day }
 {
     is_in_service(equipment, day)

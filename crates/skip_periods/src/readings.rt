@@ -24,7 +24,9 @@ fn is_routine(what: &Happening) -> bool
 {
     match *what {
         Happening::Read {
-            routine, counts, ..
+            routine,
+            counts,
+            ..
         } => routine && counts,
         _ => false,
     }
@@ -50,9 +52,7 @@ pub fn is_read(startup: Day, events: &[Event], quarter: u16) -> bool
     requires startup { startup ≤ 46_751 }
     ensures value { result ≡ list_any (λ e. happenings.is_routine e.what && law.is_in_quarter startup quarter e.key.day) events.now }
 {
-    events
-        .iter()
-        .any(|e| is_routine(&e.what) && is_in_quarter(startup, quarter, e.key.day))
+    events.iter().any(|e| is_routine(&e.what) && is_in_quarter(startup, quarter, e.key.day))
 }
 
 /// Whether it was found leaking in the quarter.
@@ -60,9 +60,7 @@ pub fn is_found_leaking(startup: Day, events: &[Event], quarter: u16) -> bool
     requires startup { startup ≤ 46_751 }
     ensures value { result ≡ list_any (λ e. happenings.is_routine_leak e.what && law.is_in_quarter startup quarter e.key.day) events.now }
 {
-    events
-        .iter()
-        .any(|e| is_routine_leak(&e.what) && is_in_quarter(startup, quarter, e.key.day))
+    events.iter().any(|e| is_routine_leak(&e.what) && is_in_quarter(startup, quarter, e.key.day))
 }
 
 /// Whether an event is a counting routine reading on one of these days.
