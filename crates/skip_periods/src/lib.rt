@@ -1,0 +1,15 @@
+//! Percent of valves leaking in a quarter, and the quarters that are skipped (40 CFR 60.483-2a, 60.485a(h)).
+#![tactic(auto)]
+
+mod percent;
+mod programme;
+mod readings;
+mod standing;
+mod streak;
+
+pub use ldar_law::{Mark, Tally};
+pub use percent::mark;
+pub use programme::skipped;
+
+#[cfg(test)]
+mod tests;

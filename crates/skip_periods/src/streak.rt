@@ -1,0 +1,43 @@
+ghost use Rattle.std.specs.Prelude.{◌≡◌, ◌+◌, ◌<◌, ◌≤◌, List, ◌∷◌};
+ghost use Rattle.ldar_law.specs.Percent.{is_good};
+ghost use Rattle.ldar_law.specs.Skips.{Past};
+ghost use Rattle.skip_periods.specs.Streaks.{Tells};
+
+use ldar_law::Tally;
+
+/// What the quarters before one tell: how many skipped ones stand directly before it, and how many of the last
+/// ones that were not skipped are good in a row.
+#[derive(Clone, Copy, Debug, PartialEq, Eq)]
+pub struct Streak {
+    pub skips: u16,
+    pub good: u16,
+}
+
+/// The streak with a quarter more, that was skipped or not and was good or not.
+#[tactic(auto, unfolding(ldar_law::specs::Skips::skips_run, ldar_law::specs::Skips::good_streak))]
+pub fn longer(streak: Streak, is_skipped: bool, was_good: bool) -> Streak
+    requires skips { streak.skips < 65_535 }
+    requires good { streak.good < 65_535 }
+    ensures value { (before : List Past) → Tells streak before → Tells result ((is_skipped, was_good) ∷ before) }
+    ensures skips { result.skips ≤ streak.skips + 1 }
+    ensures good { result.good ≤ streak.good + 1 }
+{
+    if is_skipped {
+        return Streak {
+            skips: streak.skips + 1,
+            good: streak.good,
+        };
+    }
+    Streak {
+        skips: 0,
+        good: if was_good { streak.good + 1 } else { 0 },
+    }
+}
+
+/// Whether a quarter is good: at most 2 percent of the valves leak, of at least one that was monitored
+/// (40 CFR 60.483-2a(b)(2)).
+pub fn is_good_tally(tally: &Tally) -> bool
+    ensures value { result ≡ is_good tally.now }
+{
+    0 < tally.monitored && 50 * u64::from(tally.leaking) <= u64::from(tally.monitored)
+}

@@ -1,0 +1,209 @@
+ghost use Rattle.std.specs.Prelude.{◌≤◌};
+
+use crate::{Mark, Tally, mark, skipped};
+use ldar_days::Day;
+use ldar_facts::{Class, Designation, Key, Kind, Service};
+use ldar_law::{ElectionEntry, Equipment, Event, Happening};
+use std::test::Fail;
+
+/// A day by its text.
+fn day(text: &str) -> Result<Day, Fail> {
+    let day = Day::read(text.as_bytes()).ok_or("day")?;
+    Ok(day)
+}
+
+/// The unit's initial startup, 2020-01-15. Its quarter 1 is April to June 2020.
+fn startup() -> Day
+    ensures { result ≤ 46_751 }
+{
+    Day::at(18_276)
+}
+
+/// A key at the first minute of a day.
+fn key(day: Day) -> Key {
+    Key {
+        day,
+        minute: 0,
+        handheld: 1,
+        number: 1,
+        index: 0,
+    }
+}
+
+/// An election of a mode for a day.
+fn elects(text: &str, mode: u8) -> Result<ElectionEntry, Fail> {
+    let key = key(day(text)?);
+    Ok(ElectionEntry { key, mode })
+}
+
+/// The counts of a quarter.
+fn tally(leaking: u32, monitored: u32) -> Tally {
+    Tally { leaking, monitored }
+}
+
+/// The counts of 20 quarters, of which these are good.
+fn good_quarters(good: &[usize]) -> [Tally; 20] {
+    let mut tallies = [tally(3, 100); 20];
+    for place in 0..20 {
+        if good.contains(&(place + 1)) {
+            tallies[place] = tally(2, 100);
+        }
+    }
+    tallies
+}
+
+#[test]
+fn at_most_two_percent_are_good(rt: HostRuntime) -> Result<(), Fail> {
+    let elections = [elects("2020-01-15", 1)?];
+    let cases = [
+        (tally(3, 150), true),
+        (tally(4, 200), true),
+        (tally(4, 199), false),
+        (tally(0, 0), false),
+    ];
+    for (counts, is_good) in cases {
+        let tallies = [tally(0, 1), counts];
+        assert_eq!(rt; skipped(&tallies, &elections, startup(), 3), is_good);
+    }
+    Ok(())
+}
+
+#[test]
+fn mode_1_skips_a_quarter_after_two_good_ones(rt: HostRuntime) -> Result<(), Fail> {
+    let elections = [elects("2024-07-01", 1)?];
+    let (two, three, one) = (
+        good_quarters(&[16, 17]),
+        good_quarters(&[16, 17, 19]),
+        good_quarters(&[16]),
+    );
+    assert!(rt; !skipped(&two, &elections, startup(), 17));
+    assert!(rt; skipped(&two, &elections, startup(), 18));
+    assert!(rt; !skipped(&two, &elections, startup(), 19));
+    assert!(rt; !skipped(&two, &elections, startup(), 20));
+    assert!(rt; skipped(&three, &elections, startup(), 20));
+    assert!(rt; !skipped(&one, &elections, startup(), 18));
+    Ok(())
+}
+
+#[test]
+fn mode_3_skips_three_quarters_after_five_good_ones(rt: HostRuntime) -> Result<(), Fail> {
+    let elections = [elects("2021-07-01", 3)?, elects("2021-10-01", 0)?];
+    let (five, six, four) = (
+        good_quarters(&[1, 2, 3, 4, 5]),
+        good_quarters(&[1, 2, 3, 4, 5, 9]),
+        good_quarters(&[2, 3, 4, 5]),
+    );
+    for (quarter, is_skipped) in [(5, false), (6, true), (7, true), (8, true), (9, false)] {
+        assert_eq!(rt;
+            skipped(&five, &elections[..1], startup(), quarter),
+            is_skipped,
+            "quarter {quarter}"
+        );
+    }
+    assert!(rt; !skipped(&five, &elections[..1], startup(), 10));
+    assert!(rt; skipped(&six, &elections[..1], startup(), 10));
+    assert!(rt; !skipped(&four, &elections[..1], startup(), 6));
+    // The second election ends it.
+    assert!(rt; skipped(&five, &elections, startup(), 6));
+    assert!(rt; !skipped(&five, &elections, startup(), 7));
+    Ok(())
+}
+
+/// A valve in gas service.
+fn valve(begin: Day, designation: Designation) -> Equipment {
+    Equipment {
+        component: 1,
+        unit: 1,
+        kind: Kind::Valve,
+        monomer: false,
+        replaces: false,
+        begin,
+        retired: None,
+        class: Class {
+            service: Service::Gas,
+            designation,
+            plan: 0,
+            month: 1,
+        },
+    }
+}
+
+/// A counting routine reading, which is a leak or not.
+fn reads(day: Day, leak: bool) -> Event {
+    let what = Happening::Read {
+        ppm: 500,
+        background: 0,
+        routine: true,
+        counts: true,
+        below: !leak,
+        leak,
+    };
+    Event {
+        key: key(day),
+        what,
+    }
+}
+
+const UNCOUNTED: Mark = Mark {
+    leaking: false,
+    monitored: false,
+};
+
+const CLEAN: Mark = Mark {
+    leaking: false,
+    monitored: true,
+};
+
+const FOUND: Mark = Mark {
+    leaking: true,
+    monitored: true,
+};
+
+#[test]
+fn a_valve_counts_by_its_readings_and_its_delay(rt: HostRuntime) -> Result<(), Fail> {
+    let valve_of = valve(day("2020-01-15")?, Designation::Plain);
+    let sealed = valve(day("2020-01-15")?, Designation::Nde);
+    let view = day("2024-03-31")?;
+    let (clean, leak) = (
+        [reads(day("2024-01-01")?, false)],
+        [reads(day("2024-03-31")?, true)],
+    );
+    let before = [reads(day("2023-12-31")?, true)];
+    assert_eq!(rt;
+        mark(&valve_of, &[], startup(), &clean, false, 16, view),
+        CLEAN
+    );
+    assert_eq!(rt;
+        mark(&valve_of, &[], startup(), &leak, false, 16, view),
+        FOUND
+    );
+    assert_eq!(rt;
+        mark(&valve_of, &[], startup(), &before, false, 16, view),
+        UNCOUNTED
+    );
+    assert_eq!(rt;
+        mark(&valve_of, &[], startup(), &before, true, 16, view),
+        FOUND
+    );
+    assert_eq!(rt;
+        mark(&sealed, &[], startup(), &leak, true, 16, view),
+        UNCOUNTED
+    );
+    Ok(())
+}
+
+#[test]
+fn a_missed_first_monitoring_counts(rt: HostRuntime) -> Result<(), Fail> {
+    // Its first monitoring is due on 2024-05-10, in quarter 17.
+    let new = valve(day("2024-04-10")?, Designation::Plain);
+    let (due, after) = (day("2024-05-10")?, day("2024-05-11")?);
+    let made = [reads(due, false)];
+    assert_eq!(rt; mark(&new, &[], startup(), &[], false, 17, due), UNCOUNTED);
+    assert_eq!(rt; mark(&new, &[], startup(), &[], false, 17, after), FOUND);
+    assert_eq!(rt; mark(&new, &[], startup(), &made, false, 17, after), CLEAN);
+    assert_eq!(rt;
+        mark(&new, &[], startup(), &[], false, 18, after),
+        UNCOUNTED
+    );
+    Ok(())
+}
