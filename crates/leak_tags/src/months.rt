@@ -1,0 +1,61 @@
+ghost use Rattle.std.specs.Prelude.{◌≡◌, ◌≤◌, ◌&&◌};
+ghost use Rattle.std.specs.List.{list_any};
+ghost use Rattle.ldar_law.specs.Happenings.{is_in_month as says_in_month, is_routine_below as says_routine_below};
+ghost use Rattle.ldar_law.specs.Months as law;
+
+use crate::happening::{is_leak, is_routine_below};
+use ldar_law::Event;
+
+// Months are numbers here, as the one after the last of the calendar is asked for too.
+
+/// Whether an event lies in the month.
+fn is_in_month(month: u32, e: &Event) -> bool
+    ensures value { result ≡ says_in_month month e.now }
+{
+    e.key.day.month().number() == month
+}
+
+/// Whether some leak lies in the months from one to another.
+#[tactic(auto, unfolding(ldar_law::specs::Months::has_leak_in))]
+fn has_leak_in(events: &[Event], low: u32, high: u32) -> bool
+    ensures value { result ≡ law.has_leak_in events.now low high }
+{
+    events.iter().any(|e| {
+        is_leak(&e.what) && low <= e.key.day.month().number() && e.key.day.month().number() <= high
+    })
+}
+
+/// Whether a counting routine reading below the leak definition lies in the month.
+fn is_read_below_in(events: &[Event], month: u32) -> bool
+    ensures value { result ≡ list_any (λ e. says_routine_below e.what && says_in_month month e) events.now }
+{
+    events
+        .iter()
+        .any(|e| is_routine_below(&e.what) && is_in_month(month, e))
+}
+
+/// Whether the month has such a reading and no leak (40 CFR 60.482-7a(c)(1)(i)).
+#[tactic(auto, unfolding(ldar_law::specs::Months::is_clean))]
+fn is_clean(events: &[Event], month: u32) -> bool
+    ensures value { result ≡ law.is_clean events.now month }
+{
+    is_read_below_in(events, month) && !has_leak_in(events, month, month)
+}
+
+/// Whether the month and the next are clean.
+fn is_clean_twice(events: &[Event], month: u32) -> bool
+    requires in_range { month ≤ 25_199 }
+    ensures value { result ≡ law.is_clean_twice events.now month }
+{
+    is_clean(events, month) && is_clean(events, month + 1)
+}
+
+/// Whether two months in a row are clean, the first of them this one or later.
+#[tactic(auto, unfolding(ldar_law::specs::Months::is_clean_twice_from))]
+pub fn is_clean_twice_from(events: &[Event], first: u32) -> bool
+    ensures value { result ≡ law.is_clean_twice_from events.now first }
+{
+    events.iter().any(|e| {
+        first <= e.key.day.month().number() && is_clean_twice(events, e.key.day.month().number())
+    })
+}

@@ -1,0 +1,132 @@
+ghost use Rattle.std.specs.Prelude.{◌≡◌, ◌+◌, ◌&&◌, nat_eq};
+ghost use Rattle.ldar_days.specs.Calendar.{month_of};
+ghost use Rattle.ldar_law.specs.Happenings.{is_below as says_below};
+ghost use Rattle.ldar_law.specs.Settling as law;
+
+use crate::happening::{
+    delays_with_reading, has_leak, is_attempt, is_below, is_complete, is_dry, is_leak, is_look,
+    is_reading_or_drip, is_retire, is_sensor,
+};
+use ldar_facts::Kind;
+use ldar_law::Event;
+
+/// Whether the component is a valve or a pump.
+fn is_valve_or_pump(kind: Kind) -> bool
+    ensures value { result ≡ law.is_valve_or_pump kind }
+{
+    match kind {
+        Kind::Valve => true,
+        Kind::Pump => true,
+        _ => false,
+    }
+}
+
+/// Whether some attempt lies between, and no leak between it and what settles.
+fn is_attempted(between: &[Event]) -> bool
+    ensures value { result ≡ law.is_attempted between.now }
+{
+    for (place, attempt) in between.iter().enumerate() {
+        if is_attempt(&attempt.what) && !has_leak(&between[place + 1..]) {
+            return true;
+        }
+    }
+    false
+}
+
+/// Whether some delay of ground (a), (c), (d) or (e) lies between, at most fifteen days after the leak.
+fn is_delayed(leak: &Event, between: &[Event]) -> bool
+    ensures value { result ≡ law.is_delayed leak.now between.now }
+{
+    between.iter().any(|x| {
+        delays_with_reading(&x.what) && x.key.day.number() <= leak.key.day.number() + 15
+    })
+}
+
+/// Whether an event is a counting reading below the leak definition, in the month before the later one.
+fn is_below_before(reading: &Event, later: &Event) -> bool
+    ensures value { result ≡ (says_below reading.now.what && nat_eq (month_of reading.now.key.day + 1) (month_of later.now.key.day)) }
+{
+    is_below(&reading.what)
+        && reading.key.day.month().number() + 1 == later.key.day.month().number()
+}
+
+/// Whether some counting reading below the leak definition lies between, in the month before the later one, and no
+/// leak since.
+fn was_below(between: &[Event], later: &Event) -> bool
+    ensures value { result ≡ law.was_below between.now later.now }
+{
+    for (place, reading) in between.iter().enumerate() {
+        if is_below_before(reading, later) && !has_leak(&between[place + 1..]) {
+            return true;
+        }
+    }
+    false
+}
+
+/// Whether a reading or a drip is settled by a counting reading below the leak definition, after an attempt.
+fn settles_by_reading(leak: &Event, between: &[Event], later: &Event) -> bool
+    ensures value { result ≡ law.settles_by_reading leak.now between.now later.now }
+{
+    is_reading_or_drip(&leak.what) && is_below(&later.what) && is_attempted(between)
+}
+
+/// Whether a drip is settled by a dry visual inspection, after an attempt.
+fn settles_by_dry_look(leak: &Event, between: &[Event], later: &Event) -> bool
+    ensures value { result ≡ law.settles_by_dry_look leak.now between.now later.now }
+{
+    is_look(&leak.what) && is_dry(&later.what) && is_attempted(between)
+}
+
+/// Whether a sensor's leak is settled by an attempt that is complete.
+fn settles_by_complete_attempt(leak: &Event, later: &Event) -> bool
+    ensures value { result ≡ law.settles_by_complete_attempt leak.now later.now }
+{
+    is_sensor(&leak.what) && is_complete(&later.what)
+}
+
+/// Whether a valve's or pump's leak that is delayed is settled by readings below the leak definition in two months
+/// in a row (40 CFR 60.482-9a(f)).
+fn settles_by_two_readings(kind: Kind, leak: &Event, between: &[Event], later: &Event) -> bool
+    ensures value { result ≡ law.settles_by_two_readings kind leak.now between.now later.now }
+{
+    is_valve_or_pump(kind)
+        && is_below(&later.what)
+        && is_delayed(leak, between)
+        && was_below(between, later)
+}
+
+/// Whether the later event settles the leak, with these events between them (40 CFR 60.481a "repaired",
+/// 60.482-9a(f); that going out of service settles a leak is our own rule).
+fn settles(kind: Kind, leak: &Event, between: &[Event], later: &Event) -> bool
+    ensures value { result ≡ law.settles kind leak.now between.now later.now }
+{
+    settles_by_reading(leak, between, later)
+        || settles_by_dry_look(leak, between, later)
+        || settles_by_complete_attempt(leak, later)
+        || settles_by_two_readings(kind, leak, between, later)
+        || is_retire(&later.what)
+}
+
+/// Whether some of the events that follow settles the leak.
+fn is_settled(kind: Kind, leak: &Event, after: &[Event]) -> bool
+    ensures value { result ≡ law.is_settled kind leak.now after.now }
+{
+    for (place, later) in after.iter().enumerate() {
+        if settles(kind, leak, &after[..place], later) {
+            return true;
+        }
+    }
+    false
+}
+
+/// Whether some leak is settled by none of the events that follow it.
+pub fn is_unsettled(kind: Kind, events: &[Event]) -> bool
+    ensures value { result ≡ law.is_unsettled kind events.now }
+{
+    for (place, leak) in events.iter().enumerate() {
+        if is_leak(&leak.what) && !is_settled(kind, leak, &events[place + 1..]) {
+            return true;
+        }
+    }
+    false
+}

@@ -1,0 +1,126 @@
+use crate::spans_of;
+use ldar_days::Day;
+use ldar_facts::{Key, Kind};
+use ldar_law::{Event, Happening, Span};
+use std::alloc::Global;
+use std::test::Fail;
+
+/// 2024-02-20, the day of each leak here.
+fn leak_day() -> Result<Day, Fail> {
+    Ok(Day::of_number(19_773).ok_or("day")?)
+}
+
+/// A key so many days after another day.
+fn key(from: Day, days: u32) -> Key {
+    Key {
+        day: from.plus_days(days),
+        minute: 600,
+        handheld: 7,
+        number: 12,
+        index: 0,
+    }
+}
+
+/// A counting routine reading of so many parts per million, with a leak definition of 500.
+fn read(from: Day, days: u32, ppm: u32) -> Event {
+    Event {
+        key: key(from, days),
+        what: Happening::Read {
+            ppm,
+            background: 0,
+            routine: true,
+            counts: true,
+            below: ppm < 500,
+            leak: 500 <= ppm,
+        },
+    }
+}
+
+/// An attempt at a repair.
+fn attempt(from: Day, days: u32) -> Event {
+    Event {
+        key: key(from, days),
+        what: Happening::Attempt { complete: false },
+    }
+}
+
+/// A delay of the ground of the rule's paragraph.
+fn delay(from: Day, days: u32, ground: u8) -> Event {
+    Event {
+        key: key(from, days),
+        what: Happening::Delay {
+            ground,
+            signer: 9,
+            expected: None,
+        },
+    }
+}
+
+/// Whether the events have just this tag, of a valve.
+fn has_tag(alloc: Global, events: &[Event], tag: Span) -> Result<bool, Fail> {
+    let spans = spans_of(alloc, Kind::Valve, events)?;
+    Ok(spans.as_slice() == [tag].as_slice())
+}
+
+#[test]
+fn a_reading_settles_after_an_attempt(rt: HostRuntime) -> Result<(), Fail> {
+    let leak = leak_day()?;
+    let events = [
+        read(leak, 0, 700),
+        read(leak, 2, 20),
+        attempt(leak, 3),
+        read(leak, 4, 700),
+        read(leak, 5, 20),
+        attempt(leak, 6),
+        read(leak, 7, 20),
+    ];
+    let tag = Span {
+        detected: key(leak, 0),
+        attempted: Some(leak.plus_days(3)),
+        closed: Some(key(leak, 7)),
+        removable: false,
+    };
+    assert!(rt; has_tag(rt.alloc(), &events, tag)?);
+    Ok(())
+}
+
+#[test]
+fn two_readings_settle_a_delayed_leak(rt: HostRuntime) -> Result<(), Fail> {
+    let leak = leak_day()?;
+    // The ground of the delay, and whether the second reading closes the tag.
+    for (ground, closes) in [(3, true), (2, false)] {
+        let events = [
+            read(leak, 0, 700),
+            delay(leak, 1, ground),
+            read(leak, 19, 20),
+            read(leak, 50, 20),
+        ];
+        let tag = Span {
+            detected: key(leak, 0),
+            attempted: None,
+            closed: if closes { Some(key(leak, 50)) } else { None },
+            removable: false,
+        };
+        assert!(rt; has_tag(rt.alloc(), &events, tag)?);
+    }
+    Ok(())
+}
+
+#[test]
+fn two_clean_months_make_a_tag_removable(rt: HostRuntime) -> Result<(), Fail> {
+    let leak = leak_day()?;
+    let events = [
+        read(leak, 0, 620),
+        attempt(leak, 2),
+        read(leak, 15, 20),
+        read(leak, 42, 20),
+    ];
+    let tag = Span {
+        detected: key(leak, 0),
+        attempted: Some(leak.plus_days(2)),
+        closed: Some(key(leak, 15)),
+        removable: true,
+    };
+    assert!(rt; has_tag(rt.alloc(), &events, tag)?);
+    Ok(())
+}
