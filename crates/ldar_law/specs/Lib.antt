@@ -10,6 +10,7 @@ pub mod Happenings
 pub mod Judged
 pub mod Kinds
 pub mod Limits
+pub mod Machine
 pub mod Months
 pub mod Percent
 pub mod RegisterExamples
