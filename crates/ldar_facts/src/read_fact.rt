@@ -1,7 +1,9 @@
-ghost use Rattle.std.specs.Prelude.{◌≡◌, ◌≤◌, vec_len, vec_capacity};
+ghost use Rattle.std.specs.Prelude.{◌≡◌, ◌+◌, ◌<◌, ◌≤◌, vec_len, vec_capacity, OnOk, IfErr};
 ghost use Rattle.ldar_facts.specs.Form.{Takes};
 ghost use Rattle.ldar_facts.specs.FactForms as forms;
+ghost use Rattle.ldar_facts.specs.Places.{TakesFact};
 
+use crate::add_fact::add_fact;
 use crate::batch::FactList;
 use crate::cursor::Cursor;
 use crate::fact::Fact;
@@ -51,9 +53,26 @@ impl Cursor<'_> {
     {
         let mut facts = room;
         for _ in 0..count {
-            let fact = self.fact()?;
-            facts.push(fact).unwrap();
+            self.next_fact(&mut facts)?;
         }
         Ok(FactList::new(facts).unwrap())
+    }
+
+    /// Takes a fact, and adds it to others that have room for it.
+    fn next_fact(&mut self, facts: &mut Vec<Fact>) -> Result<(), Stop>
+        requires { vec_len facts.old < vec_capacity facts.old }
+        ensures taken { OnOk result (TakesFact self.old facts.old.items facts.new.items self.new) }
+        ensures stopped { IfErr result (λ stop. forms.fact.read self.old ≡ Err stop) }
+        ensures len { OnOk result (vec_len facts.new ≡ vec_len facts.old + 1) }
+        ensures capacity { vec_capacity facts.old ≤ vec_capacity facts.new }
+    {
+        if let Some(rest) = add_fact(self.left_bytes(), facts) {
+            *self = Cursor::new(rest);
+            return Ok(());
+        }
+        // Too few bytes for any fact are left, or something is wrong: only the exact reader tells where.
+        let fact = self.fact()?;
+        facts.push(fact).unwrap();
+        Ok(())
     }
 }
