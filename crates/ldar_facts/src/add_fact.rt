@@ -10,6 +10,7 @@ use crate::field_at::{
     byte_at, class_at, day_at, day_or_none_at, flag_at, four_bytes_at, kind_at, mode_at, name_at,
     purpose_at, readings_at, sort_at, state_at, two_bytes_at,
 };
+use crate::ranges::{LAST_COMPONENT, LAST_MINUTE, LAST_UNIT, LONGEST_SHUTDOWN, MOST_PPM};
 use ldar_days::Day;
 
 /// The bytes of the longest fact, a precision test or a drift assessment.
@@ -29,7 +30,7 @@ pub(crate) fn add_fact<'a>(bytes: &'a [u8], facts: &mut Vec<Fact>) -> Option<&'a
     }
     let kind = byte_at(bytes, 0, 1, 15)?;
     let day = day_at(bytes, 1)?;
-    let minute = two_bytes_at(bytes, 3, 0, 1_439)?;
+    let minute = two_bytes_at(bytes, 3, 0, LAST_MINUTE)?;
     match kind {
         1 => add_unit(bytes, day, minute, facts),
         2 => add_component(bytes, day, minute, facts),
@@ -84,7 +85,7 @@ fn add_unit<'a>(bytes: &'a [u8], day: Day, minute: u16, facts: &mut Vec<Fact>) -
     ensures len { IsSome result → vec_len facts.new ≡ vec_len facts.old + 1 }
     ensures capacity { vec_capacity facts.old ≤ vec_capacity facts.new }
 {
-    let unit = byte_at(bytes, 5, 1, 64)?;
+    let unit = byte_at(bytes, 5, 1, LAST_UNIT)?;
     let older = flag_at(bytes, 6)?;
     let name = name_at(bytes, 7)?;
     push(
@@ -113,8 +114,8 @@ fn add_component<'a>(
     ensures len { IsSome result → vec_len facts.new ≡ vec_len facts.old + 1 }
     ensures capacity { vec_capacity facts.old ≤ vec_capacity facts.new }
 {
-    let component = two_bytes_at(bytes, 5, 1, 60_000)?;
-    let unit = byte_at(bytes, 7, 1, 64)?;
+    let component = two_bytes_at(bytes, 5, 1, LAST_COMPONENT)?;
+    let unit = byte_at(bytes, 7, 1, LAST_UNIT)?;
     let kind = kind_at(bytes, 8)?;
     let monomer = flag_at(bytes, 9)?;
     let replaces = flag_at(bytes, 10)?;
@@ -147,7 +148,7 @@ fn add_class<'a>(bytes: &'a [u8], day: Day, minute: u16, facts: &mut Vec<Fact>) 
     ensures len { IsSome result → vec_len facts.new ≡ vec_len facts.old + 1 }
     ensures capacity { vec_capacity facts.old ≤ vec_capacity facts.new }
 {
-    let component = two_bytes_at(bytes, 5, 1, 60_000)?;
+    let component = two_bytes_at(bytes, 5, 1, LAST_COMPONENT)?;
     let class = class_at(bytes, 7)?;
     push(
         bytes,
@@ -170,7 +171,7 @@ fn add_retire<'a>(bytes: &'a [u8], day: Day, minute: u16, facts: &mut Vec<Fact>)
     ensures len { IsSome result → vec_len facts.new ≡ vec_len facts.old + 1 }
     ensures capacity { vec_capacity facts.old ≤ vec_capacity facts.new }
 {
-    let component = two_bytes_at(bytes, 5, 1, 60_000)?;
+    let component = two_bytes_at(bytes, 5, 1, LAST_COMPONENT)?;
     push(bytes, 7, day, minute, FactBody::Retire { component }, facts)
 }
 
@@ -190,7 +191,7 @@ fn add_election<'a>(
     ensures len { IsSome result → vec_len facts.new ≡ vec_len facts.old + 1 }
     ensures capacity { vec_capacity facts.old ≤ vec_capacity facts.new }
 {
-    let unit = byte_at(bytes, 5, 1, 64)?;
+    let unit = byte_at(bytes, 5, 1, LAST_UNIT)?;
     let mode = mode_at(bytes, 6)?;
     let notified = day_at(bytes, 7)?;
     push(
@@ -223,8 +224,8 @@ fn add_shutdown<'a>(
     ensures len { IsSome result → vec_len facts.new ≡ vec_len facts.old + 1 }
     ensures capacity { vec_capacity facts.old ≤ vec_capacity facts.new }
 {
-    let unit = byte_at(bytes, 5, 1, 64)?;
-    let days = two_bytes_at(bytes, 6, 1, 366)?;
+    let unit = byte_at(bytes, 5, 1, LAST_UNIT)?;
+    let days = two_bytes_at(bytes, 6, 1, LONGEST_SHUTDOWN)?;
     push(
         bytes,
         8,
@@ -252,7 +253,7 @@ fn add_calibration<'a>(
     ensures capacity { vec_capacity facts.old ≤ vec_capacity facts.new }
 {
     let instrument = two_bytes_at(bytes, 5, 1, 65_535)?;
-    let gas = four_bytes_at(bytes, 7, 1, 999_999)?;
+    let gas = four_bytes_at(bytes, 7, 1, MOST_PPM)?;
     push(
         bytes,
         11,
@@ -280,7 +281,7 @@ fn add_precision<'a>(
     ensures capacity { vec_capacity facts.old ≤ vec_capacity facts.new }
 {
     let instrument = two_bytes_at(bytes, 5, 1, 65_535)?;
-    let value = four_bytes_at(bytes, 7, 1, 999_999)?;
+    let value = four_bytes_at(bytes, 7, 1, MOST_PPM)?;
     let readings = readings_at(bytes, 11)?;
     push(
         bytes,
@@ -308,7 +309,7 @@ fn add_drift<'a>(bytes: &'a [u8], day: Day, minute: u16, facts: &mut Vec<Fact>) 
     ensures capacity { vec_capacity facts.old ≤ vec_capacity facts.new }
 {
     let instrument = two_bytes_at(bytes, 5, 1, 65_535)?;
-    let value = four_bytes_at(bytes, 7, 1, 999_999)?;
+    let value = four_bytes_at(bytes, 7, 1, MOST_PPM)?;
     let readings = readings_at(bytes, 11)?;
     push(
         bytes,
@@ -340,12 +341,12 @@ fn add_reading<'a>(
     ensures len { IsSome result → vec_len facts.new ≡ vec_len facts.old + 1 }
     ensures capacity { vec_capacity facts.old ≤ vec_capacity facts.new }
 {
-    let component = two_bytes_at(bytes, 5, 1, 60_000)?;
+    let component = two_bytes_at(bytes, 5, 1, LAST_COMPONENT)?;
     let instrument = two_bytes_at(bytes, 7, 0, 65_535)?;
     let operator = two_bytes_at(bytes, 9, 0, 65_535)?;
     let purpose = purpose_at(bytes, 11)?;
-    let ppm = four_bytes_at(bytes, 12, 0, 999_999)?;
-    let background = four_bytes_at(bytes, 16, 0, 999_999)?;
+    let ppm = four_bytes_at(bytes, 12, 0, MOST_PPM)?;
+    let background = four_bytes_at(bytes, 16, 0, MOST_PPM)?;
     push(
         bytes,
         20,
@@ -374,7 +375,7 @@ fn add_visual<'a>(bytes: &'a [u8], day: Day, minute: u16, facts: &mut Vec<Fact>)
     ensures len { IsSome result → vec_len facts.new ≡ vec_len facts.old + 1 }
     ensures capacity { vec_capacity facts.old ≤ vec_capacity facts.new }
 {
-    let component = two_bytes_at(bytes, 5, 1, 60_000)?;
+    let component = two_bytes_at(bytes, 5, 1, LAST_COMPONENT)?;
     let state = state_at(bytes, 7)?;
     push(
         bytes,
@@ -402,7 +403,7 @@ fn add_attempt<'a>(
     ensures len { IsSome result → vec_len facts.new ≡ vec_len facts.old + 1 }
     ensures capacity { vec_capacity facts.old ≤ vec_capacity facts.new }
 {
-    let component = two_bytes_at(bytes, 5, 1, 60_000)?;
+    let component = two_bytes_at(bytes, 5, 1, LAST_COMPONENT)?;
     let complete = flag_at(bytes, 7)?;
     push(
         bytes,
@@ -428,7 +429,7 @@ fn add_delay<'a>(bytes: &'a [u8], day: Day, minute: u16, facts: &mut Vec<Fact>) 
     ensures len { IsSome result → vec_len facts.new ≡ vec_len facts.old + 1 }
     ensures capacity { vec_capacity facts.old ≤ vec_capacity facts.new }
 {
-    let component = two_bytes_at(bytes, 5, 1, 60_000)?;
+    let component = two_bytes_at(bytes, 5, 1, LAST_COMPONENT)?;
     let ground = byte_at(bytes, 7, 0, 5)?;
     let signer = two_bytes_at(bytes, 8, 0, 65_535)?;
     let expected = day_or_none_at(bytes, 10)?;
@@ -463,7 +464,7 @@ fn add_release<'a>(
     ensures len { IsSome result → vec_len facts.new ≡ vec_len facts.old + 1 }
     ensures capacity { vec_capacity facts.old ≤ vec_capacity facts.new }
 {
-    let component = two_bytes_at(bytes, 5, 1, 60_000)?;
+    let component = two_bytes_at(bytes, 5, 1, LAST_COMPONENT)?;
     push(
         bytes,
         7,
@@ -490,7 +491,7 @@ fn add_indication<'a>(
     ensures len { IsSome result → vec_len facts.new ≡ vec_len facts.old + 1 }
     ensures capacity { vec_capacity facts.old ≤ vec_capacity facts.new }
 {
-    let component = two_bytes_at(bytes, 5, 1, 60_000)?;
+    let component = two_bytes_at(bytes, 5, 1, LAST_COMPONENT)?;
     let sort = sort_at(bytes, 7)?;
     let present = flag_at(bytes, 8)?;
     push(

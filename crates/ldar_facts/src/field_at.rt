@@ -7,6 +7,7 @@ ghost use Rattle.ldar_facts.specs.Places.{FieldAt, FieldsAt};
 use crate::body::{Purpose, Sort, VisualState};
 use crate::class::{Class, Designation, Kind, Service};
 use crate::name::Name;
+use crate::ranges::MOST_PPM;
 use ldar_days::Day;
 
 /// The byte at a place, if it lies in a range.
@@ -228,9 +229,9 @@ pub(crate) fn readings_at(bytes: &[u8], at: usize) -> Option<(u32, u32, u32)>
     requires { at + 12 ≤ length bytes.now }
     ensures { IfSome result (λ readings. FieldsAt bytes.now at (at + 12) (fields.readings_fields readings)) }
 {
-    let first = four_bytes_at(bytes, at, 0, 999_999)?;
-    let second = four_bytes_at(bytes, at + 4, 0, 999_999)?;
-    let third = four_bytes_at(bytes, at + 8, 0, 999_999)?;
+    let first = four_bytes_at(bytes, at, 0, MOST_PPM)?;
+    let second = four_bytes_at(bytes, at + 4, 0, MOST_PPM)?;
+    let third = four_bytes_at(bytes, at + 8, 0, MOST_PPM)?;
     Some((first, second, third))
 }
 

@@ -15,6 +15,7 @@ mod name;
 mod named;
 mod order;
 pub mod order_laws;
+mod ranges;
 mod read;
 mod read_body;
 mod read_fact;

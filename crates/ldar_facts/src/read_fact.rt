@@ -7,6 +7,7 @@ use crate::add_fact::add_fact;
 use crate::batch::FactList;
 use crate::cursor::Cursor;
 use crate::fact::Fact;
+use crate::ranges::{FACT_KINDS, MINUTES};
 use crate::stop::Stop;
 
 /// What stands before the facts of a batch.
@@ -33,13 +34,13 @@ impl Cursor<'_> {
     }
 
     /// Takes a fact.
-    #[tactic(auto, unfolding(crate::specs::FactForms::fact))]
+    #[tactic(auto, unfolding(crate::specs::FactForms::fact, crate::specs::FieldForms::fact_kind, crate::specs::FieldForms::minute))]
     pub(crate) fn fact(&mut self) -> Result<Fact, Stop>
         ensures { Takes forms.fact.read result self.old self.new }
     {
-        let kind = self.fact_kind()?;
+        let kind = self.byte(&FACT_KINDS)?;
         let day = self.day()?;
-        let minute = self.minute()?;
+        let minute = self.two_bytes(&MINUTES)?;
         let body = self.body(kind)?;
         Ok(Fact { day, minute, body })
     }
