@@ -70,7 +70,7 @@ fn push<'a>(
     ensures len { vec_len facts.new ≡ vec_len facts.old + 1 }
     ensures capacity { vec_capacity facts.old ≤ vec_capacity facts.new }
 {
-    facts.push(Fact { day, minute, body }).unwrap();
+    facts.push_reserved(Fact { day, minute, body });
     Some(&bytes[to..])
 }
 

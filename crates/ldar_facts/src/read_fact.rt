@@ -34,6 +34,7 @@ impl Cursor<'_> {
     }
 
     /// Takes a fact.
+    #[cold]
     #[tactic(auto, unfolding(crate::specs::FactForms::fact, crate::specs::FieldForms::fact_kind, crate::specs::FieldForms::minute))]
     pub(crate) fn fact(&mut self) -> Result<Fact, Stop>
         ensures { Takes forms.fact.read result self.old self.new }
@@ -73,7 +74,7 @@ impl Cursor<'_> {
         }
         // Too few bytes for any fact are left, or something is wrong: only the exact reader tells where.
         let fact = self.fact()?;
-        facts.push(fact).unwrap();
+        facts.push_reserved(fact);
         Ok(())
     }
 }
