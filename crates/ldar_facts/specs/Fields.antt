@@ -1,3 +1,4 @@
+-- The table of bytes: the fields of a fact, each in its width and within its ranges.
 use Rattle.std.specs.Prelude.{ℕ, ◌/◌, ◌%◌, ◌^◌, ◌≤◌, ◌⊎◌, suc, zero, Bool, if◌then◌else◌, List, [], ◌∷◌, Option, Some, None}
 use Rattle.std.specs.List.{AllByRecursion}
 use Rattle.ldar_facts.specs.declared.class.Class.{Class}

@@ -1,3 +1,4 @@
+-- What tells one batch from another, and where a batch stands in a history.
 use Rattle.std.specs.Prelude.{ℕ, Bool, true, ◌&&◌, nat_eq, not, Option, List, [], ◌∷◌}
 use Rattle.std.specs.List.{list_any, position_from}
 use Rattle.ldar_facts.specs.declared.batch.Batch.{Batch}

@@ -11,4 +11,5 @@ pub mod Letters
 pub mod Name
 pub mod Named
 pub mod Number
+pub mod Places
 pub mod Stated

@@ -1,3 +1,4 @@
+-- The name of a process unit, and its twelve bytes.
 use Rattle.std.specs.Prelude.{ℕ, ◌-◌, ◌<◌, ◌≤◌, Bool, ◌||◌, ◌&&◌, nat_le, ◌==◌, IsTrue, List, ◌++◌, length, replicate}
 use Rattle.std.specs.List.{list_all}
 

@@ -1,3 +1,4 @@
+-- A fact as contracts see it.
 use Rattle.std.specs.Prelude.{ℕ}
 use Rattle.ldar_facts.specs.declared.body.FactBody.{FactBody}
 

@@ -35,6 +35,13 @@ impl<'a> Cursor<'a> {
         self.rest.len()
     }
 
+    /// The bytes that are left.
+    pub(crate) fn left_bytes(&self) -> &'a [u8]
+        ensures { result.now ≡ self.now }
+    {
+        self.rest
+    }
+
     /// Takes a byte in one of the ranges.
     pub(crate) fn byte(&mut self, ranges: &[(u32, u32)]) -> Result<u8, Stop>
         ensures { Takes (number_from 1 ranges.now 0) result self.old self.new }

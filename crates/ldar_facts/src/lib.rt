@@ -1,11 +1,13 @@
 //! Facts of a leak programme, batches of them, and the bytes that a handheld sends.
 #![tactic(auto)]
 
+mod add_fact;
 mod batch;
 mod body;
 mod class;
 mod cursor;
 mod fact;
+mod field_at;
 mod identity;
 mod key;
 pub mod laws;
@@ -13,6 +15,7 @@ mod name;
 mod named;
 mod order;
 pub mod order_laws;
+mod ranges;
 mod read;
 mod read_body;
 mod read_fact;

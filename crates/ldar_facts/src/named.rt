@@ -17,7 +17,12 @@ pub fn component_of(body: &FactBody) -> Option<u16>
         | FactBody::Delay { component, .. }
         | FactBody::Release { component }
         | FactBody::Indication { component, .. } => Some(component),
-        _ => None,
+        FactBody::Unit { .. }
+        | FactBody::Election { .. }
+        | FactBody::Shutdown { .. }
+        | FactBody::Calibration { .. }
+        | FactBody::Precision { .. }
+        | FactBody::Drift { .. } => None,
     }
 }
 
@@ -30,7 +35,17 @@ pub fn unit_of(body: &FactBody) -> Option<u8>
         | FactBody::Component { unit, .. }
         | FactBody::Election { unit, .. }
         | FactBody::Shutdown { unit, .. } => Some(unit),
-        _ => None,
+        FactBody::Class { .. }
+        | FactBody::Retire { .. }
+        | FactBody::Calibration { .. }
+        | FactBody::Precision { .. }
+        | FactBody::Drift { .. }
+        | FactBody::Reading { .. }
+        | FactBody::Visual { .. }
+        | FactBody::Attempt { .. }
+        | FactBody::Delay { .. }
+        | FactBody::Release { .. }
+        | FactBody::Indication { .. } => None,
     }
 }
 
@@ -42,7 +57,18 @@ pub fn tested_instrument(body: &FactBody) -> Option<u16>
         FactBody::Calibration { instrument, .. }
         | FactBody::Precision { instrument, .. }
         | FactBody::Drift { instrument, .. } => Some(instrument),
-        _ => None,
+        FactBody::Unit { .. }
+        | FactBody::Component { .. }
+        | FactBody::Class { .. }
+        | FactBody::Retire { .. }
+        | FactBody::Election { .. }
+        | FactBody::Shutdown { .. }
+        | FactBody::Reading { .. }
+        | FactBody::Visual { .. }
+        | FactBody::Attempt { .. }
+        | FactBody::Delay { .. }
+        | FactBody::Release { .. }
+        | FactBody::Indication { .. } => None,
     }
 }
 
@@ -52,6 +78,19 @@ pub fn reading_instrument(body: &FactBody) -> Option<u16>
 {
     match *body {
         FactBody::Reading { instrument, .. } => Some(instrument),
-        _ => None,
+        FactBody::Unit { .. }
+        | FactBody::Component { .. }
+        | FactBody::Class { .. }
+        | FactBody::Retire { .. }
+        | FactBody::Election { .. }
+        | FactBody::Shutdown { .. }
+        | FactBody::Calibration { .. }
+        | FactBody::Precision { .. }
+        | FactBody::Drift { .. }
+        | FactBody::Visual { .. }
+        | FactBody::Attempt { .. }
+        | FactBody::Delay { .. }
+        | FactBody::Release { .. }
+        | FactBody::Indication { .. } => None,
     }
 }

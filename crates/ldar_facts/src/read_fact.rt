@@ -1,10 +1,13 @@
-ghost use Rattle.std.specs.Prelude.{◌≡◌, ◌≤◌, vec_len, vec_capacity};
+ghost use Rattle.std.specs.Prelude.{◌≡◌, ◌+◌, ◌<◌, ◌≤◌, vec_len, vec_capacity, OnOk, IfErr};
 ghost use Rattle.ldar_facts.specs.Form.{Takes};
 ghost use Rattle.ldar_facts.specs.FactForms as forms;
+ghost use Rattle.ldar_facts.specs.Places.{TakesFact};
 
+use crate::add_fact::add_fact;
 use crate::batch::FactList;
 use crate::cursor::Cursor;
 use crate::fact::Fact;
+use crate::ranges::{FACT_KINDS, MINUTES};
 use crate::stop::Stop;
 
 /// What stands before the facts of a batch.
@@ -31,13 +34,14 @@ impl Cursor<'_> {
     }
 
     /// Takes a fact.
-    #[tactic(auto, unfolding(crate::specs::FactForms::fact))]
+    #[cold]
+    #[tactic(auto, unfolding(crate::specs::FactForms::fact, crate::specs::FieldForms::fact_kind, crate::specs::FieldForms::minute))]
     pub(crate) fn fact(&mut self) -> Result<Fact, Stop>
         ensures { Takes forms.fact.read result self.old self.new }
     {
-        let kind = self.fact_kind()?;
+        let kind = self.byte(&FACT_KINDS)?;
         let day = self.day()?;
-        let minute = self.minute()?;
+        let minute = self.two_bytes(&MINUTES)?;
         let body = self.body(kind)?;
         Ok(Fact { day, minute, body })
     }
@@ -51,9 +55,26 @@ impl Cursor<'_> {
     {
         let mut facts = room;
         for _ in 0..count {
-            let fact = self.fact()?;
-            facts.push(fact).unwrap();
+            self.next_fact(&mut facts)?;
         }
         Ok(FactList::new(facts).unwrap())
+    }
+
+    /// Takes a fact, and adds it to others that have room for it.
+    fn next_fact(&mut self, facts: &mut Vec<Fact>) -> Result<(), Stop>
+        requires { vec_len facts.old < vec_capacity facts.old }
+        ensures taken { OnOk result (TakesFact self.old facts.old.items facts.new.items self.new) }
+        ensures stopped { IfErr result (λ stop. forms.fact.read self.old ≡ Err stop) }
+        ensures len { OnOk result (vec_len facts.new ≡ vec_len facts.old + 1) }
+        ensures capacity { vec_capacity facts.old ≤ vec_capacity facts.new }
+    {
+        if let Some(rest) = add_fact(self.left_bytes(), facts) {
+            *self = Cursor::new(rest);
+            return Ok(());
+        }
+        // Too few bytes for any fact are left, or something is wrong: only the exact reader tells where.
+        let fact = self.fact()?;
+        facts.push_reserved(fact);
+        Ok(())
     }
 }

@@ -5,106 +5,11 @@ ghost use Rattle.ldar_facts.specs.FieldForms as forms;
 use crate::body::{Purpose, Sort, VisualState};
 use crate::class::{Class, Designation, Kind, Service};
 use crate::cursor::Cursor;
+use crate::ranges::{CONCENTRATIONS, MONTHS};
 use crate::stop::Stop;
 use ldar_days::Day;
 
 impl Cursor<'_> {
-    /// The number of a component.
-    #[tactic(auto, unfolding(crate::specs::FieldForms::component))]
-    pub(crate) fn component(&mut self) -> Result<u16, Stop>
-        ensures { Takes forms.component.read result self.old self.new }
-    {
-        self.two_bytes(&[(1, 60_000)])
-    }
-
-    /// The number of a process unit.
-    #[tactic(auto, unfolding(crate::specs::FieldForms::unit))]
-    pub(crate) fn unit(&mut self) -> Result<u8, Stop>
-        ensures { Takes forms.unit.read result self.old self.new }
-    {
-        self.byte(&[(1, 64)])
-    }
-
-    /// The number of an instrument.
-    #[tactic(auto, unfolding(crate::specs::FieldForms::instrument))]
-    pub(crate) fn instrument(&mut self) -> Result<u16, Stop>
-        ensures { Takes forms.instrument.read result self.old self.new }
-    {
-        self.two_bytes(&[(1, 65_535)])
-    }
-
-    /// A number of an instrument or a person, or 0 for none.
-    #[tactic(auto, unfolding(crate::specs::FieldForms::number_or_none))]
-    pub(crate) fn number_or_none(&mut self) -> Result<u16, Stop>
-        ensures { Takes forms.number_or_none.read result self.old self.new }
-    {
-        self.two_bytes(&[(0, 65_535)])
-    }
-
-    /// A concentration that was read.
-    #[tactic(auto, unfolding(crate::specs::FieldForms::concentration))]
-    pub(crate) fn concentration(&mut self) -> Result<u32, Stop>
-        ensures { Takes forms.concentration.read result self.old self.new }
-    {
-        self.four_bytes(&[(0, 999_999)])
-    }
-
-    /// The concentration of a gas.
-    #[tactic(auto, unfolding(crate::specs::FieldForms::known_value))]
-    pub(crate) fn known_value(&mut self) -> Result<u32, Stop>
-        ensures { Takes forms.known_value.read result self.old self.new }
-    {
-        self.four_bytes(&[(1, 999_999)])
-    }
-
-    /// A minute of a day.
-    #[tactic(auto, unfolding(crate::specs::FieldForms::minute))]
-    pub(crate) fn minute(&mut self) -> Result<u16, Stop>
-        ensures { Takes forms.minute.read result self.old self.new }
-    {
-        self.two_bytes(&[(0, 1_439)])
-    }
-
-    /// The kind of a fact.
-    #[tactic(auto, unfolding(crate::specs::FieldForms::fact_kind))]
-    pub(crate) fn fact_kind(&mut self) -> Result<u8, Stop>
-        ensures { Takes forms.fact_kind.read result self.old self.new }
-    {
-        self.byte(&[(1, 15)])
-    }
-
-    /// A month of a quarter.
-    #[tactic(auto, unfolding(crate::specs::FieldForms::month))]
-    pub(crate) fn month(&mut self) -> Result<u8, Stop>
-        ensures { Takes forms.month.read result self.old self.new }
-    {
-        self.byte(&[(1, 3)])
-    }
-
-    /// A programme of skip periods.
-    #[tactic(auto, unfolding(crate::specs::FieldForms::mode))]
-    pub(crate) fn mode(&mut self) -> Result<u8, Stop>
-        ensures { Takes forms.mode.read result self.old self.new }
-    {
-        self.byte(&[(0, 1), (3, 3)])
-    }
-
-    /// The days of a shutdown.
-    #[tactic(auto, unfolding(crate::specs::FieldForms::shutdown_length))]
-    pub(crate) fn shutdown_length(&mut self) -> Result<u16, Stop>
-        ensures { Takes forms.shutdown_length.read result self.old self.new }
-    {
-        self.two_bytes(&[(1, 366)])
-    }
-
-    /// The ground of a delay, or 0 where it is withdrawn.
-    #[tactic(auto, unfolding(crate::specs::FieldForms::delay_ground))]
-    pub(crate) fn delay_ground(&mut self) -> Result<u8, Stop>
-        ensures { Takes forms.delay_ground.read result self.old self.new }
-    {
-        self.byte(&[(0, 5)])
-    }
-
     /// No or yes.
     #[tactic(auto, unfolding(crate::specs::FieldForms::flag))]
     pub(crate) fn flag(&mut self) -> Result<bool, Stop>
@@ -200,14 +105,14 @@ impl Cursor<'_> {
     }
 
     /// The class of a component.
-    #[tactic(auto, unfolding(crate::specs::FieldForms::class))]
+    #[tactic(auto, unfolding(crate::specs::FieldForms::class, crate::specs::FieldForms::month))]
     pub(crate) fn class(&mut self) -> Result<Class, Stop>
         ensures { Takes forms.class.read result self.old self.new }
     {
         let service = self.service()?;
         let designation = self.designation()?;
         let plan = self.plan(designation)?;
-        let month = self.month()?;
+        let month = self.byte(&MONTHS)?;
         Ok(Class {
             service,
             designation,
@@ -217,14 +122,14 @@ impl Cursor<'_> {
     }
 
     /// Three readings.
-    #[tactic(auto, unfolding(crate::specs::FieldForms::readings))]
+    #[tactic(auto, unfolding(crate::specs::FieldForms::readings, crate::specs::FieldForms::concentration))]
     pub(crate) fn readings(&mut self) -> Result<(u32, u32, u32), Stop>
         ensures { Takes forms.readings.read result self.old self.new }
     {
         Ok((
-            self.concentration()?,
-            self.concentration()?,
-            self.concentration()?,
+            self.four_bytes(&CONCENTRATIONS)?,
+            self.four_bytes(&CONCENTRATIONS)?,
+            self.four_bytes(&CONCENTRATIONS)?,
         ))
     }
 }

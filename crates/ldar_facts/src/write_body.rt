@@ -1,12 +1,16 @@
 ghost use Rattle.std.specs.Prelude.{◌≡◌, ◌++◌, OnOk};
+ghost use Rattle.ldar_facts.specs.declared.body.FactBody.TheVariants as says;
 ghost use Rattle.ldar_facts.specs.Fields.{body_fields, body_number};
 ghost use Rattle.ldar_facts.specs.Grammar.{spelled};
 
-use crate::body::FactBody;
+use crate::body::{FactBody, Purpose, Sort, VisualState};
+use crate::class::{Class, Kind};
+use crate::name::Name;
 use crate::write_field::{
     kind_number, purpose_number, put_byte, put_class, put_day, put_day_or_none, put_flag,
     put_four_bytes, put_name, put_readings, put_two_bytes, sort_number, state_number,
 };
+use ldar_days::Day;
 use std::alloc::AllocError;
 
 /// Adds what a fact says.
@@ -14,11 +18,7 @@ pub(crate) fn put_body(out: &mut Vec<u8>, body: &FactBody) -> Result<(), AllocEr
     ensures { OnOk result (out.new.items ≡ out.old.items ++ spelled (body_fields body.now)) }
 {
     match *body {
-        FactBody::Unit { unit, older, name } => {
-            put_byte(out, unit)?;
-            put_flag(out, older)?;
-            put_name(out, &name)
-        }
+        FactBody::Unit { unit, older, name } => put_unit(out, unit, older, &name),
         FactBody::Component {
             component,
             unit,
@@ -26,54 +26,26 @@ pub(crate) fn put_body(out: &mut Vec<u8>, body: &FactBody) -> Result<(), AllocEr
             monomer,
             replaces,
             class,
-        } => {
-            put_two_bytes(out, component)?;
-            put_byte(out, unit)?;
-            put_byte(out, kind_number(kind))?;
-            put_flag(out, monomer)?;
-            put_flag(out, replaces)?;
-            put_class(out, class)
-        }
-        FactBody::Class { component, class } => {
-            put_two_bytes(out, component)?;
-            put_class(out, class)
-        }
-        FactBody::Retire { component } => { put_two_bytes(out, component) }
+        } => put_component(out, component, unit, kind, monomer, replaces, class),
+        FactBody::Class { component, class } => put_class_fact(out, component, class),
+        FactBody::Retire { component } => put_two_bytes(out, component),
         FactBody::Election {
             unit,
             mode,
             notified,
-        } => {
-            put_byte(out, unit)?;
-            put_byte(out, mode)?;
-            put_day(out, notified)
-        }
-        FactBody::Shutdown { unit, days } => {
-            put_byte(out, unit)?;
-            put_two_bytes(out, days)
-        }
-        FactBody::Calibration { instrument, gas } => {
-            put_two_bytes(out, instrument)?;
-            put_four_bytes(out, gas)
-        }
+        } => put_election(out, unit, mode, notified),
+        FactBody::Shutdown { unit, days } => put_shutdown(out, unit, days),
+        FactBody::Calibration { instrument, gas } => put_known(out, instrument, gas),
         FactBody::Precision {
             instrument,
             value,
             readings,
-        } => {
-            put_two_bytes(out, instrument)?;
-            put_four_bytes(out, value)?;
-            put_readings(out, readings)
-        }
+        } => put_assessment(out, instrument, value, readings),
         FactBody::Drift {
             instrument,
             value,
             readings,
-        } => {
-            put_two_bytes(out, instrument)?;
-            put_four_bytes(out, value)?;
-            put_readings(out, readings)
-        }
+        } => put_assessment(out, instrument, value, readings),
         FactBody::Reading {
             component,
             instrument,
@@ -81,47 +53,168 @@ pub(crate) fn put_body(out: &mut Vec<u8>, body: &FactBody) -> Result<(), AllocEr
             purpose,
             ppm,
             background,
-        } => {
-            put_two_bytes(out, component)?;
-            put_two_bytes(out, instrument)?;
-            put_two_bytes(out, operator)?;
-            put_byte(out, purpose_number(purpose))?;
-            put_four_bytes(out, ppm)?;
-            put_four_bytes(out, background)
-        }
-        FactBody::Visual { component, state } => {
-            put_two_bytes(out, component)?;
-            put_byte(out, state_number(state))
-        }
+        } => put_reading(
+            out, component, instrument, operator, purpose, ppm, background,
+        ),
+        FactBody::Visual { component, state } => put_visual(out, component, state),
         FactBody::Attempt {
             component,
             complete,
-        } => {
-            put_two_bytes(out, component)?;
-            put_flag(out, complete)
-        }
+        } => put_attempt(out, component, complete),
         FactBody::Delay {
             component,
             ground,
             signer,
             expected,
-        } => {
-            put_two_bytes(out, component)?;
-            put_byte(out, ground)?;
-            put_two_bytes(out, signer)?;
-            put_day_or_none(out, expected)
-        }
-        FactBody::Release { component } => { put_two_bytes(out, component) }
+        } => put_delay(out, component, ground, signer, expected),
+        FactBody::Release { component } => put_two_bytes(out, component),
         FactBody::Indication {
             component,
             sort,
             present,
-        } => {
-            put_two_bytes(out, component)?;
-            put_byte(out, sort_number(sort))?;
-            put_flag(out, present)
-        }
+        } => put_indication(out, component, sort, present),
     }
+}
+
+/// Adds a process unit.
+fn put_unit(out: &mut Vec<u8>, unit: u8, older: bool, name: &Name) -> Result<(), AllocError>
+    ensures { OnOk result (out.new.items ≡ out.old.items ++ spelled (body_fields (says.Unit unit older name.now))) }
+{
+    put_byte(out, unit)?;
+    put_flag(out, older)?;
+    put_name(out, name)
+}
+
+/// Adds a component.
+fn put_component(
+    out: &mut Vec<u8>,
+    component: u16,
+    unit: u8,
+    kind: Kind,
+    monomer: bool,
+    replaces: bool,
+    class: Class,
+) -> Result<(), AllocError>
+    ensures { OnOk result (out.new.items ≡ out.old.items ++ spelled (body_fields (says.Component component unit kind monomer replaces class))) }
+{
+    put_two_bytes(out, component)?;
+    put_byte(out, unit)?;
+    put_byte(out, kind_number(kind))?;
+    put_flag(out, monomer)?;
+    put_flag(out, replaces)?;
+    put_class(out, class)
+}
+
+/// Adds a class of a component.
+fn put_class_fact(out: &mut Vec<u8>, component: u16, class: Class) -> Result<(), AllocError>
+    ensures { OnOk result (out.new.items ≡ out.old.items ++ spelled (body_fields (says.Class component class))) }
+{
+    put_two_bytes(out, component)?;
+    put_class(out, class)
+}
+
+/// Adds the choice of a programme of skip periods.
+fn put_election(out: &mut Vec<u8>, unit: u8, mode: u8, notified: Day) -> Result<(), AllocError>
+    ensures { OnOk result (out.new.items ≡ out.old.items ++ spelled (body_fields (says.Election unit mode notified))) }
+{
+    put_byte(out, unit)?;
+    put_byte(out, mode)?;
+    put_day(out, notified)
+}
+
+/// Adds a shutdown.
+fn put_shutdown(out: &mut Vec<u8>, unit: u8, days: u16) -> Result<(), AllocError>
+    ensures { OnOk result (out.new.items ≡ out.old.items ++ spelled (body_fields (says.Shutdown unit days))) }
+{
+    put_byte(out, unit)?;
+    put_two_bytes(out, days)
+}
+
+/// Adds an instrument and a known value.
+fn put_known(out: &mut Vec<u8>, instrument: u16, value: u32) -> Result<(), AllocError>
+    ensures { OnOk result (out.new.items ≡ out.old.items ++ spelled (body_fields (says.Calibration instrument value))) }
+{
+    put_two_bytes(out, instrument)?;
+    put_four_bytes(out, value)
+}
+
+/// Adds a precision test or a drift assessment: both have the same fields.
+fn put_assessment(
+    out: &mut Vec<u8>,
+    instrument: u16,
+    value: u32,
+    readings: (u32, u32, u32),
+) -> Result<(), AllocError>
+    ensures { OnOk result (out.new.items ≡ out.old.items ++ spelled (body_fields (says.Precision instrument value readings))) }
+{
+    put_known(out, instrument, value)?;
+    put_readings(out, readings)
+}
+
+/// Adds a reading.
+fn put_reading(
+    out: &mut Vec<u8>,
+    component: u16,
+    instrument: u16,
+    operator: u16,
+    purpose: Purpose,
+    ppm: u32,
+    background: u32,
+) -> Result<(), AllocError>
+    ensures { OnOk result (out.new.items ≡ out.old.items ++ spelled (body_fields (says.Reading component instrument operator purpose ppm background))) }
+{
+    put_two_bytes(out, component)?;
+    put_two_bytes(out, instrument)?;
+    put_two_bytes(out, operator)?;
+    put_byte(out, purpose_number(purpose))?;
+    put_four_bytes(out, ppm)?;
+    put_four_bytes(out, background)
+}
+
+/// Adds a visual inspection.
+fn put_visual(out: &mut Vec<u8>, component: u16, state: VisualState) -> Result<(), AllocError>
+    ensures { OnOk result (out.new.items ≡ out.old.items ++ spelled (body_fields (says.Visual component state))) }
+{
+    put_two_bytes(out, component)?;
+    put_byte(out, state_number(state))
+}
+
+/// Adds an attempt at a repair.
+fn put_attempt(out: &mut Vec<u8>, component: u16, complete: bool) -> Result<(), AllocError>
+    ensures { OnOk result (out.new.items ≡ out.old.items ++ spelled (body_fields (says.Attempt component complete))) }
+{
+    put_two_bytes(out, component)?;
+    put_flag(out, complete)
+}
+
+/// Adds a delay of repair.
+fn put_delay(
+    out: &mut Vec<u8>,
+    component: u16,
+    ground: u8,
+    signer: u16,
+    expected: Option<Day>,
+) -> Result<(), AllocError>
+    ensures { OnOk result (out.new.items ≡ out.old.items ++ spelled (body_fields (says.Delay component ground signer expected))) }
+{
+    put_two_bytes(out, component)?;
+    put_byte(out, ground)?;
+    put_two_bytes(out, signer)?;
+    put_day_or_none(out, expected)
+}
+
+/// Adds an indication.
+fn put_indication(
+    out: &mut Vec<u8>,
+    component: u16,
+    sort: Sort,
+    present: bool,
+) -> Result<(), AllocError>
+    ensures { OnOk result (out.new.items ≡ out.old.items ++ spelled (body_fields (says.Indication component sort present))) }
+{
+    put_two_bytes(out, component)?;
+    put_byte(out, sort_number(sort))?;
+    put_flag(out, present)
 }
 
 /// The number of a fact's kind.
