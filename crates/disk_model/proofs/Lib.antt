@@ -1,3 +1,4 @@
+pub mod KeepsLemmas
 pub mod Overwrite
 pub mod ReadLemmas
 pub mod ToldLemmas

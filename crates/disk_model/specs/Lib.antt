@@ -1,5 +1,6 @@
 pub mod Calls
 pub mod Disk
 pub mod Faults
+pub mod Keeps
 pub mod MemoryDisk
 pub mod Told

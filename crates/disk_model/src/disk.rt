@@ -1,6 +1,7 @@
 ghost use Rattle.std.specs.Prelude.{Some, codes, ◌≡◌, ◌≤◌, ◌^◌, ◌-◌, ℕ, List, length, Option, IfOk, OnOk, OnErr, IsErr};
 ghost use Rattle.disk_model.specs.Told.{BothTold};
 ghost use Rattle.disk_model.specs.Faults.{Rose};
+ghost use Rattle.disk_model.specs.Keeps.{Keeps};
 ghost use Rattle.disk_model.specs.Disk.{Reads, Torn, Holds};
 
 use std::error::Error;
@@ -40,9 +41,7 @@ pub trait Disk: Drop {
         ensures within { IfOk result (λ n. n ≤ length into.old) }
         ensures read { BothTold (content self.old) (content self.new)
             (λ old new. (new ≡ old) × IfOk result (Reads at old into.old into.new)) }
-        ensures time { clock self.old ≤ clock self.new }
-        ensures name { name self.new ≡ name self.old }
-        ensures count { faults self.old ≤ faults self.new }
+        ensures keeps { Keeps clock name faults self.old self.new }
         ensures cause { OnErr result (Rose (faults self.old) (faults self.new)) };
 
     /// Writes bytes over what is there, and past the end. After a fault its range, and what lies
@@ -52,9 +51,7 @@ pub trait Disk: Drop {
             (λ old new. Torn at (length bytes.now) old new × OnOk result (Holds at bytes.now old new)) }
         ensures clock_at_end { clock self.old ≡ 2 ^ 64 - 1
             → IsErr result × (content self.new ≡ content self.old) × (clock self.new ≡ clock self.old) }
-        ensures time { clock self.old ≤ clock self.new }
-        ensures name { name self.new ≡ name self.old }
-        ensures count { faults self.old ≤ faults self.new }
+        ensures keeps { Keeps clock name faults self.old self.new }
         ensures cause { OnErr result (Rose (faults self.old) (faults self.new)) };
 
     /// Makes the content stable.
@@ -62,9 +59,7 @@ pub trait Disk: Drop {
         ensures same { BothTold (content self.old) (content self.new) (λ old new. new ≡ old) }
         ensures clock_at_end { clock self.old ≡ 2 ^ 64 - 1
             → IsErr result × (clock self.new ≡ clock self.old) }
-        ensures time { clock self.old ≤ clock self.new }
-        ensures name { name self.new ≡ name self.old }
-        ensures count { faults self.old ≤ faults self.new }
+        ensures keeps { Keeps clock name faults self.old self.new }
         ensures cause { OnErr result (Rose (faults self.old) (faults self.new)) };
 
     /// The clock.
