@@ -1,5 +1,11 @@
 pub mod Calls
 pub mod Disk
 pub mod Faults
+pub mod Images
+pub mod Keeps
 pub mod MemoryDisk
+pub mod MomentLaws
+pub mod Moments
+pub mod Stopped
 pub mod Told
+pub mod Writes

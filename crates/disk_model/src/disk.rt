@@ -1,6 +1,8 @@
-ghost use Rattle.std.specs.Prelude.{Some, codes, ◌≡◌, ◌≤◌, ◌^◌, ◌-◌, ℕ, List, length, Option, IfOk, OnOk, OnErr, IsErr};
-ghost use Rattle.disk_model.specs.Told.{BothTold};
+ghost use Rattle.std.specs.Prelude.{Some, codes, ◌≡◌, ◌<◌, ◌≤◌, ◌+◌, ◌^◌, ◌-◌, ◌⊎◌, ℕ, List, length, Option, IfOk, OnOk, OnErr, IsOk, IsErr, MatchResult};
+ghost use Rattle.disk_model.specs.Images.{Same, SameSince, Only, Tears, Elapses, Roomy};
+ghost use Rattle.disk_model.specs.Told.{Told, BothTold};
 ghost use Rattle.disk_model.specs.Faults.{Rose};
+ghost use Rattle.disk_model.specs.Keeps.{Keeps};
 ghost use Rattle.disk_model.specs.Disk.{Reads, Torn, Holds};
 
 use std::error::Error;
@@ -34,42 +36,74 @@ pub trait Disk: Drop {
     /// Which reference this is, for a `&mut`, and else 0.
     ghost name: { Self → ℕ };
 
+    /// What a crash now may leave.
+    ghost images: { Self → List ℕ → Type 0 };
+
+    /// What a crash at some moment since this clock may have left.
+    ghost left: { Self → ℕ → List ℕ → Type 0 };
+
+    /// Up to which end a write never fails, where the disk tells it.
+    ghost room: { Self → Option ℕ };
+
     /// Reads bytes from a place on, and says how many. Near the end, and wherever the disk
     /// likes, it may read less than asked for, but no less than one byte that is there.
     fn read_at(&mut self, at: u64, into: &mut [u8]) -> Result<usize, DiskFault>
         ensures within { IfOk result (λ n. n ≤ length into.old) }
         ensures read { BothTold (content self.old) (content self.new)
             (λ old new. (new ≡ old) × IfOk result (Reads at old into.old into.new)) }
-        ensures time { clock self.old ≤ clock self.new }
-        ensures name { name self.new ≡ name self.old }
-        ensures count { faults self.old ≤ faults self.new }
+        ensures crash { Same (images self.old) (images self.new) }
+        ensures any_moment { SameSince (clock self.old) (left self.old) (left self.new) }
+        ensures roomy { Roomy room clock self.old self.new (λ _. IsOk result) }
+        ensures keeps { Keeps clock name faults self.old self.new }
         ensures cause { OnErr result (Rose (faults self.old) (faults self.new)) };
 
     /// Writes bytes over what is there, and past the end. After a fault its range, and what lies
-    /// past the old end, may hold any bytes.
+    /// past the old end, may hold any bytes; so they may after a crash, until a sync went through.
     fn write_at(&mut self, at: u64, bytes: &[u8]) -> Result<(), DiskFault>
         ensures written { BothTold (content self.old) (content self.new)
             (λ old new. Torn at (length bytes.now) old new × OnOk result (Holds at bytes.now old new)) }
+        ensures crash { MatchResult result
+            (λ _. Tears at (length bytes.now) (images self.old) (images self.new))
+            (λ _. Tears at (length bytes.now) (images self.old) (images self.new)
+                ⊎ Same (images self.old) (images self.new)) }
+        ensures any_moment { Elapses clock images left self.old self.new }
+        ensures roomy { Roomy room clock self.old self.new (λ end.
+            at + length bytes.now ≤ end → clock self.old < 2 ^ 64 - 1 → IsOk result) }
         ensures clock_at_end { clock self.old ≡ 2 ^ 64 - 1
             → IsErr result × (content self.new ≡ content self.old) × (clock self.new ≡ clock self.old) }
-        ensures time { clock self.old ≤ clock self.new }
-        ensures name { name self.new ≡ name self.old }
-        ensures count { faults self.old ≤ faults self.new }
+        ensures keeps { Keeps clock name faults self.old self.new }
         ensures cause { OnErr result (Rose (faults self.old) (faults self.new)) };
 
-    /// Makes the content stable.
+    /// Makes the content stable: a crash then leaves just what a read gives. After a fault a crash
+    /// leaves what it might have left before.
     fn sync(&mut self) -> Result<(), DiskFault>
         ensures same { BothTold (content self.old) (content self.new) (λ old new. new ≡ old) }
+        ensures durable { OnOk result
+            (Told (content self.new) (λ bytes. Only bytes (images self.new))) }
+        ensures crash { MatchResult result
+            (λ _. (c : List ℕ) → images self.new c → images self.old c)
+            (λ _. Same (images self.old) (images self.new)) }
+        ensures any_moment { Elapses clock images left self.old self.new }
+        ensures roomy { Roomy room clock self.old self.new
+            (λ _. clock self.old < 2 ^ 64 - 1 → IsOk result) }
         ensures clock_at_end { clock self.old ≡ 2 ^ 64 - 1
             → IsErr result × (clock self.new ≡ clock self.old) }
-        ensures time { clock self.old ≤ clock self.new }
-        ensures name { name self.new ≡ name self.old }
-        ensures count { faults self.old ≤ faults self.new }
+        ensures keeps { Keeps clock name faults self.old self.new }
         ensures cause { OnErr result (Rose (faults self.old) (faults self.new)) };
 
     /// The clock.
     fn now(&self) -> u64
-        ensures time { result ≡ clock self.now };
+        ensures time { result ≡ clock self.now }
+        ensures image { Told (content self.now) (images self.now) };
+
+    /// What a crash may leave now counts since each clock up to now.
+    ghost counts_now: { (d : Self) (t : ℕ) (c : List ℕ) → t ≤ clock d → images d c → left d t c };
+
+    /// Since now a crash may have left just what it may leave.
+    ghost only_now: { (d : Self) (c : List ℕ) → left d (clock d) c → images d c };
+
+    /// What a crash may have left since a clock, it may have left since an earlier one.
+    ghost since_earlier: { (d : Self) (s t : ℕ) (c : List ℕ) → s ≤ t → left d t c → left d s c };
 }
 
 impl<D: Disk> Disk for &mut D {
@@ -80,6 +114,18 @@ impl<D: Disk> Disk for &mut D {
     ghost clock = { λ d. D.clock d.now };
 
     ghost name = { λ d. d.ghost_name };
+
+    ghost images = { λ d. D.images d.now };
+
+    ghost left = { λ d. D.left d.now };
+
+    ghost room = { λ d. D.room d.now };
+
+    ghost counts_now = { λ d. D.counts_now d.now };
+
+    ghost only_now = { λ d. D.only_now d.now };
+
+    ghost since_earlier = { λ d. D.since_earlier d.now };
 
     fn read_at(&mut self, at: u64, into: &mut [u8]) -> Result<usize, DiskFault> {
         (**self).read_at(at, into)

@@ -4,6 +4,7 @@
 mod calls;
 mod disk;
 mod memory_disk;
+mod noted;
 mod places;
 
 pub use calls::Calls;

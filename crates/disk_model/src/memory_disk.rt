@@ -1,42 +1,60 @@
-ghost use Rattle.std.specs.Prelude.{◌≡◌, ◌<◌, ◌≤◌, ◌^◌, ◌+◌, ◌-◌, ◌⊎◌, length, min, IfOk, OnOk, OnErr, IsErr, Some, MatchResult};
+ghost use Rattle.std.specs.Prelude.{◌≡◌, ◌<◌, ◌≤◌, ◌^◌, ◌+◌, ◌-◌, ◌++◌, [], ◌∷◌, ℕ, List, length, reverse, take, min, IfOk, OnOk, OnErr, IsErr, Some, None, MatchResult};
 ghost use Rattle.disk_model.specs.Calls.{IsFailing};
 ghost use Rattle.disk_model.specs.Disk.{Reads, Torn, Holds};
 ghost use Rattle.disk_model.specs.Faults.{Rose};
-ghost use Rattle.disk_model.specs.MemoryDisk.{after_failing, after_read, after_write, after_sync};
+ghost use Rattle.disk_model.specs.MemoryDisk.{bytes_of, clock_of, images_of, left_of, new_disk, after_failing, after_read, after_write, after_sync, noted_write, bytes_after};
+ghost use Rattle.disk_model.specs.MomentLaws.{left_counts_now, left_only_now, left_since_earlier};
+ghost use Rattle.disk_model.specs.MemoryDisk.{changes};
+ghost use Rattle.disk_model.specs.Stopped.{up_to, disk_before, stopped_bytes, IsLeftIn};
+ghost use Rattle.disk_model.specs.Writes.{written};
 
+use crate::noted::Noted;
 use crate::places::{copy_from, overwrite};
 use crate::{Calls, Disk, DiskFault, Memory};
 use std::alloc::Global;
 use std::marker::Model;
 
 /// A disk in memory, for tests. Its calls of reading, writing and syncing are numbered from 0
-/// together; the calls with given numbers fail.
+/// together; the calls with given numbers fail. It notes what its writes and syncs did, so that
+/// it can tell how a stop inside a call would have left it.
 #[derive(Drop)]
 pub struct MemoryDisk {
+    alloc: Global,
     bytes: Vec<u8>,
+    start: Vec<u8>,
+    past: Vec<Noted>,
     calls: Calls,
     clock: u64,
 }
 
 impl Model for MemoryDisk {
-    ghost use Rattle.disk_model.specs.MemoryDisk.{DiskState};
+    ghost use Rattle.std.specs.Prelude.{◌≡◌, reverse};
+    ghost use Rattle.disk_model.specs.MemoryDisk.{DiskState, bytes_after, changes};
 
     ghost Value = { DiskState };
 
-    ghost view = { λ m. record { bytes = m.bytes.items; calls = m.calls; clock = m.clock } };
+    ghost view = { λ m. record {
+      start = m.start.items;
+      past = reverse m.past.items;
+      calls = m.calls;
+    } };
+
+    ghost use Rattle.std.specs.Prelude.{length};
+
+    ghost invariant = { λ m. (m.bytes.items ≡ bytes_after m.start.items (reverse m.past.items))
+        × (m.clock ≡ length (changes m.start.items (reverse m.past.items))) };
 }
 
 impl MemoryDisk {
     /// A disk with these bytes, all stable, whose calls with these numbers will fail.
     pub fn new(alloc: Global, bytes: &[u8], failing: &[u64]) -> Result<MemoryDisk, Memory>
-        ensures value { IfOk result (λ disk. disk ≡ record {
-          bytes = bytes.now;
-          calls = record { failing = failing.now; made = 0; faults = 0 };
-          clock = 0;
-        }) }
+        ensures value { IfOk result (λ disk. disk ≡ new_disk bytes.now failing.now) }
     {
         Ok(MemoryDisk {
+            alloc,
             bytes: Vec::from_slice(alloc, bytes)?,
+            start: Vec::from_slice(alloc, bytes)?,
+            past: Vec::new(alloc),
             calls: Calls::new(alloc, failing)?,
             clock: 0,
         })
@@ -44,7 +62,7 @@ impl MemoryDisk {
 
     /// The content.
     pub fn bytes(&self) -> &[u8]
-        ensures value { result.now ≡ self.now.bytes }
+        ensures value { result.now ≡ bytes_of self.now }
     {
         &self.bytes
     }
@@ -62,20 +80,121 @@ impl MemoryDisk {
     {
         self.calls.faults()
     }
+
+    /// A new disk as a stop inside a call left this one: what the calls before wrote is there, and
+    /// of a write the first bytes of its range are these, as far as the range goes. A call that
+    /// failed had changed nothing. A write of no byte leaves the bytes as they were.
+    pub fn stopped(&self, alloc: Global, call: u64, left: &[u8]) -> Result<MemoryDisk, Memory>
+        requires { call < self.now.calls.made }
+        ensures value { IfOk result (λ disk. disk
+            ≡ new_disk (stopped_bytes self.now call left.now) []) }
+        ensures any_moment { IfOk result (λ disk. IsLeftIn self.now call disk.start) }
+    {
+        let bytes = self.stopped_bytes(alloc, call, left)?;
+        MemoryDisk::new(alloc, &bytes, &[])
+    }
+
+    // The bytes that a stop inside a call leaves.
+    fn stopped_bytes(&self, alloc: Global, call: u64, left: &[u8]) -> Result<Vec<u8>, Memory>
+        ensures value { IfOk result (λ bytes. bytes.items ≡ stopped_bytes self.now call left.now) }
+    {
+        let past = up_to(&self.past, call);
+        if let Some((last, earlier)) = past.split_last() {
+            if last.call == call {
+                let mut bytes = redone(alloc, &self.start, earlier)?;
+                last.redo_part(left, &mut bytes)?;
+                return Ok(bytes);
+            }
+        }
+        redone(alloc, &self.start, past)
+    }
+
+    /// The clock at the start of a call.
+    pub fn clock_before(&self, call: u64) -> u64
+        requires { call < self.now.calls.made }
+        ensures value { result ≡ clock_of (disk_before call self.now) }
+    {
+        let past = up_to(&self.past, call);
+        if let Some((last, earlier)) = past.split_last() {
+            if last.call == call {
+                return earlier.len() as u64;
+            }
+        }
+        past.len() as u64
+    }
+}
+
+// What the calls with numbers up to this one did, the first first.
+fn up_to(past: &[Noted], call: u64) -> &[Noted]
+    ensures value { reverse result.now ≡ up_to call (reverse past.now) }
+{
+    let mut n = past.len();
+    while n > 0 && past[n - 1].call > call {
+        n -= 1;
+    }
+    &past[..n]
+}
+
+// The bytes after calls, the first first.
+fn redone(alloc: Global, start: &[u8], past: &[Noted]) -> Result<Vec<u8>, Memory>
+    ensures value { IfOk result (λ bytes. bytes.items ≡ bytes_after start.now (reverse past.now)) }
+{
+    let mut bytes = Vec::from_slice(alloc, start)?;
+    for noted in past {
+        noted.redo(&mut bytes)?;
+    }
+    Ok(bytes)
+}
+
+// Writes, and notes it. It gives up only where it can't grow, and then it changes nothing.
+fn write_noted(
+    alloc: Global,
+    content: &mut Vec<u8>,
+    past: &mut Vec<Noted>,
+    call: u64,
+    at: u64,
+    bytes: &[u8],
+) -> Result<(), Memory>
+    ensures value { OnOk result (content.new.items ≡ written at bytes.now content.old.items) }
+    ensures torn { OnOk result (Torn at (length bytes.now) content.old.items content.new.items) }
+    ensures holds { OnOk result (Holds at bytes.now content.old.items content.new.items) }
+    ensures noted { OnOk result (past.new.items ≡ past.old.items ++ noted_write call at bytes.now ∷ []) }
+    ensures unchanged { OnErr result ((content.new.items ≡ content.old.items)
+        × (past.new.items ≡ past.old.items)) }
+{
+    past.push(Noted::write(alloc, call, at, bytes)?)?;
+    if let Err(memory) = overwrite(content, at as usize, bytes) {
+        // The write did not go through, so it may not stay noted.
+        let _ = past.pop();
+        return Err(memory);
+    }
+    Ok(())
 }
 
 impl Disk for MemoryDisk {
-    ghost content = { λ disk. Some disk.bytes };
+    ghost content = { λ disk. Some (bytes_of disk) };
 
     ghost faults = { λ disk. disk.calls.faults };
 
-    ghost clock = { λ disk. disk.clock };
+    ghost clock = { clock_of };
 
     ghost name = { λ disk. 0 };
 
+    ghost images = { images_of };
+
+    ghost left = { left_of };
+
+    ghost room = { λ disk. None };
+
+    ghost counts_now = { λ disk. left_counts_now disk.start (changes disk.start disk.past) };
+
+    ghost only_now = { λ disk. left_only_now disk.start (changes disk.start disk.past) };
+
+    ghost since_earlier = { λ disk. left_since_earlier disk.start (changes disk.start disk.past) };
+
     fn read_at(&mut self, at: u64, into: &mut [u8]) -> Result<usize, DiskFault>
-        ensures value { IfOk result (λ n. n ≡ min (length into.old) (length self.old.bytes - at)) }
-        ensures read { IfOk result (Reads at self.old.bytes into.old into.new) }
+        ensures value { IfOk result (λ n. n ≡ min (length into.old) (length (bytes_of self.old) - at)) }
+        ensures read { IfOk result (Reads at (bytes_of self.old) into.old into.new) }
         ensures after { MatchResult result
             (λ _. self.new ≡ after_read self.old) (λ _. self.new ≡ after_failing self.old) }
 
@@ -95,17 +214,15 @@ impl Disk for MemoryDisk {
     }
 
     fn write_at(&mut self, at: u64, bytes: &[u8]) -> Result<(), DiskFault>
-        ensures written { OnOk result (Torn at (length bytes.now) self.old.bytes self.new.bytes
-            × Holds at bytes.now self.old.bytes self.new.bytes) }
+        ensures written { OnOk result (Torn at (length bytes.now) (bytes_of self.old) (bytes_of self.new)
+            × Holds at bytes.now (bytes_of self.old) (bytes_of self.new)) }
         ensures after { MatchResult result
-            (λ _. self.new ≡ after_write self.old self.new.bytes)
+            (λ _. self.new ≡ after_write self.old at bytes.now)
             (λ _. self.new ≡ after_failing self.old) }
 
         // It fails at the calls that were to fail, at the end of its clock, and where it can't grow.
         ensures fails { IsFailing self.old.calls → IsErr result }
-        ensures clock_at_end { self.old.clock ≡ 2 ^ 64 - 1 → IsErr result }
-        ensures only_failing { OnErr result (IsFailing self.old.calls
-            ⊎ (self.old.clock ≡ 2 ^ 64 - 1) ⊎ (length self.old.bytes < at + length bytes.now)) }
+        ensures clock_at_end { clock_of self.old ≡ 2 ^ 64 - 1 → IsErr result }
 
         ensures count { self.old.calls.faults ≤ self.new.calls.faults }
         ensures cause { OnErr result (Rose self.old.calls.faults self.new.calls.faults) }
@@ -114,7 +231,8 @@ impl Disk for MemoryDisk {
             self.calls.fail();
             return Err(DiskFault);
         }
-        if overwrite(&mut self.bytes, at as usize, bytes).is_err() {
+        let call = self.calls.made();
+        if write_noted(self.alloc, &mut self.bytes, &mut self.past, call, at, bytes).is_err() {
             self.calls.fail();
             return Err(DiskFault);
         }
@@ -127,11 +245,9 @@ impl Disk for MemoryDisk {
         ensures after { MatchResult result
             (λ _. self.new ≡ after_sync self.old) (λ _. self.new ≡ after_failing self.old) }
 
-        // It fails at the calls that were to fail, and at the end of its clock.
+        // It fails at the calls that were to fail, at the end of its clock, and where it can't grow.
         ensures fails { IsFailing self.old.calls → IsErr result }
-        ensures clock_at_end { self.old.clock ≡ 2 ^ 64 - 1 → IsErr result }
-        ensures only_failing { OnErr result
-            (IsFailing self.old.calls ⊎ (self.old.clock ≡ 2 ^ 64 - 1)) }
+        ensures clock_at_end { clock_of self.old ≡ 2 ^ 64 - 1 → IsErr result }
 
         ensures count { self.old.calls.faults ≤ self.new.calls.faults }
         ensures cause { OnErr result (Rose self.old.calls.faults self.new.calls.faults) }
@@ -144,6 +260,10 @@ impl Disk for MemoryDisk {
             self.calls.fail();
             return Err(DiskFault);
         };
+        if self.past.push(Noted::sync(self.calls.made())).is_err() {
+            self.calls.fail();
+            return Err(DiskFault);
+        }
         self.calls.pass();
         self.clock = clock;
         Ok(())

@@ -1,5 +1,6 @@
 ghost use Rattle.std.specs.Prelude.{◌≡◌, ◌<◌, ◌≤◌, ◌^◌, ◌+◌, ◌-◌, ◌++◌, length, take, drop, min, replicate, OnOk, OnErr};
 ghost use Rattle.disk_model.specs.Disk.{Torn, Holds};
+ghost use Rattle.disk_model.specs.Writes.{written};
 
 use std::alloc::AllocError;
 
@@ -19,6 +20,7 @@ pub fn copy_from(bytes: &[u8], at: usize, into: &mut [u8]) -> usize
 
 // Puts bytes over what is there and past the end. It gives up only where it would have to grow.
 pub fn overwrite(content: &mut Vec<u8>, at: usize, bytes: &[u8]) -> Result<(), AllocError>
+    ensures value { OnOk result (content.new.items ≡ written at bytes.now content.old.items) }
     ensures torn { OnOk result (Torn at (length bytes.now) content.old.items content.new.items) }
     ensures holds { OnOk result (Holds at bytes.now content.old.items content.new.items) }
     ensures unchanged { OnErr result (content.new.items ≡ content.old.items) }
