@@ -99,6 +99,10 @@ busy_day =
 abbrev pub class : Service → Designation → Class
 class service designation = record { service = service; designation = designation; plan = 0; month = 1 }
 
+-- a class of gas service that is entered on 2024-01-02, monitored in the second month of a quarter
+abbrev pub second_months : Key × Class
+second_months = (key (date 2024 1 2) 0, record { service = Gas; designation = Plain; plan = 0; month = 2 })
+
 -- unsafe to monitor, with a plan of so many months
 abbrev pub unsafe_by : Service → ℕ → Class
 unsafe_by service plan = record { service = service; designation = Unsafe; plan = plan; month = 1 }
@@ -121,17 +125,21 @@ abbrev pub valve : ℕ → ℕ → Equipment
 valve component begin = gear component Valve (class Gas Plain) begin
 
 -- .. that is retired
-abbrev pub retired_valve : ℕ → ℕ → ℕ → Equipment
-retired_valve component begin retired = record {
+abbrev pub retired_gear : ℕ → Kind → Class → ℕ → ℕ → Equipment
+retired_gear component kind class begin retired = record {
   component = component;
   unit = 1;
-  kind = Valve;
+  kind = kind;
   monomer = false;
   replaces = false;
   begin = begin;
   retired = Some retired;
-  class = class Gas Plain;
+  class = class;
 }
+
+-- a valve that is retired
+abbrev pub retired_valve : ℕ → ℕ → ℕ → Equipment
+retired_valve component begin retired = retired_gear component Valve (class Gas Plain) begin retired
 
 -- .. that replaces a leaking one
 abbrev pub replacing_valve : ℕ → ℕ → Equipment
@@ -204,6 +212,10 @@ reads day ppm = reads_by 500 day ppm
 -- .. over a background
 abbrev pub reads_over : ℕ → ℕ → ℕ → Event
 reads_over day ppm background = event day (Read ppm background true true (nat_lt ppm 500) false)
+
+-- a counting follow-up reading below the leak definition, over a background
+abbrev pub follows_up : ℕ → ℕ → ℕ → Event
+follows_up day ppm background = event day (Read ppm background false true true false)
 
 -- a visual inspection that is dry
 abbrev pub dry : ℕ → Event

@@ -10,7 +10,7 @@ use Rattle.ldar_facts.specs.declared.class.Designation.{Designation}
 use Rattle.ldar_facts.specs.declared.class.Designation.TheVariants.{Plain, Difficult}
 use Rattle.ldar_facts.specs.declared.body.Purpose.TheVariants.{Routine}
 use Rattle.ldar_facts.specs.declared.body.FactBody.{FactBody}
-use Rattle.ldar_facts.specs.declared.body.FactBody.TheVariants.{Unit as UnitFact, Component as ComponentFact, Class as ClassFact, Shutdown, Calibration, Precision, Reading, Attempt, Delay}
+use Rattle.ldar_facts.specs.declared.body.FactBody.TheVariants.{Unit as UnitFact, Component as ComponentFact, Class as ClassFact, Election, Shutdown, Calibration, Precision, Reading, Attempt, Delay}
 use Rattle.ldar_facts.specs.Stated.{Stated}
 use Rattle.ldar_law.specs.Short.{date}
 
@@ -121,6 +121,10 @@ coker_rounds = coker ++ sends 1 (on (date 2024 4 1) (Precision 1 500 (500, 500, 
 -- a leak in April that comes late
 abbrev pub coker_leak : Batch
 coker_leak = sends 2 (rounds (date 2024 4 20) 30 700)
+
+-- mode 1 is elected from October on
+abbrev pub coker_election : Batch
+coker_election = enters 3 (on (date 2024 10 1) (Election 2 1 (date 2024 7 1)) ∷ [])
 
 -- a unit that started up on the last day on which one may
 abbrev pub last_unit : List Batch

@@ -1,9 +1,12 @@
 //! Worked examples of the definitions: functions with nothing to do, whose contracts are found by computing.
 
+pub mod after_events;
+pub mod denial_edges;
 pub mod denials;
 pub mod duties;
 pub mod histories;
 pub mod leaks;
+pub mod periods;
 pub mod quarters;
 pub mod readings;
 pub mod register;

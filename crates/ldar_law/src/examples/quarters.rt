@@ -1,14 +1,14 @@
 //! Percent leaking, quarters that are skipped, and routes.
 #![tactic(auto, unfolding(ldar_days::specs::Calendar::first_day, ldar_days::specs::Calendar::month_of, ldar_days::specs::Calendar::month_length, ldar_days::specs::Quarters::last_whole, ldar_days::specs::Quarters::first_quarter, list_words::specs::Ranges::until, crate::specs::Spans::spans_of, crate::specs::Tags::tag_of, crate::specs::Months::is_clean, crate::specs::Months::has_leak_in, crate::specs::Months::is_clean_twice_from, crate::specs::Percent::mark_of, crate::specs::Skips::good_streak, crate::specs::Skips::skips_run, crate::specs::Skips::quarters, crate::specs::Skips::is_skipped, crate::specs::Routes::routes_of))]
 
-ghost use Rattle.std.specs.Prelude.{◌≡◌, ◌++◌, [], ◌∷◌, true, false, replicate};
+ghost use Rattle.std.specs.Prelude.{◌≡◌, [], false, replicate, true, ◌++◌, ◌∷◌};
 ghost use Rattle.ldar_facts.specs.declared.class.Designation.TheVariants.{Nde};
 ghost use Rattle.ldar_facts.specs.declared.class.Kind.TheVariants.{Valve};
 ghost use Rattle.ldar_facts.specs.declared.class.Service.TheVariants.{Gas};
 ghost use Rattle.ldar_law.specs.Percent.{is_good, tally_of};
 ghost use Rattle.ldar_law.specs.Routes.{routes_of};
+ghost use Rattle.ldar_law.specs.Short.{attempts, bad_quarters, class, clean, date, delays, elects, found, gear, good_quarters, has_done, mark_on, owes, pump, reads, replacing_valve, route, uncounted, valve};
 ghost use Rattle.ldar_law.specs.Skips.{is_skipped, skipped_to};
-ghost use Rattle.ldar_law.specs.Short.{date, class, gear, valve, pump, replacing_valve, reads, attempts, delays, owes, has_done, mark_on, found, clean, uncounted, good_quarters, bad_quarters, elects, route};
 
 /// A quarter is good with at most 2 percent of the valves leaking, of at least one that was monitored (40 CFR 60.483-2a(b)(2)).
 pub fn two_percent_are_good()
@@ -109,4 +109,9 @@ pub fn routes_by_due_day()
     ensures done { routes_of (has_done 1 2 (date 2024 2 25) (date 2024 2 20) ∷ owes 2 2 (date 2024 2 29)
         ∷ owes 2 6 (date 2024 2 25) ∷ owes 3 2 (date 2024 2 26) ∷ []) 2 ≡ route (2 ∷ 3 ∷ []) ∷ [] }
     ensures nothing { routes_of [] 2 ≡ [] }
+{}
+
+/// On the view day a first monitoring is judged on its last day, after the quarter has ended too.
+pub fn a_first_monitoring_missed_after_the_quarter_counts()
+    ensures { mark_on (date 2024 8 1) 17 (valve 1 (date 2024 6 15)) [] ≡ found }
 {}

@@ -1,15 +1,13 @@
 //! Worked examples of reports, as contracts of functions with nothing to do: each clause computes.
 #![tactic(auto, unfolding(ldar_days::specs::Calendar::first_day, ldar_days::specs::Calendar::month_of, ldar_days::specs::Calendar::month_length, ldar_days::specs::Quarters::first_quarter, ldar_days::specs::Quarters::last_whole, list_words::specs::Ranges::until, crate::specs::Reports::month_cells, crate::specs::Reports::delay_of, crate::specs::Reports::amended_at))]
 
-ghost use Rattle.std.specs.Prelude.{◌≡◌, ℕ, ◌+◌, ◌*◌, true, false, Some, None, [], ◌∷◌, ◌++◌, codes, filter, replicate};
-ghost use Rattle.std.specs.List.{filter_map};
-ghost use Rattle.ldar_days.specs.Quarters.{quarter_first};
-ghost use Rattle.ldar_facts.specs.declared.class.Kind.TheVariants.{Valve, Pump, Relief};
+ghost use Rattle.std.specs.Prelude.{◌≡◌, None, Some, [], false, replicate, true, ◌*◌, ◌+◌, ◌∷◌};
+ghost use Rattle.ldar_facts.specs.declared.class.Kind.TheVariants.{Compressor, Pump, Relief, Valve};
 ghost use Rattle.ldar_law.specs.declared.delay.Until.TheVariants.{Date, Shutdown};
-ghost use Rattle.ldar_law.specs.Reports.{has_half_begun, half_month, half_first, half_last, month_cells, delay_of, is_stop_in, amended, cells_of};
+ghost use Rattle.ldar_law.specs.Reports.{amended, cells_of, delay_of, half_first, half_last, half_month, has_half_begun, has_quarter_begun, is_stop_in, month_cells};
 ghost use Rattle.ldar_law.specs.Short.{date};
-ghost use Rattle.ldar_law.specs.Tags.{is_late, delay_lines};
-ghost use Rattle.ldar_law.specs.SmallReport.{repaired_late, with_closing, delay_entry, delayed, sheet_of, filed_months};
+ghost use Rattle.ldar_law.specs.SmallReport.{delay_entry, delayed, filed_months, repaired_late, sheet_of, with_closing};
+ghost use Rattle.ldar_law.specs.Tags.{delay_lines, is_late};
 
 /// A unit that started up on 2020-01-15 has October 2023 to March 2024 as half 8.
 pub fn months_of_a_half()
@@ -100,4 +98,35 @@ pub fn amended_number()
         ≡ record { month = 6; column = 2; old = 1; new = 0 } ∷ [] }
     ensures none { amended (record { months = filed_months 1 1; delays = []; stops = [] }) (record { months = filed_months 1 1; delays = []; stops = [] })
         ≡ [] }
+{}
+
+/// A compressor's leak and its late tag are in the last columns, a pump's leak in the third.
+pub fn columns_of_compressors_and_pumps()
+    ensures compressor { month_cells (date 2024 3 31) (sheet_of 9 Compressor repaired_late ∷ []) (12 * 2024 + 1) ≡ 0 ∷ 0 ∷ 0 ∷ 0 ∷ 1 ∷ 0 ∷ [] }
+    ensures late { month_cells (date 2024 3 31) (sheet_of 9 Compressor repaired_late ∷ []) (12 * 2024 + 2) ≡ 0 ∷ 0 ∷ 0 ∷ 0 ∷ 0 ∷ 1 ∷ [] }
+    ensures pump { month_cells (date 2024 3 31) (sheet_of 5 Pump repaired_late ∷ []) (12 * 2024 + 1) ≡ 0 ∷ 0 ∷ 1 ∷ 0 ∷ 0 ∷ 0 ∷ [] }
+{}
+
+/// Delays that were detected on the last day of a half, or closed on its first, are in its report.
+pub fn delays_at_the_ends_of_a_half()
+    ensures detected_on_the_last_day { delay_of (date 2023 8 21) (date 2024 2 20) (delayed 1 Shutdown None) ≡ Some (record {
+      component = 1;
+      detected = date 2024 2 20;
+      delay = delay_entry 1;
+      until = Shutdown;
+      closed = None;
+    }) }
+    ensures closed_on_the_first_day { delay_of (date 2024 10 1) (date 2025 3 31) (delayed 1 (Date (date 2024 6 30)) (Some (date 2024 10 1))) ≡ Some (record {
+      component = 1;
+      detected = date 2024 2 20;
+      delay = delay_entry 1;
+      until = Date (date 2024 6 30);
+      closed = Some (date 2024 10 1);
+    }) }
+{}
+
+/// Quarter 1 and half 1 begin with their first day.
+pub fn the_first_quarter_and_half_begin()
+    ensures half { has_half_begun (date 2020 1 15) 1 (date 2020 4 1) ≡ true }
+    ensures quarter { has_quarter_begun (date 2020 1 15) 1 (date 2020 4 1) ≡ true }
 {}

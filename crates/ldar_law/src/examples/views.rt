@@ -1,14 +1,15 @@
 //! Worked examples of views on a small office, from its batches to the bytes: contracts of functions with nothing to do.
 #![tactic(auto)]
 
-ghost use Rattle.std.specs.Prelude.{◌≡◌, ℕ, true, false, Some, None, [], ◌∷◌, ◌++◌, codes};
-ghost use Rattle.ldar_facts.specs.declared.body.FactBody.TheVariants.{Precision, Attempt, Delay, Election};
-ghost use Rattle.ldar_law.specs.declared.reply.Reply.TheVariants.{Shown, NoSuch};
-ghost use Rattle.ldar_law.specs.declared.request.Request.TheVariants.{Due, Tags, Delays, Route, Percent, Report};
-ghost use Rattle.ldar_law.specs.declared.request.What.TheVariants.{Unit as NoUnit, Quarter as NoQuarter, Half as NoHalf, Stops as NoStops};
+ghost use Rattle.std.specs.Prelude.{◌≡◌, Some, [], codes, false, true, ◌++◌, ◌∷◌};
+ghost use Rattle.ldar_facts.specs.declared.body.FactBody.TheVariants.{Attempt, Delay, Indication, Precision};
+ghost use Rattle.ldar_facts.specs.declared.body.Sort.TheVariants.{Sensor};
+ghost use Rattle.ldar_law.specs.declared.reply.Reply.TheVariants.{NoSuch, Shown};
+ghost use Rattle.ldar_law.specs.declared.request.Request.TheVariants.{Delays, Due, Percent, Report, Route, Tags};
+ghost use Rattle.ldar_law.specs.declared.request.What.TheVariants.{Half as NoHalf, Quarter as NoQuarter, Stops as NoStops, Unit as NoUnit};
 ghost use Rattle.ldar_law.specs.Short.{date};
 ghost use Rattle.ldar_law.specs.Shown.{shown};
-ghost use Rattle.ldar_law.specs.SmallOffice.{on, enters, sends, reads, rounds, base, leak_found, leaking, repaired_on, delayed_on, shut_down, coker, coker_rounds, coker_leak, last_unit};
+ghost use Rattle.ldar_law.specs.SmallOffice.{base, coker, coker_election, coker_leak, coker_rounds, delayed_on, last_unit, leak_found, leaking, on, repaired_on, rounds, sends, shut_down};
 
 /// The percent view of a quarter without readings.
 pub fn percent_of_no_reading()
@@ -96,4 +97,18 @@ pub fn end_of_the_calendar()
     ensures last_quarter { shown last_unit (Percent 1 8 (date 2099 12 31))
         ≡ Some (Shown (codes "percent 1 8 leaking 0 monitored 0 not good not skipped\n")) }
     ensures next_quarter { shown last_unit (Percent 1 9 (date 2099 12 31)) ≡ Some (NoSuch NoQuarter) }
+{}
+
+/// An election of skip periods is in force for the quarter that begins on its day: the quarter is skipped, and its month owes nothing.
+pub fn elected_quarter()
+    ensures percent { shown (coker_rounds ++ coker_election ∷ []) (Percent 2 3 (date 2024 10 5))
+        ≡ Some (Shown (codes "percent 2 3 leaking 0 monitored 0 not good skipped\n")) }
+    ensures not_elected { shown coker_rounds (Due 2 (date 2024 10 5)) ≡ Some (Shown (codes "due 2 2024-10-05\n30 quarterly 2024-10-31 open\nend 1\n")) }
+    ensures elected { shown (coker_rounds ++ coker_election ∷ []) (Due 2 (date 2024 10 5)) ≡ Some (Shown (codes "due 2 2024-10-05\nend 0\n")) }
+{}
+
+/// The report of a compressor whose sensor told a leak, in its own columns.
+pub fn report_of_a_sensor_leak()
+    ensures { shown (base ++ sends 1 (on (date 2024 2 20) (Indication 9 Sensor true) ∷ []) ∷ []) (Report 1 8 (date 2024 3 31))
+        ≡ Some (Shown (codes "report CRUDE unit 1 half 8 as of 2024-03-31\n2023-10 valves 0 0 pumps 0 0 compressors 0 0\n2023-11 valves 0 0 pumps 0 0 compressors 0 0\n2023-12 valves 0 0 pumps 0 0 compressors 0 0\n2024-01 valves 0 0 pumps 0 0 compressors 0 0\n2024-02 valves 0 0 pumps 0 0 compressors 1 0\n2024-03 valves 0 0 pumps 0 0 compressors 0 1\nend 6\n")) }
 {}
