@@ -12,7 +12,6 @@ pub mod Kinds
 pub mod Limits
 pub mod Months
 pub mod Percent
-pub mod RegisterExamples
 pub mod RegisterLaws
 pub mod Replies
 pub mod ReportLaws
@@ -24,6 +23,7 @@ pub mod Shown
 pub mod Skips
 pub mod Slices
 pub mod SmallOffice
+pub mod SmallRegister
 pub mod SmallReport
 pub mod Spans
 pub mod Standing
