@@ -17,6 +17,7 @@ pub mod Replies
 pub mod ReportLaws
 pub mod Reports
 pub mod Routes
+pub mod Samples
 pub mod Settling
 pub mod Short
 pub mod Shown

@@ -75,7 +75,7 @@ abbrev pub elections : List Batch
 elections = entered 1 (at (date 2024 7 1) 0 (Election 1 1 (date 2024 4 1)) ∷ at (date 2024 7 1) 0 (Election 2 3 (date 2024 4 1))
     ∷ at (date 2024 7 1) 0 (Election 3 0 (date 2024 4 1)) ∷ []) ∷ []
 
--- units 1, 2 and 3
+-- units 3, 1 and 2
 abbrev pub three_units : List Batch
-three_units = entered 1 (at (date 2020 1 15) 0 (UnitFact 1 false (codes "U-1")) ∷ at (date 2020 1 16) 0 (UnitFact 2 true (codes "U-2"))
-    ∷ at (date 2020 1 17) 0 (UnitFact 3 false (codes "U-3")) ∷ []) ∷ []
+three_units = entered 1 (at (date 2020 1 15) 0 (UnitFact 3 false (codes "U-3")) ∷ at (date 2020 1 16) 0 (UnitFact 1 false (codes "U-1"))
+    ∷ at (date 2020 1 17) 0 (UnitFact 2 true (codes "U-2")) ∷ []) ∷ []

@@ -15,5 +15,6 @@ pub mod register;
 pub mod repairs;
 pub mod reports;
 pub mod settling;
+pub mod sorts;
 pub mod texts;
 pub mod views;

@@ -18,7 +18,8 @@ pub fn a_reading_as_an_event()
     ensures at_the_limit { events_on (valve 1 (date 2020 1 15)) [] (Reading 1 1 1 FollowUp 500 30) ≡ Read 500 30 false true false true ∷ [] }
     ensures compressor { events_on (compressor 9 (date 2020 1 15)) [] (Reading 9 1 1 Routine 500 30) ≡ Read 500 30 true true false false ∷ [] }
     ensures other_instrument { events_on (valve 1 (date 2020 1 15)) [] (Reading 1 2 1 Routine 499 30) ≡ Read 499 30 true false false false ∷ [] }
-    ensures vacuum { events_on (gear 1 Valve (class Vacuum Plain) (date 2020 1 15)) [] (Reading 1 1 1 Routine 499 30) ≡ Read 499 30 true false false false ∷ [] }
+    ensures vacuum { events_on (gear 1 Valve (class Vacuum Plain) (date 2020 1 15)) [] (Reading 1 1 1 Routine 499 30)
+        ≡ Read 499 30 true false false false ∷ [] }
     ensures not_in_service { events_on (valve 1 (date 2024 2 21)) [] (Reading 1 1 1 Routine 499 30) ≡ Read 499 30 true false false false ∷ [] }
 {}
 
@@ -52,24 +53,32 @@ pub fn an_indication_as_an_event()
 
 /// An event is judged by the class of its day, and not by that of the component's entry or of a later day.
 pub fn an_event_by_the_class_of_its_day()
-    ensures valve { events_on (gear 1 Valve (class Heavy Plain) (date 2020 1 15)) (entered_on (date 2024 2 1) (class Gas Plain) ∷ entered_on (date 2024 2 21) (class Heavy Plain) ∷ [])
+    ensures valve { events_on (gear 1 Valve (class Heavy Plain) (date 2020 1 15)) (entered_on (date 2024 2 1) (class Gas Plain)
+        ∷ entered_on (date 2024 2 21) (class Heavy Plain) ∷ [])
         (Reading 1 1 1 Routine 620 30) ≡ Read 620 30 true true false true ∷ [] }
-    ensures designation { events_on (gear 1 Valve (class Gas Nde) (date 2020 1 15)) (entered_on (date 2024 2 1) (class Gas Plain) ∷ entered_on (date 2024 2 21) (class Gas Nde) ∷ [])
+    ensures designation { events_on (gear 1 Valve (class Gas Nde) (date 2020 1 15)) (entered_on (date 2024 2 1) (class Gas Plain)
+        ∷ entered_on (date 2024 2 21) (class Gas Nde) ∷ [])
         (Reading 1 1 1 Routine 620 30) ≡ Read 620 30 true true false true ∷ [] }
-    ensures pump { events_on (gear 5 Pump (class Heavy Plain) (date 2020 1 15)) (entered_on (date 2024 2 1) (class Light Plain) ∷ entered_on (date 2024 2 21) (class Heavy Plain) ∷ [])
+    ensures pump { events_on (gear 5 Pump (class Heavy Plain) (date 2020 1 15)) (entered_on (date 2024 2 1) (class Light Plain)
+        ∷ entered_on (date 2024 2 21) (class Heavy Plain) ∷ [])
         (Reading 5 1 1 Routine 2100 30) ≡ Read 2100 30 true true false true ∷ [] }
-    ensures heavy_liquid { events_on (gear 5 Pump (class Vacuum Plain) (date 2020 1 15)) (entered_on (date 2024 2 1) (class Heavy Plain) ∷ entered_on (date 2024 2 21) (class Vacuum Plain) ∷ [])
+    ensures heavy_liquid { events_on (gear 5 Pump (class Vacuum Plain) (date 2020 1 15)) (entered_on (date 2024 2 1) (class Heavy Plain)
+        ∷ entered_on (date 2024 2 21) (class Vacuum Plain) ∷ [])
         (Reading 5 1 1 Routine 12_000 30) ≡ Read 12_000 30 true true false true ∷ [] }
-    ensures drip { events_on (gear 5 Pump (class Heavy Nde) (date 2020 1 15)) (entered_on (date 2024 2 1) (class Light Plain) ∷ entered_on (date 2024 2 21) (class Heavy Nde) ∷ [])
+    ensures drip { events_on (gear 5 Pump (class Heavy Nde) (date 2020 1 15)) (entered_on (date 2024 2 1) (class Light Plain)
+        ∷ entered_on (date 2024 2 21) (class Heavy Nde) ∷ [])
         (Visual 5 Designated) ≡ Look true true true ∷ [] }
-    ensures sensor { events_on (gear 9 Compressor (class Light Nde) (date 2020 1 15)) (entered_on (date 2024 2 1) (class Gas Plain) ∷ entered_on (date 2024 2 21) (class Light Nde) ∷ [])
+    ensures sensor { events_on (gear 9 Compressor (class Light Nde) (date 2020 1 15)) (entered_on (date 2024 2 1) (class Gas Plain)
+        ∷ entered_on (date 2024 2 21) (class Light Nde) ∷ [])
         (Indication 9 SensorSort true) ≡ Sensor true true ∷ [] }
 {}
 
 /// The gas that a calibration may have at most goes by the leak definition of the reading's day.
 pub fn a_gas_by_the_leak_definition_of_the_day()
-    ensures too_strong { events_with_gas 4001 (gear 5 Pump (class Heavy Plain) (date 2020 1 15)) (entered_on (date 2024 2 1) (class Light Plain) ∷ []) (Reading 5 1 1 Routine 20 0)
+    ensures too_strong { events_with_gas 4001 (gear 5 Pump (class Heavy Plain) (date 2020 1 15)) (entered_on (date 2024 2 1) (class Light Plain)
+        ∷ []) (Reading 5 1 1 Routine 20 0)
         ≡ Read 20 0 true false false false ∷ [] }
-    ensures fit { events_with_gas 4000 (gear 5 Pump (class Heavy Plain) (date 2020 1 15)) (entered_on (date 2024 2 1) (class Light Plain) ∷ []) (Reading 5 1 1 Routine 20 0)
+    ensures fit { events_with_gas 4000 (gear 5 Pump (class Heavy Plain) (date 2020 1 15)) (entered_on (date 2024 2 1) (class Light Plain)
+        ∷ []) (Reading 5 1 1 Routine 20 0)
         ≡ Read 20 0 true true true false ∷ [] }
 {}

@@ -123,25 +123,34 @@ pub fn which_readings_are_counted()
     ensures in_vain { mark_on (date 2024 6 30) 17 (valve 1 (date 2020 1 15)) (reads_in_vain (date 2024 4 1) 10 ∷ []) ≡ uncounted }
     ensures leak_of_a_follow_up { mark_on (date 2024 6 30) 17 (valve 1 (date 2020 1 15)) (reads (date 2024 4 1) 10
         ∷ leaks_in_a_follow_up (date 2024 5 1) ∷ []) ≡ clean }
-    ensures leak_of_another { mark_on (date 2024 6 30) 17 (valve 1 (date 2020 1 15)) (reads (date 2024 4 1) 10 ∷ designates (date 2024 5 1) ∷ []) ≡ clean }
+    ensures leak_of_another { mark_on (date 2024 6 30) 17 (valve 1 (date 2020 1 15)) (reads (date 2024 4 1) 10 ∷ designates (date 2024 5 1) ∷ [])
+        ≡ clean }
     ensures leaking_pump { mark_on (date 2024 6 30) 17 (pump 5 (date 2020 1 15)) (reads (date 2024 4 1) 620 ∷ []) ≡ uncounted }
 {}
 
 /// A valve is counted by the class of the quarter's last day, or of the view day where that is earlier.
 pub fn a_quarter_is_judged_on_its_last_day()
-    ensures no_longer_nde { mark_with (date 2024 8 1) 17 (gear 1 Valve (class Gas Nde) (date 2020 1 15)) (entered_on (date 2024 5 1) (class Gas Plain) ∷ []) (reads (date 2024 4 1) 10 ∷ []) ≡ clean }
-    ensures nde_in_july { mark_with (date 2024 8 1) 17 (valve 1 (date 2020 1 15)) (entered_on (date 2024 7 15) (class Gas Nde) ∷ []) (reads (date 2024 4 1) 10 ∷ []) ≡ clean }
-    ensures nde_in_june { mark_with (date 2024 8 1) 17 (valve 1 (date 2020 1 15)) (entered_on (date 2024 6 30) (class Gas Nde) ∷ []) (reads (date 2024 4 1) 10 ∷ []) ≡ uncounted }
-    ensures no_longer_heavy { mark_with (date 2024 8 1) 17 (gear 1 Valve (class Heavy Plain) (date 2020 1 15)) (entered_on (date 2024 5 1) (class Gas Plain) ∷ []) (reads (date 2024 4 1) 10 ∷ []) ≡ clean }
-    ensures heavy_in_july { mark_with (date 2024 8 1) 17 (valve 1 (date 2020 1 15)) (entered_on (date 2024 7 15) (class Heavy Plain) ∷ []) (reads (date 2024 4 1) 10 ∷ []) ≡ clean }
-    ensures view_day { mark_with (date 2024 5 1) 17 (valve 1 (date 2020 1 15)) (entered_on (date 2024 6 15) (class Gas Nde) ∷ []) (reads (date 2024 4 1) 10 ∷ []) ≡ clean }
+    ensures no_longer_nde { mark_with (date 2024 8 1) 17 (gear 1 Valve (class Gas Nde) (date 2020 1 15)) (entered_on (date 2024 5 1)
+        (class Gas Plain) ∷ []) (reads (date 2024 4 1) 10 ∷ []) ≡ clean }
+    ensures nde_in_july { mark_with (date 2024 8 1) 17 (valve 1 (date 2020 1 15)) (entered_on (date 2024 7 15) (class Gas Nde)
+        ∷ []) (reads (date 2024 4 1) 10 ∷ []) ≡ clean }
+    ensures nde_in_june { mark_with (date 2024 8 1) 17 (valve 1 (date 2020 1 15)) (entered_on (date 2024 6 30) (class Gas Nde)
+        ∷ []) (reads (date 2024 4 1) 10 ∷ []) ≡ uncounted }
+    ensures no_longer_heavy { mark_with (date 2024 8 1) 17 (gear 1 Valve (class Heavy Plain) (date 2020 1 15)) (entered_on (date 2024 5 1)
+        (class Gas Plain) ∷ []) (reads (date 2024 4 1) 10 ∷ []) ≡ clean }
+    ensures heavy_in_july { mark_with (date 2024 8 1) 17 (valve 1 (date 2020 1 15)) (entered_on (date 2024 7 15) (class Heavy Plain)
+        ∷ []) (reads (date 2024 4 1) 10 ∷ []) ≡ clean }
+    ensures view_day { mark_with (date 2024 5 1) 17 (valve 1 (date 2020 1 15)) (entered_on (date 2024 6 15) (class Gas Nde)
+        ∷ []) (reads (date 2024 4 1) 10 ∷ []) ≡ clean }
     ensures retired { mark_on (date 2024 8 1) 17 (retired_valve 1 (date 2020 1 15) (date 2024 4 15)) (reads (date 2024 4 1) 10 ∷ []) ≡ clean }
 {}
 
 /// A delayed tag counts on the days on which it is open.
 pub fn a_delay_counts_while_its_tag_is_open()
-    ensures detected_after { mark_on (date 2024 8 1) 17 (valve 1 (date 2020 1 15)) (reads (date 2024 7 1) 620 ∷ delays (date 2024 7 5) 1 (date 2024 9 10) ∷ []) ≡ uncounted }
-    ensures detected_on_the_last_day { mark_on (date 2024 8 1) 17 (valve 1 (date 2020 1 15)) (leaks_in_a_follow_up (date 2024 6 30) ∷ delays (date 2024 7 5) 1 (date 2024 9 10) ∷ []) ≡ found }
+    ensures detected_after { mark_on (date 2024 8 1) 17 (valve 1 (date 2020 1 15)) (reads (date 2024 7 1) 620
+        ∷ delays (date 2024 7 5) 1 (date 2024 9 10) ∷ []) ≡ uncounted }
+    ensures detected_on_the_last_day { mark_on (date 2024 8 1) 17 (valve 1 (date 2020 1 15)) (leaks_in_a_follow_up (date 2024 6 30)
+        ∷ delays (date 2024 7 5) 1 (date 2024 9 10) ∷ []) ≡ found }
     ensures view_day { mark_on (date 2024 5 1) 17 (valve 1 (date 2020 1 15)) (reads (date 2024 2 20) 620 ∷ delays (date 2024 3 1) 1 (date 2024 9 10)
         ∷ attempts (date 2024 5 10) ∷ follows_up (date 2024 5 10) 10 0 ∷ []) ≡ found }
 {}
@@ -169,5 +178,6 @@ pub fn routes_in_order()
     ensures same_day_turned { routes_of (owes 3 2 (date 2024 2 29) ∷ owes 2 2 (date 2024 2 29) ∷ []) 2 ≡ route (2 ∷ 3 ∷ []) ∷ [] }
     ensures higher_number_first { routes_of (owes 1 2 (date 2024 2 29) ∷ owes 3 6 (date 2024 2 25) ∷ []) 2 ≡ route (3 ∷ 1 ∷ []) ∷ [] }
     ensures higher_number_first_turned { routes_of (owes 3 6 (date 2024 2 25) ∷ owes 1 2 (date 2024 2 29) ∷ []) 2 ≡ route (3 ∷ 1 ∷ []) ∷ [] }
-    ensures cause { routes_of (owes 1 2 (date 2024 2 29) ∷ owes 2 6 (date 2024 2 25) ∷ owes 3 1 (date 2024 2 26) ∷ []) 3 ≡ route (2 ∷ 3 ∷ 1 ∷ []) ∷ [] }
+    ensures cause { routes_of (owes 1 2 (date 2024 2 29) ∷ owes 2 6 (date 2024 2 25) ∷ owes 3 1 (date 2024 2 26) ∷ []) 3 ≡ route (2 ∷ 3 ∷ 1 ∷ [])
+        ∷ [] }
 {}

@@ -77,27 +77,33 @@ pub fn facts_of_other_instruments_are_passed_over()
     ensures calibrations { fitness_of (fact (date 2024 1 2) 0 (Precision 2 500 (500, 500, 500)) ∷ fact (date 2024 2 20) 300 (Calibration 1 500)
         ∷ fact (date 2024 2 20) 301 (Calibration 3 500) ∷ []) 500 (key (date 2024 2 20) 600) 2 20 ≡ NoCalibration }
     ensures gas { fitness_of (fact (date 2024 1 2) 0 (Precision 2 500 (500, 500, 500)) ∷ fact (date 2024 2 20) 300 (Calibration 1 500)
-        ∷ fact (date 2024 2 20) 301 (Calibration 3 500) ∷ fact (date 2024 2 20) 302 (Calibration 2 2501) ∷ []) 500 (key (date 2024 2 20) 600) 2 20 ≡ GasTooHigh }
-    ensures precision { fitness_of (fact (date 2024 1 2) 0 (Precision 1 500 (500, 500, 500)) ∷ fact (date 2024 1 2) 1 (Precision 3 500 (500, 500, 500))
+        ∷ fact (date 2024 2 20) 301 (Calibration 3 500) ∷ fact (date 2024 2 20) 302 (Calibration 2 2501) ∷ []) 500 (key (date 2024 2 20) 600) 2 20
+        ≡ GasTooHigh }
+    ensures precision { fitness_of (fact (date 2024 1 2) 0 (Precision 1 500 (500, 500, 500))
+        ∷ fact (date 2024 1 2) 1 (Precision 3 500 (500, 500, 500))
         ∷ fact (date 2024 2 20) 302 (Calibration 2 500) ∷ []) 500 (key (date 2024 2 20) 600) 2 20 ≡ NoPrecision }
     ensures drift { fitness_of (fact (date 2024 1 2) 0 (Precision 2 500 (500, 500, 500)) ∷ fact (date 2024 2 20) 300 (Calibration 2 500)
-        ∷ fact (date 2024 2 20) 900 (Drift 1 500 (440, 440, 440)) ∷ fact (date 2024 2 20) 901 (Drift 3 500 (440, 440, 440)) ∷ []) 500 (key (date 2024 2 20) 600) 2 499 ≡ Fit }
+        ∷ fact (date 2024 2 20) 900 (Drift 1 500 (440, 440, 440)) ∷ fact (date 2024 2 20) 901 (Drift 3 500 (440, 440, 440))
+        ∷ []) 500 (key (date 2024 2 20) 600) 2 499 ≡ Fit }
     ensures between { fitness_of (fact (date 2024 1 2) 0 (Precision 2 500 (500, 500, 500)) ∷ fact (date 2024 2 20) 300 (Calibration 2 500)
-        ∷ fact (date 2024 2 20) 700 (Calibration 1 500) ∷ fact (date 2024 2 20) 701 (Calibration 3 500) ∷ fact (date 2024 2 20) 900 (Drift 2 500 (440, 440, 440)) ∷ [])
+        ∷ fact (date 2024 2 20) 700 (Calibration 1 500) ∷ fact (date 2024 2 20) 701 (Calibration 3 500)
+        ∷ fact (date 2024 2 20) 900 (Drift 2 500 (440, 440, 440)) ∷ [])
         500 (key (date 2024 2 20) 600) 2 499 ≡ Voided (key (date 2024 2 20) 900) }
 {}
 
 /// A drift assessment or a precision test is no calibration, neither before a reading nor behind it.
 pub fn only_calibrations_calibrate()
     ensures before { judged_at (drifted (date 2024 2 20) 300 500 ∷ []) 600 20 ≡ NoCalibration }
-    ensures behind { judged_at (calibrated (date 2024 2 20) 300 500 ∷ drifted (date 2024 2 20) 700 500 ∷ drifted (date 2024 2 20) 900 440 ∷ []) 600 499
+    ensures behind { judged_at (calibrated (date 2024 2 20) 300 500 ∷ drifted (date 2024 2 20) 700 500 ∷ drifted (date 2024 2 20) 900 440
+        ∷ []) 600 499
         ≡ Voided (key (date 2024 2 20) 900) }
 {}
 
 /// A calibration of the day before, with a gas that would do, doesn't serve; nor does a precision test that comes later, or void a drift of the next day.
 pub fn only_facts_of_the_day_serve()
     ensures gas { judged_at (calibrated (date 2024 2 19) 300 500 ∷ calibrated (date 2024 2 20) 300 2501 ∷ []) 600 20 ≡ GasTooHigh }
-    ensures precision { fitness_of (calibrated (date 2024 2 20) 300 500 ∷ precise (date 2024 2 21) ∷ []) 500 (key (date 2024 2 20) 600) 1 20 ≡ NoPrecision }
+    ensures precision { fitness_of (calibrated (date 2024 2 20) 300 500 ∷ precise (date 2024 2 21) ∷ []) 500 (key (date 2024 2 20) 600) 1 20
+        ≡ NoPrecision }
     ensures drift { judged_at (calibrated (date 2024 2 20) 300 500 ∷ drifted (date 2024 2 21) 900 440 ∷ []) 600 499 ≡ Fit }
     ensures drift_before { judged_at (calibrated (date 2024 2 20) 300 500 ∷ drifted (date 2024 2 20) 500 440 ∷ []) 600 499 ≡ Fit }
 {}

@@ -27,15 +27,20 @@ pub fn limits_at_the_edges()
 
 /// The rules that each kind is under, by its service.
 pub fn rules_of_each_kind()
-    ensures valve { map (regime_of Valve) (Gas ∷ Light ∷ Heavy ∷ Vacuum ∷ Under300 ∷ []) ≡ ValveRules ∷ ValveRules ∷ HeavyLiquidRules ∷ LeftOut ∷ LeftOut ∷ [] }
-    ensures pump { map (regime_of Pump) (Gas ∷ Light ∷ Heavy ∷ Vacuum ∷ Under300 ∷ []) ≡ LeftOut ∷ PumpRules ∷ HeavyLiquidRules ∷ LeftOut ∷ LeftOut ∷ [] }
-    ensures compressor { map (regime_of Compressor) (Gas ∷ Light ∷ Heavy ∷ Vacuum ∷ Under300 ∷ []) ≡ CompressorRules ∷ LeftOut ∷ LeftOut ∷ LeftOut ∷ LeftOut ∷ [] }
-    ensures relief_device { map (regime_of Relief) (Gas ∷ Light ∷ Heavy ∷ Vacuum ∷ Under300 ∷ []) ≡ ReliefRules ∷ HeavyLiquidRules ∷ HeavyLiquidRules ∷ LeftOut ∷ LeftOut ∷ [] }
+    ensures valve { map (regime_of Valve) (Gas ∷ Light ∷ Heavy ∷ Vacuum ∷ Under300 ∷ []) ≡ ValveRules ∷ ValveRules ∷ HeavyLiquidRules ∷ LeftOut
+        ∷ LeftOut ∷ [] }
+    ensures pump { map (regime_of Pump) (Gas ∷ Light ∷ Heavy ∷ Vacuum ∷ Under300 ∷ []) ≡ LeftOut ∷ PumpRules ∷ HeavyLiquidRules ∷ LeftOut ∷ LeftOut
+        ∷ [] }
+    ensures compressor { map (regime_of Compressor) (Gas ∷ Light ∷ Heavy ∷ Vacuum ∷ Under300 ∷ []) ≡ CompressorRules ∷ LeftOut ∷ LeftOut ∷ LeftOut
+        ∷ LeftOut ∷ [] }
+    ensures relief_device { map (regime_of Relief) (Gas ∷ Light ∷ Heavy ∷ Vacuum ∷ Under300 ∷ []) ≡ ReliefRules ∷ HeavyLiquidRules ∷ HeavyLiquidRules
+        ∷ LeftOut ∷ LeftOut ∷ [] }
 {}
 
 /// A class is in force from the day of its fact on.
 pub fn class_from_its_day_on()
-    ensures { map (service_on valve_that_changes) (date 2019 4 14 ∷ date 2020 2 7 ∷ date 2020 2 8 ∷ date 2020 2 9 ∷ []) ≡ Some Gas ∷ Some Gas ∷ Some Heavy ∷ Some Heavy ∷ [] }
+    ensures { map (service_on valve_that_changes) (date 2019 4 14 ∷ date 2020 2 7 ∷ date 2020 2 8 ∷ date 2020 2 9 ∷ []) ≡ Some Gas ∷ Some Gas
+        ∷ Some Heavy ∷ Some Heavy ∷ [] }
 {}
 
 /// Of two classes of one day the one with the greater key is in force.
@@ -45,7 +50,8 @@ pub fn last_of_the_day_is_in_force()
 
 /// A component is in service from its begin to the day before it is first retired, as far as that is known.
 pub fn in_service_until_retired()
-    ensures by_day { map (serves retired_valve (date 2020 5 18)) (date 2020 1 31 ∷ date 2020 2 1 ∷ date 2020 2 10 ∷ date 2020 2 11 ∷ []) ≡ Some false ∷ Some true ∷ Some true ∷ Some false ∷ [] }
+    ensures by_day { map (serves retired_valve (date 2020 5 18)) (date 2020 1 31 ∷ date 2020 2 1 ∷ date 2020 2 10 ∷ date 2020 2 11 ∷ []) ≡ Some false
+        ∷ Some true ∷ Some true ∷ Some false ∷ [] }
     ensures not_yet_known { serves retired_valve (date 2020 2 10) (date 2020 2 11) ≡ Some true }
     ensures not_yet_entered { serves retired_valve (date 2020 1 31) (date 2020 2 1) ≡ None }
     ensures others_retired { serves two_units (date 2020 5 18) (date 2020 5 18) ≡ Some true }
@@ -69,14 +75,16 @@ pub fn nothing_of_unknown_numbers()
 
 /// A process unit starts up on the day of its entry.
 pub fn units_of_a_register()
-    ensures first { unit_entry_of 1 (facts_of three_units) ≡ Some (record { unit = 1; name = codes "U-1"; startup = date 2020 1 15; older = false }) }
-    ensures second { unit_entry_of 2 (facts_of three_units) ≡ Some (record { unit = 2; name = codes "U-2"; startup = date 2020 1 16; older = true }) }
-    ensures third { unit_entry_of 3 (facts_of three_units) ≡ Some (record { unit = 3; name = codes "U-3"; startup = date 2020 1 17; older = false }) }
+    ensures first { unit_entry_of 3 (facts_of three_units) ≡ Some (record { unit = 3; name = codes "U-3"; startup = date 2020 1 15; older = false }) }
+    ensures second { unit_entry_of 1 (facts_of three_units)
+        ≡ Some (record { unit = 1; name = codes "U-1"; startup = date 2020 1 16; older = false }) }
+    ensures third { unit_entry_of 2 (facts_of three_units) ≡ Some (record { unit = 2; name = codes "U-2"; startup = date 2020 1 17; older = true }) }
 {}
 
 /// Shutdowns of a unit stand by their first days, and end with the calendar.
 pub fn shutdowns_in_order()
-    ensures unit_1 { stops_of 1 (facts_of shutdowns) ≡ record { first = date 2020 3 1; last = date 2020 3 30 } ∷ record { first = date 2099 12 30; last = date 2099 12 31 } ∷ [] }
+    ensures unit_1 { stops_of 1 (facts_of shutdowns) ≡ record { first = date 2020 3 1; last = date 2020 3 30 }
+        ∷ record { first = date 2099 12 30; last = date 2099 12 31 } ∷ [] }
     ensures unit_2 { stops_of 2 (facts_of shutdowns) ≡ record { first = date 2020 4 1; last = date 2020 4 5 } ∷ [] }
     ensures unit_3 { stops_of 3 (facts_of shutdowns) ≡ record { first = date 2020 5 1; last = date 2020 5 7 } ∷ [] }
 {}

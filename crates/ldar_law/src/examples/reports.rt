@@ -61,7 +61,8 @@ pub fn delays_of_a_half()
 
 /// A delay that was withdrawn is a line of the report, and none of the delays that hold.
 pub fn withdrawn_delay()
-    ensures reported { delay_of (date 2023 10 1) (date 2024 3 31) (delayed 0 (Date (date 2024 3 6)) None) ≡ Some (delayed_line 0 (Date (date 2024 3 6)) None) }
+    ensures reported { delay_of (date 2023 10 1) (date 2024 3 31) (delayed 0 (Date (date 2024 3 6)) None)
+        ≡ Some (delayed_line 0 (Date (date 2024 3 6)) None) }
     ensures not_listed { delay_lines ((delayed 0 (Date (date 2024 3 6)) None) ∷ []) ≡ [] }
     ensures while_it_holds { delay_lines (delayed 1 Shutdown None ∷ []) ≡ delayed_line 1 Shutdown None ∷ [] }
     ensures closed { delay_lines ((delayed 1 (Date (date 2024 6 30)) (Some (date 2024 6 10))) ∷ []) ≡ [] }
@@ -76,9 +77,11 @@ pub fn shutdowns_of_a_half()
 
 /// A late valve of the sixth month that turns out to have been repaired in time: one number is amended.
 pub fn amended_number()
-    ensures one { amended (record { months = filed_months 1 1; delays = []; stops = [] }) (record { months = filed_months 1 0; delays = []; stops = [] })
+    ensures one { amended (record { months = filed_months 1 1; delays = []; stops = [] })
+        (record { months = filed_months 1 0; delays = []; stops = [] })
         ≡ record { month = 6; column = 2; old = 1; new = 0 } ∷ [] }
-    ensures none { amended (record { months = filed_months 1 1; delays = []; stops = [] }) (record { months = filed_months 1 1; delays = []; stops = [] })
+    ensures none { amended (record { months = filed_months 1 1; delays = []; stops = [] })
+        (record { months = filed_months 1 1; delays = []; stops = [] })
         ≡ [] }
 {}
 
@@ -92,7 +95,8 @@ pub fn columns_of_compressors_and_pumps()
 /// Delays that were detected on the last day of a half, or closed on its first, are in its report.
 pub fn delays_at_the_ends_of_a_half()
     ensures detected_on_the_last_day { delay_of (date 2023 8 21) (date 2024 2 20) (delayed 1 Shutdown None) ≡ Some (delayed_line 1 Shutdown None) }
-    ensures closed_on_the_first_day { delay_of (date 2024 10 1) (date 2025 3 31) (delayed 1 (Date (date 2024 6 30)) (Some (date 2024 10 1))) ≡ Some (delayed_line 1 (Date (date 2024 6 30)) (Some (date 2024 10 1))) }
+    ensures closed_on_the_first_day { delay_of (date 2024 10 1) (date 2025 3 31) (delayed 1 (Date (date 2024 6 30)) (Some (date 2024 10 1)))
+        ≡ Some (delayed_line 1 (Date (date 2024 6 30)) (Some (date 2024 10 1))) }
 {}
 
 /// Quarter 1 and half 1 begin with their first day.
@@ -103,26 +107,44 @@ pub fn the_first_quarter_and_half_begin()
 
 /// A tag that was closed in time, or whose due day has not passed, is late in no month.
 pub fn tags_that_are_not_late()
-    ensures closed_in_time { month_cells (date 2024 3 31) (sheet_of 1 Valve (with_closing (Some (date 2024 3 6))) ∷ []) (12 * 2024 + 2) ≡ 0 ∷ 0 ∷ 0 ∷ 0 ∷ 0 ∷ 0 ∷ [] }
-    ensures open { month_cells (date 2024 3 6) (sheet_of 1 Valve (with_closing None) ∷ sheet_of 5 Pump (with_closing None) ∷ sheet_of 9 Compressor (with_closing None) ∷ []) (12 * 2024 + 2)
+    ensures closed_in_time { month_cells (date 2024 3 31) (sheet_of 1 Valve (with_closing (Some (date 2024 3 6))) ∷ []) (12 * 2024 + 2) ≡ 0 ∷ 0 ∷ 0
+        ∷ 0 ∷ 0 ∷ 0 ∷ [] }
+    ensures open { month_cells (date 2024 3 6) (sheet_of 1 Valve (with_closing None) ∷ sheet_of 5 Pump (with_closing None)
+        ∷ sheet_of 9 Compressor (with_closing None) ∷ []) (12 * 2024 + 2)
         ≡ 0 ∷ 0 ∷ 0 ∷ 0 ∷ 0 ∷ 0 ∷ [] }
-    ensures day_after { month_cells (date 2024 3 7) (sheet_of 1 Valve (with_closing None) ∷ sheet_of 5 Pump (with_closing None) ∷ sheet_of 9 Compressor (with_closing None) ∷ []) (12 * 2024 + 2)
+    ensures day_after { month_cells (date 2024 3 7) (sheet_of 1 Valve (with_closing None) ∷ sheet_of 5 Pump (with_closing None)
+        ∷ sheet_of 9 Compressor (with_closing None) ∷ []) (12 * 2024 + 2)
         ≡ 0 ∷ 1 ∷ 0 ∷ 1 ∷ 0 ∷ 1 ∷ [] }
 {}
 
 /// The delays and shutdowns of half 8, of a unit that started up on 2020-01-15.
 pub fn lines_of_a_half()
-    ensures half_8 { cells_of (date 2020 1 15) 8 (date 2024 3 31) (sheet_of 1 Relief (delayed 1 Shutdown None) ∷ sheet_of 2 Relief repaired_late ∷ []) two_stops
-        ≡ record { months = replicate 36 0; delays = delayed_line 1 Shutdown None ∷ []; stops = record { first = date 2024 2 1; last = date 2024 2 9 } ∷ [] } }
+    ensures half_8 { cells_of (date 2020 1 15) 8 (date 2024 3 31) (sheet_of 1 Relief (delayed 1 Shutdown None) ∷ sheet_of 2 Relief repaired_late
+        ∷ []) two_stops
+        ≡ record {
+          months = replicate 36 0;
+          delays = delayed_line 1 Shutdown None
+              ∷ [];
+          stops = record { first = date 2024 2 1; last = date 2024 2 9 } ∷ [];
+        } }
+    ensures closed_in_half_8 { cells_of (date 2020 1 15) 8 (date 2024 3 31) (sheet_of 1 Relief (delayed 1 (Date (date 2024 3 20))
+        (Some (date 2024 3 20))) ∷ []) []
+        ≡ record { months = replicate 36 0; delays = delayed_line 1 (Date (date 2024 3 20)) (Some (date 2024 3 20)) ∷ []; stops = [] } }
     ensures half_7 { cells_of (date 2020 1 15) 7 (date 2024 3 31) (sheet_of 1 Relief (delayed 1 Shutdown None) ∷ []) two_stops
         ≡ record { months = replicate 36 0; delays = []; stops = [] } }
-    ensures half_9 { cells_of (date 2020 1 15) 9 (date 2024 12 31) (sheet_of 1 Relief (delayed 1 (Date (date 2024 3 20)) (Some (date 2024 3 20))) ∷ []) two_stops
+    ensures half_9 { cells_of (date 2020 1 15) 9 (date 2024 12 31) (sheet_of 1 Relief (delayed 1 (Date (date 2024 3 20)) (Some (date 2024 3 20)))
+        ∷ []) two_stops
         ≡ record { months = replicate 36 0; delays = []; stops = record { first = date 2024 6 1; last = date 2024 6 14 } ∷ [] } }
     ensures shutdown_after { is_stop_in (date 2023 10 1) (date 2024 3 31) (record { first = date 2024 4 1; last = date 2024 4 13 }) ≡ false }
 {}
 
 /// The first and the last number of a report are amended as any other, upwards too.
 pub fn first_and_last_numbers()
-    ensures { amended (record { months = replicate 36 1; delays = []; stops = [] }) (record { months = 4 ∷ replicate 34 1 ++ 0 ∷ []; delays = []; stops = [] })
+    ensures { amended (record { months = replicate 36 1; delays = []; stops = [] }) (record {
+      months = 4 ∷ replicate 34 1 ++ 0
+          ∷ [];
+      delays = [];
+      stops = [];
+    })
         ≡ record { month = 1; column = 1; old = 1; new = 4 } ∷ record { month = 6; column = 6; old = 1; new = 0 } ∷ [] }
 {}

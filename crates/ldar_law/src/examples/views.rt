@@ -2,7 +2,7 @@
 #![tactic(auto)]
 
 ghost use Rattle.std.specs.Prelude.{◌≡◌, Some, [], codes, false, true, ◌++◌, ◌∷◌};
-ghost use Rattle.ldar_facts.specs.declared.body.FactBody.TheVariants.{Attempt, Class as ClassFact, Delay, Indication, Precision};
+ghost use Rattle.ldar_facts.specs.declared.body.FactBody.TheVariants.{Attempt, Class as ClassFact, Delay, Election, Indication, Precision};
 ghost use Rattle.ldar_facts.specs.declared.body.Sort.TheVariants.{Sensor};
 ghost use Rattle.ldar_facts.specs.declared.class.Designation.TheVariants.{Nde};
 ghost use Rattle.ldar_facts.specs.declared.class.Service.TheVariants.{Gas, Heavy};
@@ -11,7 +11,7 @@ ghost use Rattle.ldar_law.specs.declared.request.Request.TheVariants.{Delays, Du
 ghost use Rattle.ldar_law.specs.declared.request.What.TheVariants.{Half as NoHalf, Quarter as NoQuarter, Stops as NoStops, Unit as NoUnit};
 ghost use Rattle.ldar_law.specs.Short.{date};
 ghost use Rattle.ldar_law.specs.Shown.{shown};
-ghost use Rattle.ldar_law.specs.SmallOffice.{base, coker, coker_election, coker_leak, coker_readings, coker_rounds, coker_with, delayed_on, designated, enters, in_service, last_unit, leak_found, leaking, on, repaired_on, rounds, sends, shut_down, two_valves};
+ghost use Rattle.ldar_law.specs.SmallOffice.{base, coker, coker_election, coker_leak, coker_readings, coker_rounds, coker_with, delayed_on, designated, enters, in_service, last_unit, leak_found, leaking, on, register, repaired_on, rounds, sends, shut_down, two_valves};
 
 /// The percent view of a quarter without readings.
 pub fn percent_of_no_reading()
@@ -147,4 +147,17 @@ pub fn quarters_by_the_class_in_force()
 /// A route of at most three stops.
 pub fn route_of_three_stops()
     ensures { shown coker (Route 2 (date 2024 2 20) 3) ≡ Some (Shown (codes "route 2 2024-02-20 3\nroute 1: 30\nend 1\n")) }
+{}
+
+/// An election is in force from the quarter on that begins on its day, and not for the one before.
+pub fn election_of_the_next_quarter()
+    ensures percent { shown (coker_rounds ++ enters 3 (on (date 2025 1 1) (Election 2 1 (date 2024 10 1)) ∷ []) ∷ []) (Percent 2 3 (date 2025 1 5))
+        ≡ Some (Shown (codes "percent 2 3 leaking 0 monitored 0 not good not skipped\n")) }
+    ensures due { shown (coker_rounds ++ enters 3 (on (date 2025 1 1) (Election 2 1 (date 2024 10 1)) ∷ []) ∷ []) (Due 2 (date 2025 1 5))
+        ≡ Some (Shown (codes "due 2 2025-01-05\n30 quarterly 2024-10-31 missed\n30 quarterly 2025-01-31 open\nend 2\n")) }
+{}
+
+/// Routes of two stops: the pumps have missed a week, and the valves have their month.
+pub fn routes_of_two_stops()
+    ensures { shown (register ∷ []) (Route 1 (date 2020 2 20) 2) ≡ Some (Shown (codes "route 1 2020-02-20 2\nroute 1: 5 6\nroute 2: 1 2\nroute 3: 3 4\nend 3\n")) }
 {}
