@@ -4,7 +4,8 @@ use Rattle.std.proofs.lemmas.Bool.{cases_Bool}
 use Rattle.std.proofs.lemmas.List.{reverse-append, length-reverse}
 use Rattle.ldar_law.specs.declared.delay.DelayEntry.{DelayEntry}
 use Rattle.ldar_law.specs.declared.delay.Stop.{Stop}
-use Rattle.ldar_law.specs.Delays.{is_past, due_given, last_counted, counted_delay, OneMoreDelay, CountedPlaceIsOfDelay}
+use Rattle.ldar_law.specs.Delays.{is_past, due_given, last_counted, counted_delay}
+use Rattle.ldar_law.specs.RepairLaws.{OneMoreDelay, CountedPlaceIsOfDelay}
 
 pub one_more_delay : OneMoreDelay
 one_more_delay detected attempts stops delays delay =

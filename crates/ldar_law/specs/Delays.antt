@@ -1,5 +1,5 @@
 -- Until when a leak must be repaired, and what a delay of repair changes (40 CFR 60.482-9a).
-use Rattle.std.specs.Prelude.{◌≡◌, ◌++◌, slice_get, option_and_then, ℕ, ◌+◌, Bool, false, ◌&&◌, nat_eq, nat_lt, nat_le, max, Option, Some, None, option_map, if◌then◌else◌, List, [], ◌∷◌, length, reverse, filter}
+use Rattle.std.specs.Prelude.{ℕ, ◌+◌, Bool, false, ◌&&◌, nat_eq, nat_lt, nat_le, max, Option, Some, None, option_map, if◌then◌else◌, List, [], ◌∷◌, length, reverse, filter}
 use Rattle.std.specs.List.{list_any}
 use Rattle.ldar_days.specs.Calendar.{end_by, later_by}
 use Rattle.ldar_facts.specs.declared.key.Key.{Key}
@@ -93,16 +93,3 @@ module _ (detected : ℕ) (attempts : List ℕ) (stops : List Stop) where
   -- 40 CFR 60.482-9a: until when the leak must be repaired
   abbrev pub repair_due : List DelayEntry → Until
   repair_due delays = due_given (counted_delay delays)
-
--- one more delay counts, or is ignored where its day is past the due day that those before it give
-abbrev pub OneMoreDelay : Type 0
-OneMoreDelay =
-    (detected : ℕ) (attempts : List ℕ) (stops : List Stop) (delays : List DelayEntry) (delay : DelayEntry)
-    → counted_delay detected attempts stops (delays ++ delay ∷ [])
-    ≡ (if is_past delay.key.day (repair_due detected attempts stops delays) then counted_delay detected attempts stops delays else Some delay)
-
--- the place is that of the last delay that counts
-abbrev pub CountedPlaceIsOfDelay : Type 0
-CountedPlaceIsOfDelay =
-    (detected : ℕ) (attempts : List ℕ) (stops : List Stop) (delays : List DelayEntry)
-    → option_and_then (slice_get delays) (counted_place detected attempts stops delays) ≡ counted_delay detected attempts stops delays

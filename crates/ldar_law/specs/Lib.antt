@@ -2,6 +2,7 @@ pub mod Delays
 pub mod DenialLaws
 pub mod Denials
 pub mod Duties
+pub mod DutyLaws
 pub mod Equipment
 pub mod Events
 pub mod Fitness
@@ -10,9 +11,13 @@ pub mod Happenings
 pub mod Judged
 pub mod Kinds
 pub mod Limits
+pub mod MonthLaws
 pub mod Months
 pub mod Percent
+pub mod QuarterLaws
+pub mod ReadingLaws
 pub mod RegisterLaws
+pub mod RepairLaws
 pub mod Replies
 pub mod ReportLaws
 pub mod Reports
@@ -33,3 +38,4 @@ pub mod Tallies
 pub mod Texts
 pub mod Units
 pub mod Verdicts
+pub mod ViewLaws
