@@ -15,7 +15,8 @@ use Rattle.ldar_facts.proofs.Cuts.{earlier_day}
 use Rattle.ldar_law.specs.declared.duty.Duty.{Duty}
 use Rattle.ldar_law.specs.declared.equipment.Equipment.{Equipment}
 use Rattle.ldar_law.specs.declared.event.Event.{Event}
-use Rattle.ldar_law.specs.Duties.{first_due, first_monitoring, monthly, quarterly, yearly, planned, weekly, drip, release, evidence, duties_of, comes_no_later, DutiesStandInOrder}
+use Rattle.ldar_law.specs.Duties.{first_due, first_monitoring, monthly, quarterly, yearly, planned, weekly, drip, release, evidence, duties_of}
+use Rattle.ldar_law.specs.DutyLaws.{comes_no_later, DutiesStandInOrder}
 use Rattle.ldar_law.proofs.TestLemmas.{all_implied, ascends_implied}
 
 all_joined : {X : Type 0} (P : X → Type 0) (xs ys : List X) → AllByRecursion P xs → AllByRecursion P ys → AllByRecursion P (xs ++ ys)

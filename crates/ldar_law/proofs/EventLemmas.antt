@@ -15,7 +15,8 @@ use Rattle.ldar_law.specs.declared.equipment.Equipment.{Equipment}
 use Rattle.ldar_law.specs.declared.event.Event.{Event}
 use Rattle.ldar_law.specs.declared.event.Happening.{Happening}
 use Rattle.ldar_law.specs.declared.fitness.Fitness.{Fitness}
-use Rattle.ldar_law.specs.Events.{happening, event_of, events_with, events_in, is_reading, next_fitness, fitness_among, EventsAreJudgedInOrder, fitness_at, ReadingsAreOfInstrument, EventsAscend}
+use Rattle.ldar_law.specs.Events.{happening, event_of, events_with, events_in, is_reading, next_fitness, fitness_among, fitness_at}
+use Rattle.ldar_law.specs.ReadingLaws.{EventsAreJudgedInOrder, ReadingsAreOfInstrument, EventsAscend}
 use Rattle.ldar_law.specs.Fitness.{fitness_of}
 use Rattle.ldar_law.specs.Force.{limit_on}
 use Rattle.ldar_law.specs.Slices.{facts_of_component, facts_of_instrument}

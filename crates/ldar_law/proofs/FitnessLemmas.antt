@@ -6,7 +6,8 @@ use Rattle.ldar_facts.specs.declared.body.FactBody.TheVariants.{Calibration, Pre
 use Rattle.ldar_facts.specs.declared.key.Key.{Key}
 use Rattle.ldar_facts.specs.Facts.{Entry}
 use Rattle.ldar_facts.specs.Named.{tested_instrument, is_numbered}
-use Rattle.ldar_law.specs.Fitness.{is_calibration, is_calibration_within, is_passed_precision, is_drift_past, is_calibrated, is_calibrated_within, is_tested, is_calibrated_before, is_voided_by, FitnessIsOfInstrument}
+use Rattle.ldar_law.specs.Fitness.{is_calibration, is_calibration_within, is_passed_precision, is_drift_past, is_calibrated, is_calibrated_within, is_tested, is_calibrated_before, is_voided_by}
+use Rattle.ldar_law.specs.ReadingLaws.{FitnessIsOfInstrument}
 use Rattle.ldar_law.specs.Slices.{facts_of_instrument}
 use Rattle.ldar_law.proofs.TestLemmas.{both}
 

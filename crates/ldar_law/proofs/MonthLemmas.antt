@@ -5,7 +5,8 @@ use Rattle.ldar_days.specs.Calendar.{month_of}
 use Rattle.ldar_days.specs.Quarters.{first_quarter}
 use Rattle.ldar_law.specs.declared.event.Event.{Event}
 use Rattle.ldar_law.specs.Happenings.{is_routine_below, is_in_month}
-use Rattle.ldar_law.specs.Months.{is_clean, is_clean_twice, is_clean_twice_from, begins_quarterly, is_quarterly, CleanTwiceFromDecides, QuarterlyDecides}
+use Rattle.ldar_law.specs.Months.{is_clean, is_clean_twice, is_clean_twice_from, begins_quarterly, is_quarterly}
+use Rattle.ldar_law.specs.MonthLaws.{CleanTwiceFromDecides, QuarterlyDecides}
 use Rattle.ldar_law.proofs.TestLemmas.{both, list_any_implied, passing}
 
 -- a clean month has an event: what holds of the month holds of some event's

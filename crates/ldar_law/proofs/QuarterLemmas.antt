@@ -5,8 +5,8 @@ use Rattle.std.proofs.lemmas.Bool.{cases_Bool, leb-true, le-leb}
 use Rattle.std.proofs.lemmas.List.Sums.{sum_by-cons}
 use Rattle.ldar_law.specs.declared.tally.Mark.{Mark}
 use Rattle.ldar_law.specs.declared.tally.Tally.{Tally}
-use Rattle.ldar_law.specs.Percent.{TallyCounts}
-use Rattle.ldar_law.specs.Skips.{good_streak, StreakIsOfGoodQuarters}
+use Rattle.ldar_law.specs.QuarterLaws.{TallyCounts, StreakIsOfGoodQuarters}
+use Rattle.ldar_law.specs.Skips.{good_streak}
 use Rattle.ldar_law.specs.Tallies.{with_mark}
 use Rattle.ldar_law.proofs.TestLemmas.{both}
 

@@ -7,7 +7,8 @@ use Rattle.std.proofs.lemmas.List.Folds.{list_any-append}
 use Rattle.list_words.specs.Order.{in_order}
 use Rattle.list_words.proofs.PutLemmas.{list_any-put}
 use Rattle.ldar_law.specs.declared.duty.Duty.{Duty}
-use Rattle.ldar_law.specs.Routes.{is_more_urgent, with_stop, StopsAreUndone}
+use Rattle.ldar_law.specs.Routes.{is_more_urgent, with_stop}
+use Rattle.ldar_law.specs.QuarterLaws.{StopsAreUndone}
 
 -- in order, the same is there
 in_order_any : {X : Type 0} (p : X → Bool) (before : X → X → Bool) (xs : List X) → list_any p (in_order before xs) ≡ list_any p xs

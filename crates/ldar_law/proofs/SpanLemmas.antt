@@ -13,7 +13,8 @@ use Rattle.ldar_law.specs.declared.event.Event.{Event}
 use Rattle.ldar_law.specs.declared.span.Span.{Span}
 use Rattle.ldar_law.specs.Happenings.{is_leak}
 use Rattle.ldar_law.specs.Settling.{is_settled, is_unsettled}
-use Rattle.ldar_law.specs.Spans.{opens, closes, span_at, spans_of, closes_before, SpansFollow}
+use Rattle.ldar_law.specs.Spans.{opens, closes, span_at, spans_of}
+use Rattle.ldar_law.specs.RepairLaws.{closes_before, SpansFollow}
 use Rattle.ldar_law.proofs.TestLemmas.{both}
 
 not_false : (b : Bool) → not b ≡ false → b ≡ true

@@ -13,7 +13,8 @@ use Rattle.ldar_law.specs.declared.event.Event.{Event}
 use Rattle.ldar_law.specs.declared.event.Happening.{Happening}
 use Rattle.ldar_law.specs.declared.event.Happening.TheVariants.{Delay}
 use Rattle.ldar_law.specs.declared.span.Span.{Span}
-use Rattle.ldar_law.specs.Tags.{delay_at, delay_entry, is_within, delays_of, BeginsWithClosing, DelaysLieBetween}
+use Rattle.ldar_law.specs.Tags.{delay_at, delay_entry, is_within, delays_of}
+use Rattle.ldar_law.specs.RepairLaws.{BeginsWithClosing, DelaysLieBetween}
 use Rattle.ldar_law.proofs.TestLemmas.{all_implied}
 
 -- what holds of each of two parts' elements

@@ -8,7 +8,8 @@ use Rattle.ldar_facts.specs.Facts.{Entry, goes_first, entries_from, entries_of, 
 use Rattle.ldar_facts.specs.Stated.{Stated}
 use Rattle.ldar_facts.proofs.OrderFree.{order_free, one_more_batch}
 use Rattle.ldar_law.proofs.WeakOrder.{InOrder, each_in_order, put_keeps, put_filter, weak_goes_first}
-use Rattle.ldar_law.specs.Shown.{view_day, view_of, shown, ViewsForgetOrder, ViewsForgetLaterDays}
+use Rattle.ldar_law.specs.Shown.{view_day, view_of, shown}
+use Rattle.ldar_law.specs.ViewLaws.{ViewsForgetOrder, ViewsForgetLaterDays}
 
 -- a view looks at the facts in key order alone
 pub views_forget_order : ViewsForgetOrder

@@ -110,28 +110,3 @@ pub record IsLastCounted (detected : ℕ) (attempts : List ℕ) (stops : List St
   pub stands : slice_get delays place ≡ Some delay
   pub counts : is_ignored detected attempts stops (take place delays) delay ≡ false
   pub later : (after : ℕ) (other : DelayEntry) → place < after → slice_get delays after ≡ Some other → is_ignored detected attempts stops (take after delays) other ≡ true
-
--- one more delay counts, or is ignored where its day is past the due day that those before it give
-abbrev pub OneMoreDelay : Type 0
-OneMoreDelay =
-    (detected : ℕ) (attempts : List ℕ) (stops : List Stop) (delays : List DelayEntry) (delay : DelayEntry)
-    → counted_delay detected attempts stops (delays ++ delay ∷ [])
-    ≡ (if is_ignored detected attempts stops delays delay then counted_delay detected attempts stops delays else Some delay)
-
--- the place is that of the last delay that counts
-abbrev pub CountedPlaceIsOfDelay : Type 0
-CountedPlaceIsOfDelay =
-    (detected : ℕ) (attempts : List ℕ) (stops : List Stop) (delays : List DelayEntry)
-    → option_and_then (slice_get delays) (counted_place detected attempts stops delays) ≡ counted_delay detected attempts stops delays
-
--- no place is given exactly where all delays are ignored
-abbrev pub NoneCounted : Type 0
-NoneCounted =
-    (detected : ℕ) (attempts : List ℕ) (stops : List Stop) (delays : List DelayEntry)
-    → (counted_place detected attempts stops delays ≡ None) ↔ AreIgnored detected attempts stops delays
-
--- the place that is given is that of the last delay that is not ignored
-abbrev pub CountedPlaceIsLast : Type 0
-CountedPlaceIsLast =
-    (detected : ℕ) (attempts : List ℕ) (stops : List Stop) (delays : List DelayEntry) (place : ℕ)
-    → counted_place detected attempts stops delays ≡ Some place → IsLastCounted detected attempts stops delays place

@@ -2,14 +2,12 @@
 use Rattle.std.specs.Prelude.{ℕ, ◌+◌, ◌-◌, ◌*◌, ◌/◌, ◌%◌, Bool, false, not, ◌&&◌, ◌||◌, nat_eq, nat_lt, nat_le, min, if◌then◌else◌, Option, Some, None, option_map, is_none, option_to_list, unwrap_or, slice_get, List, ◌++◌, ◌≡◌, filter, find, filter_map}
 use Rattle.std.specs.List.{list_any}
 use Rattle.std.specs.Option.{option_map_or}
-use Rattle.list_words.specs.Order.{Ascends}
 use Rattle.list_words.specs.Ranges.{from_to}
 use Rattle.list_words.specs.Words.{somewhere, each_where}
-use Rattle.ldar_days.specs.Calendar.{IsDay, first_day, last_day, month_of, end_by, week_of, week_first, week_last}
+use Rattle.ldar_days.specs.Calendar.{first_day, last_day, month_of, end_by, week_of, week_first, week_last}
 use Rattle.ldar_days.specs.Quarters.{quarter_of}
 use Rattle.ldar_facts.specs.declared.class.Class.{Class}
 use Rattle.ldar_facts.specs.declared.key.Key.{Key}
-use Rattle.ldar_facts.specs.Facts.{is_earlier}
 use Rattle.ldar_law.specs.declared.duty.Duty.{Duty}
 use Rattle.ldar_law.specs.declared.equipment.Equipment.{Equipment}
 use Rattle.ldar_law.specs.declared.event.Event.{Event}
@@ -187,22 +185,3 @@ module _ (item : Equipment) (classes : List (Key × Class)) (startup : ℕ) (eve
       ++ (each_where drip events
       ++ (each_where release events
       ++ each_where evidence events)))))))
-
--- by cause, and for one cause by due day
-abbrev pub comes_no_later : Duty → Duty → Bool
-comes_no_later a b = nat_lt a.cause b.cause || (nat_eq a.cause b.cause && nat_le a.due b.due)
-
--- the duties of a component stand by cause and due day, where its events are in key order
-abbrev pub DutiesStandInOrder : Type 0
-DutiesStandInOrder =
-    (item : Equipment) (classes : List (Key × Class)) (startup : ℕ) (events : List Event) (skipped : List Bool) (t : ℕ)
-    → IsDay item.begin → Ascends (λ a b. is_earlier a.key b.key) events
-    → Ascends comes_no_later (duties_of item classes startup events skipped t)
-
--- the duties after drips, releases and evidence are those that the events give, in the order of the events
-abbrev pub EventDutiesFollowEvents : Type 0
-EventDutiesFollowEvents =
-    (item : Equipment) (classes : List (Key × Class)) (startup : ℕ) (events : List Event) (skipped : List Bool) (t : ℕ)
-    → (filter (λ d. nat_eq d.cause 7) (duties_of item classes startup events skipped t) ≡ each_where (drip item classes startup events skipped t) events)
-    × (filter (λ d. nat_eq d.cause 8) (duties_of item classes startup events skipped t) ≡ each_where (release item classes startup events skipped t) events)
-    × (filter (λ d. nat_eq d.cause 9) (duties_of item classes startup events skipped t) ≡ each_where (evidence item classes startup events skipped t) events)

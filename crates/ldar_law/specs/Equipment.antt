@@ -1,4 +1,4 @@
--- What facts in key order enter in the register.
+-- What facts in key order enter in the register: components, classes, process units, elections and shutdowns (40 CFR 60.486a(e)(1), 60.481a).
 use Rattle.std.specs.Prelude.{ℕ, ◌+◌, ◌-◌, Bool, false, nat_eq, nat_lt, if◌then◌else◌, Option, Some, None, List, find, filter_map, slice_get, option_map}
 use Rattle.list_words.specs.Order.{in_order}
 use Rattle.ldar_days.specs.Calendar.{end_by}

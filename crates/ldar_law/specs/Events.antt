@@ -1,7 +1,6 @@
 -- The events of a component: its facts in key order, each judged on its own day (40 CFR 60.482-2a(b), 60.482-3a(f), 60.482-7a(b), 60.482-8a(b)).
-use Rattle.std.specs.Prelude.{◌≡◌, ℕ, Bool, true, false, not, ◌&&◌, ◌||◌, nat_lt, nat_le, if◌then◌else◌, Option, Some, None, option_map, List, [], ◌∷◌, drop, filter_map}
+use Rattle.std.specs.Prelude.{ℕ, Bool, true, false, not, ◌&&◌, ◌||◌, nat_lt, nat_le, if◌then◌else◌, Option, Some, None, option_map, List, [], ◌∷◌, drop, filter_map}
 use Rattle.std.specs.List.{cons_option}
-use Rattle.list_words.specs.Order.{Ascends}
 use Rattle.ldar_facts.specs.declared.body.FactBody.{FactBody}
 use Rattle.ldar_facts.specs.declared.body.FactBody.TheVariants.{Unit as UnitFact, Component as ComponentFact, Class as ClassFact, Retire as RetireFact, Election, Shutdown, Calibration, Precision, Drift, Reading, Visual, Attempt as AttemptFact, Delay as DelayFact, Release as ReleaseFact, Indication}
 use Rattle.ldar_facts.specs.declared.body.Purpose.{Purpose}
@@ -12,8 +11,7 @@ use Rattle.ldar_facts.specs.declared.body.VisualState.{VisualState}
 use Rattle.ldar_facts.specs.declared.body.VisualState.TheVariants.{Dry, Drips, Designated}
 use Rattle.ldar_facts.specs.declared.class.Class.{Class}
 use Rattle.ldar_facts.specs.declared.key.Key.{Key}
-use Rattle.ldar_facts.specs.Facts.{Entry, is_earlier, goes_first}
-use Rattle.ldar_facts.specs.Named.{reading_instrument}
+use Rattle.ldar_facts.specs.Facts.{Entry}
 use Rattle.ldar_law.specs.declared.equipment.Equipment.{Equipment}
 use Rattle.ldar_law.specs.declared.event.Event.{Event}
 use Rattle.ldar_law.specs.declared.event.Happening.{Happening}
@@ -22,7 +20,7 @@ use Rattle.ldar_law.specs.declared.fitness.Fitness.{Fitness}
 use Rattle.ldar_law.specs.declared.fitness.Fitness.TheVariants.{NoCalibration}
 use Rattle.ldar_law.specs.Fitness.{fitness_of, is_fit}
 use Rattle.ldar_law.specs.Force.{is_in_service, limit_on}
-use Rattle.ldar_law.specs.Slices.{facts_of_component, facts_of_instrument}
+use Rattle.ldar_law.specs.Slices.{facts_of_component}
 use Rattle.ldar_law.specs.Standing.{is_under_valve_rules, is_under_pump_rules, is_under_compressor_rules, is_under_heavy_liquid_rules, is_left_out, is_nde}
 
 -- a routine reading
@@ -132,23 +130,3 @@ fitness_in item classes facts e = if is_reading e.1.body then Some (fitness_amon
 unfoldable pub events_in : Equipment → List (Key × Class) → List Entry → List Event
 events_in item classes facts =
     filter_map (λ e. event_of item classes e (fitness_among item classes facts e)) (facts_of_component item.component facts)
-
--- judging each reading where it stands, or by a list with the fitness of each: it is the same
-abbrev pub EventsAreJudgedInOrder : Type 0
-EventsAreJudgedInOrder =
-    (item : Equipment) (classes : List (Key × Class)) (facts : List Entry)
-    → events_with item classes (facts_of_component item.component facts) (filter_map (fitness_in item classes facts) (facts_of_component item.component facts))
-    ≡ events_in item classes facts
-
--- a reading is judged by the facts of its instrument as by all facts
-abbrev pub ReadingsAreOfInstrument : Type 0
-ReadingsAreOfInstrument =
-    (item : Equipment) (classes : List (Key × Class)) (facts : List Entry) (e : Entry) (instrument : ℕ)
-    → reading_instrument e.1.body ≡ Some instrument
-    → fitness_among item classes (facts_of_instrument instrument facts) e ≡ fitness_among item classes facts e
-
--- the events of a component are in key order, as the facts are
-abbrev pub EventsAscend : Type 0
-EventsAscend =
-    (item : Equipment) (classes : List (Key × Class)) (facts : List Entry)
-    → Ascends goes_first facts → Ascends (λ a b. is_earlier a.key b.key) (events_in item classes facts)

@@ -1,5 +1,5 @@
 -- Readings that may be used, and those that a drift voids (40 CFR 60.485a(b); EPA Method 21, sections 8.1.2 and 10.1).
-use Rattle.std.specs.Prelude.{◌≡◌, ℕ, ◌+◌, ◌-◌, ◌*◌, Bool, true, false, not, ◌&&◌, nat_eq, nat_lt, nat_le, if◌then◌else◌, Option, Some, None, List, find}
+use Rattle.std.specs.Prelude.{ℕ, ◌+◌, ◌-◌, ◌*◌, Bool, true, false, not, ◌&&◌, nat_eq, nat_lt, nat_le, if◌then◌else◌, Option, Some, None, List, find}
 use Rattle.std.specs.List.{list_any}
 use Rattle.ldar_days.specs.Calendar.{later_by}
 use Rattle.ldar_facts.specs.declared.body.FactBody.{FactBody}
@@ -9,7 +9,6 @@ use Rattle.ldar_facts.specs.Facts.{Entry, is_earlier}
 use Rattle.ldar_law.specs.declared.fitness.Fitness.{Fitness}
 use Rattle.ldar_law.specs.declared.numbers.TheConstants.{GAS_MARGIN}
 use Rattle.ldar_law.specs.declared.fitness.Fitness.TheVariants.{Fit, NoCalibration, GasTooHigh, NoPrecision, Voided}
-use Rattle.ldar_law.specs.Slices.{facts_of_instrument}
 
 -- the sum of three readings
 abbrev pub sum_of : ℕ × ℕ × ℕ → ℕ
@@ -92,9 +91,3 @@ fitness_of facts limit key instrument ppm =
 abbrev pub is_fit : Fitness → Bool
 is_fit Fit = true
 is_fit _ = false
-
--- a reading is judged by its instrument's own facts as by all facts
-abbrev pub FitnessIsOfInstrument : Type 0
-FitnessIsOfInstrument =
-    (facts : List Entry) (limit : ℕ) (key : Key) (instrument ppm : ℕ)
-    → fitness_of (facts_of_instrument instrument facts) limit key instrument ppm ≡ fitness_of facts limit key instrument ppm

@@ -1,4 +1,4 @@
--- What holds of a component on a day, by the classes entered for it in key order.
+-- What holds of a component on a day, by the classes entered for it in key order: class, service, rules and leak definition.
 use Rattle.std.specs.Prelude.{ℕ, Bool, false, not, ◌&&◌, nat_le, Option, Some, None, List, option_map, unwrap_or}
 use Rattle.list_words.specs.Words.{last_such}
 use Rattle.ldar_facts.specs.declared.class.Class.{Class}

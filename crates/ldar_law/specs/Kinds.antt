@@ -1,4 +1,4 @@
--- What a component is.
+-- What kind a component is.
 use Rattle.std.specs.Prelude.{Bool, true, false}
 use Rattle.ldar_facts.specs.declared.class.Kind.{Kind}
 use Rattle.ldar_facts.specs.declared.class.Kind.TheVariants.{Pump, Compressor}

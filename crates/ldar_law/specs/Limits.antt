@@ -1,4 +1,4 @@
--- Under which rules a kind of component is, and its leak definition.
+-- The rules for a kind of component in a service, and its leak definition (40 CFR 60.482-1a to 60.482-8a).
 use Rattle.std.specs.Prelude.{ℕ, Bool, true, false}
 use Rattle.ldar_facts.specs.declared.class.Class.{Class}
 use Rattle.ldar_facts.specs.declared.class.Kind.{Kind}

@@ -1,5 +1,5 @@
 -- Clean months, and the months in which a valve may be monitored once a quarter (40 CFR 60.482-7a(c)).
-use Rattle.std.specs.Prelude.{◌≡◌, ℕ, ◌+◌, ◌-◌, ◌*◌, ◌/◌, ◌%◌, ◌≤◌, Bool, true, not, ◌&&◌, nat_lt, nat_le, Decides, List}
+use Rattle.std.specs.Prelude.{ℕ, ◌+◌, ◌-◌, ◌*◌, ◌/◌, ◌%◌, Bool, not, ◌&&◌, nat_lt, nat_le, List}
 use Rattle.std.specs.List.{list_any}
 use Rattle.ldar_days.specs.Calendar.{month_of}
 use Rattle.ldar_days.specs.Quarters.{first_quarter}
@@ -42,16 +42,3 @@ begins_quarterly startup events month k =
 unfoldable pub is_quarterly : ℕ → List Event → ℕ → Bool
 is_quarterly startup events month =
     nat_le (first_quarter startup) month && list_any (λ e. begins_quarterly startup events month (month_of e.key.day)) events
-
--- `is_clean_twice_from` is the existence of such a month, among all months
-abbrev pub CleanTwiceFromDecides : Type 0
-CleanTwiceFromDecides =
-    (events : List Event) (first : ℕ)
-    → Decides (is_clean_twice_from events first) ((k : ℕ) × (first ≤ k) × (is_clean events k ≡ true) × (is_clean events (k + 1) ≡ true))
-
--- .. and so is `is_quarterly`
-abbrev pub QuarterlyDecides : Type 0
-QuarterlyDecides =
-    (startup : ℕ) (events : List Event) (month : ℕ)
-    → Decides (is_quarterly startup events month)
-    ((first_quarter startup ≤ month) × ((k : ℕ) × (begins_quarterly startup events month k ≡ true)))

@@ -1,5 +1,5 @@
 -- Percent of valves leaking in a quarter (40 CFR 60.483-2a, 60.485a(h)).
-use Rattle.std.specs.Prelude.{◌≡◌, count_by, ℕ, ◌*◌, Bool, true, not, ◌&&◌, ◌||◌, nat_lt, nat_le, min, is_none, List, fold}
+use Rattle.std.specs.Prelude.{ℕ, ◌*◌, Bool, true, not, ◌&&◌, ◌||◌, nat_lt, nat_le, min, is_none, List, fold}
 use Rattle.std.specs.List.{list_any}
 use Rattle.std.specs.Option.{option_map_or}
 use Rattle.ldar_days.specs.Calendar.{month_of}
@@ -68,9 +68,3 @@ tally_of marks = fold with_mark (record { leaking = 0; monitored = 0 }) marks
 -- 40 CFR 60.483-2a(b)(2): at most 2 percent leak, of at least one that was monitored
 abbrev pub is_good : Tally → Bool
 is_good tally = nat_lt 0 tally.monitored && nat_le (50 * tally.leaking) tally.monitored
-
--- the counts are those of the marks that are leaking and of those that are monitored
-abbrev pub TallyCounts : Type 0
-TallyCounts =
-    (marks : List Mark)
-    → tally_of marks ≡ record { leaking = count_by (λ mark. mark.leaking) marks; monitored = count_by (λ mark. mark.monitored) marks }

@@ -1,3 +1,4 @@
+-- What is true of the register: the statements of `laws::register`.
 use Rattle.std.specs.Prelude.{◌≡◌, ◌↔◌, ℕ, Bool, false, ◌&&◌, nat_eq, nat_le, is_some, if◌then◌else◌, Option, Some, None, List, Contains}
 use Rattle.std.specs.List.{list_any}
 use Rattle.list_words.specs.Order.{put_in_order, later_of, Ascends}

@@ -1,5 +1,5 @@
 -- Walks to the components that have something to be done.
-use Rattle.std.specs.Prelude.{◌≡◌, ℕ, Bool, ◌&&◌, ◌||◌, nat_eq, nat_lt, is_none, if◌then◌else◌, List, [], ◌∷◌, ◌++◌, filter, map}
+use Rattle.std.specs.Prelude.{ℕ, Bool, ◌&&◌, ◌||◌, nat_eq, nat_lt, is_none, if◌then◌else◌, List, [], ◌∷◌, ◌++◌, filter, map}
 use Rattle.std.specs.List.{list_any, fold}
 use Rattle.list_words.specs.Order.{in_order}
 use Rattle.list_words.specs.Parts.{cut}
@@ -21,10 +21,3 @@ stops_in_order duties = fold with_stop [] (in_order is_more_urgent (filter (λ d
 -- .. in routes of so many stops, the last one shorter
 unfoldable pub routes_of : List Duty → ℕ → List Route
 routes_of duties stops = map (λ part. record { stops = part }) (cut stops (stops_in_order duties))
-
--- a component is a stop just where it has a duty that isn't done
-abbrev pub StopsAreUndone : Type 0
-StopsAreUndone =
-    (duties : List Duty) (component : ℕ)
-    → list_any (λ stop. nat_eq stop component) (stops_in_order duties)
-    ≡ list_any (λ d. is_none d.met && nat_eq d.component component) duties

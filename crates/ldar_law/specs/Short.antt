@@ -9,7 +9,7 @@ use Rattle.ldar_facts.specs.declared.body.Sort.TheVariants.{Sensor as SensorSort
 use Rattle.ldar_facts.specs.declared.body.VisualState.TheVariants.{Designated}
 use Rattle.ldar_facts.specs.declared.class.Class.{Class}
 use Rattle.ldar_facts.specs.declared.class.Designation.{Designation}
-use Rattle.ldar_facts.specs.declared.class.Designation.TheVariants.{Plain, Unsafe}
+use Rattle.ldar_facts.specs.declared.class.Designation.TheVariants.{Plain, Difficult, Unsafe}
 use Rattle.ldar_facts.specs.declared.class.Kind.{Kind}
 use Rattle.ldar_facts.specs.declared.class.Kind.TheVariants.{Valve, Pump, Compressor, Relief}
 use Rattle.ldar_facts.specs.declared.class.Service.{Service}
@@ -40,7 +40,7 @@ use Rattle.ldar_law.specs.Events.{events_in}
 use Rattle.ldar_law.specs.Fitness.{fitness_of}
 use Rattle.ldar_law.specs.Happenings.{is_leak}
 use Rattle.ldar_law.specs.Tags.{tags_of}
-use Rattle.ldar_law.specs.Units.{mark_in, tags_of_unit}
+use Rattle.ldar_law.specs.Units.{Known, mark_in, tags_of_unit}
 
 -- ---- days
 
@@ -99,6 +99,22 @@ busy_day =
 abbrev pub class : Service → Designation → Class
 class service designation = record { service = service; designation = designation; plan = 0; month = 1 }
 
+-- a class that is entered on a day
+abbrev pub entered_on : ℕ → Class → Key × Class
+entered_on day class = (key day 0, class)
+
+-- gas service, monitored in the second month of a quarter
+abbrev pub second_month : Class
+second_month = record { service = Gas; designation = Plain; plan = 0; month = 2 }
+
+-- .. entered on 2024-01-02
+abbrev pub second_months : Key × Class
+second_months = entered_on (date 2024 1 2) second_month
+
+-- difficult to monitor, with the plan that it had before
+abbrev pub planned_difficult : Class
+planned_difficult = record { service = Gas; designation = Difficult; plan = 5; month = 1 }
+
 -- unsafe to monitor, with a plan of so many months
 abbrev pub unsafe_by : Service → ℕ → Class
 unsafe_by service plan = record { service = service; designation = Unsafe; plan = plan; month = 1 }
@@ -121,17 +137,21 @@ abbrev pub valve : ℕ → ℕ → Equipment
 valve component begin = gear component Valve (class Gas Plain) begin
 
 -- .. that is retired
-abbrev pub retired_valve : ℕ → ℕ → ℕ → Equipment
-retired_valve component begin retired = record {
+abbrev pub retired_gear : ℕ → Kind → Class → ℕ → ℕ → Equipment
+retired_gear component kind class begin retired = record {
   component = component;
   unit = 1;
-  kind = Valve;
+  kind = kind;
   monomer = false;
   replaces = false;
   begin = begin;
   retired = Some retired;
-  class = class Gas Plain;
+  class = class;
 }
+
+-- a valve that is retired
+abbrev pub retired_valve : ℕ → ℕ → ℕ → Equipment
+retired_valve component begin retired = retired_gear component Valve (class Gas Plain) begin retired
 
 -- .. that replaces a leaking one
 abbrev pub replacing_valve : ℕ → ℕ → Equipment
@@ -187,6 +207,15 @@ sensed item present = leaks_of item (fact (date 2024 2 20) 600 (Indication item.
 abbrev pub designated_at : Equipment → List Bool
 designated_at item = leaks_of item (fact (date 2024 2 20) 600 (Visual item.component Designated))
 
+-- what a fact of 2024-02-20 at a component is, with the instrument calibrated with a gas
+abbrev pub events_with_gas : ℕ → Equipment → List (Key × Class) → FactBody → List Happening
+events_with_gas gas item classes body = map (λ event. event.what)
+    (events_in item classes (precise (date 2024 1 2) ∷ calibrated (date 2024 2 20) 300 gas ∷ fact (date 2024 2 20) 600 body ∷ []))
+
+-- .. with one of 500
+abbrev pub events_on : Equipment → List (Key × Class) → FactBody → List Happening
+events_on item classes body = events_with_gas 500 item classes body
+
 -- ---- events, at minute 600
 
 -- what happened on a day
@@ -204,6 +233,26 @@ reads day ppm = reads_by 500 day ppm
 -- .. over a background
 abbrev pub reads_over : ℕ → ℕ → ℕ → Event
 reads_over day ppm background = event day (Read ppm background true true (nat_lt ppm 500) false)
+
+-- a counting follow-up reading below the leak definition, over a background
+abbrev pub follows_up : ℕ → ℕ → ℕ → Event
+follows_up day ppm background = event day (Read ppm background false true true false)
+
+-- a follow-up reading that is a leak
+abbrev pub leaks_in_a_follow_up : ℕ → Event
+leaks_in_a_follow_up day = event day (Read 620 0 false true false true)
+
+-- a reading that doesn't count
+abbrev pub reads_in_vain : ℕ → ℕ → Event
+reads_in_vain day ppm = event day (Read ppm 0 true false false false)
+
+-- a counting routine reading that is neither below the leak definition nor a leak, as at a compressor
+abbrev pub counts_above : ℕ → ℕ → Event
+counts_above day ppm = event day (Read ppm 0 true true false false)
+
+-- a counting routine reading below a leak definition of 10,000, far above the background
+abbrev pub far_below : ℕ → Event
+far_below day = event day (Read 9_000 0 true true true false)
 
 -- a visual inspection that is dry
 abbrev pub dry : ℕ → Event
@@ -232,6 +281,10 @@ delays day why expected = event day (Delay why 9 (Some expected))
 -- a sensor indicates a compressor's leak
 abbrev pub sensor_leak : ℕ → Event
 sensor_leak day = event day (Sensor true true)
+
+-- .. or none
+abbrev pub sensor_silent : ℕ → Event
+sensor_silent day = event day (Sensor false false)
 
 -- a pressure release
 abbrev pub releases : ℕ → Event
@@ -303,6 +356,10 @@ of_cause cause duties = filter (λ d. nat_eq d.cause cause) duties
 abbrev pub duties_on : ℕ → Equipment → List Event → List Duty
 duties_on t item events = duties_of item [] (date 2020 1 15) events [] t
 
+-- .. with classes that are entered for it
+abbrev pub duties_with : ℕ → Equipment → List (Key × Class) → List Event → List Duty
+duties_with t item classes events = duties_of item classes (date 2020 1 15) events [] t
+
 -- the duties on a day of valve 30, which begins with the startup of its unit on 2024-01-15
 abbrev pub duties_of_30 : List Event → List Bool → ℕ → List Duty
 duties_of_30 events skipped t = duties_of (valve 30 (date 2024 1 15)) [] (date 2024 1 15) events skipped t
@@ -337,14 +394,22 @@ clean = record { leaking = false; monitored = true }
 abbrev pub uncounted : Mark
 uncounted = record { leaking = false; monitored = false }
 
--- what a component of unit 1 adds to the counts of a quarter, as known on a day
-abbrev pub mark_on : ℕ → ℕ → Equipment → List Event → Mark
-mark_on t quarter item events = mark_in (date 2020 1 15) t quarter (record {
+-- what is known of a component with some classes and events, in a unit without shutdowns
+abbrev pub known : Equipment → List (Key × Class) → List Event → Known
+known item classes events = record {
   item = item;
-  classes = [];
+  classes = classes;
   events = events;
   tags = tags_of item.component item.kind events [];
-})
+}
+
+-- what a component of unit 1 adds to the counts of a quarter, as known on a day
+abbrev pub mark_with : ℕ → ℕ → Equipment → List (Key × Class) → List Event → Mark
+mark_with t quarter item classes events = mark_in (date 2020 1 15) t quarter (known item classes events)
+
+-- .. where no class was entered for it
+abbrev pub mark_on : ℕ → ℕ → Equipment → List Event → Mark
+mark_on t quarter item events = mark_with t quarter item [] events
 
 -- a route of these components
 abbrev pub route : List ℕ → Route

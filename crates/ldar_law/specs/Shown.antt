@@ -1,10 +1,8 @@
 -- What each view shows of a history on a day: its text, or what there is none of.
-use Rattle.std.specs.Prelude.{◌≡◌, ℕ, ◌<◌, nat_eq, if◌then◌else◌, Option, Some, None, List, [], ◌∷◌, ◌++◌, filter, map, IsTrue, IsPermutation}
-use Rattle.std.specs.List.{AllByRecursion}
+use Rattle.std.specs.Prelude.{ℕ, nat_eq, if◌then◌else◌, Option, Some, None, List, filter, map}
 use Rattle.ldar_days.specs.Calendar.{month_of}
 use Rattle.ldar_facts.specs.declared.batch.Batch.{Batch}
 use Rattle.ldar_facts.specs.Facts.{Entry, facts_to}
-use Rattle.ldar_facts.specs.Identity.{identities_differ}
 use Rattle.ldar_law.specs.declared.report.Report.{Report}
 use Rattle.ldar_law.specs.declared.request.Request.{Request}
 use Rattle.ldar_law.specs.declared.request.Request.TheVariants.{Sync, Due, Tags, Delays, Route, Percent, Report as ReportView}
@@ -97,16 +95,3 @@ view_of (ReportView unit half day) facts = Some (report_view unit half day facts
 -- .. of a history
 unfoldable pub shown : List Batch → Request → Option Reply
 shown history request = view_of request (facts_to (view_day request) history)
-
--- the order in which batches came has no effect on what is shown
-abbrev pub ViewsForgetOrder : Type 0
-ViewsForgetOrder =
-    (history other : List Batch) (request : Request) → IsPermutation history other → IsTrue (identities_differ history)
-    → shown other request ≡ shown history request
-
--- .. nor have facts of days after the view day
-abbrev pub ViewsForgetLaterDays : Type 0
-ViewsForgetLaterDays =
-    (history : List Batch) (batch : Batch) (request : Request) → IsTrue (identities_differ (history ++ batch ∷ []))
-    → AllByRecursion (λ fact. view_day request < fact.day) batch.facts
-    → shown (history ++ batch ∷ []) request ≡ shown history request

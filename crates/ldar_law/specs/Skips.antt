@@ -1,6 +1,6 @@
 -- Quarters that are skipped (our own rule, after 40 CFR 60.483-2a).
-use Rattle.std.specs.Prelude.{true, ◌≡◌, ◌≤◌, Decides, length, take, ℕ, zero, suc, ◌-◌, Bool, false, not, ◌&&◌, ◌||◌, nat_eq, nat_lt, nat_le, List, [], ◌∷◌, filter, map, slice_get}
-use Rattle.std.specs.List.{prefix_len, list_all}
+use Rattle.std.specs.Prelude.{ℕ, zero, suc, ◌-◌, Bool, false, not, ◌&&◌, ◌||◌, nat_eq, nat_lt, nat_le, List, [], ◌∷◌, filter, map, slice_get}
+use Rattle.std.specs.List.{prefix_len}
 use Rattle.std.specs.Option.{option_map_or}
 use Rattle.list_words.specs.Ranges.{from_to}
 use Rattle.list_words.specs.Words.{last_such}
@@ -56,11 +56,3 @@ module _ (tallies : List Tally) (elections : List ElectionEntry) (startup : ℕ)
   -- which quarters are skipped, from the first to one
   abbrev pub skipped_to : ℕ → List Bool
   skipped_to quarter = map is_skipped (from_to 1 quarter)
-
--- a streak reaches so far where so many of the last quarters that were not skipped exist and are good
-abbrev pub StreakIsOfGoodQuarters : Type 0
-StreakIsOfGoodQuarters =
-    (n : ℕ) (before : List Past)
-    → Decides (nat_le n (good_streak before))
-    ((n ≤ length (filter (λ past. not past.0) before))
-    × (list_all (λ past. past.1) (take n (filter (λ past. not past.0) before)) ≡ true))

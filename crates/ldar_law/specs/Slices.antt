@@ -1,4 +1,4 @@
--- Parts of the facts of a history, each in key order.
+-- Parts of the facts, each in key order: of a component, a process unit or an instrument, and of the register.
 use Rattle.std.specs.Prelude.{ℕ, Bool, true, false, List, filter}
 use Rattle.ldar_facts.specs.declared.body.FactBody.{FactBody}
 use Rattle.ldar_facts.specs.declared.body.FactBody.TheVariants.{Unit as UnitFact, Component as ComponentFact, Class as ClassFact, Retire, Election, Shutdown, Calibration, Precision, Drift, Reading, Visual, Attempt, Delay, Release, Indication}

@@ -10,7 +10,7 @@ use Rattle.ldar_facts.specs.declared.class.Designation.{Designation}
 use Rattle.ldar_facts.specs.declared.class.Designation.TheVariants.{Plain, Difficult}
 use Rattle.ldar_facts.specs.declared.body.Purpose.TheVariants.{Routine}
 use Rattle.ldar_facts.specs.declared.body.FactBody.{FactBody}
-use Rattle.ldar_facts.specs.declared.body.FactBody.TheVariants.{Unit as UnitFact, Component as ComponentFact, Class as ClassFact, Shutdown, Calibration, Precision, Reading, Attempt, Delay}
+use Rattle.ldar_facts.specs.declared.body.FactBody.TheVariants.{Unit as UnitFact, Component as ComponentFact, Class as ClassFact, Election, Shutdown, Calibration, Precision, Reading, Attempt, Delay}
 use Rattle.ldar_facts.specs.Stated.{Stated}
 use Rattle.ldar_law.specs.Short.{date}
 
@@ -69,14 +69,22 @@ calibrated day = record { day = day; minute = 300; body = Calibration 1 500 }
 abbrev pub reads : ℕ → ℕ → FactBody
 reads component ppm = Reading component 1 1 Routine ppm 0
 
--- so many valves, numbered from 1
+-- so many valves of a unit, numbered from 1
+abbrev pub valves_of : ℕ → ℕ → List Stated
+valves_of unit zero = []
+valves_of unit (suc more) = valves_of unit more ++ on (date 2020 1 15) (ComponentFact (suc more) unit Valve false false (in_service Gas)) ∷ []
+
+-- .. of unit 1
 abbrev pub valves : ℕ → List Stated
-valves zero = []
-valves (suc more) = valves more ++ on (date 2020 1 15) (component (suc more) Valve false Gas) ∷ []
+valves count = valves_of 1 count
 
 -- a valve is difficult to monitor from 2024-01-01 on
 abbrev pub makes_difficult : ℕ → Stated
 makes_difficult component = on (date 2024 1 1) (ClassFact component (designated Difficult))
+
+-- one of the four valves of the small office is difficult to monitor
+abbrev pub one_difficult : List Batch
+one_difficult = base ++ enters 2 (makes_difficult 1 ∷ []) ∷ []
 
 -- the unit with 100 valves
 abbrev pub hundred_valves : Batch
@@ -99,6 +107,10 @@ leaking = base ++ leak_found ∷ sends 2 (calibrated (date 2024 2 20) ∷ []) �
 abbrev pub repaired_on : ℕ → List Batch
 repaired_on day = leaking ++ sends 3 (on (date 2024 2 22) (Attempt 1 false) ∷ rounds day 1 20) ∷ []
 
+-- readings of two valves on 2024-02-20, the second of which leaks and is delayed for want of a shutdown
+abbrev pub two_valves : List Batch
+two_valves = base ++ sends 1 (rounds (date 2024 2 20) 1 20 ++ on (date 2024 2 20) (reads 2 620) ∷ on (date 2024 3 1) (Delay 2 1 9 (Some (date 2024 6 10))) ∷ []) ∷ []
+
 -- a delay for want of a shutdown, entered on a day, with the repair expected on 2024-06-10
 abbrev pub delayed_on : ℕ → List Batch
 delayed_on day = leaking ++ sends 3 (on day (Delay 1 1 9 (Some (date 2024 6 10))) ∷ []) ∷ []
@@ -107,20 +119,32 @@ delayed_on day = leaking ++ sends 3 (on day (Delay 1 1 9 (Some (date 2024 6 10))
 abbrev pub shut_down : Batch
 shut_down = enters 2 (on (date 2024 6 1) (Shutdown 1 14) ∷ [])
 
--- ---- the process unit COKER, started up on 2024-01-15, with valve 30
+-- ---- the process unit COKER, started up on 2024-01-15, with valve 30 of a class
 
+abbrev pub coker_with : Class → List Batch
+coker_with class = base ++ enters 2 (on (date 2024 1 15) (UnitFact 2 false (codes "COKER"))
+    ∷ on (date 2024 1 15) (ComponentFact 30 2 Valve false false class) ∷ []) ∷ []
+
+-- .. in gas service
 abbrev pub coker : List Batch
-coker = base ++ enters 2 (on (date 2024 1 15) (UnitFact 2 false (codes "COKER"))
-    ∷ on (date 2024 1 15) (ComponentFact 30 2 Valve false false (in_service Gas)) ∷ []) ∷ []
+coker = coker_with (in_service Gas)
 
 -- readings of 10 in February, March, April and July, with the precision tests that they need
+abbrev pub coker_readings : Batch
+coker_readings = sends 1 (on (date 2024 4 1) (Precision 1 500 (500, 500, 500)) ∷ on (date 2024 7 1) (Precision 1 500 (500, 500, 500))
+    ∷ rounds (date 2024 2 10) 30 10 ++ rounds (date 2024 3 10) 30 10 ++ rounds (date 2024 4 10) 30 10 ++ rounds (date 2024 7 10) 30 10)
+
+-- .. of the unit
 abbrev pub coker_rounds : List Batch
-coker_rounds = coker ++ sends 1 (on (date 2024 4 1) (Precision 1 500 (500, 500, 500)) ∷ on (date 2024 7 1) (Precision 1 500 (500, 500, 500))
-    ∷ rounds (date 2024 2 10) 30 10 ++ rounds (date 2024 3 10) 30 10 ++ rounds (date 2024 4 10) 30 10 ++ rounds (date 2024 7 10) 30 10) ∷ []
+coker_rounds = coker ++ coker_readings ∷ []
 
 -- a leak in April that comes late
 abbrev pub coker_leak : Batch
 coker_leak = sends 2 (rounds (date 2024 4 20) 30 700)
+
+-- mode 1 is elected from October on
+abbrev pub coker_election : Batch
+coker_election = enters 3 (on (date 2024 10 1) (Election 2 1 (date 2024 7 1)) ∷ [])
 
 -- a unit that started up on the last day on which one may
 abbrev pub last_unit : List Batch

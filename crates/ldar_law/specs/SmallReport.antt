@@ -3,6 +3,8 @@ use Rattle.std.specs.Prelude.{ℕ, ◌+◌, ◌*◌, Bool, false, Option, Some, 
 use Rattle.ldar_facts.specs.declared.class.Kind.{Kind}
 use Rattle.ldar_facts.specs.declared.key.Key.{Key}
 use Rattle.ldar_law.specs.declared.delay.DelayEntry.{DelayEntry}
+use Rattle.ldar_law.specs.declared.delay.DelayLine.{DelayLine}
+use Rattle.ldar_law.specs.declared.delay.Stop.{Stop}
 use Rattle.ldar_law.specs.declared.delay.Until.{Until}
 use Rattle.ldar_law.specs.declared.delay.Until.TheVariants.{Date}
 use Rattle.ldar_law.specs.declared.sheet.Sheet.{Sheet}
@@ -63,3 +65,11 @@ filed_months leaking late = replicate 24 0 ++ leaking ∷ replicate 6 0 ++ late 
 -- the key of a reading of handheld 7 on a day
 abbrev pub met_by : ℕ → Key
 met_by day = record { day = day; minute = 600; handheld = 7; number = 1; index = 0 }
+
+-- the line on the tag with such a delay
+abbrev pub delayed_line : ℕ → Until → Option ℕ → DelayLine
+delayed_line why until closed = record { component = 1; detected = date 2024 2 20; delay = delay_entry why; until = until; closed = closed }
+
+-- two shutdowns
+abbrev pub two_stops : List Stop
+two_stops = record { first = date 2024 2 1; last = date 2024 2 9 } ∷ record { first = date 2024 6 1; last = date 2024 6 14 } ∷ []

@@ -1,13 +1,11 @@
 -- The time from which a leak is known until nothing is left unsettled (40 CFR 60.486a(b)).
 use Rattle.std.specs.Prelude.{ℕ, Bool, true, false, not, ◌&&◌, ◌||◌, Option, Some, None, option_map, if◌then◌else◌, List, [], ◌∷◌, ◌++◌, find}
 use Rattle.std.specs.Option.{option_map_or}
-use Rattle.list_words.specs.Order.{Ascends}
 use Rattle.list_words.specs.Words.{first_from, each_where}
 use Rattle.ldar_days.specs.Calendar.{month_of}
 use Rattle.ldar_facts.specs.declared.class.Kind.{Kind}
 use Rattle.ldar_facts.specs.declared.class.Kind.TheVariants.{Valve}
 use Rattle.ldar_facts.specs.declared.key.Key.{Key}
-use Rattle.ldar_facts.specs.Facts.{is_earlier}
 use Rattle.ldar_law.specs.declared.event.Event.{Event}
 use Rattle.ldar_law.specs.declared.span.Span.{Span}
 use Rattle.ldar_law.specs.Happenings.{is_leak, is_attempt}
@@ -55,12 +53,3 @@ span_at kind events before leak after =
 -- the tags of a component, in the order of their detection
 unfoldable pub spans_of : Kind → List Event → List Span
 spans_of kind events = each_where (span_at kind events) events
-
--- a tag is closed before another is detected
-abbrev pub closes_before : Span → Span → Bool
-closes_before a b = option_map_or (λ key. is_earlier key b.detected) a.closed false
-
--- in a list in key order one tag at most is open at a time: each is closed before the next is detected
-abbrev pub SpansFollow : Type 0
-SpansFollow =
-    (kind : Kind) (events : List Event) → Ascends (λ a b. is_earlier a.key b.key) events → Ascends closes_before (spans_of kind events)

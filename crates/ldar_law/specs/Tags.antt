@@ -1,7 +1,6 @@
 -- The tags of a component with their due days, and the lines on delayed repairs (40 CFR 60.486a(b), (c), 60.482-9a).
-use Rattle.std.specs.Prelude.{◌++◌, ◌∷◌, [], ◌≡◌, ℕ, ◌+◌, Bool, true, not, ◌&&◌, nat_lt, nat_le, Option, Some, None, option_map, option_and_then, is_none, if◌then◌else◌, List, filter, filter_map, map}
+use Rattle.std.specs.Prelude.{ℕ, ◌+◌, Bool, true, not, ◌&&◌, nat_lt, nat_le, Option, Some, None, option_map, option_and_then, is_none, if◌then◌else◌, List, filter, filter_map, map}
 use Rattle.std.specs.Option.{option_map_or}
-use Rattle.list_words.specs.Order.{Ascends}
 use Rattle.ldar_facts.specs.declared.class.Kind.{Kind}
 use Rattle.ldar_facts.specs.declared.key.Key.{Key}
 use Rattle.ldar_facts.specs.Facts.{is_earlier}
@@ -93,16 +92,3 @@ line_on_open tag = if is_open tag then option_map (line_on tag) (standing_delay 
 -- the lines of the delays view, of the tags of a unit
 abbrev pub delay_lines : List Tag → List DelayLine
 delay_lines tags = filter_map line_on_open tags
-
--- what follows a tag's delays begins with its closing, and is nothing where the tag is open
-abbrev pub BeginsWithClosing : Option Key → List Event → Type 0
-BeginsWithClosing None rest = rest ≡ []
-BeginsWithClosing (Some key) rest = (closing : Event) × (after : List Event) × (closing.key ≡ key) × (rest ≡ closing ∷ after)
-
--- in a list in key order the delays of a tag are those of the part between its detection and its closing
-abbrev pub DelaysLieBetween : Type 0
-DelaysLieBetween =
-    (span : Span) (before : List Event) (leak : Event) (between rest : List Event)
-    → Ascends (λ a b. is_earlier a.key b.key) (before ++ leak ∷ (between ++ rest))
-    → span.detected ≡ leak.key → BeginsWithClosing span.closed rest
-    → delays_of span (before ++ leak ∷ (between ++ rest)) ≡ filter_map delay_entry between

@@ -1,11 +1,13 @@
 //! From batches to what a unit's facts say on a view day.
 #![tactic(auto, unfolding(ldar_days::specs::Calendar::first_day, ldar_days::specs::Calendar::month_of, ldar_days::specs::Calendar::month_length, ldar_days::specs::Quarters::last_whole, ldar_days::specs::Quarters::first_quarter, list_words::specs::Ranges::until, crate::specs::Events::events_in, crate::specs::Spans::spans_of, crate::specs::Tags::tag_of, crate::specs::Months::is_clean, crate::specs::Months::has_leak_in, crate::specs::Months::is_quarterly, crate::specs::Months::is_clean_twice_from, crate::specs::Percent::mark_of, crate::specs::Skips::good_streak, crate::specs::Skips::skips_run, crate::specs::Skips::quarters, crate::specs::Skips::is_skipped, crate::specs::Routes::routes_of, crate::specs::Duties::duties_of, crate::specs::Duties::first_monitoring, crate::specs::Duties::monthly, crate::specs::Duties::quarterly, crate::specs::Duties::yearly, crate::specs::Duties::planned, crate::specs::Duties::weekly, crate::specs::Duties::drip, crate::specs::Duties::release, crate::specs::Duties::evidence))]
 
-ghost use Rattle.std.specs.Prelude.{◌≡◌, [], ◌∷◌, Some, None, true, false};
+ghost use Rattle.std.specs.Prelude.{◌≡◌, None, Some, [], false, true, ◌∷◌};
 ghost use Rattle.ldar_facts.specs.Facts.{facts_to};
+ghost use Rattle.ldar_facts.specs.declared.class.Kind.TheVariants.{Valve};
 ghost use Rattle.ldar_law.specs.declared.delay.Until.TheVariants.{Date};
-ghost use Rattle.ldar_law.specs.Short.{date, tag, register_of_1, precision_of_1, calibration, reading, attempt, unit_1, tags_on, owes, route, tally};
-ghost use Rattle.ldar_law.specs.Units.{duties_of_unit, tally_of_unit, routes_of_unit};
+ghost use Rattle.ldar_law.specs.Short.{attempt, calibration, date, known, month, owes, precision_of_1, reading, reads, register_of_1, retires, route, tag, tags_on, tally, unit_1, valve};
+ghost use Rattle.ldar_law.specs.Shown.{sheet_of};
+ghost use Rattle.ldar_law.specs.Units.{duties_of_unit, routes_of_unit, tally_of_unit};
 
 /// A reading opens a tag once the calibration of its day is known, in whatever order the batches come.
 pub fn a_late_calibration_opens_a_tag()
@@ -42,4 +44,16 @@ pub fn duties_and_percent_of_a_unit()
         ∷ reading 2 (date 2024 2 20) 1 620 ∷ calibration 3 (date 2024 2 20) ∷ [])) 16 ≡ tally 1 1 }
     ensures none { tally_of_unit unit_1 (date 2024 3 31) (facts_to (date 2024 3 31) (register_of_1
         ∷ precision_of_1 ∷ [])) 16 ≡ tally 0 0 }
+{}
+
+/// The sheet of a component has its number, its kind, and the months of its leaks.
+pub fn a_sheet_of_a_component()
+    ensures { sheet_of (known (valve 3 (date 2020 1 15)) [] (reads (date 2024 2 20) 20 ∷ reads (date 2024 4 20) 620 ∷ retires (date 2024 4 21) ∷ []))
+        ≡ record {
+          component = 3;
+          kind = Valve;
+          leaks = month 2024 4
+              ∷ [];
+          tags = tag 3 (date 2024 4 20) None (Date (date 2024 5 5)) (Some (date 2024 4 21)) None false ∷ [];
+        } }
 {}

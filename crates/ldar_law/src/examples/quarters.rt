@@ -1,14 +1,15 @@
 //! Percent leaking, quarters that are skipped, and routes.
 #![tactic(auto, unfolding(ldar_days::specs::Calendar::first_day, ldar_days::specs::Calendar::month_of, ldar_days::specs::Calendar::month_length, ldar_days::specs::Quarters::last_whole, ldar_days::specs::Quarters::first_quarter, list_words::specs::Ranges::until, crate::specs::Spans::spans_of, crate::specs::Tags::tag_of, crate::specs::Months::is_clean, crate::specs::Months::has_leak_in, crate::specs::Months::is_clean_twice_from, crate::specs::Percent::mark_of, crate::specs::Skips::good_streak, crate::specs::Skips::skips_run, crate::specs::Skips::quarters, crate::specs::Skips::is_skipped, crate::specs::Routes::routes_of))]
 
-ghost use Rattle.std.specs.Prelude.{◌≡◌, ◌++◌, [], ◌∷◌, true, false, replicate};
-ghost use Rattle.ldar_facts.specs.declared.class.Designation.TheVariants.{Nde};
+ghost use Rattle.std.specs.Prelude.{◌≡◌, [], false, replicate, true, ◌++◌, ◌∷◌};
+ghost use Rattle.ldar_facts.specs.declared.class.Designation.TheVariants.{Nde, Plain};
 ghost use Rattle.ldar_facts.specs.declared.class.Kind.TheVariants.{Valve};
-ghost use Rattle.ldar_facts.specs.declared.class.Service.TheVariants.{Gas};
+ghost use Rattle.ldar_facts.specs.declared.class.Service.TheVariants.{Gas, Heavy};
 ghost use Rattle.ldar_law.specs.Percent.{is_good, tally_of};
 ghost use Rattle.ldar_law.specs.Routes.{routes_of};
+ghost use Rattle.ldar_law.specs.Short.{attempts, bad_quarters, class, clean, date, delays, designates, elects, entered_on, follows_up, found, gear, good_quarters, has_done, known, leaks_in_a_follow_up, mark_on, mark_with, owes, pump, reads, reads_in_vain, replacing_valve, retired_valve, route, uncounted, valve};
 ghost use Rattle.ldar_law.specs.Skips.{is_skipped, skipped_to};
-ghost use Rattle.ldar_law.specs.Short.{date, class, gear, valve, pump, replacing_valve, reads, attempts, delays, owes, has_done, mark_on, found, clean, uncounted, good_quarters, bad_quarters, elects, route};
+ghost use Rattle.ldar_law.specs.Units.{mark_in};
 
 /// A quarter is good with at most 2 percent of the valves leaking, of at least one that was monitored (40 CFR 60.483-2a(b)(2)).
 pub fn two_percent_are_good()
@@ -109,4 +110,74 @@ pub fn routes_by_due_day()
     ensures done { routes_of (has_done 1 2 (date 2024 2 25) (date 2024 2 20) ∷ owes 2 2 (date 2024 2 29)
         ∷ owes 2 6 (date 2024 2 25) ∷ owes 3 2 (date 2024 2 26) ∷ []) 2 ≡ route (2 ∷ 3 ∷ []) ∷ [] }
     ensures nothing { routes_of [] 2 ≡ [] }
+{}
+
+/// On the view day a first monitoring is judged on its last day, after the quarter has ended too.
+pub fn a_first_monitoring_missed_after_the_quarter_counts()
+    ensures { mark_on (date 2024 8 1) 17 (valve 1 (date 2024 6 15)) [] ≡ found }
+{}
+
+/// Readings of another purpose, or that don't count, are not counted, nor is a leak of a follow-up reading.
+pub fn which_readings_are_counted()
+    ensures follow_up { mark_on (date 2024 6 30) 17 (valve 1 (date 2020 1 15)) (follows_up (date 2024 4 1) 10 0 ∷ []) ≡ uncounted }
+    ensures in_vain { mark_on (date 2024 6 30) 17 (valve 1 (date 2020 1 15)) (reads_in_vain (date 2024 4 1) 10 ∷ []) ≡ uncounted }
+    ensures leak_of_a_follow_up { mark_on (date 2024 6 30) 17 (valve 1 (date 2020 1 15)) (reads (date 2024 4 1) 10
+        ∷ leaks_in_a_follow_up (date 2024 5 1) ∷ []) ≡ clean }
+    ensures leak_of_another { mark_on (date 2024 6 30) 17 (valve 1 (date 2020 1 15)) (reads (date 2024 4 1) 10 ∷ designates (date 2024 5 1) ∷ [])
+        ≡ clean }
+    ensures leaking_pump { mark_on (date 2024 6 30) 17 (pump 5 (date 2020 1 15)) (reads (date 2024 4 1) 620 ∷ []) ≡ uncounted }
+{}
+
+/// A valve is counted by the class of the quarter's last day, or of the view day where that is earlier.
+pub fn a_quarter_is_judged_on_its_last_day()
+    ensures no_longer_nde { mark_with (date 2024 8 1) 17 (gear 1 Valve (class Gas Nde) (date 2020 1 15)) (entered_on (date 2024 5 1)
+        (class Gas Plain) ∷ []) (reads (date 2024 4 1) 10 ∷ []) ≡ clean }
+    ensures nde_in_july { mark_with (date 2024 8 1) 17 (valve 1 (date 2020 1 15)) (entered_on (date 2024 7 15) (class Gas Nde)
+        ∷ []) (reads (date 2024 4 1) 10 ∷ []) ≡ clean }
+    ensures nde_in_june { mark_with (date 2024 8 1) 17 (valve 1 (date 2020 1 15)) (entered_on (date 2024 6 30) (class Gas Nde)
+        ∷ []) (reads (date 2024 4 1) 10 ∷ []) ≡ uncounted }
+    ensures no_longer_heavy { mark_with (date 2024 8 1) 17 (gear 1 Valve (class Heavy Plain) (date 2020 1 15)) (entered_on (date 2024 5 1)
+        (class Gas Plain) ∷ []) (reads (date 2024 4 1) 10 ∷ []) ≡ clean }
+    ensures heavy_in_july { mark_with (date 2024 8 1) 17 (valve 1 (date 2020 1 15)) (entered_on (date 2024 7 15) (class Heavy Plain)
+        ∷ []) (reads (date 2024 4 1) 10 ∷ []) ≡ clean }
+    ensures view_day { mark_with (date 2024 5 1) 17 (valve 1 (date 2020 1 15)) (entered_on (date 2024 6 15) (class Gas Nde)
+        ∷ []) (reads (date 2024 4 1) 10 ∷ []) ≡ clean }
+    ensures retired { mark_on (date 2024 8 1) 17 (retired_valve 1 (date 2020 1 15) (date 2024 4 15)) (reads (date 2024 4 1) 10 ∷ []) ≡ clean }
+{}
+
+/// A delayed tag counts on the days on which it is open.
+pub fn a_delay_counts_while_its_tag_is_open()
+    ensures detected_after { mark_on (date 2024 8 1) 17 (valve 1 (date 2020 1 15)) (reads (date 2024 7 1) 620
+        ∷ delays (date 2024 7 5) 1 (date 2024 9 10) ∷ []) ≡ uncounted }
+    ensures detected_on_the_last_day { mark_on (date 2024 8 1) 17 (valve 1 (date 2020 1 15)) (leaks_in_a_follow_up (date 2024 6 30)
+        ∷ delays (date 2024 7 5) 1 (date 2024 9 10) ∷ []) ≡ found }
+    ensures view_day { mark_on (date 2024 5 1) 17 (valve 1 (date 2020 1 15)) (reads (date 2024 2 20) 620 ∷ delays (date 2024 3 1) 1 (date 2024 9 10)
+        ∷ attempts (date 2024 5 10) ∷ follows_up (date 2024 5 10) 10 0 ∷ []) ≡ found }
+{}
+
+/// A first monitoring that was missed counts in the quarter of its valve's beginning alone, where it was owed.
+pub fn which_first_monitorings_count()
+    ensures quarter_before { mark_on (date 2024 5 11) 16 (valve 1 (date 2024 4 10)) [] ≡ uncounted }
+    ensures quarter_after { mark_on (date 2024 8 1) 18 (valve 1 (date 2024 4 10)) [] ≡ uncounted }
+    ensures retired_before { mark_on (date 2024 5 11) 17 (retired_valve 1 (date 2024 4 10) (date 2024 5 1)) [] ≡ uncounted }
+    ensures retired_after { mark_on (date 2024 6 11) 17 (retired_valve 1 (date 2024 4 10) (date 2024 6 1)) [] ≡ found }
+    ensures at_the_startup { mark_in (date 2024 4 10) (date 2025 1 1) 1 (known (valve 1 (date 2024 4 10)) [] []) ≡ uncounted }
+    ensures before_the_beginning { mark_on (date 2024 5 11) 17 (valve 1 (date 2024 4 10)) (reads (date 2024 4 9) 10 ∷ []) ≡ found }
+{}
+
+/// One good quarter isn't enough for mode 1, and a quarter without counts isn't good.
+pub fn mode_1_wants_two_good_quarters()
+    ensures one { is_skipped (bad_quarters 16 ++ good_quarters 1) (elects (date 2024 7 1) 1 ∷ []) (date 2020 1 15) 18 ≡ false }
+    ensures no_counts { is_skipped [] (elects (date 2020 1 15) 1 ∷ []) (date 2020 1 15) 3 ≡ false }
+    ensures nothing_elected { is_skipped (good_quarters 17) (elects (date 2024 1 1) 0 ∷ []) (date 2020 1 15) 18 ≡ false }
+{}
+
+/// The order of the duties has no effect on a route: the due day decides, and then the number.
+pub fn routes_in_order()
+    ensures same_day { routes_of (owes 2 2 (date 2024 2 29) ∷ owes 3 2 (date 2024 2 29) ∷ []) 2 ≡ route (2 ∷ 3 ∷ []) ∷ [] }
+    ensures same_day_turned { routes_of (owes 3 2 (date 2024 2 29) ∷ owes 2 2 (date 2024 2 29) ∷ []) 2 ≡ route (2 ∷ 3 ∷ []) ∷ [] }
+    ensures higher_number_first { routes_of (owes 1 2 (date 2024 2 29) ∷ owes 3 6 (date 2024 2 25) ∷ []) 2 ≡ route (3 ∷ 1 ∷ []) ∷ [] }
+    ensures higher_number_first_turned { routes_of (owes 3 6 (date 2024 2 25) ∷ owes 1 2 (date 2024 2 29) ∷ []) 2 ≡ route (3 ∷ 1 ∷ []) ∷ [] }
+    ensures cause { routes_of (owes 1 2 (date 2024 2 29) ∷ owes 2 6 (date 2024 2 25) ∷ owes 3 1 (date 2024 2 26) ∷ []) 3 ≡ route (2 ∷ 3 ∷ 1 ∷ [])
+        ∷ [] }
 {}

@@ -1,11 +1,11 @@
 //! Readings that are fit, and those that a drift voids.
 #![tactic(auto, unfolding(ldar_days::specs::Calendar::first_day, ldar_days::specs::Calendar::month_of, ldar_days::specs::Calendar::month_length))]
 
-ghost use Rattle.std.specs.Prelude.{◌≡◌, [], ◌∷◌, true, false};
-ghost use Rattle.ldar_facts.specs.declared.body.FactBody.TheVariants.{Precision};
-ghost use Rattle.ldar_law.specs.declared.fitness.Fitness.TheVariants.{Fit, NoCalibration, GasTooHigh, NoPrecision, Voided};
-ghost use Rattle.ldar_law.specs.Fitness.{is_precise, fitness_of};
-ghost use Rattle.ldar_law.specs.Short.{date, key, fact, calibrated, precise, judged_at, drifted_to, busy_day};
+ghost use Rattle.std.specs.Prelude.{◌≡◌, [], false, true, ◌∷◌};
+ghost use Rattle.ldar_facts.specs.declared.body.FactBody.TheVariants.{Calibration, Drift, Precision};
+ghost use Rattle.ldar_law.specs.declared.fitness.Fitness.TheVariants.{Fit, GasTooHigh, NoCalibration, NoPrecision, Voided};
+ghost use Rattle.ldar_law.specs.Fitness.{fitness_of, has_drifted, is_above_drifted, is_precise};
+ghost use Rattle.ldar_law.specs.Short.{busy_day, calibrated, date, drifted, drifted_to, fact, judged_at, key, precise};
 
 /// A mean of 450 is within 10 percent of 500, and three readings of 449, 450 and 450 are not
 /// (EPA Method 21, section 8.1.2).
@@ -61,4 +61,49 @@ pub fn three_calibrations_on_a_day()
     ensures between { judged_at busy_day 660 499 ≡ Fit }
     // Of two drifts after the last calibration the first names the cause.
     ensures third { judged_at busy_day 750 460 ≡ Voided (key (date 2024 2 20) 800) }
+{}
+
+/// A mean more than 10 percent below 500 has drifted, and one of 449 and two thirds just does so.
+pub fn a_drift_is_more_than_ten_percent()
+    ensures just { has_drifted 500 1349 ≡ true }
+    ensures ten_percent { has_drifted 500 1350 ≡ false }
+    ensures upwards { has_drifted 500 1700 ≡ false }
+    ensures above_the_rest { is_above_drifted 500 441 1000 2640 ≡ true }
+    ensures within_the_rest { is_above_drifted 500 440 1000 2640 ≡ false }
+{}
+
+/// The facts of instruments 1 and 3 say nothing of instrument 2.
+pub fn facts_of_other_instruments_are_passed_over()
+    ensures calibrations { fitness_of (fact (date 2024 1 2) 0 (Precision 2 500 (500, 500, 500)) ∷ fact (date 2024 2 20) 300 (Calibration 1 500)
+        ∷ fact (date 2024 2 20) 301 (Calibration 3 500) ∷ []) 500 (key (date 2024 2 20) 600) 2 20 ≡ NoCalibration }
+    ensures gas { fitness_of (fact (date 2024 1 2) 0 (Precision 2 500 (500, 500, 500)) ∷ fact (date 2024 2 20) 300 (Calibration 1 500)
+        ∷ fact (date 2024 2 20) 301 (Calibration 3 500) ∷ fact (date 2024 2 20) 302 (Calibration 2 2501) ∷ []) 500 (key (date 2024 2 20) 600) 2 20
+        ≡ GasTooHigh }
+    ensures precision { fitness_of (fact (date 2024 1 2) 0 (Precision 1 500 (500, 500, 500))
+        ∷ fact (date 2024 1 2) 1 (Precision 3 500 (500, 500, 500))
+        ∷ fact (date 2024 2 20) 302 (Calibration 2 500) ∷ []) 500 (key (date 2024 2 20) 600) 2 20 ≡ NoPrecision }
+    ensures drift { fitness_of (fact (date 2024 1 2) 0 (Precision 2 500 (500, 500, 500)) ∷ fact (date 2024 2 20) 300 (Calibration 2 500)
+        ∷ fact (date 2024 2 20) 900 (Drift 1 500 (440, 440, 440)) ∷ fact (date 2024 2 20) 901 (Drift 3 500 (440, 440, 440))
+        ∷ []) 500 (key (date 2024 2 20) 600) 2 499 ≡ Fit }
+    ensures between { fitness_of (fact (date 2024 1 2) 0 (Precision 2 500 (500, 500, 500)) ∷ fact (date 2024 2 20) 300 (Calibration 2 500)
+        ∷ fact (date 2024 2 20) 700 (Calibration 1 500) ∷ fact (date 2024 2 20) 701 (Calibration 3 500)
+        ∷ fact (date 2024 2 20) 900 (Drift 2 500 (440, 440, 440)) ∷ [])
+        500 (key (date 2024 2 20) 600) 2 499 ≡ Voided (key (date 2024 2 20) 900) }
+{}
+
+/// A drift assessment or a precision test is no calibration, neither before a reading nor behind it.
+pub fn only_calibrations_calibrate()
+    ensures before { judged_at (drifted (date 2024 2 20) 300 500 ∷ []) 600 20 ≡ NoCalibration }
+    ensures behind { judged_at (calibrated (date 2024 2 20) 300 500 ∷ drifted (date 2024 2 20) 700 500 ∷ drifted (date 2024 2 20) 900 440
+        ∷ []) 600 499
+        ≡ Voided (key (date 2024 2 20) 900) }
+{}
+
+/// A calibration of the day before, with a gas that would do, doesn't serve; nor does a precision test that comes later, or void a drift of the next day.
+pub fn only_facts_of_the_day_serve()
+    ensures gas { judged_at (calibrated (date 2024 2 19) 300 500 ∷ calibrated (date 2024 2 20) 300 2501 ∷ []) 600 20 ≡ GasTooHigh }
+    ensures precision { fitness_of (calibrated (date 2024 2 20) 300 500 ∷ precise (date 2024 2 21) ∷ []) 500 (key (date 2024 2 20) 600) 1 20
+        ≡ NoPrecision }
+    ensures drift { judged_at (calibrated (date 2024 2 20) 300 500 ∷ drifted (date 2024 2 21) 900 440 ∷ []) 600 499 ≡ Fit }
+    ensures drift_before { judged_at (calibrated (date 2024 2 20) 300 500 ∷ drifted (date 2024 2 20) 500 440 ∷ []) 600 499 ≡ Fit }
 {}

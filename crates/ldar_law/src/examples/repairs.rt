@@ -1,12 +1,12 @@
 //! Until when a leak must be repaired, and which delays count (40 CFR 60.482-9a).
 #![tactic(auto, unfolding(ldar_days::specs::Calendar::first_day, ldar_days::specs::Calendar::month_of, ldar_days::specs::Calendar::month_length, crate::specs::Spans::spans_of, crate::specs::Tags::tag_of, crate::specs::Months::is_clean, crate::specs::Months::has_leak_in, crate::specs::Months::is_clean_twice_from))]
 
-ghost use Rattle.std.specs.Prelude.{◌≡◌, [], ◌∷◌, Some, None, true, false, map};
+ghost use Rattle.std.specs.Prelude.{◌≡◌, None, Some, [], false, map, true, ◌∷◌};
 ghost use Rattle.ldar_facts.specs.declared.class.Kind.TheVariants.{Valve};
-ghost use Rattle.ldar_law.specs.declared.delay.Until.TheVariants.{Date, Shutdown, WhileIsolated, NoDate};
-ghost use Rattle.ldar_law.specs.Delays.{repair_due, counted_place};
-ghost use Rattle.ldar_law.specs.Tags.{tags_of, is_late, is_shown, delay_lines};
-ghost use Rattle.ldar_law.specs.Short.{date, delay, delay_until, stop, reads, attempts, delays, retires, tag, line};
+ghost use Rattle.ldar_law.specs.declared.delay.Until.TheVariants.{Date, NoDate, Shutdown, WhileIsolated};
+ghost use Rattle.ldar_law.specs.Delays.{attempt_by, counted_place, repair_due};
+ghost use Rattle.ldar_law.specs.Short.{attempts, date, delay, delay_until, delays, line, reads, retires, stop, tag};
+ghost use Rattle.ldar_law.specs.Tags.{delay_lines, is_late, is_shown, tags_of};
 
 /// Without a delay a leak is to be repaired within fifteen days (40 CFR 60.482-7a(d)(1)).
 pub fn without_a_delay_fifteen_days()
@@ -16,10 +16,13 @@ pub fn without_a_delay_fifteen_days()
 /// Ground (a): until the end of the first shutdown that begins after the detection.
 pub fn infeasible_without_a_shutdown()
     ensures unknown { repair_due (date 2024 2 20) [] [] (delay (date 2024 3 1) 1 ∷ []) ≡ Shutdown }
-    ensures known { repair_due (date 2024 2 20) [] (stop (date 2024 6 1) (date 2024 6 14) ∷ []) (delay (date 2024 3 1) 1 ∷ []) ≡ Date (date 2024 6 14) }
+    ensures known { repair_due (date 2024 2 20) [] (stop (date 2024 6 1) (date 2024 6 14) ∷ []) (delay (date 2024 3 1) 1 ∷ [])
+        ≡ Date (date 2024 6 14) }
     // An attempt in the shutdown leaves fifteen days after the startup to verify it.
-    ensures attempted { repair_due (date 2024 2 20) (date 2024 6 5 ∷ []) (stop (date 2024 6 1) (date 2024 6 14) ∷ []) (delay (date 2024 3 1) 1 ∷ []) ≡ Date (date 2024 6 30) }
-    ensures attempted_after { repair_due (date 2024 2 20) (date 2024 6 15 ∷ []) (stop (date 2024 6 1) (date 2024 6 14) ∷ []) (delay (date 2024 3 1) 1 ∷ []) ≡ Date (date 2024 6 14) }
+    ensures attempted { repair_due (date 2024 2 20) (date 2024 6 5 ∷ []) (stop (date 2024 6 1) (date 2024 6 14) ∷ []) (delay (date 2024 3 1) 1 ∷ [])
+        ≡ Date (date 2024 6 30) }
+    ensures attempted_after { repair_due (date 2024 2 20) (date 2024 6 15 ∷ []) (stop (date 2024 6 1) (date 2024 6 14) ∷ []) (delay (date 2024 3 1) 1
+        ∷ []) ≡ Date (date 2024 6 14) }
     // A shutdown that began on the day of the detection or before does not serve.
     ensures begun { repair_due (date 2024 2 20) [] (stop (date 2024 2 20) (date 2024 3 10) ∷ []) (delay (date 2024 3 1) 1 ∷ []) ≡ Shutdown }
 {}
@@ -112,7 +115,8 @@ pub fn tags_with_their_due_days()
     // The tag's own attempts and those made for another count for a shutdown.
     ensures delayed { tags_of 1 Valve (reads (date 2024 2 20) 620 ∷ delays (date 2024 3 1) 1 (date 2024 6 10)
         ∷ attempts (date 2024 6 5) ∷ []) (stop (date 2024 6 1) (date 2024 6 14) ∷ [])
-        ≡ tag 1 (date 2024 2 20) (Some (date 2024 6 5)) (Date (date 2024 6 30)) None (Some (delay_until (date 2024 3 1) 1 (date 2024 6 10))) false ∷ [] }
+        ≡ tag 1 (date 2024 2 20) (Some (date 2024 6 5)) (Date (date 2024 6 30)) None (Some (delay_until (date 2024 3 1) 1 (date 2024 6 10))) false
+        ∷ [] }
     // A delay after the closing is no delay of the tag.
     ensures closed { tags_of 1 Valve (reads (date 2024 2 20) 620 ∷ attempts (date 2024 2 22) ∷ reads (date 2024 3 1) 20
         ∷ delays (date 2024 3 2) 1 (date 2024 6 10) ∷ []) []
@@ -137,4 +141,39 @@ pub fn the_list_of_delays()
         ∷ delays (date 2024 3 2) 0 (date 2024 6 10) ∷ []) []) ≡ [] }
     ensures closed { delay_lines (tags_of 1 Valve (reads (date 2024 2 20) 620 ∷ delays (date 2024 3 1) 1 (date 2024 6 10)
         ∷ retires (date 2024 3 5) ∷ []) []) ≡ [] }
+{}
+
+/// An attempt on the first or the last day of a shutdown was made in it, and one of the day before wasn't.
+pub fn an_attempt_lies_in_a_shutdown()
+    ensures first_day { repair_due (date 2024 2 20) (date 2024 6 1 ∷ []) (stop (date 2024 6 1) (date 2024 6 14) ∷ []) (delay (date 2024 3 1) 1 ∷ [])
+        ≡ Date (date 2024 6 30) }
+    ensures last_day { repair_due (date 2024 2 20) (date 2024 6 14 ∷ []) (stop (date 2024 6 1) (date 2024 6 14) ∷ []) (delay (date 2024 3 1) 1 ∷ [])
+        ≡ Date (date 2024 6 30) }
+    ensures day_before { repair_due (date 2024 2 20) (date 2024 5 31 ∷ []) (stop (date 2024 6 1) (date 2024 6 14) ∷ []) (delay (date 2024 3 1) 1
+        ∷ []) ≡ Date (date 2024 6 14) }
+{}
+
+/// A shutdown counts from the detection on, also where it is over before the delay is entered.
+pub fn a_shutdown_counts_from_the_detection()
+    ensures first { repair_due (date 2024 2 20) [] (stop (date 2024 2 21) (date 2024 2 28) ∷ []) (delay (date 2024 3 1) 1 ∷ [])
+        ≡ Date (date 2024 2 28) }
+    ensures second { repair_due (date 2024 2 20) [] (stop (date 2024 1 5) (date 2024 1 9) ∷ stop (date 2024 8 1) (date 2024 8 9)
+        ∷ stop (date 2025 3 1) (date 2025 3 9) ∷ []) (delay (date 2024 3 1) 5 ∷ []) ≡ Date (date 2025 3 9) }
+{}
+
+/// Due days end with the calendar.
+pub fn due_days_end_with_the_calendar()
+    ensures repair { repair_due (date 2099 12 20) [] [] [] ≡ Date (date 2099 12 31) }
+    ensures attempt { attempt_by (date 2099 12 28) ≡ date 2099 12 31 }
+    ensures shutdown { repair_due (date 2099 2 20) (date 2099 12 21 ∷ []) (stop (date 2099 12 20) (date 2099 12 25) ∷ []) (delay (date 2099 3 1) 1
+        ∷ []) ≡ Date (date 2099 12 31) }
+{}
+
+/// A delay before the detection is none of the tag, and a reading in a shutdown is no attempt.
+pub fn what_belongs_to_a_tag()
+    ensures delay { tags_of 1 Valve (delays (date 2024 2 10) 1 (date 2024 6 10) ∷ reads (date 2024 2 20) 620 ∷ []) []
+        ≡ tag 1 (date 2024 2 20) None (Date (date 2024 3 6)) None None false ∷ [] }
+    ensures attempt { tags_of 1 Valve (reads (date 2024 2 20) 620 ∷ delays (date 2024 3 1) 1 (date 2024 6 10) ∷ reads (date 2024 6 5) 700
+        ∷ []) (stop (date 2024 6 1) (date 2024 6 14) ∷ [])
+        ≡ tag 1 (date 2024 2 20) None (Date (date 2024 6 14)) None (Some (delay_until (date 2024 3 1) 1 (date 2024 6 10))) false ∷ [] }
 {}

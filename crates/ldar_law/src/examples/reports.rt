@@ -1,15 +1,13 @@
 //! Worked examples of reports, as contracts of functions with nothing to do: each clause computes.
 #![tactic(auto, unfolding(ldar_days::specs::Calendar::first_day, ldar_days::specs::Calendar::month_of, ldar_days::specs::Calendar::month_length, ldar_days::specs::Quarters::first_quarter, ldar_days::specs::Quarters::last_whole, list_words::specs::Ranges::until, crate::specs::Reports::month_cells, crate::specs::Reports::delay_of, crate::specs::Reports::amended_at))]
 
-ghost use Rattle.std.specs.Prelude.{◌≡◌, ℕ, ◌+◌, ◌*◌, true, false, Some, None, [], ◌∷◌, ◌++◌, codes, filter, replicate};
-ghost use Rattle.std.specs.List.{filter_map};
-ghost use Rattle.ldar_days.specs.Quarters.{quarter_first};
-ghost use Rattle.ldar_facts.specs.declared.class.Kind.TheVariants.{Valve, Pump, Relief};
+ghost use Rattle.std.specs.Prelude.{◌≡◌, None, Some, [], false, replicate, true, ◌*◌, ◌++◌, ◌+◌, ◌∷◌};
+ghost use Rattle.ldar_facts.specs.declared.class.Kind.TheVariants.{Compressor, Pump, Relief, Valve};
 ghost use Rattle.ldar_law.specs.declared.delay.Until.TheVariants.{Date, Shutdown};
-ghost use Rattle.ldar_law.specs.Reports.{has_half_begun, half_month, half_first, half_last, month_cells, delay_of, is_stop_in, amended, cells_of};
+ghost use Rattle.ldar_law.specs.Reports.{amended, cells_of, delay_of, half_first, half_last, half_month, has_half_begun, has_quarter_begun, is_stop_in, month_cells};
 ghost use Rattle.ldar_law.specs.Short.{date};
-ghost use Rattle.ldar_law.specs.Tags.{is_late, delay_lines};
-ghost use Rattle.ldar_law.specs.SmallReport.{repaired_late, with_closing, delay_entry, delayed, sheet_of, filed_months};
+ghost use Rattle.ldar_law.specs.SmallReport.{delayed, delayed_line, filed_months, repaired_late, sheet_of, two_stops, with_closing};
+ghost use Rattle.ldar_law.specs.Tags.{delay_lines, is_late};
 
 /// A unit that started up on 2020-01-15 has October 2023 to March 2024 as half 8.
 pub fn months_of_a_half()
@@ -55,13 +53,7 @@ pub fn months_past_the_calendar()
 
 /// The line of a delayed tag in half 8, and where there is none.
 pub fn delays_of_a_half()
-    ensures line { delay_of (date 2023 10 1) (date 2024 3 31) (delayed 1 Shutdown None) ≡ Some (record {
-      component = 1;
-      detected = date 2024 2 20;
-      delay = delay_entry 1;
-      until = Shutdown;
-      closed = None;
-    }) }
+    ensures line { delay_of (date 2023 10 1) (date 2024 3 31) (delayed 1 Shutdown None) ≡ Some (delayed_line 1 Shutdown None) }
     ensures detected_later { delay_of (date 2023 4 1) (date 2023 9 30) (delayed 1 Shutdown None) ≡ None }
     ensures closed_earlier { delay_of (date 2024 10 1) (date 2025 3 31) (delayed 1 (Date (date 2024 6 30)) (Some (date 2024 9 30))) ≡ None }
     ensures not_delayed { delay_of (date 2023 10 1) (date 2024 3 31) repaired_late ≡ None }
@@ -69,21 +61,10 @@ pub fn delays_of_a_half()
 
 /// A delay that was withdrawn is a line of the report, and none of the delays that hold.
 pub fn withdrawn_delay()
-    ensures reported { delay_of (date 2023 10 1) (date 2024 3 31) (delayed 0 (Date (date 2024 3 6)) None) ≡ Some (record {
-      component = 1;
-      detected = date 2024 2 20;
-      delay = delay_entry 0;
-      until = Date (date 2024 3 6);
-      closed = None;
-    }) }
+    ensures reported { delay_of (date 2023 10 1) (date 2024 3 31) (delayed 0 (Date (date 2024 3 6)) None)
+        ≡ Some (delayed_line 0 (Date (date 2024 3 6)) None) }
     ensures not_listed { delay_lines ((delayed 0 (Date (date 2024 3 6)) None) ∷ []) ≡ [] }
-    ensures while_it_holds { delay_lines (delayed 1 Shutdown None ∷ []) ≡ record {
-      component = 1;
-      detected = date 2024 2 20;
-      delay = delay_entry 1;
-      until = Shutdown;
-      closed = None;
-    } ∷ [] }
+    ensures while_it_holds { delay_lines (delayed 1 Shutdown None ∷ []) ≡ delayed_line 1 Shutdown None ∷ [] }
     ensures closed { delay_lines ((delayed 1 (Date (date 2024 6 30)) (Some (date 2024 6 10))) ∷ []) ≡ [] }
 {}
 
@@ -96,8 +77,74 @@ pub fn shutdowns_of_a_half()
 
 /// A late valve of the sixth month that turns out to have been repaired in time: one number is amended.
 pub fn amended_number()
-    ensures one { amended (record { months = filed_months 1 1; delays = []; stops = [] }) (record { months = filed_months 1 0; delays = []; stops = [] })
+    ensures one { amended (record { months = filed_months 1 1; delays = []; stops = [] })
+        (record { months = filed_months 1 0; delays = []; stops = [] })
         ≡ record { month = 6; column = 2; old = 1; new = 0 } ∷ [] }
-    ensures none { amended (record { months = filed_months 1 1; delays = []; stops = [] }) (record { months = filed_months 1 1; delays = []; stops = [] })
+    ensures none { amended (record { months = filed_months 1 1; delays = []; stops = [] })
+        (record { months = filed_months 1 1; delays = []; stops = [] })
         ≡ [] }
+{}
+
+/// A compressor's leak and its late tag are in the last columns, a pump's leak in the third.
+pub fn columns_of_compressors_and_pumps()
+    ensures compressor { month_cells (date 2024 3 31) (sheet_of 9 Compressor repaired_late ∷ []) (12 * 2024 + 1) ≡ 0 ∷ 0 ∷ 0 ∷ 0 ∷ 1 ∷ 0 ∷ [] }
+    ensures late { month_cells (date 2024 3 31) (sheet_of 9 Compressor repaired_late ∷ []) (12 * 2024 + 2) ≡ 0 ∷ 0 ∷ 0 ∷ 0 ∷ 0 ∷ 1 ∷ [] }
+    ensures pump { month_cells (date 2024 3 31) (sheet_of 5 Pump repaired_late ∷ []) (12 * 2024 + 1) ≡ 0 ∷ 0 ∷ 1 ∷ 0 ∷ 0 ∷ 0 ∷ [] }
+{}
+
+/// Delays that were detected on the last day of a half, or closed on its first, are in its report.
+pub fn delays_at_the_ends_of_a_half()
+    ensures detected_on_the_last_day { delay_of (date 2023 8 21) (date 2024 2 20) (delayed 1 Shutdown None) ≡ Some (delayed_line 1 Shutdown None) }
+    ensures closed_on_the_first_day { delay_of (date 2024 10 1) (date 2025 3 31) (delayed 1 (Date (date 2024 6 30)) (Some (date 2024 10 1)))
+        ≡ Some (delayed_line 1 (Date (date 2024 6 30)) (Some (date 2024 10 1))) }
+{}
+
+/// Quarter 1 and half 1 begin with their first day.
+pub fn the_first_quarter_and_half_begin()
+    ensures half { has_half_begun (date 2020 1 15) 1 (date 2020 4 1) ≡ true }
+    ensures quarter { has_quarter_begun (date 2020 1 15) 1 (date 2020 4 1) ≡ true }
+{}
+
+/// A tag that was closed in time, or whose due day has not passed, is late in no month.
+pub fn tags_that_are_not_late()
+    ensures closed_in_time { month_cells (date 2024 3 31) (sheet_of 1 Valve (with_closing (Some (date 2024 3 6))) ∷ []) (12 * 2024 + 2) ≡ 0 ∷ 0 ∷ 0
+        ∷ 0 ∷ 0 ∷ 0 ∷ [] }
+    ensures open { month_cells (date 2024 3 6) (sheet_of 1 Valve (with_closing None) ∷ sheet_of 5 Pump (with_closing None)
+        ∷ sheet_of 9 Compressor (with_closing None) ∷ []) (12 * 2024 + 2)
+        ≡ 0 ∷ 0 ∷ 0 ∷ 0 ∷ 0 ∷ 0 ∷ [] }
+    ensures day_after { month_cells (date 2024 3 7) (sheet_of 1 Valve (with_closing None) ∷ sheet_of 5 Pump (with_closing None)
+        ∷ sheet_of 9 Compressor (with_closing None) ∷ []) (12 * 2024 + 2)
+        ≡ 0 ∷ 1 ∷ 0 ∷ 1 ∷ 0 ∷ 1 ∷ [] }
+{}
+
+/// The delays and shutdowns of half 8, of a unit that started up on 2020-01-15.
+pub fn lines_of_a_half()
+    ensures half_8 { cells_of (date 2020 1 15) 8 (date 2024 3 31) (sheet_of 1 Relief (delayed 1 Shutdown None) ∷ sheet_of 2 Relief repaired_late
+        ∷ []) two_stops
+        ≡ record {
+          months = replicate 36 0;
+          delays = delayed_line 1 Shutdown None
+              ∷ [];
+          stops = record { first = date 2024 2 1; last = date 2024 2 9 } ∷ [];
+        } }
+    ensures closed_in_half_8 { cells_of (date 2020 1 15) 8 (date 2024 3 31) (sheet_of 1 Relief (delayed 1 (Date (date 2024 3 20))
+        (Some (date 2024 3 20))) ∷ []) []
+        ≡ record { months = replicate 36 0; delays = delayed_line 1 (Date (date 2024 3 20)) (Some (date 2024 3 20)) ∷ []; stops = [] } }
+    ensures half_7 { cells_of (date 2020 1 15) 7 (date 2024 3 31) (sheet_of 1 Relief (delayed 1 Shutdown None) ∷ []) two_stops
+        ≡ record { months = replicate 36 0; delays = []; stops = [] } }
+    ensures half_9 { cells_of (date 2020 1 15) 9 (date 2024 12 31) (sheet_of 1 Relief (delayed 1 (Date (date 2024 3 20)) (Some (date 2024 3 20)))
+        ∷ []) two_stops
+        ≡ record { months = replicate 36 0; delays = []; stops = record { first = date 2024 6 1; last = date 2024 6 14 } ∷ [] } }
+    ensures shutdown_after { is_stop_in (date 2023 10 1) (date 2024 3 31) (record { first = date 2024 4 1; last = date 2024 4 13 }) ≡ false }
+{}
+
+/// The first and the last number of a report are amended as any other, upwards too.
+pub fn first_and_last_numbers()
+    ensures { amended (record { months = replicate 36 1; delays = []; stops = [] }) (record {
+      months = 4 ∷ replicate 34 1 ++ 0
+          ∷ [];
+      delays = [];
+      stops = [];
+    })
+        ≡ record { month = 1; column = 1; old = 1; new = 4 } ∷ record { month = 6; column = 6; old = 1; new = 0 } ∷ [] }
 {}

@@ -1,14 +1,17 @@
 //! Worked examples of what is shown, byte for byte, as contracts of functions with nothing to do.
 #![tactic(auto)]
 
-ghost use Rattle.std.specs.Prelude.{◌≡◌, ℕ, ◌+◌, ◌*◌, true, false, Some, None, [], ◌∷◌, ◌++◌, codes, length};
-ghost use Rattle.ldar_law.specs.declared.delay.Until.TheVariants.{Date, Shutdown, WhileIsolated, NoDate};
-ghost use Rattle.ldar_law.specs.declared.reply.Reply.TheVariants.{Receipt, Conflict, Denied, Full, NoSuch, Fault, Memory};
-ghost use Rattle.ldar_law.specs.declared.request.What.TheVariants.{Stops as NoStops};
+ghost use Rattle.std.specs.List.{flat_map};
+ghost use Rattle.std.specs.Prelude.{◌≡◌, None, Some, [], codes, false, length, true, ◌*◌, ◌++◌, ◌+◌, ◌∷◌};
+ghost use Rattle.list_words.specs.Ranges.{from_to};
+ghost use Rattle.ldar_law.specs.declared.delay.Until.TheVariants.{Date, NoDate, Shutdown, WhileIsolated};
+ghost use Rattle.ldar_law.specs.declared.reply.Reply.TheVariants.{Conflict, Denied, Fault, Full, Memory, NoSuch, Receipt};
+ghost use Rattle.ldar_law.specs.declared.request.What.TheVariants.{Day as NoDay, Half as NoHalf, Quarter as NoQuarter, Stops as NoStops, Unit as NoUnit};
 ghost use Rattle.ldar_law.specs.Replies.{reply_text};
 ghost use Rattle.ldar_law.specs.Short.{date};
-ghost use Rattle.ldar_law.specs.SmallReport.{small_tag, with_closing, repaired_late, delay_entry, delayed, filed_months, met_by};
-ghost use Rattle.ldar_law.specs.Texts.{due_text, tags_text, delays_text, route_text, percent_text, report_text};
+ghost use Rattle.ldar_law.specs.SmallReport.{delay_entry, filed_months, met_by, small_tag};
+ghost use Rattle.ldar_law.specs.Texts.{delays_text, due_text, percent_text, report_text, route_text, tags_text};
+ghost use Rattle.ldar_law.specs.Verdicts.{paragraph_of};
 
 /// The lines of replies.
 pub fn replies()
@@ -103,4 +106,23 @@ pub fn report_past_the_calendar()
       };
     })
         ≡ codes "report COKER-2 unit 2 half 4 as of 2099-12-31\n2099-09 valves 0 0 pumps 0 0 compressors 0 0\n2099-10 valves 0 0 pumps 0 0 compressors 0 0\n2099-11 valves 0 0 pumps 0 0 compressors 0 0\n2099-12 valves 0 0 pumps 0 0 compressors 0 0\n2100-01 valves 0 0 pumps 0 0 compressors 0 0\n2100-02 valves 0 0 pumps 0 0 compressors 0 0\ndelay 1 detected 2099-09-20 ground a signer 9 expected 2024-06-10 until shutdown closed -\ndelay 2 detected 2099-09-20 ground withdrawn signer 9 expected 2024-06-10 until 2099-10-05 closed 2099-10-01\nshutdown 2099-11-01 2099-11-14\nend 9\n" }
+{}
+
+/// What there is none of is named.
+pub fn no_such_replies()
+    ensures unit { reply_text (NoSuch NoUnit) ≡ codes "no such unit\n" }
+    ensures quarter { reply_text (NoSuch NoQuarter) ≡ codes "no such quarter\n" }
+    ensures half { reply_text (NoSuch NoHalf) ≡ codes "no such half\n" }
+    ensures day { reply_text (NoSuch NoDay) ≡ codes "no such day\n" }
+{}
+
+/// The paragraph of each rule.
+pub fn paragraphs()
+    ensures { flat_map (λ n. paragraph_of n ++ codes "\n") (from_to 1 21) ≡ codes "60.486a(e)(1)\n60.482-1a(d)\n60.482-1a(e)\n60.486a(a)(3)\n60.482-2a(a)(2)\n60.482-3a(f)\n60.482-4a(b)\n60.482-8a(a)\n60.482-9a(c)\n60.482-9a(d)\n60.482-9a(e)\n60.486a(c)(6)\n60.486a(c)(7)\n60.487a(d)\n60.482-7a(h)(2)(ii)\nP1\nP2\nP3\nP4\nP5\nP6\n" }
+{}
+
+/// Each of the 36 numbers of a report stands in its place.
+pub fn report_of_all_numbers()
+    ensures { report_text (12 * 2023 + 9) (record { unit = 1; name = codes "CRUDE"; half = 8; day = date 2024 3 31; cells = record { months = from_to 1 36; delays = []; stops = [] } })
+        ≡ codes "report CRUDE unit 1 half 8 as of 2024-03-31\n2023-10 valves 1 2 pumps 3 4 compressors 5 6\n2023-11 valves 7 8 pumps 9 10 compressors 11 12\n2023-12 valves 13 14 pumps 15 16 compressors 17 18\n2024-01 valves 19 20 pumps 21 22 compressors 23 24\n2024-02 valves 25 26 pumps 27 28 compressors 29 30\n2024-03 valves 31 32 pumps 33 34 compressors 35 36\nend 6\n" }
 {}

@@ -1,14 +1,17 @@
 //! Worked examples of views on a small office, from its batches to the bytes: contracts of functions with nothing to do.
 #![tactic(auto)]
 
-ghost use Rattle.std.specs.Prelude.{◌≡◌, ℕ, true, false, Some, None, [], ◌∷◌, ◌++◌, codes};
-ghost use Rattle.ldar_facts.specs.declared.body.FactBody.TheVariants.{Precision, Attempt, Delay, Election};
-ghost use Rattle.ldar_law.specs.declared.reply.Reply.TheVariants.{Shown, NoSuch};
-ghost use Rattle.ldar_law.specs.declared.request.Request.TheVariants.{Due, Tags, Delays, Route, Percent, Report};
-ghost use Rattle.ldar_law.specs.declared.request.What.TheVariants.{Unit as NoUnit, Quarter as NoQuarter, Half as NoHalf, Stops as NoStops};
+ghost use Rattle.std.specs.Prelude.{◌≡◌, Some, [], codes, false, true, ◌++◌, ◌∷◌};
+ghost use Rattle.ldar_facts.specs.declared.body.FactBody.TheVariants.{Attempt, Class as ClassFact, Delay, Election, Indication, Precision};
+ghost use Rattle.ldar_facts.specs.declared.body.Sort.TheVariants.{Sensor};
+ghost use Rattle.ldar_facts.specs.declared.class.Designation.TheVariants.{Nde};
+ghost use Rattle.ldar_facts.specs.declared.class.Service.TheVariants.{Gas, Heavy};
+ghost use Rattle.ldar_law.specs.declared.reply.Reply.TheVariants.{NoSuch, Shown};
+ghost use Rattle.ldar_law.specs.declared.request.Request.TheVariants.{Delays, Due, Percent, Report, Route, Tags};
+ghost use Rattle.ldar_law.specs.declared.request.What.TheVariants.{Half as NoHalf, Quarter as NoQuarter, Stops as NoStops, Unit as NoUnit};
 ghost use Rattle.ldar_law.specs.Short.{date};
 ghost use Rattle.ldar_law.specs.Shown.{shown};
-ghost use Rattle.ldar_law.specs.SmallOffice.{on, enters, sends, reads, rounds, base, leak_found, leaking, repaired_on, delayed_on, shut_down, coker, coker_rounds, coker_leak, last_unit};
+ghost use Rattle.ldar_law.specs.SmallOffice.{base, coker, coker_election, coker_leak, coker_readings, coker_rounds, coker_with, delayed_on, designated, enters, in_service, last_unit, leak_found, leaking, on, register, repaired_on, rounds, sends, shut_down, two_valves};
 
 /// The percent view of a quarter without readings.
 pub fn percent_of_no_reading()
@@ -96,4 +99,65 @@ pub fn end_of_the_calendar()
     ensures last_quarter { shown last_unit (Percent 1 8 (date 2099 12 31))
         ≡ Some (Shown (codes "percent 1 8 leaking 0 monitored 0 not good not skipped\n")) }
     ensures next_quarter { shown last_unit (Percent 1 9 (date 2099 12 31)) ≡ Some (NoSuch NoQuarter) }
+{}
+
+/// An election of skip periods is in force for the quarter that begins on its day: the quarter is skipped, and its month owes nothing.
+pub fn elected_quarter()
+    ensures percent { shown (coker_rounds ++ coker_election ∷ []) (Percent 2 3 (date 2024 10 5))
+        ≡ Some (Shown (codes "percent 2 3 leaking 0 monitored 0 not good skipped\n")) }
+    ensures not_elected { shown coker_rounds (Due 2 (date 2024 10 5)) ≡ Some (Shown (codes "due 2 2024-10-05\n30 quarterly 2024-10-31 open\nend 1\n")) }
+    ensures elected { shown (coker_rounds ++ coker_election ∷ []) (Due 2 (date 2024 10 5)) ≡ Some (Shown (codes "due 2 2024-10-05\nend 0\n")) }
+{}
+
+/// The report of a compressor whose sensor told a leak, in its own columns.
+pub fn report_of_a_sensor_leak()
+    ensures { shown (base ++ sends 1 (on (date 2024 2 20) (Indication 9 Sensor true) ∷ []) ∷ []) (Report 1 8 (date 2024 3 31))
+        ≡ Some (Shown (codes "report CRUDE unit 1 half 8 as of 2024-03-31\n2023-10 valves 0 0 pumps 0 0 compressors 0 0\n2023-11 valves 0 0 pumps 0 0 compressors 0 0\n2023-12 valves 0 0 pumps 0 0 compressors 0 0\n2024-01 valves 0 0 pumps 0 0 compressors 0 0\n2024-02 valves 0 0 pumps 0 0 compressors 1 0\n2024-03 valves 0 0 pumps 0 0 compressors 0 1\nend 6\n")) }
+{}
+
+/// The percent view of a quarter in which one of two valves leaks, and of that in which none does; a valve in heavy liquid service isn't counted.
+pub fn percent_of_two_readings()
+    ensures one_leaks { shown two_valves (Percent 1 16 (date 2024 3 31)) ≡ Some (Shown (codes "percent 1 16 leaking 1 monitored 2 not good not skipped\n")) }
+    ensures one_is_left { shown (two_valves ++ enters 2 (on (date 2024 2 1) (ClassFact 2 (in_service Heavy)) ∷ []) ∷ []) (Percent 1 16 (date 2024 3 31))
+        ≡ Some (Shown (codes "percent 1 16 leaking 0 monitored 1 good not skipped\n")) }
+{}
+
+/// The tag of a valve whose number isn't that of its unit, with the shutdown of the unit.
+pub fn shutdown_of_the_unit()
+    ensures of_valve_2 { shown (two_valves ++ shut_down ∷ []) (Tags 1 (date 2024 7 1))
+        ≡ Some (Shown (codes "tags 1 2024-07-01\n2 detected 2024-02-20 attempt 2024-02-25 - repair 2024-06-14 - tagged\nend 1\n")) }
+    ensures heavy { shown (two_valves ++ enters 2 (on (date 2024 2 1) (ClassFact 2 (in_service Heavy)) ∷ []) ∷ []) (Tags 1 (date 2024 7 1)) ≡ Some (Shown (codes "tags 1 2024-07-01\nend 0\n")) }
+{}
+
+/// A closed tag leaves the list after 366 days.
+pub fn tag_closed_a_year_ago()
+    ensures last_day { shown (repaired_on (date 2024 3 6)) (Tags 1 (date 2025 3 7))
+        ≡ Some (Shown (codes "tags 1 2025-03-07\n1 detected 2024-02-20 attempt 2024-02-25 2024-02-22 repair 2024-03-06 2024-03-06 tagged\nend 1\n")) }
+    ensures day_after { shown (repaired_on (date 2024 3 6)) (Tags 1 (date 2025 3 8)) ≡ Some (Shown (codes "tags 1 2025-03-08\nend 0\n")) }
+{}
+
+/// A valve that was monitored once a year when it was entered is counted in the quarters by its class since, and they are skipped.
+pub fn quarters_by_the_class_in_force()
+    ensures percent { shown (coker_with (designated Nde) ++ coker_readings ∷ enters 4 (on (date 2024 1 16) (ClassFact 30 (in_service Gas)) ∷ []) ∷ coker_election ∷ []) (Percent 2 3 (date 2024 10 5))
+        ≡ Some (Shown (codes "percent 2 3 leaking 0 monitored 0 not good skipped\n")) }
+    ensures due { shown (coker_with (designated Nde) ++ coker_readings ∷ enters 4 (on (date 2024 1 16) (ClassFact 30 (in_service Gas)) ∷ []) ∷ coker_election ∷ []) (Due 2 (date 2024 10 5))
+        ≡ Some (Shown (codes "due 2 2024-10-05\nend 0\n")) }
+{}
+
+/// A route of at most three stops.
+pub fn route_of_three_stops()
+    ensures { shown coker (Route 2 (date 2024 2 20) 3) ≡ Some (Shown (codes "route 2 2024-02-20 3\nroute 1: 30\nend 1\n")) }
+{}
+
+/// An election is in force from the quarter on that begins on its day, and not for the one before.
+pub fn election_of_the_next_quarter()
+    ensures percent { shown (coker_rounds ++ enters 3 (on (date 2025 1 1) (Election 2 1 (date 2024 10 1)) ∷ []) ∷ []) (Percent 2 3 (date 2025 1 5))
+        ≡ Some (Shown (codes "percent 2 3 leaking 0 monitored 0 not good not skipped\n")) }
+    ensures due { shown (coker_rounds ++ enters 3 (on (date 2025 1 1) (Election 2 1 (date 2024 10 1)) ∷ []) ∷ []) (Due 2 (date 2025 1 5))
+        ≡ Some (Shown (codes "due 2 2025-01-05\n30 quarterly 2024-10-31 missed\n30 quarterly 2025-01-31 open\nend 2\n")) }
+{}
+
+/// Routes of two stops: the pumps have missed a week, and the valves have their month.
+pub fn routes_of_two_stops()
+    ensures { shown (register ∷ []) (Route 1 (date 2020 2 20) 2) ≡ Some (Shown (codes "route 1 2020-02-20 2\nroute 1: 5 6\nroute 2: 1 2\nroute 3: 3 4\nend 3\n")) }
 {}

@@ -1,6 +1,6 @@
 //! Laws of duties.
 
-ghost use Rattle.ldar_law.specs.Duties.{DutiesStandInOrder, EventDutiesFollowEvents};
+ghost use Rattle.ldar_law.specs.DutyLaws.{DutiesStandInOrder, EventDutiesFollowEvents};
 
 /// The duties of a component stand by cause and due day, without being sorted.
 pub fn duties_stand_in_order()

@@ -1,6 +1,6 @@
 //! Laws of months: the definitions try the months of a component's events, and say the same as of all months.
 
-ghost use Rattle.ldar_law.specs.Months.{CleanTwiceFromDecides, QuarterlyDecides};
+ghost use Rattle.ldar_law.specs.MonthLaws.{CleanTwiceFromDecides, QuarterlyDecides};
 
 /// Two months in a row are clean, from a month on: there is such a month.
 pub fn clean_twice_from_decides()

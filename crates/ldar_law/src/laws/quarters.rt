@@ -1,8 +1,6 @@
 //! Laws of quarters, their counts and those that are skipped, and of routes.
 
-ghost use Rattle.ldar_law.specs.Percent.{TallyCounts};
-ghost use Rattle.ldar_law.specs.Routes.{StopsAreUndone};
-ghost use Rattle.ldar_law.specs.Skips.{StreakIsOfGoodQuarters};
+ghost use Rattle.ldar_law.specs.QuarterLaws.{TallyCounts, StopsAreUndone, StreakIsOfGoodQuarters};
 
 /// The counts of a quarter are those of its marks.
 pub fn tally_counts()

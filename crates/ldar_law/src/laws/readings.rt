@@ -1,7 +1,6 @@
 //! Laws of readings: a part of the facts judges them as all facts do.
 
-ghost use Rattle.ldar_law.specs.Events.{EventsAreJudgedInOrder, ReadingsAreOfInstrument, EventsAscend};
-ghost use Rattle.ldar_law.specs.Fitness.{FitnessIsOfInstrument};
+ghost use Rattle.ldar_law.specs.ReadingLaws.{EventsAreJudgedInOrder, ReadingsAreOfInstrument, EventsAscend, FitnessIsOfInstrument};
 
 /// A reading is judged by its instrument's own facts as by all facts.
 pub fn fitness_is_of_instrument()

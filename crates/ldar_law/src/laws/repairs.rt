@@ -1,8 +1,6 @@
 //! Laws of tags and of delays of repair.
 
-ghost use Rattle.ldar_law.specs.Delays.{OneMoreDelay, CountedPlaceIsOfDelay, NoneCounted, CountedPlaceIsLast};
-ghost use Rattle.ldar_law.specs.Spans.{SpansFollow};
-ghost use Rattle.ldar_law.specs.Tags.{DelaysLieBetween};
+ghost use Rattle.ldar_law.specs.RepairLaws.{OneMoreDelay, CountedPlaceIsOfDelay, NoneCounted, CountedPlaceIsLast, SpansFollow, DelaysLieBetween};
 
 /// One more delay counts, or is ignored where its day is past the due day that those before it give.
 pub fn one_more_delay()

@@ -1,6 +1,6 @@
 //! What is true of all views: functions with nothing to do, whose contracts are the laws.
 
-ghost use Rattle.ldar_law.specs.Shown.{ViewsForgetOrder, ViewsForgetLaterDays};
+ghost use Rattle.ldar_law.specs.ViewLaws.{ViewsForgetOrder, ViewsForgetLaterDays};
 
 /// Histories of the same batches in any order show the same on each view.
 pub fn views_forget_order()

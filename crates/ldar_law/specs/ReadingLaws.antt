@@ -1,0 +1,37 @@
+-- What is true of readings and events: the statements of `laws::readings`.
+use Rattle.std.specs.Prelude.{◌≡◌, ℕ, Some, List, filter_map}
+use Rattle.list_words.specs.Order.{Ascends}
+use Rattle.ldar_facts.specs.declared.class.Class.{Class}
+use Rattle.ldar_facts.specs.declared.key.Key.{Key}
+use Rattle.ldar_facts.specs.Facts.{Entry, is_earlier, goes_first}
+use Rattle.ldar_facts.specs.Named.{reading_instrument}
+use Rattle.ldar_law.specs.declared.equipment.Equipment.{Equipment}
+use Rattle.ldar_law.specs.Events.{events_with, fitness_among, fitness_in, events_in}
+use Rattle.ldar_law.specs.Fitness.{fitness_of}
+use Rattle.ldar_law.specs.Slices.{facts_of_instrument, facts_of_component}
+
+-- a reading is judged by its instrument's own facts as by all facts
+abbrev pub FitnessIsOfInstrument : Type 0
+FitnessIsOfInstrument =
+    (facts : List Entry) (limit : ℕ) (key : Key) (instrument ppm : ℕ)
+    → fitness_of (facts_of_instrument instrument facts) limit key instrument ppm ≡ fitness_of facts limit key instrument ppm
+
+-- judging each reading where it stands, or by a list with the fitness of each: it is the same
+abbrev pub EventsAreJudgedInOrder : Type 0
+EventsAreJudgedInOrder =
+    (item : Equipment) (classes : List (Key × Class)) (facts : List Entry)
+    → events_with item classes (facts_of_component item.component facts) (filter_map (fitness_in item classes facts) (facts_of_component item.component facts))
+    ≡ events_in item classes facts
+
+-- a reading is judged by the facts of its instrument as by all facts
+abbrev pub ReadingsAreOfInstrument : Type 0
+ReadingsAreOfInstrument =
+    (item : Equipment) (classes : List (Key × Class)) (facts : List Entry) (e : Entry) (instrument : ℕ)
+    → reading_instrument e.1.body ≡ Some instrument
+    → fitness_among item classes (facts_of_instrument instrument facts) e ≡ fitness_among item classes facts e
+
+-- the events of a component are in key order, as the facts are
+abbrev pub EventsAscend : Type 0
+EventsAscend =
+    (item : Equipment) (classes : List (Key × Class)) (facts : List Entry)
+    → Ascends goes_first facts → Ascends (λ a b. is_earlier a.key b.key) (events_in item classes facts)

@@ -1,0 +1,56 @@
+-- One of each: events, facts, rules, services, designations and kinds, for worked examples of tests.
+use Rattle.std.specs.Prelude.{ℕ, true, false, None, List, [], ◌∷◌}
+use Rattle.ldar_facts.specs.declared.body.FactBody.{FactBody}
+use Rattle.ldar_facts.specs.declared.body.FactBody.TheVariants.{Unit as UnitFact, Component as ComponentFact, Class as ClassFact, Retire as RetireFact, Election, Shutdown, Calibration, Precision, Drift, Reading, Visual, Attempt as AttemptFact, Delay as DelayFact, Release as ReleaseFact, Indication}
+use Rattle.ldar_facts.specs.declared.body.Purpose.TheVariants.{Routine}
+use Rattle.ldar_facts.specs.declared.body.Sort.TheVariants.{Sensor as SensorSort}
+use Rattle.ldar_facts.specs.declared.body.VisualState.TheVariants.{Drips}
+use Rattle.ldar_facts.specs.declared.class.Designation.{Designation}
+use Rattle.ldar_facts.specs.declared.class.Designation.TheVariants.{Plain, Nde, Unsafe, Difficult}
+use Rattle.ldar_facts.specs.declared.class.Kind.{Kind}
+use Rattle.ldar_facts.specs.declared.class.Kind.TheVariants.{Valve, Pump, Compressor, Relief}
+use Rattle.ldar_facts.specs.declared.class.Service.{Service}
+use Rattle.ldar_facts.specs.declared.class.Service.TheVariants.{Gas, Light, Heavy, Vacuum, Under300}
+use Rattle.ldar_law.specs.declared.event.Happening.{Happening}
+use Rattle.ldar_law.specs.declared.event.Happening.TheVariants.{Read, Look, Attempt, Delay, Release, Sensor, Evidence, Retire}
+use Rattle.ldar_law.specs.declared.regime.Regime.{Regime}
+use Rattle.ldar_law.specs.declared.regime.Regime.TheVariants.{ValveRules, PumpRules, CompressorRules, ReliefRules, HeavyLiquidRules, LeftOut}
+use Rattle.ldar_law.specs.Short.{class}
+
+-- ---- events
+
+-- a delay of a ground
+abbrev pub delay_of_ground : ℕ → Happening
+delay_of_ground why = Delay why 9 None
+
+-- one of each
+abbrev pub each_happening : List Happening
+each_happening =
+    Read 20 0 true true true false ∷ Read 620 0 true true false true ∷ Read 20 0 true false false false
+    ∷ Read 20 0 false true true false ∷ Read 620 0 false true false true
+    ∷ Look false false false ∷ Look true false false ∷ Look true true true ∷ Attempt false ∷ Attempt true
+    ∷ delay_of_ground 0 ∷ delay_of_ground 1 ∷ delay_of_ground 2 ∷ delay_of_ground 3 ∷ delay_of_ground 4 ∷ delay_of_ground 5
+    ∷ Release ∷ Sensor true true ∷ Sensor false false ∷ Evidence true ∷ Evidence false ∷ Retire ∷ []
+
+-- ---- facts
+
+-- a fact of each kind, with number 1 where it names one
+abbrev pub each_fact : List FactBody
+each_fact =
+    UnitFact 1 false [] ∷ ComponentFact 1 1 Valve false false (class Gas Plain) ∷ ClassFact 1 (class Gas Plain) ∷ RetireFact 1 ∷ Election 1 1 1 ∷ Shutdown 1 1
+    ∷ Calibration 1 500 ∷ Precision 1 500 (500, 500, 500) ∷ Drift 1 500 (440, 440, 440) ∷ Reading 1 1 1 Routine 20 0 ∷ Visual 1 Drips
+    ∷ AttemptFact 1 false ∷ DelayFact 1 1 9 None ∷ ReleaseFact 1 ∷ Indication 1 SensorSort true ∷ []
+
+-- ---- what a component is
+
+abbrev pub each_kind : List Kind
+each_kind = Valve ∷ Pump ∷ Compressor ∷ Relief ∷ []
+
+abbrev pub each_service : List Service
+each_service = Gas ∷ Light ∷ Heavy ∷ Vacuum ∷ Under300 ∷ []
+
+abbrev pub each_designation : List Designation
+each_designation = Plain ∷ Nde ∷ Unsafe ∷ Difficult ∷ []
+
+abbrev pub each_regime : List Regime
+each_regime = ValveRules ∷ PumpRules ∷ CompressorRules ∷ ReliefRules ∷ HeavyLiquidRules ∷ LeftOut ∷ []

@@ -1,0 +1,20 @@
+-- What is true of views: the statements of `laws::views`.
+use Rattle.std.specs.Prelude.{◌≡◌, ◌<◌, List, [], ◌∷◌, ◌++◌, IsTrue, IsPermutation}
+use Rattle.std.specs.List.{AllByRecursion}
+use Rattle.ldar_facts.specs.declared.batch.Batch.{Batch}
+use Rattle.ldar_facts.specs.Identity.{identities_differ}
+use Rattle.ldar_law.specs.declared.request.Request.{Request}
+use Rattle.ldar_law.specs.Shown.{view_day, shown}
+
+-- the order in which batches came has no effect on what is shown
+abbrev pub ViewsForgetOrder : Type 0
+ViewsForgetOrder =
+    (history other : List Batch) (request : Request) → IsPermutation history other → IsTrue (identities_differ history)
+    → shown other request ≡ shown history request
+
+-- .. nor have facts of days after the view day
+abbrev pub ViewsForgetLaterDays : Type 0
+ViewsForgetLaterDays =
+    (history : List Batch) (batch : Batch) (request : Request) → IsTrue (identities_differ (history ++ batch ∷ []))
+    → AllByRecursion (λ fact. view_day request < fact.day) batch.facts
+    → shown (history ++ batch ∷ []) request ≡ shown history request

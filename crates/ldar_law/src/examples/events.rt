@@ -1,0 +1,84 @@
+//! What the facts of a component are as events: each judged on its own day, by the class of that day.
+#![tactic(auto, unfolding(ldar_days::specs::Calendar::first_day, ldar_days::specs::Calendar::month_of, ldar_days::specs::Calendar::month_length, crate::specs::Events::events_in))]
+
+ghost use Rattle.std.specs.Prelude.{◌≡◌, None, [], false, true, ◌∷◌};
+ghost use Rattle.ldar_facts.specs.declared.body.FactBody.TheVariants.{Attempt as AttemptFact, Class as ClassFact, Delay as DelayFact, Indication, Reading, Release as ReleaseFact, Retire as RetireFact, Visual};
+ghost use Rattle.ldar_facts.specs.declared.body.Purpose.TheVariants.{FollowUp, Routine};
+ghost use Rattle.ldar_facts.specs.declared.body.Sort.TheVariants.{Evidence as EvidenceSort, Sensor as SensorSort};
+ghost use Rattle.ldar_facts.specs.declared.body.VisualState.TheVariants.{Designated, Drips, Dry};
+ghost use Rattle.ldar_facts.specs.declared.class.Designation.TheVariants.{Nde, Plain};
+ghost use Rattle.ldar_facts.specs.declared.class.Kind.TheVariants.{Compressor, Pump, Valve};
+ghost use Rattle.ldar_facts.specs.declared.class.Service.TheVariants.{Gas, Heavy, Light, Vacuum};
+ghost use Rattle.ldar_law.specs.declared.event.Happening.TheVariants.{Attempt, Delay, Evidence, Look, Read, Release, Retire, Sensor};
+ghost use Rattle.ldar_law.specs.Short.{class, compressor, date, entered_on, events_on, events_with_gas, gear, pump, relief, valve};
+
+/// A reading has its numbers, its purpose, whether it counts, and on which side of the leak definition it is.
+pub fn a_reading_as_an_event()
+    ensures below { events_on (valve 1 (date 2020 1 15)) [] (Reading 1 1 1 Routine 499 30) ≡ Read 499 30 true true true false ∷ [] }
+    ensures at_the_limit { events_on (valve 1 (date 2020 1 15)) [] (Reading 1 1 1 FollowUp 500 30) ≡ Read 500 30 false true false true ∷ [] }
+    ensures compressor { events_on (compressor 9 (date 2020 1 15)) [] (Reading 9 1 1 Routine 500 30) ≡ Read 500 30 true true false false ∷ [] }
+    ensures other_instrument { events_on (valve 1 (date 2020 1 15)) [] (Reading 1 2 1 Routine 499 30) ≡ Read 499 30 true false false false ∷ [] }
+    ensures vacuum { events_on (gear 1 Valve (class Vacuum Plain) (date 2020 1 15)) [] (Reading 1 1 1 Routine 499 30)
+        ≡ Read 499 30 true false false false ∷ [] }
+    ensures not_in_service { events_on (valve 1 (date 2024 2 21)) [] (Reading 1 1 1 Routine 499 30) ≡ Read 499 30 true false false false ∷ [] }
+{}
+
+/// A visual inspection is dry, found drips or designated them; at a pump in light liquid service these are a leak.
+pub fn a_visual_inspection_as_an_event()
+    ensures dry { events_on (pump 5 (date 2020 1 15)) [] (Visual 5 Dry) ≡ Look false false false ∷ [] }
+    ensures drips { events_on (pump 5 (date 2020 1 15)) [] (Visual 5 Drips) ≡ Look true false false ∷ [] }
+    ensures designated { events_on (pump 5 (date 2020 1 15)) [] (Visual 5 Designated) ≡ Look true true true ∷ [] }
+    ensures not_in_service { events_on (pump 5 (date 2024 2 21)) [] (Visual 5 Designated) ≡ Look true true false ∷ [] }
+    ensures nde { events_on (gear 5 Pump (class Light Nde) (date 2020 1 15)) [] (Visual 5 Designated) ≡ Look true true false ∷ [] }
+{}
+
+/// The other facts of a component; the register is no event, and the facts of another component are none of this one.
+pub fn other_facts_as_events()
+    ensures attempt { events_on (valve 1 (date 2020 1 15)) [] (AttemptFact 1 true) ≡ Attempt true ∷ [] }
+    ensures delay { events_on (valve 1 (date 2020 1 15)) [] (DelayFact 1 2 9 None) ≡ Delay 2 9 None ∷ [] }
+    ensures release { events_on (relief 8 (date 2020 1 15)) [] (ReleaseFact 8) ≡ Release ∷ [] }
+    ensures retire { events_on (valve 1 (date 2020 1 15)) [] (RetireFact 1) ≡ Retire ∷ [] }
+    ensures evidence { events_on (gear 7 Pump (class Heavy Plain) (date 2020 1 15)) [] (Indication 7 EvidenceSort false) ≡ Evidence false ∷ [] }
+    ensures class { events_on (valve 1 (date 2020 1 15)) [] (ClassFact 1 (class Gas Nde)) ≡ [] }
+    ensures of_another { events_on (valve 1 (date 2020 1 15)) [] (AttemptFact 2 true) ≡ [] }
+{}
+
+/// A sensor's indication is a leak at a compressor in gas service that is in service.
+pub fn an_indication_as_an_event()
+    ensures compressor { events_on (compressor 9 (date 2020 1 15)) [] (Indication 9 SensorSort true) ≡ Sensor true true ∷ [] }
+    ensures silent { events_on (compressor 9 (date 2020 1 15)) [] (Indication 9 SensorSort false) ≡ Sensor false false ∷ [] }
+    ensures not_in_service { events_on (compressor 9 (date 2024 2 21)) [] (Indication 9 SensorSort true) ≡ Sensor true false ∷ [] }
+    ensures pump { events_on (pump 5 (date 2020 1 15)) [] (Indication 5 SensorSort true) ≡ Sensor true false ∷ [] }
+{}
+
+/// An event is judged by the class of its day, and not by that of the component's entry or of a later day.
+pub fn an_event_by_the_class_of_its_day()
+    ensures valve { events_on (gear 1 Valve (class Heavy Plain) (date 2020 1 15)) (entered_on (date 2024 2 1) (class Gas Plain)
+        ∷ entered_on (date 2024 2 21) (class Heavy Plain) ∷ [])
+        (Reading 1 1 1 Routine 620 30) ≡ Read 620 30 true true false true ∷ [] }
+    ensures designation { events_on (gear 1 Valve (class Gas Nde) (date 2020 1 15)) (entered_on (date 2024 2 1) (class Gas Plain)
+        ∷ entered_on (date 2024 2 21) (class Gas Nde) ∷ [])
+        (Reading 1 1 1 Routine 620 30) ≡ Read 620 30 true true false true ∷ [] }
+    ensures pump { events_on (gear 5 Pump (class Heavy Plain) (date 2020 1 15)) (entered_on (date 2024 2 1) (class Light Plain)
+        ∷ entered_on (date 2024 2 21) (class Heavy Plain) ∷ [])
+        (Reading 5 1 1 Routine 2100 30) ≡ Read 2100 30 true true false true ∷ [] }
+    ensures heavy_liquid { events_on (gear 5 Pump (class Vacuum Plain) (date 2020 1 15)) (entered_on (date 2024 2 1) (class Heavy Plain)
+        ∷ entered_on (date 2024 2 21) (class Vacuum Plain) ∷ [])
+        (Reading 5 1 1 Routine 12_000 30) ≡ Read 12_000 30 true true false true ∷ [] }
+    ensures drip { events_on (gear 5 Pump (class Heavy Nde) (date 2020 1 15)) (entered_on (date 2024 2 1) (class Light Plain)
+        ∷ entered_on (date 2024 2 21) (class Heavy Nde) ∷ [])
+        (Visual 5 Designated) ≡ Look true true true ∷ [] }
+    ensures sensor { events_on (gear 9 Compressor (class Light Nde) (date 2020 1 15)) (entered_on (date 2024 2 1) (class Gas Plain)
+        ∷ entered_on (date 2024 2 21) (class Light Nde) ∷ [])
+        (Indication 9 SensorSort true) ≡ Sensor true true ∷ [] }
+{}
+
+/// The gas that a calibration may have at most goes by the leak definition of the reading's day.
+pub fn a_gas_by_the_leak_definition_of_the_day()
+    ensures too_strong { events_with_gas 4001 (gear 5 Pump (class Heavy Plain) (date 2020 1 15)) (entered_on (date 2024 2 1) (class Light Plain)
+        ∷ []) (Reading 5 1 1 Routine 20 0)
+        ≡ Read 20 0 true false false false ∷ [] }
+    ensures fit { events_with_gas 4000 (gear 5 Pump (class Heavy Plain) (date 2020 1 15)) (entered_on (date 2024 2 1) (class Light Plain)
+        ∷ []) (Reading 5 1 1 Routine 20 0)
+        ≡ Read 20 0 true true true false ∷ [] }
+{}
