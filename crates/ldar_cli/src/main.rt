@@ -4,6 +4,8 @@
 mod command;
 mod docking;
 mod file_disk;
+#[cfg(test)]
+mod file_tests;
 mod held;
 mod init;
 mod input;
