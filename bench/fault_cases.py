@@ -66,12 +66,15 @@ def order_of_calls():
 
 
 def calls_of(words, given):
-    """Each system call of a run behind the program's start, as its name and which of that name it is."""
+    """Each system call of a run behind the program's start: its name, which of that name it is, and the status that its failing
+    is to have, if it is one of the program's own on the journal, its folder, or a stream."""
     counts, found = {}, []
-    for name in re.findall(r"(?m)^\d+ +(\w+)\(", traced([PROGRAM, *words], given, "all")):
+    for name, file, path in re.findall(r"(?m)^\d+ +(\w+)\((?:(\d+)<([^>]*)>)?", traced([PROGRAM, *words], given, "all")):
         counts[name] = counts.get(name, 0) + 1
+        is_disk = name in ("flock", "pread64", "pwrite64", "fsync") and ".so" not in path
+        status = 5 if is_disk else 3 if (name, file) == ("read", "0") else 4 if (name, file) == ("write", "1") else None
         if name not in ("execve", "exit_group"):
-            found.append((name, counts[name]))
+            found.append((name, counts[name], status))
     return found
 
 
@@ -83,57 +86,66 @@ def with_fault(name, number, what, words, given):
 FAULTS = ["error=EIO", "error=ENOSPC", "signal=KILL"]
 
 
+def each_call(run_name, words, given, wrong_with):
+    """Tries each fault at each call of a run, and says what is wrong behind it."""
+    calls = calls_of(words, given)
+    for what in FAULTS:
+        wrong = []
+        for name, number, wanted in calls:
+            status, why = wrong_with(name, number, what)
+            if why:
+                wrong.append(f"{name} {number}: {why}")
+            elif wanted is not None and what != "signal=KILL" and status != wanted:
+                wrong.append(f"{name} {number}: status {status}, not {wanted}")
+        case(f"{run_name} with {what} at each of {len(calls)} calls", wrong, [])
+
+
 def each_call_of_init():
     """Whatever goes wrong while a journal is made, it is there whole or is made by the next init."""
-    if not has("strace", "no system call of a journal's making was made to fail"):
-        return
-    calls = calls_of(["unit.journal", "init"], b"")
-    for what in FAULTS:
-        wrong = [f"{name} {number}: {why}" for name, number in calls for why in [wrong_init(name, number, what)] if why]
-        case(f"init with {what} at each of {len(calls)} calls", wrong, [])
+    if has("strace", "no system call of a journal's making was made to fail"):
+        each_call("init", ["unit.journal", "init"], b"", wrong_init)
 
 
 def wrong_init(name, number, what):
-    """What is wrong behind an init with this fault, if something is."""
+    """The status of an init with this fault, and what is wrong behind it, if something is."""
     if os.path.exists("unit.journal"):
         os.remove("unit.journal")
     status, text = with_fault(name, number, what, ["unit.journal", "init"], b"")
     left = held("unit.journal") if os.path.exists("unit.journal") else b""
     if status == 0 and left != EMPTY or text or left not in (b"", EMPTY):
-        return f"status {status} left {left!r}"
+        return status, f"status {status} left {left!r}"
     again = ldar("unit.journal", "init")[0]
     if again != (9 if left else 0):
-        return f"init again answers {again}"
-    return None if docked("unit.journal", 1) == (0, receipted(1)) else "no batch is docked"
+        return status, f"init again answers {again}"
+    return status, None if docked("unit.journal", 1) == (0, receipted(1)) else "no batch is docked"
 
 
 def each_call_of_a_dock():
     """Whatever goes wrong while a batch is docked, what was receipted stands, and the batch is receipted when it comes again."""
     if not has("strace", "no system call of a dock was made to fail"):
         return
-    shutil.copy(made("base.journal", 1), "unit.journal")
-    calls = calls_of(["unit.journal", "dock"], batch(2))
-    for what in FAULTS:
-        wrong = [f"{name} {number}: {why}" for name, number in calls for why in [wrong_dock(name, number, what)] if why]
-        case(f"a dock with {what} at each of {len(calls)} calls", wrong, [])
+    for run_name, number in [("a dock", 2), ("a dock of a batch that is kept", 1)]:
+        shutil.copy(made("base.journal", 1), "unit.journal")
+        each_call(run_name, ["unit.journal", "dock"], batch(number), lambda *fault: wrong_dock(number, *fault))
 
 
-def wrong_dock(name, number, what):
+def wrong_dock(docks, name, number, what):
+    """The status of the dock of a batch with this fault, and what is wrong behind it, if something is."""
     shutil.copy("base.journal", "unit.journal")
-    status, text = with_fault(name, number, what, ["unit.journal", "dock"], batch(2))
-    return wrong_behind(status, text)
+    status, text = with_fault(name, number, what, ["unit.journal", "dock"], batch(docks))
+    return status, wrong_behind(status, text, docks)
 
 
-def wrong_behind(status, text):
-    """What is wrong behind the dock of batch 2 into a journal with batch 1, if something is."""
-    if status == 0 and text != receipted(2) or text not in (b"", receipted(2)):
+def wrong_behind(status, text, docks=2):
+    """What is wrong behind a dock into a journal with batch 1, if something is."""
+    if status == 0 and text != receipted(docks) or text not in (b"", receipted(docks)):
         return f"status {status} with {text!r}"
     size = os.path.getsize("unit.journal")
     if docked("unit.journal", 1) != (0, receipted(1)):
         return "batch 1 is lost"
     if docked("unit.journal", 2) != (0, receipted(2)):
         return "batch 2 is not docked"
-    if text and os.path.getsize("unit.journal") != size:
+    if text and docks == 2 and os.path.getsize("unit.journal") != size:
         return "batch 2 was receipted and lost"
     return None
 
