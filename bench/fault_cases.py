@@ -14,9 +14,9 @@ RUNNER = "rattle-test"
 EMPTY = HEADER + b"\0"
 
 
-def traced(words, given=b"", calls="pread64,pwrite64,fsync,fdatasync,write,flock"):
+def traced(words, given=b"", calls="pread64,pwrite64,fsync,fdatasync,write,flock", **more):
     """The calls that a run makes, each with what it is made on: the name behind the last slash, and the place in the file."""
-    subprocess.run(["strace", "-f", "-y", "-s", "0", "-o", "trace", "-e", f"trace={calls}", *words], input=given, capture_output=True)
+    subprocess.run(["strace", "-f", "-y", "-s", "0", "-o", "trace", "-e", f"trace={calls}", *words], input=given, capture_output=True, **more)
     with open("trace", errors="replace") as file:
         return file.read()
 
@@ -237,7 +237,8 @@ def synced_behind_a_failed_sync():
     again = {1: ["read 10 at 0", "write 10 at 0", "sync"], 4: ["read 11 at 12", "write 11 at 12", "sync"], 2: ["sync"]}
     for number, wanted in again.items():
         inject = f"inject=fsync:error=EIO:when={number}"
-        text = traced(["-e", inject, runner, "--filter", "a_file_is_synced_again", TESTS], calls="pread64,pwrite64,fsync")
+        words = ["-e", inject, runner, "--filter", "a_file_is_synced_again", TESTS]
+        text = traced(words, calls="pread64,pwrite64,fsync", env={**os.environ, "TMPDIR": os.getcwd()})
         found = file_steps(text)
         behind = found[found.index("sync failed") + 1 :][:3] if "sync failed" in found else found
         case(f"sync {number} fails, and then", behind, wanted)
