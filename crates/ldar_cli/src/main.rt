@@ -4,9 +4,12 @@
 mod command;
 mod docking;
 mod file_disk;
+#[cfg(test)]
+mod file_tests;
 mod held;
 mod init;
 mod input;
+mod journal_file;
 mod program;
 mod reply;
 mod status;
@@ -17,6 +20,7 @@ mod tests;
 use disk_model::{Disk, MemoryDisk};
 pub use file_disk::FileDisk;
 pub use program::run;
+use status::Status;
 use std::process::ExitCode;
 use std::{env, io};
 pub use streams::{StdSink, StdSource};
@@ -31,22 +35,37 @@ COMMAND  init   makes an empty journal
 const VERSION: &str = "ldar 0.1.0\n";
 
 fn main(rt: HostRuntime) -> ExitCode {
-    let held = held::hold_descriptors(&rt);
-    let status = match env::args(&rt) {
-        Ok(args) => {
-            let mut words: Vec<String> = Vec::new(rt.alloc());
-            let mut status = None;
-            for word in args {
-                if words.push(word).is_err() {
-                    status = Some(6);
-                }
-            }
-            status.unwrap_or(office(&rt, &words))
+    match held::hold_descriptors(&rt) {
+        Ok(held) => {
+            let status = answer(&rt);
+            drop(held);
+            ExitCode::from(status)
         }
-        Err(_) => 2,
+        Err(status) => ExitCode::from(status.number()),
+    }
+}
+
+/// Reads the command line and answers it.
+fn answer(rt: &HostRuntime) -> u8 {
+    let args = match env::args(rt) {
+        Ok(args) => args,
+        Err(error) => return unread(error.kind()).number(),
     };
-    drop(held);
-    ExitCode::from(status)
+    let mut words: Vec<String> = Vec::new(rt.alloc());
+    for word in args {
+        if words.push(word).is_err() {
+            return Status::Memory.number();
+        }
+    }
+    office(rt, &words)
+}
+
+/// How a command ends whose words could not be read: for want of memory, or since one is no text.
+fn unread(kind: io::ErrorKind) -> Status {
+    match kind {
+        io::ErrorKind::OutOfMemory => Status::Memory,
+        _ => Status::Usage,
+    }
 }
 
 /// Answers the words of the command line, the program's own name first.
@@ -78,8 +97,8 @@ fn in_memory(rt: &HostRuntime, words: &[String]) -> u8 {
 }
 
 fn with_disk<D: Disk>(rt: &HostRuntime, words: &[String], disk: &mut D) -> u8 {
-    let mut input = StdSource::new(rt.stdin());
-    let mut output = StdSink::new(rt.stdout());
-    let mut notes = StdSink::new(rt.stderr());
+    let mut input = StdSource::new(rt.stdin(), rt);
+    let mut output = StdSink::new(rt.stdout(), rt);
+    let mut notes = StdSink::new(rt.stderr(), rt);
     run(rt.alloc(), words, &mut input, &mut output, &mut notes, disk)
 }

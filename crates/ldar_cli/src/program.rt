@@ -1,4 +1,4 @@
-ghost use Rattle.std.specs.Prelude.{◌≡◌, ◌≤◌, ℕ, List, map};
+ghost use Rattle.std.specs.Prelude.{◌≡◌, ◌≤◌, ℕ, List, None, map};
 ghost use Rattle.std.specs.String.{string_bytes};
 ghost use Rattle.disk_model.specs.Faults.{Rose};
 ghost use Rattle.ldar_ports.specs.Source.{Takes};
@@ -32,6 +32,10 @@ pub fn run<S: Source, D: Disk, K: Sink, E: Sink>(
         (D.content disk.old) (D.content disk.new) }
     ensures notes { E.pieces notes.new ≡ E.pieces notes.old }
 
+    // Words that are no command are answered before anything is asked of the streams and the disk.
+    ensures unchanged { command_in (map string_bytes words.now) ≡ None
+        → (input.new ≡ input.old) × (output.new ≡ output.old) × (notes.new ≡ notes.old) × (disk.new ≡ disk.old) }
+
     // A fault is answered only where its own count rose.
     ensures read_fault { result ≡ 3 → Rose (S.faults input.old) (S.faults input.new) }
     ensures write_fault { result ≡ 4 → Rose (K.faults output.old) (K.faults output.new) }
@@ -57,6 +61,8 @@ fn run_over<S: Source, D: Disk, K: Sink>(
         × Takes (S.left input.old) taken (S.left input.new) × Puts (K.pieces output.old) put (K.pieces output.new)
         × Ends (command_in (map string_bytes words.now)) result.0 taken (S.left input.new) (bytes_of put)
         (D.content disk) (D.content result.1) }
+    ensures unchanged { command_in (map string_bytes words.now) ≡ None
+        → (input.new ≡ input.old) × (output.new ≡ output.old) × (result.1 ≡ disk) }
     ensures read_fault { result.0 ≡ Status.ReadFault → Rose (S.faults input.old) (S.faults input.new) }
     ensures write_fault { result.0 ≡ Status.WriteFault → Rose (K.faults output.old) (K.faults output.new) }
     ensures disk_fault { result.0 ≡ Status.DiskFault → Rose (D.faults disk) (D.faults result.1) }

@@ -3,27 +3,38 @@ ghost use Rattle.std.specs.Prelude.{◌<◌, ◌≤◌, length, None, IfSome};
 use disk_model::Disk;
 use ldar_ports::{Sink, SinkFault, Source, SourceFault};
 use std::io::{ErrorKind, Read, Stdin, Write};
+use std::rt::Clock;
+use std::thread;
+use std::time::Duration;
+
+/// For how many milliseconds a stream that is not blocking, and that has or takes nothing now, is left alone.
+const PAUSE: u64 = 10;
 
 /// Standard input. It tells nothing of its bytes.
 #[derive(Drop)]
-pub struct StdSource {
+pub struct StdSource<'a, C: Clock> {
     stdin: Stdin,
+    clock: &'a C,
     faults: u64,
 }
 
-impl StdSource {
-    pub fn new(stdin: Stdin) -> StdSource {
-        StdSource { stdin, faults: 0 }
+impl<'a, C: Clock> StdSource<'a, C> {
+    pub fn new(stdin: Stdin, clock: &'a C) -> StdSource<'a, C> {
+        StdSource {
+            stdin,
+            clock,
+            faults: 0,
+        }
     }
 }
 
-impl Source for StdSource {
+impl<C: Clock> Source for StdSource<'_, C> {
     ghost left = { λ s. None };
 
     ghost faults = { λ s. s.faults };
 
     fn take(&mut self, into: &mut [u8]) -> Result<usize, SourceFault> {
-        match read_once(&mut self.stdin, into) {
+        match read_once(self.clock, &mut self.stdin, into) {
             Some(read) => Ok(read),
             None => {
                 self.faults = self.faults.saturating_add(1);
@@ -33,18 +44,22 @@ impl Source for StdSource {
     }
 }
 
-/// Reads once, again where a signal came in between.
-fn read_once<R: Read>(reader: &mut R, into: &mut [u8]) -> Option<usize>
+fn pause<C: Clock>(clock: &C) {
+    thread::sleep(clock, Duration::from_millis(PAUSE));
+}
+
+/// Reads once, again where a signal came in between, and waits where nothing has come yet.
+fn read_once<C: Clock, R: Read>(clock: &C, reader: &mut R, into: &mut [u8]) -> Option<usize>
     ensures within { IfSome result (λ n. n ≤ length into.old) }
 {
     for _ in 0..u64::MAX {
         match reader.read(into) {
             Ok(read) => return Some(read),
-            Err(error) => {
-                if error.kind() != ErrorKind::Interrupted {
-                    return None;
-                }
-            }
+            Err(error) => match error.kind() {
+                ErrorKind::Interrupted => {}
+                ErrorKind::WouldBlock => pause(clock),
+                _ => return None,
+            },
         }
     }
     None
@@ -52,18 +67,23 @@ fn read_once<R: Read>(reader: &mut R, into: &mut [u8]) -> Option<usize>
 
 /// Standard output or standard error. It tells nothing of its pieces.
 #[derive(Drop)]
-pub struct StdSink<W: Write + Drop> {
+pub struct StdSink<'a, W: Write + Drop, C: Clock> {
     writer: W,
+    clock: &'a C,
     faults: u64,
 }
 
-impl<W: Write + Drop> StdSink<W> {
-    pub fn new(writer: W) -> StdSink<W> {
-        StdSink { writer, faults: 0 }
+impl<'a, W: Write + Drop, C: Clock> StdSink<'a, W, C> {
+    pub fn new(writer: W, clock: &'a C) -> StdSink<'a, W, C> {
+        StdSink {
+            writer,
+            clock,
+            faults: 0,
+        }
     }
 }
 
-impl<W: Write + Drop> Sink for StdSink<W> {
+impl<W: Write + Drop, C: Clock> Sink for StdSink<'_, W, C> {
     ghost pieces = { λ k. None };
 
     ghost faults = { λ k. k.faults };
@@ -72,7 +92,7 @@ impl<W: Write + Drop> Sink for StdSink<W> {
         if bytes.is_empty() {
             return Ok(0);
         }
-        match write_once(&mut self.writer, bytes) {
+        match write_once(self.clock, &mut self.writer, bytes) {
             Some(written) => Ok(written),
             None => {
                 self.faults = self.faults.saturating_add(1);
@@ -82,8 +102,8 @@ impl<W: Write + Drop> Sink for StdSink<W> {
     }
 }
 
-/// Writes once, again where a signal came in between. A write that took nothing is none.
-fn write_once<W: Write>(writer: &mut W, bytes: &[u8]) -> Option<usize>
+/// Writes once, again where a signal came in between, and waits where nothing is taken yet. A write that took nothing is none.
+fn write_once<C: Clock, W: Write>(clock: &C, writer: &mut W, bytes: &[u8]) -> Option<usize>
     ensures within { IfSome result (λ n. n ≤ length bytes.now) }
     ensures some { IfSome result (λ n. 0 < n) }
 {
@@ -91,11 +111,11 @@ fn write_once<W: Write>(writer: &mut W, bytes: &[u8]) -> Option<usize>
         match writer.write(bytes) {
             Ok(0) => return None,
             Ok(written) => return Some(written),
-            Err(error) => {
-                if error.kind() != ErrorKind::Interrupted {
-                    return None;
-                }
-            }
+            Err(error) => match error.kind() {
+                ErrorKind::Interrupted => {}
+                ErrorKind::WouldBlock => pause(clock),
+                _ => return None,
+            },
         }
     }
     None
