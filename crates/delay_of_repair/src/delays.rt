@@ -1,7 +1,7 @@
-ghost use Rattle.std.specs.Prelude.{◌≡◌, reverse, if◌then◌else◌, Some};
+ghost use Rattle.std.specs.Prelude.{◌≡◌, ◌↔◌, reverse, if◌then◌else◌, Some, IsNone, IfSome};
 ghost use Rattle.ldar_law.specs.Delays as law;
 
-use crate::grounds::{due_given, is_past};
+use crate::grounds::due_given;
 use ldar_days::Day;
 use ldar_law::{DelayEntry, Stop, Until};
 
@@ -33,7 +33,7 @@ fn last_counted(
     let mut last = None;
     for (place, delay) in delays.iter().enumerate() {
         // The due day so far is what the delays up to here give.
-        let is_ignored = is_past(delay.key.day, due_given(detected, attempts, stops, &last));
+        let is_ignored = due_given(detected, attempts, stops, &last).is_past_on(delay.key.day);
         last = last_after(&last, is_ignored, place, *delay);
     }
     last
@@ -49,9 +49,8 @@ pub fn repair_due(detected: Day, delays: &[DelayEntry], attempts: &[Day], stops:
     due_given(detected, attempts, stops, &last)
 }
 
-/// The place, counted from 0, of the last delay that is not ignored; `None` where all are ignored. The arguments
-/// are those of `repair_due`.
-pub fn counted(
+/// The place of the last delay that is not ignored.
+fn counted_place(
     detected: Day,
     delays: &[DelayEntry],
     attempts: &[Day],
@@ -60,4 +59,19 @@ pub fn counted(
     ensures value { result ≡ law.counted_place detected attempts.now stops.now delays.now }
 {
     last_counted(detected, delays, attempts, stops).map(|c| c.0)
+}
+
+/// The place, counted from 0, of the last delay that is not ignored; `None` where each is past the due day that those
+/// before it give. The arguments are those of `repair_due`.
+pub fn counted(
+    detected: Day,
+    delays: &[DelayEntry],
+    attempts: &[Day],
+    stops: &[Stop],
+) -> Option<usize>
+    ensures value { result ≡ law.counted_place detected attempts.now stops.now delays.now }
+    ensures none { IsNone result ↔ law.AreIgnored detected attempts.now stops.now delays.now }
+    ensures found { IfSome result (law.IsLastCounted detected attempts.now stops.now delays.now) }
+{
+    counted_place(detected, delays, attempts, stops)
 }

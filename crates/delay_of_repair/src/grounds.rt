@@ -3,20 +3,13 @@ ghost use Rattle.ldar_law.specs.Delays as law;
 
 use crate::shutdowns::{end_of_first, end_of_second};
 use ldar_days::Day;
-use ldar_law::{DelayEntry, Stop, Until};
-
-/// Fifteen days after the detection (40 CFR 60.482-7a(d)(1)).
-fn repair_by(detected: Day) -> Day
-    ensures value { result ≡ law.repair_by detected }
-{
-    detected.plus_days(15)
-}
+use ldar_law::{DelayEntry, Stop, Until, repair_by};
 
 /// The due day that a delay of this ground gives, entered on this day.
-fn due_by(detected: Day, attempts: &[Day], stops: &[Stop], ground: u8, day: Day) -> Until
-    ensures value { result ≡ law.due_by detected attempts.now stops.now ground day }
+fn due_by(detected: Day, attempts: &[Day], stops: &[Stop], why: u8, day: Day) -> Until
+    ensures value { result ≡ law.due_by detected attempts.now stops.now why day }
 {
-    match ground {
+    match why {
         0 => Until::Date(repair_by(detected).max(day)),
         1 => end_of_first(detected, attempts, stops),
         2 => Until::WhileIsolated,
@@ -38,15 +31,5 @@ pub fn due_given(
     match *last {
         None => Until::Date(repair_by(detected)),
         Some((_, delay)) => due_by(detected, attempts, stops, delay.ground, delay.key.day),
-    }
-}
-
-/// Whether the day is past the due day. One that is no date is never passed.
-pub fn is_past(day: Day, until: Until) -> bool
-    ensures value { result ≡ law.is_past day until }
-{
-    match until {
-        Until::Date(due) => day > due,
-        _ => false,
     }
 }

@@ -2,7 +2,7 @@ ghost use Rattle.std.specs.Prelude.{◌≡◌, slice_get, drop};
 ghost use Rattle.ldar_law.specs.Delays as law;
 
 use ldar_days::Day;
-use ldar_law::{Stop, Until};
+use ldar_law::{Stop, Until, VERIFICATION_DAYS};
 
 /// Whether an attempt lies on a day of the shutdown.
 fn has_attempt_in(attempts: &[Day], stop: &Stop) -> bool
@@ -19,7 +19,7 @@ pub fn end_of(attempts: &[Day], stop: &Stop) -> Day
 {
     if has_attempt_in(attempts, stop) {
         // The startup is on the day after the last, and from then on the verification has fifteen days.
-        stop.last.plus_days(16)
+        stop.last.plus_days(VERIFICATION_DAYS)
     } else {
         stop.last
     }

@@ -1,10 +1,11 @@
-use Rattle.std.proofs.Common.{◌≡◌, ℕ, zero, suc, cond, Option, Some, None, List, [], ◌∷◌, ◌++◌, reverse, length, slice_get, option_map, option_and_then, refl, ap, subst, inl, inr}
+use Rattle.std.proofs.Common.{◌≡◌, ◌<◌, ◌≤◌, ◌⊎◌, ◌↔◌, ℕ, zero, suc, Bool, true, false, cond, Option, Some, None, List, [], ◌∷◌, ◌++◌, reverse, length, slice_get, take, option_map, option_and_then, refl, sym, ap, ◌∙◌, subst, inl, inr, arith}
 use Rattle.std.specs.Prelude.{unwrap_or}
-use Rattle.std.proofs.lemmas.Bool.{cases_Bool}
-use Rattle.std.proofs.lemmas.List.{reverse-append, length-reverse}
+use Rattle.std.proofs.lemmas.Bool.{cases_Bool, false≢true}
+use Rattle.std.proofs.Math.Seq.{take-append_seam}
+use Rattle.std.proofs.lemmas.List.{reverse-append, length-reverse, take-append-le}
 use Rattle.ldar_law.specs.declared.delay.DelayEntry.{DelayEntry}
 use Rattle.ldar_law.specs.declared.delay.Stop.{Stop}
-use Rattle.ldar_law.specs.Delays.{is_past, due_given, last_counted, counted_delay, OneMoreDelay, CountedPlaceIsOfDelay}
+use Rattle.ldar_law.specs.Delays.{is_past, due_given, last_counted, counted_delay, counted_place, is_ignored, AreIgnored, IsLastCounted, OneMoreDelay, CountedPlaceIsOfDelay, NoneCounted, CountedPlaceIsLast}
 
 pub one_more_delay : OneMoreDelay
 one_more_delay detected attempts stops delays delay =
@@ -54,3 +55,113 @@ module _ (detected : ℕ) (attempts : List ℕ) (stops : List Stop) where
 
 pub counted_place_is_of_delay : CountedPlaceIsOfDelay
 counted_place_is_of_delay detected attempts stops delays = found_there detected attempts stops delays (last_counted detected attempts stops (reverse delays)) refl
+
+-- where one more stands at the end, what stands at a place is one of the others or this one
+one_or_last : {X : Type 0} (xs : List X) (x : X) (place : ℕ) (y : X) → slice_get (xs ++ x ∷ []) place ≡ Some y →
+    ((place < length xs) × (slice_get xs place ≡ Some y)) ⊎ ((place ≡ length xs) × (x ≡ y))
+one_or_last [] x zero y e = inr (refl, cc)
+one_or_last [] x (suc place) y e = cc
+one_or_last (z ∷ xs) x zero y e = inl (omega arith, e)
+one_or_last (z ∷ xs) x (suc place) y e = elim (one_or_last xs x place y e) [
+  | inl here ↦ let lt : place < length xs = here.0 in inl (omega arith, here.1)
+  | inr last ↦ inr (ap suc last.0, last.1)
+]
+
+-- a place at which something stands is within
+found_within : {X : Type 0} (xs : List X) (place : ℕ) (x : X) → slice_get xs place ≡ Some x → place ≤ length xs
+found_within [] place x e = cc
+found_within (y ∷ xs) zero x e = omega arith
+found_within (y ∷ xs) (suc place) x e = let within = found_within xs place x e in omega (arith, within)
+
+-- what stands before a place stands there with more behind
+front_kept : {X : Type 0} (xs : List X) (x : X) (place : ℕ) → place ≤ length xs → take place (xs ++ x ∷ []) ≡ take place xs
+front_kept xs x place within = take-append-le place xs (x ∷ []) within
+
+-- .. and before one more is all that was
+whole_front : {X : Type 0} (xs : List X) (x : X) → take (length xs) (xs ++ x ∷ []) ≡ xs
+whole_front xs x = take-append_seam xs (x ∷ [])
+
+module _ (detected : ℕ) (attempts : List ℕ) (stops : List Stop) where
+  -- the latest of some delays, the latest first, is judged by the others
+  judged_by_others : (latest : DelayEntry) (earlier : List DelayEntry) → is_ignored detected attempts stops (reverse earlier) latest
+      ≡ is_past latest.key.day (due_given detected attempts stops (option_map (λ c. c.1) (last_counted detected attempts stops earlier)))
+  judged_by_others latest earlier =
+      ap (λ ds. is_past latest.key.day (due_given detected attempts stops (option_map (λ c. c.1) (last_counted detected attempts stops ds)))) (reverse_twice earlier)
+
+  -- with one more delay that is ignored, each is that was
+  more_ignored : (delays : List DelayEntry) (delay : DelayEntry) → is_ignored detected attempts stops delays delay ≡ true → AreIgnored detected attempts stops delays → AreIgnored detected attempts stops (delays ++ delay ∷ [])
+  more_ignored delays delay ignored all place other stands = elim (one_or_last delays delay place other stands) [
+    | inl here ↦ let within : place ≤ length delays = let lt : place < length delays = here.0 in omega arith in
+        rw (front_kept delays delay place within) (all place other here.1)
+    | inr last ↦ rw (last.0, whole_front delays delay, sym last.1) ignored
+  ]
+
+  -- .. and the last one that counts stays the last
+  last_stays : (delays : List DelayEntry) (delay : DelayEntry) (place : ℕ) → is_ignored detected attempts stops delays delay ≡ true → IsLastCounted detected attempts stops delays place → IsLastCounted detected attempts stops (delays ++ delay ∷ []) place
+  last_stays delays delay place ignored last = record {
+    delay = last.delay;
+    stands = kept_place delays (delay ∷ []) place last.delay last.stands;
+    counts = rw (front_kept delays delay place (found_within delays place last.delay last.stands)) last.counts;
+    later = λ after other past stands. elim (one_or_last delays delay after other stands) [
+      | inl here ↦ let within : after ≤ length delays = let lt : after < length delays = here.0 in omega arith in
+          rw (front_kept delays delay after within) (last.later after other past here.1)
+      | inr end ↦ rw (end.0, whole_front delays delay, sym end.1) ignored
+    ];
+  }
+
+  -- one more delay that counts is the last that does
+  is_last : (delays : List DelayEntry) (delay : DelayEntry) → is_ignored detected attempts stops delays delay ≡ false → IsLastCounted detected attempts stops (delays ++ delay ∷ []) (length delays)
+  is_last delays delay counts = record {
+    delay = delay;
+    stands = next_place delays delay;
+    counts = rw (whole_front delays delay) counts;
+    later = λ after other past stands. elim (one_or_last delays delay after other stands) [
+      | inl here ↦ let lt : after < length delays = here.0 in absurd (omega arith)
+      | inr end ↦ let same : after ≡ length delays = end.0 in absurd (omega arith)
+    ];
+  }
+
+  -- what is given of some delays, the latest first
+  abbrev Given : Option (ℕ × DelayEntry) → List DelayEntry → Type 0
+  Given None delays = AreIgnored detected attempts stops delays
+  Given (Some c) delays = IsLastCounted detected attempts stops delays c.0
+
+  given_more : (o : Option (ℕ × DelayEntry)) (delays : List DelayEntry) (delay : DelayEntry) → is_ignored detected attempts stops delays delay ≡ true → Given o delays → Given o (delays ++ delay ∷ [])
+  given_more None delays delay ignored given = more_ignored delays delay ignored given
+  given_more (Some c) delays delay ignored given = last_stays delays delay c.0 ignored given
+
+  given_of : (delays : List DelayEntry) → Given (last_counted detected attempts stops delays) (reverse delays)
+  given_of [] = λ place delay stands. cc
+  given_of (latest ∷ earlier) =
+      let judged = judged_by_others latest earlier in
+      rw (reverse_more latest earlier)
+      (elim (cases_Bool (is_past latest.key.day (due_given detected attempts stops (option_map (λ c. c.1) (last_counted detected attempts stops earlier))))) [
+        | inl t ↦ rw t (given_more (last_counted detected attempts stops earlier) (reverse earlier) latest (judged ∙ t) (given_of earlier))
+        | inr f ↦ rw f (subst (IsLastCounted detected attempts stops (reverse earlier ++ latest ∷ [])) (length-reverse earlier) (is_last (reverse earlier) latest (judged ∙ f)))
+      ])
+
+-- .. of delays in key order
+given_in_order : (detected : ℕ) (attempts : List ℕ) (stops : List Stop) (delays : List DelayEntry) → Given detected attempts stops (last_counted detected attempts stops (reverse delays)) delays
+given_in_order detected attempts stops delays =
+    subst (Given detected attempts stops (last_counted detected attempts stops (reverse delays))) (reverse_twice delays) (given_of detected attempts stops (reverse delays))
+
+-- where one counts, not all are ignored
+not_all : (detected : ℕ) (attempts : List ℕ) (stops : List Stop) (delays : List DelayEntry) (place : ℕ) → IsLastCounted detected attempts stops delays place → AreIgnored detected attempts stops delays → ⊥
+not_all detected attempts stops delays place last all = false≢true (sym last.counts ∙ all place last.delay last.stands)
+
+none_given : (detected : ℕ) (attempts : List ℕ) (stops : List Stop) (delays : List DelayEntry) (o : Option (ℕ × DelayEntry)) → Given detected attempts stops o delays → (option_map (λ c. c.0) o ≡ None) ↔ AreIgnored detected attempts stops delays
+none_given detected attempts stops delays None given = (λ e. given, λ all. refl)
+none_given detected attempts stops delays (Some c) given = (λ e. absurd (let no : ⊥ = cc in no), λ all. absurd (not_all detected attempts stops delays c.0 given all))
+
+pub none_counted : NoneCounted
+none_counted detected attempts stops delays =
+    none_given detected attempts stops delays (last_counted detected attempts stops (reverse delays)) (given_in_order detected attempts stops delays)
+
+last_given : (detected : ℕ) (attempts : List ℕ) (stops : List Stop) (delays : List DelayEntry) (place : ℕ) (o : Option (ℕ × DelayEntry)) → Given detected attempts stops o delays → option_map (λ c. c.0) o ≡ Some place → IsLastCounted detected attempts stops delays place
+last_given detected attempts stops delays place None given e = cc
+last_given detected attempts stops delays place (Some c) given e =
+    let same : c.0 ≡ place = cc in subst (IsLastCounted detected attempts stops delays) same given
+
+pub counted_place_is_last : CountedPlaceIsLast
+counted_place_is_last detected attempts stops delays place e =
+    last_given detected attempts stops delays place (last_counted detected attempts stops (reverse delays)) (given_in_order detected attempts stops delays) e

@@ -23,7 +23,7 @@ all_joined P [] ys h h' = h'
 all_joined P (x ∷ xs) ys h h' = (h.0, all_joined P xs ys h.1 h')
 
 -- a duty of this cause and due day
-abbrev IsOf : ℕ → ℕ → Duty → Type 0
+abbrev pub IsOf : ℕ → ℕ → Duty → Type 0
 IsOf cause due d = (d.cause ≡ cause) × (d.due ≡ due)
 
 -- a duty of this cause, due on this day or later
@@ -121,39 +121,39 @@ given true d P h = h
 given false d P h = tt
 
 module _ (item : Equipment) (classes : List (Key × Class)) (startup : ℕ) (events : List Event) (skipped : List Bool) (t : ℕ) where
-  first_form : IfSome (first_monitoring item classes startup events skipped t) (IsOf 1 (first_due item classes startup))
+  pub first_form : IfSome (first_monitoring item classes startup events skipped t) (IsOf 1 (first_due item))
   unfolding first_monitoring
-  first_form = given _ _ (IsOf 1 (first_due item classes startup)) (refl, refl)
+  first_form = given _ _ (IsOf 1 (first_due item)) (refl, refl)
 
-  monthly_form : (month : ℕ) → IfSome (monthly item classes startup events skipped t month) (IsOf 2 (last_day month))
+  pub monthly_form : (month : ℕ) → IfSome (monthly item classes startup events skipped t month) (IsOf 2 (last_day month))
   unfolding monthly
   monthly_form month = given _ _ (IsOf 2 (last_day month)) (refl, refl)
 
-  quarterly_form : (month : ℕ) → IfSome (quarterly item classes startup events skipped t month) (IsOf 3 (last_day month))
+  pub quarterly_form : (month : ℕ) → IfSome (quarterly item classes startup events skipped t month) (IsOf 3 (last_day month))
   unfolding quarterly
   quarterly_form month = given _ _ (IsOf 3 (last_day month)) (refl, refl)
 
-  yearly_form : (year : ℕ) → IfSome (yearly item classes startup events skipped t year) (IsOf 4 (last_day (12 * year + 11)))
+  pub yearly_form : (year : ℕ) → IfSome (yearly item classes startup events skipped t year) (IsOf 4 (last_day (12 * year + 11)))
   unfolding yearly
   yearly_form year = given _ _ (IsOf 4 (last_day (12 * year + 11))) (refl, refl)
 
-  planned_form : (month : ℕ) → IfSome (planned item classes startup events skipped t month) (IsOf 5 (end_by (last_day month)))
+  pub planned_form : (month : ℕ) → IfSome (planned item classes startup events skipped t month) (IsOf 5 (end_by (last_day month)))
   unfolding planned
   planned_form month = given _ _ (IsOf 5 (end_by (last_day month))) (refl, refl)
 
-  weekly_form : (week : ℕ) → IfSome (weekly item classes startup events skipped t week) (IsOf 6 (week_last week))
+  pub weekly_form : (week : ℕ) → IfSome (weekly item classes startup events skipped t week) (IsOf 6 (week_last week))
   unfolding weekly
   weekly_form week = given _ _ (IsOf 6 (week_last week)) (refl, refl)
 
-  drip_form : (before : List Event) (e : Event) (after : List Event) → IfSome (drip item classes startup events skipped t before e after) (IsOf 7 (five_after e.key.day))
+  pub drip_form : (before : List Event) (e : Event) (after : List Event) → IfSome (drip item classes startup events skipped t before e after) (IsOf 7 (five_after e.key.day))
   unfolding drip
   drip_form before e after = given _ _ (IsOf 7 (five_after e.key.day)) (refl, refl)
 
-  release_form : (before : List Event) (e : Event) (after : List Event) → IfSome (release item classes startup events skipped t before e after) (IsOf 8 (five_after e.key.day))
+  pub release_form : (before : List Event) (e : Event) (after : List Event) → IfSome (release item classes startup events skipped t before e after) (IsOf 8 (five_after e.key.day))
   unfolding release
   release_form before e after = given _ _ (IsOf 8 (five_after e.key.day)) (refl, refl)
 
-  evidence_form : (before : List Event) (e : Event) (after : List Event) → IfSome (evidence item classes startup events skipped t before e after) (IsOf 9 (five_after e.key.day))
+  pub evidence_form : (before : List Event) (e : Event) (after : List Event) → IfSome (evidence item classes startup events skipped t before e after) (IsOf 9 (five_after e.key.day))
   unfolding evidence
   evidence_form before e after = given _ _ (IsOf 9 (five_after e.key.day)) (refl, refl)
 

@@ -1,6 +1,9 @@
+pub mod Adjacent
+pub mod ClassLemmas
 pub mod DelayLemmas
 pub mod DutyLemmas
 pub mod EnteredLemmas
+pub mod EventDuties
 pub mod EventLemmas
 pub mod FitnessLemmas
 pub mod ForceLemmas

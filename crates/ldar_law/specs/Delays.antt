@@ -1,5 +1,5 @@
 -- Until when a leak must be repaired, and what a delay of repair changes (40 CFR 60.482-9a).
-use Rattle.std.specs.Prelude.{◌≡◌, ◌++◌, slice_get, option_and_then, ℕ, ◌+◌, Bool, false, ◌&&◌, nat_eq, nat_lt, nat_le, max, Option, Some, None, option_map, if◌then◌else◌, List, [], ◌∷◌, length, reverse, filter}
+use Rattle.std.specs.Prelude.{◌≡◌, ◌↔◌, ◌<◌, ◌++◌, slice_get, take, option_and_then, ℕ, ◌+◌, Bool, true, false, ◌&&◌, nat_eq, nat_lt, nat_le, max, Option, Some, None, option_map, if◌then◌else◌, List, [], ◌∷◌, length, reverse, filter}
 use Rattle.std.specs.List.{list_any}
 use Rattle.ldar_days.specs.Calendar.{end_by, later_by}
 use Rattle.ldar_facts.specs.declared.key.Key.{Key}
@@ -7,6 +7,7 @@ use Rattle.ldar_law.specs.declared.delay.DelayEntry.{DelayEntry}
 use Rattle.ldar_law.specs.declared.delay.Stop.{Stop}
 use Rattle.ldar_law.specs.declared.delay.Until.{Until}
 use Rattle.ldar_law.specs.declared.delay.Until.TheVariants.{Date, Shutdown, WhileIsolated, NoDate}
+use Rattle.ldar_law.specs.declared.numbers.TheConstants.{ATTEMPT_DAYS, REPAIR_DAYS, VERIFICATION_DAYS}
 
 -- a delay of repair, as it is entered
 abbrev pub delay_entered : (key : Key) (ground : ℕ) (signer : ℕ) (expected : Option ℕ) → DelayEntry
@@ -14,11 +15,11 @@ delay_entered key why signer expected = record { key = key; «ground» = why; si
 
 -- 40 CFR 60.482-7a(d)(1): fifteen days after the detection
 abbrev pub repair_by : ℕ → ℕ
-repair_by detected = end_by (detected + 15)
+repair_by detected = end_by (detected + REPAIR_DAYS)
 
 -- 40 CFR 60.482-7a(d)(2): five days after the detection
 abbrev pub attempt_by : ℕ → ℕ
-attempt_by detected = end_by (detected + 5)
+attempt_by detected = end_by (detected + ATTEMPT_DAYS)
 
 -- the day is past the due day; one that is no date is never passed
 abbrev pub is_past : ℕ → Until → Bool
@@ -31,7 +32,7 @@ has_attempt_in attempts stop = list_any (λ day. nat_le stop.first day && nat_le
 
 -- the end of a shutdown: its last day, and where an attempt was made in it fifteen days after the startup on the next (our own rule)
 abbrev pub end_of : List ℕ → Stop → ℕ
-end_of attempts stop = if has_attempt_in attempts stop then end_by (stop.last + 16) else stop.last
+end_of attempts stop = if has_attempt_in attempts stop then end_by (stop.last + VERIFICATION_DAYS) else stop.last
 
 -- the shutdowns that begin after the detection, in order
 abbrev pub stops_after : ℕ → List Stop → List Stop
@@ -94,15 +95,43 @@ module _ (detected : ℕ) (attempts : List ℕ) (stops : List Stop) where
   abbrev pub repair_due : List DelayEntry → Until
   repair_due delays = due_given (counted_delay delays)
 
+-- a delay is ignored, with these before it: its day is past the due day that they give (our own rule)
+abbrev pub is_ignored : ℕ → List ℕ → List Stop → List DelayEntry → DelayEntry → Bool
+is_ignored detected attempts stops before delay = is_past delay.key.day (repair_due detected attempts stops before)
+
+-- each of these delays, in key order, is ignored, with those before it
+abbrev pub AreIgnored : ℕ → List ℕ → List Stop → List DelayEntry → Type 0
+AreIgnored detected attempts stops delays =
+    (place : ℕ) (delay : DelayEntry) → slice_get delays place ≡ Some delay → is_ignored detected attempts stops (take place delays) delay ≡ true
+
+-- the delay at this place is not ignored, and each one after it is
+pub record IsLastCounted (detected : ℕ) (attempts : List ℕ) (stops : List Stop) (delays : List DelayEntry) (place : ℕ) : Type 0 where
+  pub delay : DelayEntry
+  pub stands : slice_get delays place ≡ Some delay
+  pub counts : is_ignored detected attempts stops (take place delays) delay ≡ false
+  pub later : (after : ℕ) (other : DelayEntry) → place < after → slice_get delays after ≡ Some other → is_ignored detected attempts stops (take after delays) other ≡ true
+
 -- one more delay counts, or is ignored where its day is past the due day that those before it give
 abbrev pub OneMoreDelay : Type 0
 OneMoreDelay =
     (detected : ℕ) (attempts : List ℕ) (stops : List Stop) (delays : List DelayEntry) (delay : DelayEntry)
     → counted_delay detected attempts stops (delays ++ delay ∷ [])
-    ≡ (if is_past delay.key.day (repair_due detected attempts stops delays) then counted_delay detected attempts stops delays else Some delay)
+    ≡ (if is_ignored detected attempts stops delays delay then counted_delay detected attempts stops delays else Some delay)
 
 -- the place is that of the last delay that counts
 abbrev pub CountedPlaceIsOfDelay : Type 0
 CountedPlaceIsOfDelay =
     (detected : ℕ) (attempts : List ℕ) (stops : List Stop) (delays : List DelayEntry)
     → option_and_then (slice_get delays) (counted_place detected attempts stops delays) ≡ counted_delay detected attempts stops delays
+
+-- no place is given exactly where all delays are ignored
+abbrev pub NoneCounted : Type 0
+NoneCounted =
+    (detected : ℕ) (attempts : List ℕ) (stops : List Stop) (delays : List DelayEntry)
+    → (counted_place detected attempts stops delays ≡ None) ↔ AreIgnored detected attempts stops delays
+
+-- the place that is given is that of the last delay that is not ignored
+abbrev pub CountedPlaceIsLast : Type 0
+CountedPlaceIsLast =
+    (detected : ℕ) (attempts : List ℕ) (stops : List Stop) (delays : List DelayEntry) (place : ℕ)
+    → counted_place detected attempts stops delays ≡ Some place → IsLastCounted detected attempts stops delays place

@@ -7,6 +7,7 @@ use Rattle.ldar_facts.specs.declared.key.Key.{Key}
 use Rattle.ldar_facts.specs.Facts.{Entry, entries_of, facts_of}
 use Rattle.ldar_facts.specs.Identity.{identities_differ}
 use Rattle.ldar_law.specs.declared.verdict.Verdict.TheVariants.{Pass, Denied, Full}
+use Rattle.ldar_law.specs.declared.numbers.TheConstants.{MOST_FACTS}
 use Rattle.ldar_law.specs.Equipment.{class_at, classes_of}
 use Rattle.ldar_law.specs.Force.{class_by}
 use Rattle.ldar_law.specs.Judged.{Case, register_with}
@@ -41,13 +42,13 @@ IsUndenied history batch =
 abbrev pub PassesUndenied : Type 0
 PassesUndenied =
     (history : List Batch) (batch : Batch)
-    → (verdict_on history batch ≡ Pass) ↔ (IsUndenied history batch × (facts_with history batch ≤ 8_000_000))
+    → (verdict_on history batch ≡ Pass) ↔ (IsUndenied history batch × (facts_with history batch ≤ MOST_FACTS))
 
 -- a batch is too much exactly where no fact of it is denied and the facts do not fit
 abbrev pub FullUndenied : Type 0
 FullUndenied =
     (history : List Batch) (batch : Batch) (facts : ℕ)
-    → (verdict_on history batch ≡ Full facts) ↔ (IsUndenied history batch × (8_000_000 < facts) × (facts ≡ facts_with history batch))
+    → (verdict_on history batch ≡ Full facts) ↔ (IsUndenied history batch × (MOST_FACTS < facts) × (facts ≡ facts_with history batch))
 
 -- a ruly history is one of which each batch passes after those before it
 abbrev pub RulyIsEach : Type 0
@@ -59,7 +60,7 @@ RulyIsEach =
 -- a history that is no more than it may be is ruly exactly where it has no unruly batch
 abbrev pub RulyHasNoUnruly : Type 0
 RulyHasNoUnruly =
-    (history : List Batch) → length (facts_of history) ≤ 8_000_000 → IsTrue (is_ruly history) ↔ (first_unruly history ≡ None)
+    (history : List Batch) → length (facts_of history) ≤ MOST_FACTS → IsTrue (is_ruly history) ↔ (first_unruly history ≡ None)
 
 -- the order in which batches came has no effect on the verdict on another
 abbrev pub VerdictForgetsOrder : Type 0

@@ -13,9 +13,10 @@ use Rattle.ldar_facts.specs.declared.class.Designation.TheVariants.{Plain, Nde, 
 use Rattle.ldar_facts.specs.declared.body.Sort.{Sort}
 use Rattle.ldar_facts.specs.declared.body.Sort.TheVariants.{Sensor, Evidence}
 use Rattle.ldar_facts.specs.declared.body.FactBody.{FactBody}
-use Rattle.ldar_facts.specs.declared.body.FactBody.TheVariants.{Unit as UnitFact, Component as ComponentFact, Class as ClassFact, Retire, Election, Shutdown, Reading, Visual, Attempt, Delay, Release, Indication}
+use Rattle.ldar_facts.specs.declared.body.FactBody.TheVariants.{Unit as UnitFact, Component as ComponentFact, Class as ClassFact, Retire, Election, Shutdown, Calibration, Precision, Drift, Reading, Visual, Attempt, Delay, Release, Indication}
 use Rattle.ldar_facts.specs.Facts.{Entry}
 use Rattle.ldar_law.specs.declared.equipment.Equipment.{Equipment}
+use Rattle.ldar_law.specs.declared.numbers.TheConstants.{LAST_FACT_DAY, NOTICE_DAYS}
 use Rattle.ldar_law.specs.declared.regime.Regime.{Regime}
 use Rattle.ldar_law.specs.declared.regime.Regime.TheVariants.{ValveRules, PumpRules, CompressorRules}
 use Rattle.ldar_law.specs.Equipment.{retired_on, unit_entry_of}
@@ -36,9 +37,9 @@ abbrev pub is_under_300 : Service → Bool
 is_under_300 Under300 = true
 is_under_300 _ = false
 
-abbrev pub is_sensor : Sort → Bool
-is_sensor Sensor = true
-is_sensor Evidence = false
+abbrev pub is_of_sensor : Sort → Bool
+is_of_sensor Sensor = true
+is_of_sensor Evidence = false
 
 -- a compressor has no liquid service, and a pump no gas service
 abbrev pub suits_service : Kind → Service → Bool
@@ -75,7 +76,13 @@ component_asked (Attempt c _) = Some c
 component_asked (Delay c _ _ _) = Some c
 component_asked (Release c) = Some c
 component_asked (Indication c _ _) = Some c
-component_asked _ = None
+component_asked (UnitFact _ _ _) = None
+component_asked (ComponentFact _ _ _ _ _ _) = None
+component_asked (Election _ _ _) = None
+component_asked (Shutdown _ _) = None
+component_asked (Calibration _ _) = None
+component_asked (Precision _ _ _) = None
+component_asked (Drift _ _ _) = None
 
 -- rule 1 (40 CFR 60.486a(e)(1)): the component was not entered
 abbrev pub component_unknown : Case → Bool
@@ -110,7 +117,7 @@ no_pump_to_see case = elim case.entry.1.body [ Visual c state ↦ is_so_of case 
 -- rule 6 (40 CFR 60.482-3a(f)): a sensor's indication at what is no compressor in gas service
 abbrev pub no_compressor_to_sense : Case → Bool
 no_compressor_to_sense case = elim case.entry.1.body [
-  | Indication c sort present ↦ is_sensor sort && is_so_of case c (is_not_under are_compressor_rules)
+  | Indication c sort present ↦ is_of_sensor sort && is_so_of case c (is_not_under are_compressor_rules)
   | _ ↦ false
 ]
 
@@ -121,7 +128,7 @@ no_relief_device case = elim case.entry.1.body [ Release c ↦ is_so_of case c (
 -- rule 8 (40 CFR 60.482-8a(a)): evidence of a potential leak at what the rule on evidence is not for
 abbrev pub no_evidence_counts : Case → Bool
 no_evidence_counts case = elim case.entry.1.body [
-  | Indication c sort present ↦ not (is_sensor sort) && is_so_of case c (is_not_under are_heavy_liquid_rules)
+  | Indication c sort present ↦ not (is_of_sensor sort) && is_so_of case c (is_not_under are_heavy_liquid_rules)
   | _ ↦ false
 ]
 
@@ -158,7 +165,7 @@ repair_not_expected case = elim case.entry.1.body [ Delay c why signer expected 
 
 -- rule 14 (40 CFR 60.487a(d)): skip periods are elected with less than 90 days' notice
 abbrev pub notified_late : Case → Bool
-notified_late case = elim case.entry.1.body [ Election u mode notified ↦ nat_le 1 mode && nat_lt case.entry.0.day (notified + 90) | _ ↦ false ]
+notified_late case = elim case.entry.1.body [ Election u mode notified ↦ nat_le 1 mode && nat_lt case.entry.0.day (notified + NOTICE_DAYS) | _ ↦ false ]
 
 -- the number of the component that a fact enters
 abbrev pub number_entered : FactBody → Option ℕ
@@ -225,7 +232,18 @@ abbrev pub unit_asked : FactBody → Option ℕ
 unit_asked (ComponentFact c unit _ _ _ _) = Some unit
 unit_asked (Election unit _ _) = Some unit
 unit_asked (Shutdown unit _) = Some unit
-unit_asked _ = None
+unit_asked (UnitFact _ _ _) = None
+unit_asked (ClassFact _ _) = None
+unit_asked (Retire _) = None
+unit_asked (Calibration _ _) = None
+unit_asked (Precision _ _ _) = None
+unit_asked (Drift _ _ _) = None
+unit_asked (Reading _ _ _ _ _ _) = None
+unit_asked (Visual _ _) = None
+unit_asked (Attempt _ _) = None
+unit_asked (Delay _ _ _ _) = None
+unit_asked (Release _) = None
+unit_asked (Indication _ _ _) = None
 
 -- rule 17: the unit was not entered
 abbrev pub unit_unknown : Case → Bool
@@ -241,7 +259,7 @@ entered_twice case = elim case.entry.1.body [
 
 -- rule 19: the fact's day is past 2097-12-31
 abbrev pub day_too_late : Case → Bool
-day_too_late case = nat_lt 46_751 case.entry.0.day
+day_too_late case = nat_lt LAST_FACT_DAY case.entry.0.day
 
 -- the day is the first of a quarter
 abbrev pub begins_quarter : ℕ → ℕ → Bool

@@ -1,5 +1,5 @@
 -- What has to be done at a component: nine causes, and the rule for lists (40 CFR 60.482-2a, 60.482-3a, 60.482-4a, 60.482-7a, 60.482-8a).
-use Rattle.std.specs.Prelude.{ℕ, ◌+◌, ◌-◌, ◌*◌, ◌/◌, ◌%◌, Bool, false, not, ◌&&◌, ◌||◌, nat_eq, nat_lt, nat_le, min, if◌then◌else◌, Option, Some, None, option_map, is_none, option_to_list, unwrap_or, slice_get, List, ◌++◌, find, filter_map}
+use Rattle.std.specs.Prelude.{ℕ, ◌+◌, ◌-◌, ◌*◌, ◌/◌, ◌%◌, Bool, false, not, ◌&&◌, ◌||◌, nat_eq, nat_lt, nat_le, min, if◌then◌else◌, Option, Some, None, option_map, is_none, option_to_list, unwrap_or, slice_get, List, ◌++◌, ◌≡◌, filter, find, filter_map}
 use Rattle.std.specs.List.{list_any}
 use Rattle.std.specs.Option.{option_map_or}
 use Rattle.list_words.specs.Order.{Ascends}
@@ -13,6 +13,7 @@ use Rattle.ldar_facts.specs.Facts.{is_earlier}
 use Rattle.ldar_law.specs.declared.duty.Duty.{Duty}
 use Rattle.ldar_law.specs.declared.equipment.Equipment.{Equipment}
 use Rattle.ldar_law.specs.declared.event.Event.{Event}
+use Rattle.ldar_law.specs.declared.numbers.TheConstants.{EVENT_DAYS, FIRST_DAYS, LISTED_DAYS}
 use Rattle.ldar_law.specs.Force.{class_on, is_in_service}
 use Rattle.ldar_law.specs.Happenings.{is_counting, is_below, is_routine, is_near_background, is_look, is_dry, has_drips, is_designating, has_undesignated_drips, is_release, has_evidence, is_evidence_gone, is_from_to}
 use Rattle.ldar_law.specs.Months.{is_quarterly, month_in_quarter}
@@ -20,7 +21,7 @@ use Rattle.ldar_law.specs.Standing.{is_under_valve_rules, is_under_pump_rules, i
 
 -- the rule for lists (our own): the period contains the day, or nothing has met the duty and it was due at most 366 days before
 abbrev pub is_listed : ℕ → ℕ → ℕ → Bool → Bool
-is_listed t first due unmet = nat_le first t && (nat_le t due || (unmet && nat_le t (due + 366)))
+is_listed t first due unmet = nat_le first t && (nat_le t due || (unmet && nat_le t (due + LISTED_DAYS)))
 
 -- the first counting routine reading of a period
 abbrev pub routine_in : List Event → ℕ → ℕ → Option Event
@@ -40,12 +41,12 @@ abbrev pub is_repeated : List Event → Bool
 is_repeated before = somewhere (λ _ drips since. has_drips drips.what
     && list_any (λ e. is_below e.what) since && not (list_any (λ e. is_dry e.what) since)) before
 
+-- the due day of a first monitoring (40 CFR 60.482-2a(a)(1), 60.482-7a(a)(2))
+abbrev pub first_due : Equipment → ℕ
+first_due item = end_by (item.begin + FIRST_DAYS)
+
 -- a component, its classes in key order, and the startup of its unit
 module _ (item : Equipment) (classes : List (Key × Class)) (startup : ℕ) where
-  -- the due day of a first monitoring
-  abbrev pub first_due : ℕ
-  first_due = end_by (item.begin + 30)
-
   -- 40 CFR 60.482-2a(a)(1), 60.482-7a(a)(2): a valve or pump that is no designated one when it begins, begins after the unit's
   -- startup and replaces no leaking one; judged on a day
   abbrev pub is_first_owed : ℕ → Bool
@@ -64,9 +65,9 @@ module _ (item : Equipment) (classes : List (Key × Class)) (startup : ℕ) (eve
 
   -- 1 first: within thirty days of the beginning
   unfoldable pub first_monitoring : Option Duty
-  first_monitoring = duty 1 item.begin (first_due item classes startup)
-      (is_first_owed item classes startup (min (first_due item classes startup) t))
-      (routine_in events item.begin (first_due item classes startup))
+  first_monitoring = duty 1 item.begin (first_due item)
+      (is_first_owed item classes startup (min (first_due item) t))
+      (routine_in events item.begin (first_due item))
 
   -- on this day a pump, or a valve that isn't quarterly in the month, is monitored each month
   abbrev pub is_monthly : ℕ → ℕ → Bool
@@ -138,7 +139,7 @@ module _ (item : Equipment) (classes : List (Key × Class)) (startup : ℕ) (eve
 
   -- five days after an event
   abbrev pub five_days : Event → ℕ
-  five_days e = end_by (e.key.day + 5)
+  five_days e = end_by (e.key.day + EVENT_DAYS)
 
   -- 7 drip (40 CFR 60.482-2a(b)(2)): a pump's drips that aren't designated and repeat none
   unfoldable pub drip : List Event → Event → List Event → Option Duty
@@ -164,7 +165,7 @@ module _ (item : Equipment) (classes : List (Key × Class)) (startup : ℕ) (eve
 
   -- the calendar years from that of the thirtieth day on (our own rule)
   abbrev pub years_after : List ℕ
-  years_after = from_to (month_of (end_by (item.begin + 30)) / 12) (month_of t / 12)
+  years_after = from_to (month_of (first_due item) / 12) (month_of t / 12)
 
   -- the months with which a window may end that has begun: a plan has at most 60 months
   abbrev pub window_ends : List ℕ
@@ -197,3 +198,11 @@ DutiesStandInOrder =
     (item : Equipment) (classes : List (Key × Class)) (startup : ℕ) (events : List Event) (skipped : List Bool) (t : ℕ)
     → IsDay item.begin → Ascends (λ a b. is_earlier a.key b.key) events
     → Ascends comes_no_later (duties_of item classes startup events skipped t)
+
+-- the duties after drips, releases and evidence are those that the events give, in the order of the events
+abbrev pub EventDutiesFollowEvents : Type 0
+EventDutiesFollowEvents =
+    (item : Equipment) (classes : List (Key × Class)) (startup : ℕ) (events : List Event) (skipped : List Bool) (t : ℕ)
+    → (filter (λ d. nat_eq d.cause 7) (duties_of item classes startup events skipped t) ≡ each_where (drip item classes startup events skipped t) events)
+    × (filter (λ d. nat_eq d.cause 8) (duties_of item classes startup events skipped t) ≡ each_where (release item classes startup events skipped t) events)
+    × (filter (λ d. nat_eq d.cause 9) (duties_of item classes startup events skipped t) ≡ each_where (evidence item classes startup events skipped t) events)

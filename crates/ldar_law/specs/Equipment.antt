@@ -1,3 +1,4 @@
+-- What facts in key order enter in the register.
 use Rattle.std.specs.Prelude.{ℕ, ◌+◌, ◌-◌, Bool, false, nat_eq, nat_lt, if◌then◌else◌, Option, Some, None, List, find, filter_map, slice_get, option_map}
 use Rattle.list_words.specs.Order.{in_order}
 use Rattle.ldar_days.specs.Calendar.{end_by}
@@ -10,8 +11,6 @@ use Rattle.ldar_law.specs.declared.delay.Stop.{Stop}
 use Rattle.ldar_law.specs.declared.election.ElectionEntry.{ElectionEntry}
 use Rattle.ldar_law.specs.declared.equipment.Equipment.{Equipment}
 use Rattle.ldar_law.specs.declared.unit_entry.UnitEntry.{UnitEntry}
-
--- what facts in key order enter in the register
 
 -- the fact takes the component out of service
 abbrev pub retires : ℕ → FactBody → Bool

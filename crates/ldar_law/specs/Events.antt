@@ -3,7 +3,7 @@ use Rattle.std.specs.Prelude.{◌≡◌, ℕ, Bool, true, false, not, ◌&&◌, 
 use Rattle.std.specs.List.{cons_option}
 use Rattle.list_words.specs.Order.{Ascends}
 use Rattle.ldar_facts.specs.declared.body.FactBody.{FactBody}
-use Rattle.ldar_facts.specs.declared.body.FactBody.TheVariants.{Retire as RetireFact, Reading, Visual, Attempt as AttemptFact, Delay as DelayFact, Release as ReleaseFact, Indication}
+use Rattle.ldar_facts.specs.declared.body.FactBody.TheVariants.{Unit as UnitFact, Component as ComponentFact, Class as ClassFact, Retire as RetireFact, Election, Shutdown, Calibration, Precision, Drift, Reading, Visual, Attempt as AttemptFact, Delay as DelayFact, Release as ReleaseFact, Indication}
 use Rattle.ldar_facts.specs.declared.body.Purpose.{Purpose}
 use Rattle.ldar_facts.specs.declared.body.Purpose.TheVariants.{Routine, FollowUp}
 use Rattle.ldar_facts.specs.declared.body.Sort.{Sort}
@@ -82,7 +82,14 @@ module _ (item : Equipment) (classes : List (Key × Class)) where
   happening day fitness (ReleaseFact _) = Some Release
   happening day fitness (Indication _ sort present) = Some (indication_on day sort present)
   happening day fitness (RetireFact _) = Some Retire
-  happening day fitness _ = None
+  happening day fitness (UnitFact _ _ _) = None
+  happening day fitness (ComponentFact _ _ _ _ _ _) = None
+  happening day fitness (ClassFact _ _) = None
+  happening day fitness (Election _ _ _) = None
+  happening day fitness (Shutdown _ _) = None
+  happening day fitness (Calibration _ _) = None
+  happening day fitness (Precision _ _ _) = None
+  happening day fitness (Drift _ _ _) = None
 
   -- a fact with its key, judged
   abbrev pub event_of : Entry → Fitness → Option Event

@@ -7,6 +7,7 @@ use Rattle.ldar_facts.specs.declared.body.FactBody.TheVariants.{Calibration, Pre
 use Rattle.ldar_facts.specs.declared.key.Key.{Key}
 use Rattle.ldar_facts.specs.Facts.{Entry, is_earlier}
 use Rattle.ldar_law.specs.declared.fitness.Fitness.{Fitness}
+use Rattle.ldar_law.specs.declared.numbers.TheConstants.{GAS_MARGIN}
 use Rattle.ldar_law.specs.declared.fitness.Fitness.TheVariants.{Fit, NoCalibration, GasTooHigh, NoPrecision, Voided}
 use Rattle.ldar_law.specs.Slices.{facts_of_instrument}
 
@@ -83,7 +84,7 @@ unless_voided (Some drift) = Voided drift.0
 abbrev pub fitness_of : List Entry → ℕ → Key → ℕ → ℕ → Fitness
 fitness_of facts limit key instrument ppm =
     if not (is_calibrated facts key instrument) then NoCalibration
-    else if not (is_calibrated_within facts key instrument (limit + 2000)) then GasTooHigh
+    else if not (is_calibrated_within facts key instrument (limit + GAS_MARGIN)) then GasTooHigh
     else if not (is_tested facts key instrument) then NoPrecision
     else unless_voided (find (is_voided_by facts key instrument limit ppm) facts)
 

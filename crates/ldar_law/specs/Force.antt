@@ -1,3 +1,4 @@
+-- What holds of a component on a day, by the classes entered for it in key order.
 use Rattle.std.specs.Prelude.{ℕ, Bool, false, not, ◌&&◌, nat_le, Option, Some, None, List, option_map, unwrap_or}
 use Rattle.list_words.specs.Words.{last_such}
 use Rattle.ldar_facts.specs.declared.class.Class.{Class}
@@ -7,8 +8,6 @@ use Rattle.ldar_law.specs.declared.equipment.Equipment.{Equipment}
 use Rattle.ldar_law.specs.declared.regime.Regime.{Regime}
 use Rattle.ldar_law.specs.Equipment.{equipment_of, classes_of}
 use Rattle.ldar_law.specs.Limits.{regime_of, limit_of}
-
--- what holds of a component on a day, by the classes entered for it in key order
 
 -- the last class entered by the day
 abbrev pub class_by : ℕ → List (Key × Class) → Option (Key × Class)

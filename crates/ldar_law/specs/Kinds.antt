@@ -1,9 +1,8 @@
+-- What a component is.
 use Rattle.std.specs.Prelude.{Bool, true, false}
 use Rattle.ldar_facts.specs.declared.class.Kind.{Kind}
 use Rattle.ldar_facts.specs.declared.class.Kind.TheVariants.{Pump, Compressor}
 pub use Rattle.ldar_law.specs.Spans.{is_valve}
-
--- what a component is
 
 abbrev pub is_pump : Kind → Bool
 is_pump Pump = true

@@ -1,3 +1,4 @@
+-- Under which rules a kind of component is, and its leak definition.
 use Rattle.std.specs.Prelude.{ℕ, Bool, true, false}
 use Rattle.ldar_facts.specs.declared.class.Class.{Class}
 use Rattle.ldar_facts.specs.declared.class.Kind.{Kind}

@@ -51,8 +51,8 @@ module _ (item : Equipment) (classes : List (Key × Class)) (startup : ℕ) (eve
   -- it begins in the quarter and its first monitoring was due before the day and was not made (our own rule)
   abbrev pub is_first_missed : Bool
   is_first_missed =
-      is_in_quarter startup quarter item.begin && is_first_owed item classes startup (min (first_due item classes startup) t)
-      && nat_lt (first_due item classes startup) t && is_none (routine_in events item.begin (first_due item classes startup))
+      is_in_quarter startup quarter item.begin && is_first_owed item classes startup (min (first_due item) t)
+      && nat_lt (first_due item) t && is_none (routine_in events item.begin (first_due item))
 
   -- what the component adds to the counts of the quarter
   unfoldable pub mark_of : Mark

@@ -7,6 +7,7 @@ use Rattle.ldar_days.specs.Calendar.{month_of}
 use Rattle.ldar_facts.specs.declared.class.Kind.{Kind}
 use Rattle.ldar_facts.specs.declared.class.Kind.TheVariants.{Valve, Pump}
 use Rattle.ldar_law.specs.declared.event.Event.{Event}
+use Rattle.ldar_law.specs.declared.numbers.TheConstants.{REPAIR_DAYS}
 use Rattle.ldar_law.specs.Happenings.{is_leak, is_reading_or_drip, is_look, is_sensor, is_below, is_dry, is_attempt, is_complete, delays_with_reading, is_retire}
 
 -- a valve or a pump
@@ -20,8 +21,8 @@ abbrev pub is_attempted : List Event → Bool
 is_attempted between = somewhere (λ _ attempt after. is_attempt attempt.what && not (list_any (λ x. is_leak x.what) after)) between
 
 -- some delay of ground (a), (c), (d) or (e) lies between, at most fifteen days after the leak
-abbrev pub is_delayed : Event → List Event → Bool
-is_delayed leak between = list_any (λ x. delays_with_reading x.what && nat_le x.key.day (leak.key.day + 15)) between
+abbrev pub has_delay_between : Event → List Event → Bool
+has_delay_between leak between = list_any (λ x. delays_with_reading x.what && nat_le x.key.day (leak.key.day + REPAIR_DAYS)) between
 
 -- some counting reading below the leak definition lies between, in the month before the later one, and no leak since
 abbrev pub was_below : List Event → Event → Bool
@@ -45,7 +46,7 @@ settles_by_complete_attempt leak later = is_sensor leak.what && is_complete late
 -- 40 CFR 60.482-9a(f): a valve's or pump's leak that is delayed, by readings below the leak definition in two months in a row
 abbrev pub settles_by_two_readings : Kind → Event → List Event → Event → Bool
 settles_by_two_readings kind leak between later =
-    is_valve_or_pump kind && is_below later.what && is_delayed leak between && was_below between later
+    is_valve_or_pump kind && is_below later.what && has_delay_between leak between && was_below between later
 
 -- a leak of whatever sort: by going out of service (our own rule)
 abbrev pub settles_by_retiring : Event → Bool

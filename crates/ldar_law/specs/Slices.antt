@@ -1,10 +1,9 @@
+-- Parts of the facts of a history, each in key order.
 use Rattle.std.specs.Prelude.{ℕ, Bool, true, false, List, filter}
 use Rattle.ldar_facts.specs.declared.body.FactBody.{FactBody}
-use Rattle.ldar_facts.specs.declared.body.FactBody.TheVariants.{Unit as UnitFact, Component as ComponentFact, Class as ClassFact, Retire, Election, Shutdown}
+use Rattle.ldar_facts.specs.declared.body.FactBody.TheVariants.{Unit as UnitFact, Component as ComponentFact, Class as ClassFact, Retire, Election, Shutdown, Calibration, Precision, Drift, Reading, Visual, Attempt, Delay, Release, Indication}
 use Rattle.ldar_facts.specs.Facts.{Entry}
 use Rattle.ldar_facts.specs.Named.{component_of, unit_of, tested_instrument, reading_instrument, is_numbered}
-
--- parts of the facts, each in key order
 
 -- the facts that name a component
 abbrev pub facts_of_component : ℕ → List Entry → List Entry
@@ -30,7 +29,15 @@ is_registered (ClassFact _ _) = true
 is_registered (Retire _) = true
 is_registered (Election _ _ _) = true
 is_registered (Shutdown _ _) = true
-is_registered _ = false
+is_registered (Calibration _ _) = false
+is_registered (Precision _ _ _) = false
+is_registered (Drift _ _ _) = false
+is_registered (Reading _ _ _ _ _ _) = false
+is_registered (Visual _ _) = false
+is_registered (Attempt _ _) = false
+is_registered (Delay _ _ _ _) = false
+is_registered (Release _) = false
+is_registered (Indication _ _ _) = false
 
 -- the entries in the register
 abbrev pub register_facts : List Entry → List Entry

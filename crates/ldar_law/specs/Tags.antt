@@ -11,6 +11,7 @@ use Rattle.ldar_law.specs.declared.delay.Stop.{Stop}
 use Rattle.ldar_law.specs.declared.event.Event.{Event}
 use Rattle.ldar_law.specs.declared.event.Happening.{Happening}
 use Rattle.ldar_law.specs.declared.event.Happening.TheVariants.{Delay}
+use Rattle.ldar_law.specs.declared.numbers.TheConstants.{LISTED_DAYS}
 use Rattle.ldar_law.specs.declared.span.Span.{Span}
 use Rattle.ldar_law.specs.declared.tag.Tag.{Tag}
 use Rattle.ldar_law.specs.Delays.{delay_entered, repair_due, counted_delay, attempt_by, is_past}
@@ -61,7 +62,7 @@ is_open tag = is_none tag.closed
 
 -- the tag is in the list of a day: open, or closed at most 366 days before (our own rule)
 abbrev pub is_shown : ℕ → Tag → Bool
-is_shown t tag = option_map_or (λ closed. nat_le t (closed + 366)) tag.closed true
+is_shown t tag = option_map_or (λ closed. nat_le t (closed + LISTED_DAYS)) tag.closed true
 
 -- late: closed after its due day, or open when that is past
 abbrev pub is_late : ℕ → Tag → Bool
@@ -86,12 +87,12 @@ line_on tag delay = record {
 }
 
 -- 40 CFR 60.486a(c): the line on an open tag whose repair is delayed
-abbrev pub delay_line : Tag → Option DelayLine
-delay_line tag = if is_open tag then option_map (line_on tag) (standing_delay tag) else None
+abbrev pub line_on_open : Tag → Option DelayLine
+line_on_open tag = if is_open tag then option_map (line_on tag) (standing_delay tag) else None
 
 -- the lines of the delays view, of the tags of a unit
 abbrev pub delay_lines : List Tag → List DelayLine
-delay_lines tags = filter_map delay_line tags
+delay_lines tags = filter_map line_on_open tags
 
 -- what follows a tag's delays begins with its closing, and is nothing where the tag is open
 abbrev pub BeginsWithClosing : Option Key → List Event → Type 0

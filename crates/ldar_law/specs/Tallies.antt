@@ -1,3 +1,4 @@
+-- The counts of a quarter with one more valve.
 use Rattle.std.specs.Prelude.{◌+◌, if◌then◌else◌}
 use Rattle.ldar_law.specs.declared.tally.Mark.{Mark}
 use Rattle.ldar_law.specs.declared.tally.Tally.{Tally}

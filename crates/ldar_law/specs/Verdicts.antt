@@ -6,6 +6,7 @@ use Rattle.ldar_facts.specs.declared.batch.Batch.{Batch}
 use Rattle.ldar_facts.specs.Facts.{Entry, entries_of, facts_of}
 use Rattle.ldar_law.specs.declared.verdict.Verdict.{Verdict}
 use Rattle.ldar_law.specs.declared.verdict.Verdict.TheVariants.{Pass, Denied, Full}
+use Rattle.ldar_law.specs.declared.numbers.TheConstants.{MOST_FACTS}
 use Rattle.ldar_law.specs.Judged.{Case, case_of}
 use Rattle.ldar_law.specs.Denials as denials
 
@@ -72,7 +73,7 @@ facts_with history batch = length (facts_of history) + length batch.facts
 -- a batch is denied for its first fact that a rule denies; else it is too much where there would be more than 8,000,000 facts; else it passes
 abbrev pub verdict_by : Option (ℕ × ℕ) → ℕ → Verdict
 verdict_by (Some denial) facts = Denied denial.0 denial.1
-verdict_by None facts = if nat_lt 8_000_000 facts then Full facts else Pass
+verdict_by None facts = if nat_lt MOST_FACTS facts then Full facts else Pass
 
 abbrev pub verdict_on : List Batch → Batch → Verdict
 verdict_on history batch = verdict_by (first_denial history batch) (facts_with history batch)

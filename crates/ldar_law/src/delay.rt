@@ -1,3 +1,8 @@
+ghost use Rattle.std.specs.Prelude.{◌≡◌};
+ghost use Rattle.ldar_law.specs.Delays as law;
+ghost use Rattle.ldar_law.specs.Reports as reports;
+
+use crate::numbers::{ATTEMPT_DAYS, REPAIR_DAYS};
 use ldar_days::Day;
 use ldar_facts::Key;
 
@@ -41,4 +46,50 @@ pub struct DelayLine {
     pub delay: DelayEntry,
     pub until: Until,
     pub closed: Option<Day>,
+}
+
+/// The day by which a first attempt at the repair is due of a leak detected on this day (40 CFR 60.482-2a(c)(2),
+/// 60.482-7a(d)(2)).
+pub fn attempt_by(detected: Day) -> Day
+    ensures value { result ≡ law.attempt_by detected }
+{
+    detected.plus_days(ATTEMPT_DAYS)
+}
+
+/// The day by which the repair is due where it is not delayed (40 CFR 60.482-2a(c)(1), 60.482-7a(d)(1)).
+pub fn repair_by(detected: Day) -> Day
+    ensures value { result ≡ law.repair_by detected }
+{
+    detected.plus_days(REPAIR_DAYS)
+}
+
+impl Until {
+    /// Whether it is past on the day. What is no date is never past.
+    pub fn is_past_on(&self, day: Day) -> bool
+        ensures value { result ≡ law.is_past day self.now }
+    {
+        match *self {
+            Until::Date(due) => due < day,
+            _ => false,
+        }
+    }
+
+    /// Whether it is a date in the month with this number, which may be one that the calendar has not.
+    pub fn is_date_in(&self, month: u32) -> bool
+        ensures value { result ≡ reports.is_date_in month self.now }
+    {
+        match *self {
+            Until::Date(due) => due.month().number() == month,
+            _ => false,
+        }
+    }
+}
+
+impl Stop {
+    /// Whether it has a day among these.
+    pub fn is_in(&self, first: Day, last: Day) -> bool
+        ensures value { result ≡ reports.is_stop_in first last self.now }
+    {
+        self.first <= last && first <= self.last
+    }
 }

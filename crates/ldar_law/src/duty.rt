@@ -1,3 +1,7 @@
+ghost use Rattle.std.specs.Prelude.{◌≡◌};
+ghost use Rattle.ldar_law.specs.Duties.{is_listed as says_listed};
+
+use crate::numbers::LISTED_DAYS;
 use ldar_days::Day;
 use ldar_facts::Key;
 
@@ -11,4 +15,12 @@ pub struct Duty {
     pub due: Day,
     /// The fact that met it.
     pub met: Option<Key>,
+}
+
+/// Whether a duty belongs on the list of a day (our own rule): its period, from the first day to the due day, contains
+/// the day, or nothing has met it and it was due at most 366 days before.
+pub fn is_listed(day: Day, first: Day, due: Day, unmet: bool) -> bool
+    ensures value { result ≡ says_listed day first due unmet }
+{
+    first <= day && (day <= due || (unmet && day.number() <= due.number() + LISTED_DAYS))
 }

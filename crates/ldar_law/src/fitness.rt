@@ -1,3 +1,6 @@
+ghost use Rattle.std.specs.Prelude.{◌≡◌};
+ghost use Rattle.ldar_law.specs.Fitness.{is_fit as says_fit};
+
 use ldar_facts::Key;
 
 /// Whether a reading is fit to be used (40 CFR 60.485a(b); EPA Method 21, sections 8.1.2 and 10.1), and the first
@@ -13,4 +16,13 @@ pub enum Fitness {
     NoPrecision,
     /// The drift assessment with this key, the first such, voids the reading (40 CFR 60.485a(b)(2)).
     Voided { drift: Key },
+}
+
+impl Fitness {
+    /// Whether the reading may be used.
+    pub fn is_fit(&self) -> bool
+        ensures value { result ≡ says_fit self.now }
+    {
+        matches!(*self, Fitness::Fit)
+    }
 }

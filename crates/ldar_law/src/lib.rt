@@ -8,8 +8,14 @@ mod equipment;
 mod event;
 pub mod examples;
 mod fitness;
+mod happening;
 mod items;
+mod key_order;
+mod kind;
 pub mod laws;
+mod leak_definition;
+mod months;
+mod numbers;
 mod regime;
 mod reply;
 mod report;
@@ -17,19 +23,30 @@ mod request;
 mod route;
 mod sheet;
 mod span;
+mod standing;
+mod suiting;
 mod tag;
 mod tally;
 mod text;
 mod unit_entry;
 mod verdict;
 
-pub use delay::{DelayEntry, DelayLine, Stop, Until};
-pub use duty::Duty;
+pub use delay::{DelayEntry, DelayLine, Stop, Until, attempt_by, repair_by};
+pub use duty::{Duty, is_listed};
 pub use election::ElectionEntry;
 pub use equipment::Equipment;
 pub use event::{Event, Happening};
 pub use fitness::Fitness;
+pub use happening::has_leak;
 pub use items::Items;
+pub use key_order::are_in_key_order;
+pub use kind::{is_compressor, is_pump, is_valve, is_valve_or_pump};
+pub use leak_definition::limit;
+pub use months::{has_leak_in, is_clean, is_clean_twice, is_clean_twice_from};
+pub use numbers::{
+    ATTEMPT_DAYS, EVENT_DAYS, FIRST_DAYS, GAS_MARGIN, LAST_FACT_DAY, LISTED_DAYS, MOST_COMPONENTS,
+    MOST_FACTS, NOTICE_DAYS, REPAIR_DAYS, VERIFICATION_DAYS,
+};
 pub use regime::Regime;
 pub use reply::Reply;
 pub use report::{Amended, Cells, Filed, MonthCells, Report};
@@ -37,6 +54,10 @@ pub use request::{Request, What};
 pub use route::Route;
 pub use sheet::Sheet;
 pub use span::Span;
+pub use suiting::{
+    is_difficult_designated, is_nde_designated, is_none_designated, is_under_300,
+    is_unsafe_designated, is_vacuum, suits, suits_designation, suits_service,
+};
 pub use tag::Tag;
 pub use tally::{Mark, Tally};
 pub use text::Text;

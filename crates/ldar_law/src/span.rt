@@ -1,5 +1,8 @@
+ghost use Rattle.std.specs.Prelude.{◌≡◌};
+ghost use Rattle.ldar_law.specs.Tags.{is_within as says_within};
+
 use ldar_days::Day;
-use ldar_facts::Key;
+use ldar_facts::{Key, precedes};
 
 /// The time from which a leak is known until nothing is left unsettled.
 #[derive(Clone, Copy, Debug, PartialEq, Eq)]
@@ -11,4 +14,17 @@ pub struct Span {
     pub closed: Option<Key>,
     /// The identification may come off (40 CFR 60.486a(b)).
     pub removable: bool,
+}
+
+impl Span {
+    /// Whether the key lies after the detection, and before the closing where the tag is closed.
+    pub fn is_within(&self, key: &Key) -> bool
+        ensures value { result ≡ says_within self.now key.now }
+    {
+        precedes(&self.detected, key)
+            && match &self.closed {
+                Some(closed) => precedes(key, closed),
+                None => true,
+            }
+    }
 }

@@ -1,5 +1,7 @@
 ghost use Rattle.std.specs.Prelude.{◌≡◌, true, ◌<◌};
+ghost use Rattle.ldar_law.specs.Percent.{is_good as says_good};
 ghost use Rattle.ldar_law.specs.Tallies.{with_mark};
+ghost use Rattle.ldar_law.specs.declared.numbers.TheConstants.{MOST_COMPONENTS};
 
 /// What one valve adds to the counts of a quarter (40 CFR 60.485a(h)).
 #[derive(Clone, Copy, Debug, PartialEq, Eq)]
@@ -18,8 +20,8 @@ pub struct Tally {
 impl Tally {
     /// Counts one more valve.
     pub fn add(&mut self, mark: Mark)
-        requires leaking { self.old.leaking < 60_000 }
-        requires monitored { self.old.monitored < 60_000 }
+        requires leaking { self.old.leaking < MOST_COMPONENTS }
+        requires monitored { self.old.monitored < MOST_COMPONENTS }
         ensures value { self.new ≡ with_mark self.old mark }
     {
         self.leaking += u32::from(mark.leaking);
@@ -34,5 +36,13 @@ impl Tally {
     {
         self.leaking -= u32::from(mark.leaking);
         self.monitored -= u32::from(mark.monitored);
+    }
+
+    /// Whether the quarter is good: at most 2 percent of the valves leak, of at least one that was monitored
+    /// (40 CFR 60.483-2a(b)(2)).
+    pub fn is_good(&self) -> bool
+        ensures value { result ≡ says_good self.now }
+    {
+        0 < self.monitored && 50 * u64::from(self.leaking) <= u64::from(self.monitored)
     }
 }

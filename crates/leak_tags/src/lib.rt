@@ -1,8 +1,6 @@
 //! The tags of a component: from the time from which a leak is known until nothing is left unsettled (40 CFR 60.486a(b)).
 #![tactic(auto)]
 
-mod happening;
-mod months;
 mod settling;
 mod spans;
 

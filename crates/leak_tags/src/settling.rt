@@ -3,30 +3,15 @@ ghost use Rattle.ldar_days.specs.Calendar.{month_of};
 ghost use Rattle.ldar_law.specs.Happenings.{is_below as says_below};
 ghost use Rattle.ldar_law.specs.Settling as law;
 
-use crate::happening::{
-    delays_with_reading, has_leak, is_attempt, is_below, is_complete, is_dry, is_leak, is_look,
-    is_reading_or_drip, is_retire, is_sensor,
-};
 use ldar_facts::Kind;
-use ldar_law::Event;
-
-/// Whether the component is a valve or a pump.
-fn is_valve_or_pump(kind: Kind) -> bool
-    ensures value { result ≡ law.is_valve_or_pump kind }
-{
-    match kind {
-        Kind::Valve => true,
-        Kind::Pump => true,
-        _ => false,
-    }
-}
+use ldar_law::{Event, REPAIR_DAYS, has_leak, is_valve_or_pump};
 
 /// Whether some attempt lies between, and no leak between it and what settles.
 fn is_attempted(between: &[Event]) -> bool
     ensures value { result ≡ law.is_attempted between.now }
 {
     for (place, attempt) in between.iter().enumerate() {
-        if is_attempt(&attempt.what) && !has_leak(&between[place + 1..]) {
+        if attempt.what.is_attempt() && !has_leak(&between[place + 1..]) {
             return true;
         }
     }
@@ -34,11 +19,11 @@ fn is_attempted(between: &[Event]) -> bool
 }
 
 /// Whether some delay of ground (a), (c), (d) or (e) lies between, at most fifteen days after the leak.
-fn is_delayed(leak: &Event, between: &[Event]) -> bool
-    ensures value { result ≡ law.is_delayed leak.now between.now }
+fn has_delay_between(leak: &Event, between: &[Event]) -> bool
+    ensures value { result ≡ law.has_delay_between leak.now between.now }
 {
     between.iter().any(|x| {
-        delays_with_reading(&x.what) && x.key.day.number() <= leak.key.day.number() + 15
+        x.what.delays_with_reading() && x.key.day.number() <= leak.key.day.number() + REPAIR_DAYS
     })
 }
 
@@ -46,7 +31,7 @@ fn is_delayed(leak: &Event, between: &[Event]) -> bool
 fn is_below_before(reading: &Event, later: &Event) -> bool
     ensures value { result ≡ (says_below reading.now.what && nat_eq (month_of reading.now.key.day + 1) (month_of later.now.key.day)) }
 {
-    is_below(&reading.what)
+    reading.what.is_below()
         && reading.key.day.month().number() + 1 == later.key.day.month().number()
 }
 
@@ -67,21 +52,21 @@ fn was_below(between: &[Event], later: &Event) -> bool
 fn settles_by_reading(leak: &Event, between: &[Event], later: &Event) -> bool
     ensures value { result ≡ law.settles_by_reading leak.now between.now later.now }
 {
-    is_reading_or_drip(&leak.what) && is_below(&later.what) && is_attempted(between)
+    leak.what.is_reading_or_drip() && later.what.is_below() && is_attempted(between)
 }
 
 /// Whether a drip is settled by a dry visual inspection, after an attempt.
 fn settles_by_dry_look(leak: &Event, between: &[Event], later: &Event) -> bool
     ensures value { result ≡ law.settles_by_dry_look leak.now between.now later.now }
 {
-    is_look(&leak.what) && is_dry(&later.what) && is_attempted(between)
+    leak.what.is_look() && later.what.is_dry() && is_attempted(between)
 }
 
 /// Whether a sensor's leak is settled by an attempt that is complete.
 fn settles_by_complete_attempt(leak: &Event, later: &Event) -> bool
     ensures value { result ≡ law.settles_by_complete_attempt leak.now later.now }
 {
-    is_sensor(&leak.what) && is_complete(&later.what)
+    leak.what.is_sensor() && later.what.is_complete()
 }
 
 /// Whether a valve's or pump's leak that is delayed is settled by readings below the leak definition in two months
@@ -90,8 +75,8 @@ fn settles_by_two_readings(kind: Kind, leak: &Event, between: &[Event], later: &
     ensures value { result ≡ law.settles_by_two_readings kind leak.now between.now later.now }
 {
     is_valve_or_pump(kind)
-        && is_below(&later.what)
-        && is_delayed(leak, between)
+        && later.what.is_below()
+        && has_delay_between(leak, between)
         && was_below(between, later)
 }
 
@@ -104,7 +89,7 @@ fn settles(kind: Kind, leak: &Event, between: &[Event], later: &Event) -> bool
         || settles_by_dry_look(leak, between, later)
         || settles_by_complete_attempt(leak, later)
         || settles_by_two_readings(kind, leak, between, later)
-        || is_retire(&later.what)
+        || later.what.is_retire()
 }
 
 /// Whether some of the events that follow settles the leak.
@@ -124,7 +109,7 @@ pub fn is_unsettled(kind: Kind, events: &[Event]) -> bool
     ensures value { result ≡ law.is_unsettled kind events.now }
 {
     for (place, leak) in events.iter().enumerate() {
-        if is_leak(&leak.what) && !is_settled(kind, leak, &events[place + 1..]) {
+        if leak.what.is_leak() && !is_settled(kind, leak, &events[place + 1..]) {
             return true;
         }
     }

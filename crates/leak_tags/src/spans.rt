@@ -3,26 +3,17 @@ ghost use Rattle.std.specs.Option.{option_to_list};
 ghost use Rattle.list_words.specs.Words.{first_from};
 ghost use Rattle.ldar_law.specs.Spans as law;
 
-use crate::happening::{is_attempt, is_leak};
-use crate::months::is_clean_twice_from;
 use crate::settling::is_unsettled;
 use ldar_days::Day;
 use ldar_facts::{Key, Kind, Memory};
-use ldar_law::{Event, Span};
+use ldar_law::{Event, Span, is_clean_twice_from, is_valve};
 use std::alloc::Global;
-
-/// Whether the component is a valve.
-fn is_valve(kind: Kind) -> bool
-    ensures value { result ≡ law.is_valve kind }
-{
-    matches!(kind, Kind::Valve)
-}
 
 /// Whether a tag opens at the event: it is a leak, and nothing is unsettled before it.
 fn opens(kind: Kind, before: &[Event], leak: &Event) -> bool
     ensures value { result ≡ law.opens kind before.now leak.now }
 {
-    is_leak(&leak.what) && !is_unsettled(kind, before)
+    leak.what.is_leak() && !is_unsettled(kind, before)
 }
 
 /// Whether with the event of this place no leak is left unsettled.
@@ -64,7 +55,7 @@ fn attempt_after(after: &[Event]) -> Option<Day>
 {
     after
         .iter()
-        .find(|e| is_attempt(&e.what))
+        .find(|e| e.what.is_attempt())
         .map(|e| e.key.day)
 }
 

@@ -1,17 +1,22 @@
-use Rattle.std.specs.Prelude.{◌≡◌, ℕ, Bool, false, not, ◌&&◌, nat_eq, nat_lt, if◌then◌else◌, Option, Some, None, List, filter_map}
+-- What the bodies on readings speak of: the next calibration, the fitness and the events of a part of the facts.
+use Rattle.std.specs.Prelude.{◌≡◌, ℕ, Bool, false, not, ◌&&◌, ◌||◌, [], nat_eq, nat_lt, if◌then◌else◌, Option, Some, None, List, filter_map}
 use Rattle.ldar_facts.specs.declared.body.FactBody.{FactBody}
 use Rattle.ldar_facts.specs.declared.body.FactBody.TheVariants.{Reading}
+use Rattle.ldar_facts.specs.declared.body.VisualState.{VisualState}
 use Rattle.ldar_facts.specs.declared.class.Class.{Class}
 use Rattle.ldar_facts.specs.declared.key.Key.{Key}
 use Rattle.ldar_facts.specs.Facts.{Entry, is_earlier}
 use Rattle.ldar_facts.specs.Named.{reading_instrument}
 use Rattle.ldar_law.specs.declared.equipment.Equipment.{Equipment}
 use Rattle.ldar_law.specs.declared.event.Event.{Event}
+use Rattle.ldar_law.specs.declared.event.Happening.{Happening}
+use Rattle.ldar_law.specs.declared.event.Happening.TheVariants.{Look}
 use Rattle.ldar_law.specs.declared.fitness.Fitness.{Fitness}
 use Rattle.ldar_law.specs.declared.fitness.Fitness.TheVariants.{NoCalibration}
-use Rattle.ldar_law.specs.Events.{events_in, fitness_in}
+use Rattle.ldar_law.specs.Events.{drips_in, designated_in, is_drip_leak, events_in, fitness_in}
 use Rattle.ldar_law.specs.Fitness.{fitness_of, is_calibration, is_drift_past}
 use Rattle.ldar_law.specs.Slices.{facts_of_component, facts_of_instrument}
+use Rattle.ldar_law.specs.Standing.{is_under_valve_rules, is_under_pump_rules, is_under_heavy_liquid_rules}
 
 -- the fitness of a reading with this key by a leak definition, among facts in key order; what is no reading has no calibration
 abbrev pub fitness_by : ℕ → List Entry → Key → FactBody → Fitness
@@ -55,3 +60,12 @@ AreEventsAmongAll item classes facts fitness events =
     → facts ≡ facts_of_component item.component all
     → fitness ≡ filter_map (fitness_in item classes all) facts
     → events ≡ events_in item classes all
+
+-- readings of the component can be leaks (40 CFR 60.482-2a(b)(1), 60.482-7a(b), 60.482-8a(b))
+abbrev pub reading_can_leak : Equipment → ℕ → Bool
+reading_can_leak item day =
+    is_under_valve_rules item [] day || is_under_pump_rules item [] day || is_under_heavy_liquid_rules item [] day
+
+-- a visual inspection of the day, judged
+abbrev pub look_on : Equipment → ℕ → VisualState → Happening
+look_on item day state = Look (drips_in state) (designated_in state) (is_drip_leak item [] day state)

@@ -9,7 +9,7 @@ use ldar_facts::{Fact, FactBody, Key, precedes};
 
 /// Whether the mean of three readings lies more than 10 percent below the known value (40 CFR 60.485a(b)(2)).
 fn has_drifted(value: u32, readings: (u32, u32, u32)) -> bool
-    ensures drifted { result ≡ law.has_drifted value (law.sum_of readings) }
+    ensures value { result ≡ law.has_drifted value (law.sum_of readings) }
 {
     let known = 3 * u64::from(value);
     known < known.saturating_sub(sum_of(readings)) * 10
@@ -27,7 +27,7 @@ fn times(number: u32, other: u64) -> u64
 fn is_above_drifted(limit: u32, ppm: u32, value: u32, readings: (u32, u32, u32)) -> bool
     requires known { value ≤ 999_999 }
     requires read { (readings.0 ≤ 999_999) × (readings.1 ≤ 999_999) × (readings.2 ≤ 999_999) }
-    ensures above { result ≡ law.is_above_drifted limit ppm value (law.sum_of readings) }
+    ensures value { result ≡ law.is_above_drifted limit ppm value (law.sum_of readings) }
 {
     times(limit, sum_of(readings)) < times(ppm, 3 * u64::from(value))
 }

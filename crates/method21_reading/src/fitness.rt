@@ -1,4 +1,6 @@
 ghost use Rattle.std.specs.Prelude.{◌≡◌};
+ghost use Rattle.list_words.specs.Order.{Ascends};
+ghost use Rattle.ldar_facts.specs.Facts.{goes_first};
 ghost use Rattle.ldar_law.specs.Fitness.{fitness_of};
 ghost use Rattle.method21_reading.specs.Readings.{fitness_by, IsFitnessAmongAll};
 
@@ -6,12 +8,14 @@ use crate::calibration::{is_calibrated, is_calibrated_within};
 use crate::drift::voiding_drift;
 use crate::precision::is_tested;
 use ldar_facts::{Fact, FactBody, Key};
-use ldar_law::Fitness;
+use ldar_law::{Fitness, GAS_MARGIN};
 
 /// Whether a reading with this key may be used, judged by a leak definition in parts per million by volume, and the
 /// first reason why not (40 CFR 60.485a(b); EPA Method 21, sections 8.1.2 and 10.1). The facts of its instrument
-/// are in key order; facts of others among them have no effect. A fact that is no reading has no calibration.
+/// are in key order (`are_in_key_order` of `ldar_law` is the test); facts of others among them have no effect. A fact
+/// that is no reading has no calibration.
 pub fn fit(reading: &Fact, key: &Key, limit: u32, instrument: &[(Key, Fact)]) -> Fitness
+    requires ordered { Ascends goes_first instrument.now }
     ensures value { result ≡ fitness_by limit instrument.now key.now reading.now.body }
     ensures of_all { IsFitnessAmongAll limit instrument.now key.now reading.now.body result }
 {
@@ -32,7 +36,12 @@ fn judged(facts: &[(Key, Fact)], limit: u32, key: &Key, instrument: u16, ppm: u3
     if !is_calibrated(facts, key, instrument) {
         return Fitness::NoCalibration;
     }
-    if !is_calibrated_within(facts, key, instrument, u64::from(limit) + 2000) {
+    if !is_calibrated_within(
+        facts,
+        key,
+        instrument,
+        u64::from(limit) + u64::from(GAS_MARGIN),
+    ) {
         return Fitness::GasTooHigh;
     }
     if !is_tested(facts, key, instrument) {

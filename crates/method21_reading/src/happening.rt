@@ -1,38 +1,26 @@
 ghost use Rattle.std.specs.Prelude.{◌≡◌, []};
 ghost use Rattle.ldar_law.specs.Events as law;
-ghost use Rattle.ldar_law.specs.Fitness.{is_fit as says_fit};
-ghost use Rattle.method21_reading.specs.Standings.{reading_can_leak, look_on};
+ghost use Rattle.method21_reading.specs.Readings.{reading_can_leak, look_on};
 
-use crate::standing::{
-    is_in_service, is_left_out, is_nde, is_under_compressor_rules, is_under_heavy_liquid_rules,
-    is_under_pump_rules, is_under_valve_rules, limit_on,
-};
 use ldar_days::Day;
 use ldar_facts::{FactBody, Purpose, Sort, VisualState};
 use ldar_law::{Equipment, Fitness, Happening};
-
-/// Whether a reading may be used.
-fn is_fit(fitness: &Fitness) -> bool
-    ensures value { result ≡ says_fit fitness.now }
-{
-    matches!(*fitness, Fitness::Fit)
-}
 
 /// Whether a reading of the day counts: it is fit, and the component is in service and in no service that is left
 /// out.
 fn counts(item: &Equipment, day: Day, fit: bool) -> bool
     ensures value { result ≡ law.counts_on item.now [] day fit }
 {
-    is_in_service(item, day) && !is_left_out(item, day) && fit
+    item.is_in_service(day) && !item.is_left_out(&[], day) && fit
 }
 
 /// Whether the component's readings can be leaks (40 CFR 60.482-2a(b)(1), 60.482-7a(b), 60.482-8a(b)).
 fn can_leak(item: &Equipment, day: Day) -> bool
     ensures value { result ≡ reading_can_leak item.now day }
 {
-    is_under_valve_rules(item, day)
-        || is_under_pump_rules(item, day)
-        || is_under_heavy_liquid_rules(item, day)
+    item.is_under_valve_rules(&[], day)
+        || item.is_under_pump_rules(&[], day)
+        || item.is_under_heavy_liquid_rules(&[], day)
 }
 
 /// Whether a reading of the day is a leak: it counts and is at the leak definition or above it.
@@ -40,8 +28,8 @@ fn is_reading_leak(item: &Equipment, day: Day, fit: bool, ppm: u32) -> bool
     ensures value { result ≡ law.is_reading_leak item.now [] day fit ppm }
 {
     counts(item, day, fit)
-        && limit_on(item, day) <= ppm
-        && !is_nde(item, day)
+        && item.limit_on(&[], day) <= ppm
+        && !item.is_nde(&[], day)
         && can_leak(item, day)
 }
 
@@ -61,9 +49,9 @@ fn is_drip_leak(item: &Equipment, day: Day, state: VisualState) -> bool
     ensures value { result ≡ law.is_drip_leak item.now [] day state }
 {
     is_designated(state)
-        && is_in_service(item, day)
-        && is_under_pump_rules(item, day)
-        && !is_nde(item, day)
+        && item.is_in_service(day)
+        && item.is_under_pump_rules(&[], day)
+        && !item.is_nde(&[], day)
 }
 
 /// Whether a visual inspection designates drips as a leak.
@@ -78,9 +66,9 @@ fn is_sensor_leak(item: &Equipment, day: Day, present: bool) -> bool
     ensures value { result ≡ law.is_sensor_leak item.now [] day present }
 {
     present
-        && is_in_service(item, day)
-        && is_under_compressor_rules(item, day)
-        && !is_nde(item, day)
+        && item.is_in_service(day)
+        && item.is_under_compressor_rules(&[], day)
+        && !item.is_nde(&[], day)
 }
 
 /// A reading of the day, judged.
@@ -100,7 +88,7 @@ fn reading(
         background,
         routine: matches!(purpose, Purpose::Routine),
         counts,
-        below: counts && ppm < limit_on(item, day),
+        below: counts && ppm < item.limit_on(&[], day),
         leak: is_reading_leak(item, day, fit, ppm),
     }
 }
@@ -145,7 +133,7 @@ pub fn happening(
             ppm,
             background,
             ..
-        } => Some(reading(item, day, is_fit(fitness), purpose, ppm, background)),
+        } => Some(reading(item, day, fitness.is_fit(), purpose, ppm, background)),
         FactBody::Visual { state, .. } => Some(look(item, day, state)),
         FactBody::Attempt { complete, .. } => Some(Happening::Attempt { complete }),
         FactBody::Delay {
@@ -161,6 +149,13 @@ pub fn happening(
         FactBody::Release { .. } => Some(Happening::Release),
         FactBody::Indication { sort, present, .. } => Some(indication(item, day, sort, present)),
         FactBody::Retire { .. } => Some(Happening::Retire),
-        _ => None,
+        FactBody::Unit { .. }
+        | FactBody::Component { .. }
+        | FactBody::Class { .. }
+        | FactBody::Election { .. }
+        | FactBody::Shutdown { .. }
+        | FactBody::Calibration { .. }
+        | FactBody::Precision { .. }
+        | FactBody::Drift { .. } => None,
     }
 }

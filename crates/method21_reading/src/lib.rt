@@ -6,13 +6,11 @@ mod drift;
 mod events;
 mod fitness;
 mod happening;
-mod leak_definition;
 mod precision;
-mod standing;
 
-pub use events::events_of;
+pub use events::{event_of, events_of};
 pub use fitness::fit;
-pub use leak_definition::limit;
+pub use ldar_law::limit;
 
 #[cfg(test)]
 mod tests;

@@ -14,7 +14,7 @@ pub fn sum_of(readings: (u32, u32, u32)) -> u64
 
 /// Whether the mean of three readings lies within 10 percent of the known value (EPA Method 21, section 8.1.2).
 fn is_precise(value: u32, readings: (u32, u32, u32)) -> bool
-    ensures precise { result ≡ law.is_precise value (law.sum_of readings) }
+    ensures value { result ≡ law.is_precise value (law.sum_of readings) }
 {
     let known = 3 * u64::from(value);
     let sum = sum_of(readings);

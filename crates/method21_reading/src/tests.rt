@@ -7,7 +7,7 @@ use ldar_days::Day;
 use ldar_facts::{
     Class, Designation, Fact, FactBody, Key, Kind, Purpose, Service, Sort, VisualState,
 };
-use ldar_law::{Equipment, Event, Fitness, Happening};
+use ldar_law::{Equipment, Event, Fitness, Happening, are_in_key_order};
 use std::alloc::Global;
 use std::test::Fail;
 
@@ -90,9 +90,13 @@ fn reading(day: Day, ppm: u16) -> (Key, Fact) {
     at(day, 600, body)
 }
 
-/// The fitness of a reading at a minute of a day, by a leak definition of 500.
-fn judged(day: Day, minute: u16, ppm: u16, facts: &[(Key, Fact)]) -> Fitness {
-    fit(&reading(day, ppm).1, &key(day, minute), 500, facts)
+/// The fitness of a reading at a minute of a day, by a leak definition of 500, among facts in key order.
+fn judged(day: Day, minute: u16, ppm: u16, facts: &[(Key, Fact)]) -> Result<Fitness, Fail> {
+    if are_in_key_order(facts) {
+        return Ok(fit(&reading(day, ppm).1, &key(day, minute), 500, facts));
+    }
+    let out_of_order: Option<Fitness> = None;
+    Ok(out_of_order.ok_or("out of order")?)
 }
 
 /// A class with no designation.
@@ -170,7 +174,11 @@ fn a_gas_is_2_000_above_the_leak_definition_at_most(rt: HostRuntime) -> Result<(
     ];
     for (calibrated, minute, gas, fitness) in cases {
         let facts = [tested, calibration(calibrated, minute, gas)];
-        assert_eq!(rt; judged(read, 600, 20, &facts), fitness, "{gas} at {minute}");
+        assert_eq!(rt;
+            judged(read, 600, 20, &facts)?,
+            fitness,
+            "{gas} at {minute}"
+        );
     }
     Ok(())
 }
@@ -201,12 +209,15 @@ fn a_precision_test_holds_for_three_months(rt: HostRuntime) -> Result<(), Fail> 
     ];
     for (tested, readings, read, fitness) in cases {
         let read = day(read)?;
-        let facts = [
-            precision(day(tested)?, readings),
-            calibration(read, 300, 500),
-        ];
+        let test = precision(day(tested)?, readings);
+        let calibrated = calibration(read, 300, 500);
+        let facts = if test.0 < calibrated.0 {
+            [test, calibrated]
+        } else {
+            [calibrated, test]
+        };
         assert_eq!(rt;
-            judged(read, 600, 20, &facts),
+            judged(read, 600, 20, &facts)?,
             fitness,
             "tested on {tested}"
         );
@@ -237,17 +248,17 @@ fn a_drift_voids_the_readings_that_could_be_leaks(rt: HostRuntime) -> Result<(),
             calibration(read, 300, 500),
             drift(read, 900, readings),
         ];
-        assert_eq!(rt; judged(read, 600, ppm, &facts), fitness, "{ppm}");
+        assert_eq!(rt; judged(read, 600, ppm, &facts)?, fitness, "{ppm}");
         // A drift before the reading, or on the next day, voids nothing.
         let early = [
             tested,
             calibration(read, 300, 500),
             drift(read, 599, readings),
         ];
-        assert_eq!(rt; judged(read, 600, ppm, &early), Fitness::Fit, "{ppm}");
+        assert_eq!(rt; judged(read, 600, ppm, &early)?, Fitness::Fit, "{ppm}");
         let next = drift(day("2024-02-21")?, 900, readings);
         let late = [tested, calibration(read, 300, 500), next];
-        assert_eq!(rt; judged(read, 600, ppm, &late), Fitness::Fit, "{ppm}");
+        assert_eq!(rt; judged(read, 600, ppm, &late)?, Fitness::Fit, "{ppm}");
     }
     Ok(())
 }
@@ -280,7 +291,7 @@ fn a_new_calibration_parts_the_drifts_of_a_day(rt: HostRuntime) -> Result<(), Fa
     ];
     for (minute, ppm, fitness) in cases {
         assert_eq!(rt;
-            judged(read, minute, ppm, &facts),
+            judged(read, minute, ppm, &facts)?,
             fitness,
             "{ppm} at {minute}"
         );

@@ -4,7 +4,6 @@
 mod percent;
 mod programme;
 mod readings;
-mod standing;
 mod streak;
 
 pub use ldar_law::{Mark, Tally};

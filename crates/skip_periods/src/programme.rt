@@ -4,9 +4,10 @@ ghost use Rattle.list_words.specs.Words.{last_such};
 ghost use Rattle.ldar_days.specs.Quarters.{quarter_first};
 ghost use Rattle.ldar_law.specs.Percent.{is_good};
 ghost use Rattle.ldar_law.specs.Skips as law;
+ghost use Rattle.ldar_law.specs.declared.numbers.TheConstants.{LAST_FACT_DAY};
 ghost use Rattle.skip_periods.specs.Streaks.{Tells};
 
-use crate::streak::{Streak, is_good_tally, longer};
+use crate::streak::{Streak, longer};
 use ldar_days::{Day, quarter_first};
 use ldar_law::{ElectionEntry, Tally};
 
@@ -38,7 +39,7 @@ fn was_good(tallies: &[Tally], quarter: u16) -> bool
     ensures value { result ≡ option_map_or is_good (slice_get tallies.now (quarter - 1)) false }
 {
     match tallies.get(usize::from(quarter - 1)) {
-        Some(tally) => is_good_tally(tally),
+        Some(tally) => tally.is_good(),
         None => false,
     }
 }
@@ -56,7 +57,7 @@ fn skips_after(mode: u8, streak: Streak) -> bool
 
 /// Whether a quarter with this streak before it is skipped, by the mode elected on its first day.
 fn is_skipped_after(elections: &[ElectionEntry], startup: Day, quarter: u16, streak: Streak) -> bool
-    requires startup { startup ≤ 46_751 }
+    requires startup { startup ≤ LAST_FACT_DAY }
     requires quarter { 1 ≤ quarter }
     ensures value { result ≡ law.skips_after (law.mode_on elections.now (quarter_first startup quarter)) streak.skips streak.good }
 {
@@ -70,7 +71,7 @@ fn streak_before(
     startup: Day,
     quarter: u16,
 ) -> Streak
-    requires startup { startup ≤ 46_751 }
+    requires startup { startup ≤ LAST_FACT_DAY }
     requires quarter { 1 ≤ quarter }
     ensures value { Tells result (law.quarters tallies.now elections.now startup (quarter - 1)) }
 {
@@ -85,7 +86,7 @@ fn streak_before(
 /// Whether a quarter of a process unit is skipped (our own rule, after 40 CFR 60.483-2a(b)). The tallies are those
 /// of its quarters from quarter 1 on, with one for each quarter before this one; the elections are in key order.
 pub fn skipped(tallies: &[Tally], elections: &[ElectionEntry], startup: Day, quarter: u16) -> bool
-    requires startup { startup ≤ 46_751 }
+    requires startup { startup ≤ LAST_FACT_DAY }
     requires quarter { 1 ≤ quarter }
     requires tallies { quarter - 1 ≤ length tallies.now }
     ensures value { result ≡ law.is_skipped tallies.now elections.now startup quarter }

@@ -3,13 +3,14 @@ ghost use Rattle.std.specs.List.{list_any};
 ghost use Rattle.ldar_law.specs.Duties as duties;
 ghost use Rattle.ldar_law.specs.Happenings as happenings;
 ghost use Rattle.ldar_law.specs.Percent as law;
+ghost use Rattle.ldar_law.specs.declared.numbers.TheConstants.{LAST_FACT_DAY};
 
 use ldar_days::{Day, quarter_of};
-use ldar_law::{Event, Happening};
+use ldar_law::Event;
 
 /// Whether the day lies in the quarter.
 pub fn is_in_quarter(startup: Day, quarter: u16, day: Day) -> bool
-    requires startup { startup ≤ 46_751 }
+    requires startup { startup ≤ LAST_FACT_DAY }
     ensures value { result ≡ law.is_in_quarter startup quarter day }
 {
     match quarter_of(startup, day.month()) {
@@ -18,56 +19,27 @@ pub fn is_in_quarter(startup: Day, quarter: u16, day: Day) -> bool
     }
 }
 
-/// Whether it is a counting routine reading.
-fn is_routine(what: &Happening) -> bool
-    ensures value { result ≡ happenings.is_routine what.now }
-{
-    match *what {
-        Happening::Read {
-            routine,
-            counts,
-            ..
-        } => routine && counts,
-        _ => false,
-    }
-}
-
-/// Whether it is one that is a leak.
-fn is_routine_leak(what: &Happening) -> bool
-    ensures value { result ≡ happenings.is_routine_leak what.now }
-{
-    match *what {
-        Happening::Read {
-            routine,
-            counts,
-            leak,
-            ..
-        } => routine && counts && leak,
-        _ => false,
-    }
-}
-
 /// Whether the component was monitored in the quarter.
 pub fn is_read(startup: Day, events: &[Event], quarter: u16) -> bool
-    requires startup { startup ≤ 46_751 }
+    requires startup { startup ≤ LAST_FACT_DAY }
     ensures value { result ≡ list_any (λ e. happenings.is_routine e.what && law.is_in_quarter startup quarter e.key.day) events.now }
 {
-    events.iter().any(|e| is_routine(&e.what) && is_in_quarter(startup, quarter, e.key.day))
+    events.iter().any(|e| e.what.is_routine() && is_in_quarter(startup, quarter, e.key.day))
 }
 
 /// Whether it was found leaking in the quarter.
 pub fn is_found_leaking(startup: Day, events: &[Event], quarter: u16) -> bool
-    requires startup { startup ≤ 46_751 }
+    requires startup { startup ≤ LAST_FACT_DAY }
     ensures value { result ≡ list_any (λ e. happenings.is_routine_leak e.what && law.is_in_quarter startup quarter e.key.day) events.now }
 {
-    events.iter().any(|e| is_routine_leak(&e.what) && is_in_quarter(startup, quarter, e.key.day))
+    events.iter().any(|e| e.what.is_routine_leak() && is_in_quarter(startup, quarter, e.key.day))
 }
 
 /// Whether an event is a counting routine reading on one of these days.
 fn is_routine_on(e: &Event, first: Day, last: Day) -> bool
     ensures value { result ≡ (happenings.is_routine e.now.what && happenings.is_from_to first last e.now) }
 {
-    is_routine(&e.what) && first <= e.key.day && e.key.day <= last
+    e.what.is_routine() && e.is_from_to(first, last)
 }
 
 /// Whether some event is one.

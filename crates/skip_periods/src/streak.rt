@@ -1,9 +1,6 @@
 ghost use Rattle.std.specs.Prelude.{◌≡◌, ◌+◌, ◌<◌, ◌≤◌, List, ◌∷◌};
-ghost use Rattle.ldar_law.specs.Percent.{is_good};
 ghost use Rattle.ldar_law.specs.Skips.{Past};
 ghost use Rattle.skip_periods.specs.Streaks.{Tells};
-
-use ldar_law::Tally;
 
 /// What the quarters before one tell: how many skipped ones stand directly before it, and how many of the last
 /// ones that were not skipped are good in a row.
@@ -32,12 +29,4 @@ pub fn longer(streak: Streak, is_skipped: bool, was_good: bool) -> Streak
         skips: 0,
         good: if was_good { streak.good + 1 } else { 0 },
     }
-}
-
-/// Whether a quarter is good: at most 2 percent of the valves leak, of at least one that was monitored
-/// (40 CFR 60.483-2a(b)(2)).
-pub fn is_good_tally(tally: &Tally) -> bool
-    ensures value { result ≡ is_good tally.now }
-{
-    0 < tally.monitored && 50 * u64::from(tally.leaking) <= u64::from(tally.monitored)
 }

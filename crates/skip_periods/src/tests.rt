@@ -1,4 +1,5 @@
 ghost use Rattle.std.specs.Prelude.{◌≤◌};
+ghost use Rattle.ldar_law.specs.declared.numbers.TheConstants.{LAST_FACT_DAY};
 
 use crate::{Mark, Tally, mark, skipped};
 use ldar_days::Day;
@@ -14,7 +15,7 @@ fn day(text: &str) -> Result<Day, Fail> {
 
 /// The unit's initial startup, 2020-01-15. Its quarter 1 is April to June 2020.
 fn startup() -> Day
-    ensures { result ≤ 46_751 }
+    ensures { result ≤ LAST_FACT_DAY }
 {
     Day::at(18_276)
 }

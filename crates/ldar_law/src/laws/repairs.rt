@@ -1,6 +1,6 @@
 //! Laws of tags and of delays of repair.
 
-ghost use Rattle.ldar_law.specs.Delays.{OneMoreDelay, CountedPlaceIsOfDelay};
+ghost use Rattle.ldar_law.specs.Delays.{OneMoreDelay, CountedPlaceIsOfDelay, NoneCounted, CountedPlaceIsLast};
 ghost use Rattle.ldar_law.specs.Spans.{SpansFollow};
 ghost use Rattle.ldar_law.specs.Tags.{DelaysLieBetween};
 
@@ -12,6 +12,16 @@ pub fn one_more_delay()
 /// The place of the last delay that counts is its place among the delays.
 pub fn counted_place_is_of_delay()
     ensures { CountedPlaceIsOfDelay }
+{}
+
+/// No place is given exactly where each delay is past the due day that those before it give.
+pub fn none_counted()
+    ensures { NoneCounted }
+{}
+
+/// The place that is given is that of a delay that is not ignored, and each one after it is.
+pub fn counted_place_is_last()
+    ensures { CountedPlaceIsLast }
 {}
 
 /// The delays of a tag are those of the part of the events between its detection and its closing.

@@ -1,27 +1,20 @@
+//! Clean months (40 CFR 60.482-7a(c)), by the events of a component. Months are numbers here, since the one after the
+//! last of the calendar is asked for too.
+
 ghost use Rattle.std.specs.Prelude.{◌≡◌, ◌≤◌, ◌&&◌};
 ghost use Rattle.std.specs.List.{list_any};
 ghost use Rattle.ldar_law.specs.Happenings.{is_in_month as says_in_month, is_routine_below as says_routine_below};
 ghost use Rattle.ldar_law.specs.Months as law;
 
-use crate::happening::{is_leak, is_routine_below};
-use ldar_law::Event;
-
-// Months are numbers here, as the one after the last of the calendar is asked for too.
-
-/// Whether an event lies in the month.
-fn is_in_month(month: u32, e: &Event) -> bool
-    ensures value { result ≡ says_in_month month e.now }
-{
-    e.key.day.month().number() == month
-}
+use crate::event::Event;
 
 /// Whether some leak lies in the months from one to another.
-#[tactic(auto, unfolding(ldar_law::specs::Months::has_leak_in))]
-fn has_leak_in(events: &[Event], low: u32, high: u32) -> bool
+#[tactic(auto, unfolding(crate::specs::Months::has_leak_in))]
+pub fn has_leak_in(events: &[Event], low: u32, high: u32) -> bool
     ensures value { result ≡ law.has_leak_in events.now low high }
 {
     events.iter().any(|e| {
-        is_leak(&e.what) && low <= e.key.day.month().number() && e.key.day.month().number() <= high
+        e.what.is_leak() && low <= e.key.day.month().number() && e.key.day.month().number() <= high
     })
 }
 
@@ -31,19 +24,19 @@ fn is_read_below_in(events: &[Event], month: u32) -> bool
 {
     events
         .iter()
-        .any(|e| is_routine_below(&e.what) && is_in_month(month, e))
+        .any(|e| e.what.is_routine_below() && e.is_in_month(month))
 }
 
 /// Whether the month has such a reading and no leak (40 CFR 60.482-7a(c)(1)(i)).
-#[tactic(auto, unfolding(ldar_law::specs::Months::is_clean))]
-fn is_clean(events: &[Event], month: u32) -> bool
+#[tactic(auto, unfolding(crate::specs::Months::is_clean))]
+pub fn is_clean(events: &[Event], month: u32) -> bool
     ensures value { result ≡ law.is_clean events.now month }
 {
     is_read_below_in(events, month) && !has_leak_in(events, month, month)
 }
 
 /// Whether the month and the next are clean.
-fn is_clean_twice(events: &[Event], month: u32) -> bool
+pub fn is_clean_twice(events: &[Event], month: u32) -> bool
     requires in_range { month ≤ 25_199 }
     ensures value { result ≡ law.is_clean_twice events.now month }
 {
@@ -51,7 +44,7 @@ fn is_clean_twice(events: &[Event], month: u32) -> bool
 }
 
 /// Whether two months in a row are clean, the first of them this one or later.
-#[tactic(auto, unfolding(ldar_law::specs::Months::is_clean_twice_from))]
+#[tactic(auto, unfolding(crate::specs::Months::is_clean_twice_from))]
 pub fn is_clean_twice_from(events: &[Event], first: u32) -> bool
     ensures value { result ≡ law.is_clean_twice_from events.now first }
 {
