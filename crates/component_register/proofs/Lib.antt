@@ -1,4 +1,4 @@
-pub mod EntryLemmas
+pub mod FirstLemmas
 pub mod HoldLemmas
 pub mod MemberLemmas
-pub mod RosterLemmas
+pub mod RowLemmas

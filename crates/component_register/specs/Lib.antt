@@ -1,2 +1,5 @@
+pub mod Classes
+pub mod Inside
 pub mod Members
-pub mod Steps
+pub mod Once
+pub mod Slots

@@ -4,22 +4,30 @@ ghost use Rattle.ldar_law.specs.Slices as slices;
 ghost use Rattle.component_register.specs.Members.{joined};
 
 use ldar_days::Day;
-use ldar_facts::{Class, Fact, FactBody};
+use ldar_facts::FactBody;
 use ldar_law::{Equipment, UnitEntry};
 
 /// Whether a fact is an entry of the register.
 pub fn is_registered(body: &FactBody) -> bool
     ensures value { result ≡ slices.is_registered body.now }
 {
-    matches!(
-        *body,
+    match *body {
         FactBody::Unit { .. }
-            | FactBody::Component { .. }
-            | FactBody::Class { .. }
-            | FactBody::Retire { .. }
-            | FactBody::Election { .. }
-            | FactBody::Shutdown { .. }
-    )
+        | FactBody::Component { .. }
+        | FactBody::Class { .. }
+        | FactBody::Retire { .. }
+        | FactBody::Election { .. }
+        | FactBody::Shutdown { .. } => true,
+        FactBody::Calibration { .. }
+        | FactBody::Precision { .. }
+        | FactBody::Drift { .. }
+        | FactBody::Reading { .. }
+        | FactBody::Visual { .. }
+        | FactBody::Attempt { .. }
+        | FactBody::Delay { .. }
+        | FactBody::Release { .. }
+        | FactBody::Indication { .. } => false,
+    }
 }
 
 /// Whether a fact takes the component out of service.
@@ -61,22 +69,6 @@ pub fn component_entered(
                     retired: *retired,
                     class,
                 })
-            } else {
-                None
-            }
-        }
-        _ => None,
-    }
-}
-
-/// The class that a fact enters for the component, if it does.
-pub fn class_entered(number: u16, body: &FactBody) -> Option<Class>
-    ensures value { result ≡ law.class_entered number body.now }
-{
-    match *body {
-        FactBody::Class { component, class } => {
-            if component == number {
-                Some(class)
             } else {
                 None
             }

@@ -1,11 +1,12 @@
 //! The equipment of process units and the classes in force, over the facts that enter them.
 #![tactic(auto)]
 
+mod classes;
 mod entered;
-mod entry;
-mod lookup;
 mod members;
 mod register;
+mod slots;
+mod units;
 
 pub use register::Register;
 

@@ -1,59 +1,30 @@
-ghost use Rattle.std.specs.Prelude.{◌≡◌, ℕ, ◌+◌, ◌<◌, ◌≤◌, nat_lt, nat_le, IsTrue, is_some, OnOk, count_by, length, insert, vec_len};
+ghost use Rattle.std.specs.Prelude.{◌≡◌, ℕ, ◌<◌, ◌≤◌, nat_lt, nat_le, IsTrue, IfOk, length, insert};
+ghost use Rattle.std.specs.List.{filter_map};
 ghost use Rattle.list_words.specs.Order.{put_in_order, Ascends};
-ghost use Rattle.ldar_law.specs.Equipment.{member_entered};
-ghost use Rattle.component_register.specs.Members.{numbers_in, room_for, enters_member, OnlyGrow, TakesMember};
+ghost use Rattle.ldar_facts.specs.Named.{is_numbered};
+ghost use Rattle.fact_store.specs.Lists.{items_in, room_in};
+ghost use Rattle.component_register.specs.Members.{unit_joined, TakesMember};
 
 use crate::entered::membership;
+use fact_store::lists::{Lists, list_of, put_in};
 use ldar_facts::{Fact, FactBody};
 use std::alloc::{AllocError, Global};
 
-/// The components of each process unit, by its number.
-pub type Rosters = Vec<Vec<u16>>;
-
-/// The components of a process unit.
-pub fn members_of(rosters: &Rosters, unit: u8) -> &[u16]
-    ensures value { result.now ≡ numbers_in rosters.now.items unit }
+/// The process unit in which a fact enters a component, as the number of a list.
+fn joined_unit(body: &FactBody) -> Option<u16>
+    ensures value { result ≡ unit_joined body.now }
 {
-    let at = usize::from(unit);
-    if at < rosters.len() {
-        rosters[at].as_slice()
-    } else {
-        &[]
-    }
+    membership(body).map(|joined| u16::from(joined.0))
 }
 
-/// Adds empty rosters until there are so many.
-fn grow(alloc: Global, rosters: &mut Rosters, count: usize) -> Result<(), AllocError>
-    ensures grows { OnlyGrow rosters.old.items rosters.new.items }
-    ensures long { OnOk result (count ≤ vec_len rosters.new) }
+/// The process units in which some facts enter components, as often as they do.
+pub fn joined_among(alloc: Global, facts: &[Fact]) -> Result<Vec<u16>, AllocError>
+    ensures value { IfOk result (λ numbers. numbers.items ≡ filter_map (λ fact. unit_joined fact.body) facts.now) }
 {
-    while rosters.len() < count {
-        rosters.push(Vec::new(alloc))?;
-    }
-    Ok(())
-}
-
-/// Makes room for so many more components in a process unit.
-fn make_room(alloc: Global, rosters: &mut Rosters, unit: u8, count: usize) -> Result<(), AllocError>
-    ensures grows { OnlyGrow rosters.old.items rosters.new.items }
-    ensures roomy { OnOk result (count ≤ room_for rosters.new.items unit) }
-{
-    let at = usize::from(unit);
-    grow(alloc, rosters, at + 1)?;
-    rosters[at].reserve(count)
-}
-
-/// Makes room for the components that these facts enter.
-pub fn make_rooms(alloc: Global, rosters: &mut Rosters, facts: &[Fact]) -> Result<(), AllocError>
-    ensures grows { OnlyGrow rosters.old.items rosters.new.items }
-    ensures roomy { OnOk result ((n : ℕ) → count_by (enters_member n) facts.now ≤ room_for rosters.new.items n) }
-{
-    for fact in facts {
-        if let Some((unit, _)) = membership(&fact.body) {
-            make_room(alloc, rosters, unit, facts.len())?;
-        }
-    }
-    Ok(())
+    facts
+        .iter()
+        .filter_map(|fact| joined_unit(&fact.body))
+        .collect(alloc)
 }
 
 /// Where a component belongs among ascending ones.
@@ -66,15 +37,14 @@ fn index_for(members: &[u16], component: u16) -> usize
 }
 
 /// Puts a component that a fact enters among those of its process unit.
-pub fn put_member(rosters: &mut Rosters, body: &FactBody)
-    requires roomy { (n : ℕ) → IsTrue (is_some (member_entered n body.now)) → 0 < room_for rosters.old.items n }
-    requires ordered { (n : ℕ) → Ascends nat_le (numbers_in rosters.old.items n) }
+pub fn put_member(rosters: &mut Lists<u16>, body: &FactBody)
+    requires roomy { (n : ℕ) → IsTrue (is_numbered (unit_joined body.now) n) → 0 < room_in rosters.old.items n }
+    requires ordered { (n : ℕ) → Ascends nat_le (items_in rosters.old.items n) }
     ensures { TakesMember body.now rosters.old.items rosters.new.items }
 {
     if let Some((unit, component)) = membership(body) {
-        let members = &mut rosters[usize::from(unit)];
-        let index = index_for(members.as_slice(), component);
-        // There is room, so this can't fail.
-        let _ = members.insert(index, component);
+        let unit = u16::from(unit);
+        let index = index_for(list_of(rosters, unit), component);
+        put_in(rosters, unit, index, component);
     }
 }

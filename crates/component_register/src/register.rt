@@ -3,11 +3,15 @@ ghost use Rattle.fact_store.specs.Kept.{Kept, facts_in, is_held};
 ghost use Rattle.ldar_law.specs.Equipment as law;
 ghost use Rattle.ldar_law.specs.Force as force;
 ghost use Rattle.ldar_law.specs.Slices as slices;
+ghost use Rattle.component_register.specs.Once.{IsFirstOfNumber, AreEnteredOnce};
 
+use crate::classes::{class_by, class_or, put_class, reclassed_among};
 use crate::entered::is_registered;
-use crate::lookup::{class_by, equipment_of, unit_entry_of};
-use crate::members::{Rosters, make_rooms, members_of, put_member};
+use crate::members::{joined_among, put_member};
+use crate::slots::{EMPTY, Slot, enter, make_slots, row_of};
+use crate::units::{Units, enter_unit, make_units};
 use fact_store::FactStore;
+use fact_store::lists::{Lists, list_of, make_rooms};
 use ldar_days::Day;
 use ldar_facts::{Class, Fact, Key, Memory};
 use ldar_law::{Equipment, UnitEntry};
@@ -20,18 +24,23 @@ use std::marker::Model;
 pub struct Register {
     alloc: Global,
     store: FactStore,
-    rosters: Rosters,
+    slots: Vec<Slot>,
+    units: Units,
+    /// The classes that were entered for each component, in key order.
+    classes: Lists<(Key, Class)>,
+    /// The components of each process unit.
+    rosters: Lists<u16>,
 }
 
 impl Model for Register {
     ghost use Rattle.fact_store.specs.Kept.{Kept};
-    ghost use Rattle.component_register.specs.Members.{HoldsMembers};
+    ghost use Rattle.component_register.specs.Inside.{IsSound};
 
     ghost Value = { Kept };
 
     ghost view = { λ r. r.store };
 
-    ghost invariant = { λ r. HoldsMembers r.store r.rosters.items };
+    ghost invariant = { λ r. IsSound r.store r.slots.items r.units.items r.classes.items r.rosters.items };
 }
 
 impl Register {
@@ -42,6 +51,9 @@ impl Register {
         Register {
             alloc,
             store: FactStore::new(alloc),
+            slots: Vec::new(alloc),
+            units: Vec::new(alloc),
+            classes: Vec::new(alloc),
             rosters: Vec::new(alloc),
         }
     }
@@ -52,17 +64,28 @@ impl Register {
         ensures unchanged { OnErr result (self.new ≡ self.old) }
     {
         let entries = entries_among(self.alloc, facts)?;
-        make_rooms(self.alloc, &mut self.rosters, &entries)?;
-        self.store.reserve(&entries)
+        let reclassed = reclassed_among(self.alloc, &entries)?;
+        let joined = joined_among(self.alloc, &entries)?;
+        make_slots(&mut self.slots, &entries)?;
+        make_units(&mut self.units, &entries)?;
+        make_rooms(self.alloc, &mut self.classes, &reclassed)?;
+        make_rooms(self.alloc, &mut self.rosters, &joined)?;
+        self.store.reserve(&entries)?;
+        Ok(())
     }
 
-    /// Adds an entry with its key. It takes no memory, since room was made for it.
+    /// Adds an entry with its key; a process unit and a component are entered once. It takes no memory, since room was
+    /// made for the entry.
     pub fn insert(&mut self, key: Key, fact: Fact)
         requires roomy { slice_get self.old.spare 0 ≡ Some fact }
         requires new_key { is_held key self.old.arrived ≡ false }
         requires few { length self.old.arrived < 8_000_000 }
+        requires first { IsFirstOfNumber fact.body (facts_in self.old) }
         ensures value { self.new ≡ record { arrived = self.old.arrived ++ (key, fact) ∷ []; spare = drop 1 self.old.spare } }
     {
+        enter(&mut self.slots, &key, &fact.body);
+        enter_unit(&mut self.units, &key, &fact.body);
+        put_class(&mut self.classes, &key, &fact.body);
         put_member(&mut self.rosters, &fact.body);
         self.store.insert(key, fact);
     }
@@ -71,39 +94,42 @@ impl Register {
     pub fn component(&self, component: u16) -> Option<Equipment>
         ensures value { result ≡ law.equipment_of component (facts_in self.now) }
     {
-        equipment_of(&self.store, component)
+        let slot = row_of(&self.slots, EMPTY, component);
+        let mut item = slot.entered?;
+        item.retired = slot.retired;
+        Some(item)
     }
 
     /// The class of the component in force on a day; `None` where the component was not entered.
     pub fn class_on(&self, component: u16, day: Day) -> Option<Class>
         ensures value { result ≡ force.class_in_force component (facts_in self.now) day }
     {
-        let item = self.component(component)?;
-        match class_by(&self.store, component, day) {
-            Some((_, class)) => Some(class),
-            None => Some(item.class),
-        }
+        let item = row_of(&self.slots, EMPTY, component).entered?;
+        let entered = class_by(list_of(&self.classes, component), day);
+        Some(class_or(&entered, item.class))
     }
 
     /// The key of the last class that was entered for the component by a day; `None` where there is no such one.
     pub fn class_key(&self, component: u16, day: Day) -> Option<Key>
         ensures value { result ≡ option_map (λ entered. entered.0) (force.class_by day (law.classes_of component (facts_in self.now))) }
     {
-        class_by(&self.store, component, day).map(|entered| entered.0)
+        class_by(list_of(&self.classes, component), day).map(|entered| entered.0)
     }
 
     /// The process unit, as it was entered; `None` where it was not.
     pub fn unit(&self, unit: u8) -> Option<UnitEntry>
         ensures value { result ≡ law.unit_entry_of unit (facts_in self.now) }
     {
-        unit_entry_of(&self.store, unit)
+        row_of(&self.units, None, u16::from(unit))
     }
 
-    /// The components of the process unit, ascending by number, with those that are retired.
+    /// The components of the process unit, ascending by number, with those that are retired. Each stands there once, since
+    /// no component is entered twice.
     pub fn members(&self, unit: u8) -> &[u16]
         ensures value { result.now ≡ law.members_of unit (facts_in self.now) }
+        ensures once { AreEnteredOnce (facts_in self.now) }
     {
-        members_of(&self.rosters, unit)
+        list_of(&self.rosters, u16::from(unit))
     }
 }
 

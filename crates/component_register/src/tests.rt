@@ -1,5 +1,6 @@
-ghost use Rattle.std.specs.Prelude.{◌≡◌, ◌≤◌, OnOk};
-ghost use Rattle.fact_store.specs.Kept.{is_held};
+ghost use Rattle.std.specs.Prelude.{◌≡◌, ◌≤◌, IsTrue, OnOk};
+ghost use Rattle.fact_store.specs.Kept.{facts_in, is_held};
+ghost use Rattle.component_register.specs.Once.{IsFirstOfNumber};
 
 use crate::Register;
 use crate::entered::is_registered;
@@ -28,12 +29,27 @@ fn add_new(
     requires { seen.old.items ≡ register.old.arrived }
     ensures { OnOk result (seen.new.items ≡ register.new.arrived) }
 {
-    if seen.len() < 1000 && is_registered(&entry.1.body) && !is_seen(seen, &entry.0) {
+    if seen.len() < 1000
+        && is_registered(&entry.1.body)
+        && !is_seen(seen, &entry.0)
+        && is_first(register, &entry.1.body)
+    {
         register.reserve(&[entry.1])?;
         register.insert(entry.0, entry.1);
         seen.push(entry)?;
     }
     Ok(())
+}
+
+/// Whether a fact enters no number for the second time.
+fn is_first(register: &Register, body: &FactBody) -> bool
+    ensures { IsTrue result → IsFirstOfNumber body.now (facts_in register.now) }
+{
+    match *body {
+        FactBody::Unit { unit, .. } => register.unit(unit).is_none(),
+        FactBody::Component { component, .. } => register.component(component).is_none(),
+        _ => true,
+    }
 }
 
 /// Whether one of the entries has this key.

@@ -1,4 +1,5 @@
-use Rattle.std.proofs.Common.{◌≡◌, ℕ, zero, suc, ◌<◌, ◌≤◌, true, false, not, Some, List, [], ◌∷◌, length, get_or, slice_get, refl, sym, ap, ◌∙◌, inl, inr, arith}
+use Rattle.std.proofs.Common.{◌≡◌, ℕ, zero, suc, ◌<◌, ◌≤◌, true, false, not, Some, List, [], ◌∷◌, length, get_or, slice_get, refl, sym, ap, ◌∙◌, inl, inr}
+use Rattle.std.proofs.Common.{arith}
 use Rattle.std.specs.List.{AllByRecursion, AllWithin, insert}
 use Rattle.std.specs.List.Sorted.{IsPartitionedBy}
 use Rattle.std.proofs.lemmas.Bool.{cases_Bool, not-true, not-false, false≢true}
@@ -9,7 +10,7 @@ use Rattle.ldar_facts.specs.Stated.{Stated}
 use Rattle.ldar_facts.proofs.KeyOrder.{strict_earlier}
 use Rattle.fact_store.specs.declared.place.Place.{Place}
 use Rattle.fact_store.specs.Kept.{entries_at}
-use Rattle.fact_store.specs.Lists.{AreHeld, is_up_to}
+use Rattle.fact_store.specs.Takes.{AreHeld, is_up_to}
 
 -- a fact stands at each place within the list
 pub stands : (arrived : List Entry) (i : ℕ) → i < length arrived → (e : Entry) × (slice_get arrived i ≡ Some e)
@@ -18,11 +19,13 @@ stands (x ∷ xs) zero within = (x, refl)
 stands (x ∷ xs) (suc i) within = stands xs i (omega arith)
 
 -- the fact at the first of some places, and the others
-pub entries_at-cons : (arrived : List Entry) (place : Place) (places : List Place) (e : Entry) → slice_get arrived place.at ≡ Some e → entries_at arrived (place ∷ places) ≡ e ∷ entries_at arrived places
+pub entries_at-cons : (arrived : List Entry) (place : Place) (places : List Place) (e : Entry) → slice_get arrived place.at ≡ Some e
+    → entries_at arrived (place ∷ places) ≡ e ∷ entries_at arrived places
 entries_at-cons arrived place places e here = rw here refl
 
 -- what holds of the facts at some places holds of the fact at each
-entry_there : (P : Entry → Type 0) (arrived : List Entry) (places : List Place) (j : ℕ) (d : Place) → AreHeld (length arrived) places → AllByRecursion P (entries_at arrived places) → j < length places → (e : Entry) × (slice_get arrived (get_or places j d).at ≡ Some e) × P e
+entry_there : (P : Entry → Type 0) (arrived : List Entry) (places : List Place) (j : ℕ) (d : Place) → AreHeld (length arrived) places
+    → AllByRecursion P (entries_at arrived places) → j < length places → (e : Entry) × (slice_get arrived (get_or places j d).at ≡ Some e) × P e
 entry_there P arrived [] j d held all within = absurd (omega arith)
 entry_there P arrived (p ∷ ps) zero d held all within =
     let here = stands arrived p.at held.0 in
@@ -40,7 +43,8 @@ not_later key a b e no_earlier =
     ]
 
 -- the facts that do not come after a key are in front
-pub up_to_in_front : (arrived : List Entry) (key : Key) (places : List Place) → AreHeld (length arrived) places → Ascends goes_first (entries_at arrived places) → IsPartitionedBy (is_up_to arrived key) places
+pub up_to_in_front : (arrived : List Entry) (key : Key) (places : List Place) → AreHeld (length arrived) places
+    → Ascends goes_first (entries_at arrived places) → IsPartitionedBy (is_up_to arrived key) places
 up_to_in_front arrived key [] held up i j d le within t = absurd (omega arith)
 up_to_in_front arrived key (p ∷ ps) held up zero zero d le within t = t
 up_to_in_front arrived key (p ∷ ps) held up zero (suc j) d le within t =
@@ -56,7 +60,9 @@ up_to_in_front arrived key (p ∷ ps) held up (suc i) (suc j) d le within t =
     up_to_in_front arrived key ps held.1 rises.1 i j d (omega arith) (omega arith) t
 
 -- the place of a fact is behind those that do not come after its key
-pub put_behind : (arrived : List Entry) (key : Key) (fact : Stated) (places : List Place) (n : ℕ) → AreHeld (length arrived) places → n ≤ length places → AllWithin (λ p. is_up_to arrived key p ≡ true) places 0 n → AllWithin (λ p. is_up_to arrived key p ≡ false) places n (length places) → put_in_order goes_first (key, fact) (entries_at arrived places) ≡ insert (entries_at arrived places) n (key, fact)
+pub put_behind : (arrived : List Entry) (key : Key) (fact : Stated) (places : List Place) (n : ℕ) → AreHeld (length arrived) places → n ≤ length places
+    → AllWithin (λ p. is_up_to arrived key p ≡ true) places 0 n → AllWithin (λ p. is_up_to arrived key p ≡ false) places n (length places)
+    → put_in_order goes_first (key, fact) (entries_at arrived places) ≡ insert (entries_at arrived places) n (key, fact)
 put_behind arrived key fact [] zero held within front rest = refl
 put_behind arrived key fact [] (suc n) held within front rest = absurd (omega arith)
 put_behind arrived key fact (p ∷ ps) zero held within front rest =
@@ -67,4 +73,5 @@ put_behind arrived key fact (p ∷ ps) (suc n) held within front rest =
     let here = stands arrived p.at held.0 in
     let earlier : is_earlier key here.0.0 ≡ false = not-true (is_earlier key here.0.0) (rw here.1 at (front 0 p (omega arith) (omega arith))) in
     rw (here.1, earlier)
-    (ap (λ es. here.0 ∷ es) (put_behind arrived key fact ps n held.1 (omega arith) (λ k d low high. front (suc k) d (omega arith) (omega arith)) (λ k d low high. rest (suc k) d (omega arith) (omega arith))))
+    (ap (λ es. here.0 ∷ es) (put_behind arrived key fact ps n held.1 (omega arith) (λ k d low high. front (suc k) d (omega arith) (omega arith))
+    (λ k d low high. rest (suc k) d (omega arith) (omega arith))))

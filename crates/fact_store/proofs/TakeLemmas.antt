@@ -1,7 +1,6 @@
-use Rattle.std.proofs.Common.{◌≡◌, ℕ, zero, suc, ◌+◌, ◌-◌, ◌<◌, ◌≤◌, Vec, Some, None, List, [], ◌∷◌, ◌++◌, length, get_or, set, slice_get, refl, sym, ap, ◌∙◌, subst, inl, inr, arith}
+use Rattle.std.proofs.Common.{◌≡◌, ℕ, zero, suc, ◌+◌, ◌<◌, ◌≤◌, Vec, Some, None, List, [], ◌∷◌, ◌++◌, length, slice_get, refl, sym, ap, ◌∙◌, inl, inr, arith}
 use Rattle.std.specs.List.{insert}
-use Rattle.std.specs.Vec.{vec_len, vec_capacity}
-use Rattle.std.proofs.lemmas.Bool.{cases_eq, cases_lt, eq-eqb, ne_eqb}
+use Rattle.std.proofs.lemmas.Bool.{cases_eq, eq-eqb, ne_eqb}
 use Rattle.list_words.specs.Order.{put_in_order}
 use Rattle.list_words.proofs.Members.{all_weaker}
 use Rattle.ldar_facts.specs.declared.key.Key.{Key}
@@ -9,17 +8,9 @@ use Rattle.ldar_facts.specs.Facts.{Entry, goes_first}
 use Rattle.ldar_facts.specs.Stated.{Stated}
 use Rattle.fact_store.specs.declared.place.Place.{Place}
 use Rattle.fact_store.specs.Kept.{entries_at}
-use Rattle.fact_store.specs.Lists.{AreHeld, places_in, room_in, CanTake, Takes}
-use Rattle.fact_store.proofs.ListLemmas.{value_at-read, value_at-past, value_at-set}
+use Rattle.fact_store.specs.Lists.{items_in, PutsIn}
+use Rattle.fact_store.specs.Takes.{AreHeld, CanTake, Takes}
 use Rattle.fact_store.proofs.PlaceLemmas.{stands}
-
--- a list that has room is there
-pub room_within : {Z : Type 0} (lists : List (Vec Place Z)) (n : ℕ) → 0 < room_in lists n → n < length lists
-room_within lists n roomy =
-    elim (cases_lt n (length lists)) [
-      | inl within ↦ within
-      | inr past ↦ absurd (omega (arith, value_at-past (λ v. vec_capacity v - vec_len v) 0 lists n past))
-    ]
 
 -- one more fact at the end: those before it stay where they are, and it stands behind them
 get_kept : (arrived : List Entry) (e : Entry) (i : ℕ) → i < length arrived → slice_get (arrived ++ e ∷ []) i ≡ slice_get arrived i
@@ -31,12 +22,15 @@ get_last : (arrived : List Entry) (e : Entry) → slice_get (arrived ++ e ∷ []
 get_last [] e = refl
 get_last (x ∷ xs) e = get_last xs e
 
-pub entries_at-kept : (arrived : List Entry) (e : Entry) (places : List Place) → AreHeld (length arrived) places → entries_at (arrived ++ e ∷ []) places ≡ entries_at arrived places
+pub entries_at-kept : (arrived : List Entry) (e : Entry) (places : List Place) → AreHeld (length arrived) places
+    → entries_at (arrived ++ e ∷ []) places ≡ entries_at arrived places
 entries_at-kept arrived e [] held = refl
 entries_at-kept arrived e (p ∷ ps) held = rw (get_kept arrived e p.at held.0, entries_at-kept arrived e ps held.1) refl
 
 -- its place put among some places is it put among their facts
-pub entries_at-insert : (arrived : List Entry) (e : Entry) (place : Place) (places : List Place) (n : ℕ) → place.at ≡ length arrived → AreHeld (length arrived) places → n ≤ length places → entries_at (arrived ++ e ∷ []) (insert places n place) ≡ insert (entries_at arrived places) n e
+pub entries_at-insert : (arrived : List Entry) (e : Entry) (place : Place) (places : List Place) (n : ℕ) → place.at ≡ length arrived
+    → AreHeld (length arrived) places → n ≤ length places
+    → entries_at (arrived ++ e ∷ []) (insert places n place) ≡ insert (entries_at arrived places) n e
 entries_at-insert arrived e place [] zero new held within = rw (new, get_last arrived e) refl
 entries_at-insert arrived e place [] (suc n) new held within = absurd (omega arith)
 entries_at-insert arrived e place (p ∷ ps) zero new held within = rw (new, get_last arrived e) (ap (λ es. e ∷ es) (entries_at-kept arrived e (p ∷ ps) held))
@@ -48,7 +42,8 @@ entries_at-insert arrived e place (p ∷ ps) (suc n) new held within =
 pub held_more : (count : ℕ) (places : List Place) → AreHeld count places → AreHeld (count + 1) places
 held_more count places held = all_weaker (λ p. p.at < count) (λ p. p.at < count + 1) (λ p within. omega arith) places held
 
-pub held_insert : (count : ℕ) (place : Place) (places : List Place) (n : ℕ) → place.at ≡ count → AreHeld count places → n ≤ length places → AreHeld (count + 1) (insert places n place)
+pub held_insert : (count : ℕ) (place : Place) (places : List Place) (n : ℕ) → place.at ≡ count → AreHeld count places → n ≤ length places
+    → AreHeld (count + 1) (insert places n place)
 held_insert count place [] zero new held within = (omega arith, tt)
 held_insert count place [] (suc n) new held within = absurd (omega arith)
 held_insert count place (p ∷ ps) zero new held within = (omega arith, held_more count (p ∷ ps) held)
@@ -58,32 +53,29 @@ held_insert count place (p ∷ ps) (suc n) new held within = (omega (arith, held
 pub takes_none : {Z : Type 0} (arrived : List Entry) (key : Key) (lists : List (Vec Place Z)) → CanTake arrived None lists → Takes arrived None key lists lists
 takes_none arrived key lists can =
     record {
-      held = λ n. held_more (length arrived) (places_in lists n) (can.held n);
-      listed = λ n fact. entries_at-kept arrived (key, fact) (places_in lists n) (can.held n);
+      held = λ n. held_more (length arrived) (items_in lists n) (can.held n);
+      listed = λ n fact. entries_at-kept arrived (key, fact) (items_in lists n) (can.held n);
       room = λ n. omega arith;
     }
 
 -- the list of the number takes the place where the fact belongs
-pub takes_set : {Z : Type 0} (arrived : List Entry) (number : ℕ) (key : Key) (lists : List (Vec Place Z)) (old new : Vec Place Z) (index : ℕ) (place : Place) → CanTake arrived (Some number) lists → number < length lists → old ≡ get_or lists number old → place.at ≡ length arrived → index ≤ length old.items → ((fact : Stated) → put_in_order goes_first (key, fact) (entries_at arrived old.items) ≡ insert (entries_at arrived old.items) index (key, fact)) → new.items ≡ insert old.items index place → vec_len new ≡ vec_len old + 1 → vec_capacity old ≤ vec_capacity new → Takes arrived (Some number) key lists (set lists number new)
-takes_set arrived number key lists old new index place can within read at_end index_within belongs items len capacity =
-    let here : places_in lists number ≡ old.items = value_at-read (λ v. v.items) [] lists number old within read in
-    let held : AreHeld (length arrived) old.items = subst (AreHeld (length arrived)) here (can.held number) in
-    let room : room_in lists number ≡ vec_capacity old - vec_len old = value_at-read (λ v. vec_capacity v - vec_len v) 0 lists number old within read in
+pub takes_put : {Z : Type 0} (arrived : List Entry) (number : ℕ) (key : Key) (old new : List (Vec Place Z)) (index : ℕ) (place : Place)
+    → CanTake arrived (Some number) old → place.at ≡ length arrived → index ≤ length (items_in old number)
+    → ((fact : Stated) → put_in_order goes_first (key, fact) (entries_at arrived (items_in old number)) ≡ insert
+    (entries_at arrived (items_in old number)) index (key, fact))
+    → PutsIn number index place old new → Takes arrived (Some number) key old new
+takes_put arrived number key old new index place can at_end within belongs puts =
     record {
-      held = λ n. rw (value_at-set (λ v. v.items) [] lists number new n within)
+      held = λ n. rw (puts.items n)
           (elim (cases_eq number n) [
-            | inl e ↦ rw (eq-eqb number n e, items) (held_insert (length arrived) place old.items index at_end held index_within)
-            | inr other ↦ rw (ne_eqb number n other) (held_more (length arrived) (places_in lists n) (can.held n))
+            | inl e ↦ rw (eq-eqb number n e, sym e) (held_insert (length arrived) place (items_in old number) index at_end (can.held number) within)
+            | inr other ↦ rw (ne_eqb number n other) (held_more (length arrived) (items_in old n) (can.held n))
           ]);
-      listed = λ n fact. rw (value_at-set (λ v. v.items) [] lists number new n within)
+      listed = λ n fact. rw (puts.items n)
           (elim (cases_eq number n) [
-            | inl e ↦ rw (eq-eqb number n e, items, sym e, here)
-                (entries_at-insert arrived (key, fact) place old.items index at_end held index_within ∙ sym (belongs fact))
-            | inr other ↦ rw (ne_eqb number n other) (entries_at-kept arrived (key, fact) (places_in lists n) (can.held n))
+            | inl e ↦ rw (eq-eqb number n e, sym e)
+                (entries_at-insert arrived (key, fact) place (items_in old number) index at_end (can.held number) within ∙ sym (belongs fact))
+            | inr other ↦ rw (ne_eqb number n other) (entries_at-kept arrived (key, fact) (items_in old n) (can.held n))
           ]);
-      room = λ n. rw (value_at-set (λ v. vec_capacity v - vec_len v) 0 lists number new n within)
-          (elim (cases_eq number n) [
-            | inl e ↦ rw (eq-eqb number n e, sym e, room) (omega arith)
-            | inr other ↦ rw (ne_eqb number n other) (omega arith)
-          ]);
+      room = puts.room;
     }

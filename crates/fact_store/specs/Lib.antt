@@ -1,3 +1,5 @@
 pub mod Inside
 pub mod Kept
 pub mod Lists
+pub mod Naming
+pub mod Takes

@@ -1,11 +1,11 @@
 //! Accepted facts, kept by component, process unit and instrument in key order. Reading one is counted.
 #![tactic(auto)]
 
-mod lists;
-mod numbers;
+mod index;
+pub mod lists;
+mod naming;
 mod place;
 mod put;
-mod room;
 mod steps;
 mod store;
 

@@ -1,15 +1,18 @@
-ghost use Rattle.std.specs.Prelude.{◌≡◌, ℕ, ◌+◌, ◌<◌, ◌≤◌, OnOk, vec_len};
-ghost use Rattle.fact_store.specs.Lists.{places_in, room_in, OnlyGrows};
+//! Lists by number. Room is made for elements first, so that putting one in takes no memory.
 
-use crate::place::Place;
+ghost use Rattle.std.specs.Prelude.{◌≡◌, ℕ, ◌+◌, ◌<◌, ◌≤◌, nat_eq, unwrap_or, if◌then◌else◌, IfOk, OnOk, vec_len, count_by, length};
+ghost use Rattle.std.specs.HashMap.{get};
+ghost use Rattle.fact_store.specs.Lists.{items_in, room_in, OnlyGrow, HaveRoomForEach, PutsIn};
+
 use std::alloc::{AllocError, Global};
+use std::collections::HashMap;
 
-/// Lists of places by number. One that isn't there is empty.
-pub type Lists = Vec<Vec<Place>>;
+/// Lists by number. One that isn't there is empty.
+pub type Lists<T> = Vec<Vec<T>>;
 
-/// The places in the list of a number.
-pub fn list_of(lists: &Lists, number: u16) -> &[Place]
-    ensures { result.now ≡ places_in lists.now.items number }
+/// The list of a number.
+pub fn list_of<T>(lists: &Lists<T>, number: u16) -> &[T]
+    ensures value { result.now ≡ items_in lists.now.items number }
 {
     let at = usize::from(number);
     if at < lists.len() {
@@ -20,8 +23,8 @@ pub fn list_of(lists: &Lists, number: u16) -> &[Place]
 }
 
 /// Adds empty lists until there are so many.
-fn grow(alloc: Global, lists: &mut Lists, count: usize) -> Result<(), AllocError>
-    ensures grows { OnlyGrows lists.old.items lists.new.items }
+fn grow<T: Drop>(alloc: Global, lists: &mut Lists<T>, count: usize) -> Result<(), AllocError>
+    ensures grows { OnlyGrow lists.old.items lists.new.items }
     ensures long { OnOk result (count ≤ vec_len lists.new) }
 {
     while lists.len() < count {
@@ -30,17 +33,57 @@ fn grow(alloc: Global, lists: &mut Lists, count: usize) -> Result<(), AllocError
     Ok(())
 }
 
-/// Makes room for so many more places in the list of a number.
-pub fn make_room(
+/// Makes room for so many more elements in the list of a number.
+fn make_room<T: Drop>(
     alloc: Global,
-    lists: &mut Lists,
+    lists: &mut Lists<T>,
     number: u16,
     count: usize,
 ) -> Result<(), AllocError>
-    ensures grows { OnlyGrows lists.old.items lists.new.items }
+    ensures grows { OnlyGrow lists.old.items lists.new.items }
     ensures roomy { OnOk result (count ≤ room_in lists.new.items number) }
 {
     let at = usize::from(number);
     grow(alloc, lists, at + 1)?;
     lists[at].reserve(count)
+}
+
+/// Counts a number once more. The result is how often it was counted.
+fn count_up(counts: &mut HashMap<u16, usize>, number: u16) -> Result<usize, AllocError>
+    requires { unwrap_or (get nat_eq counts.old number) 0 < usize.MAX }
+    ensures value { IfOk result (λ count. count ≡ unwrap_or (get nat_eq counts.old number) 0 + 1) }
+    ensures others { OnOk result ((q : ℕ) → unwrap_or (get nat_eq counts.new q) 0
+        ≡ unwrap_or (get nat_eq counts.old q) 0 + (if nat_eq number q then 1 else 0)) }
+{
+    let count = counts.entry(number)?.or_insert(0);
+    *count += 1;
+    Ok(*count)
+}
+
+/// Makes room for one more element in the list of each of these numbers, as often as it stands among them. After an
+/// error the lists hold what they held.
+pub fn make_rooms<T: Drop>(
+    alloc: Global,
+    lists: &mut Lists<T>,
+    numbers: &[u16],
+) -> Result<(), AllocError>
+    ensures grows { OnlyGrow lists.old.items lists.new.items }
+    ensures roomy { OnOk result (HaveRoomForEach numbers.now lists.new.items) }
+{
+    let mut counts = HashMap::new(alloc);
+    for number in numbers {
+        let count = count_up(&mut counts, *number)?;
+        make_room(alloc, lists, *number, count)?;
+    }
+    Ok(())
+}
+
+/// Puts an element into the list of a number, at an index. It takes no memory, since there is room.
+pub fn put_in<T: Drop>(lists: &mut Lists<T>, number: u16, index: usize, element: T)
+    requires roomy { 0 < room_in lists.old.items number }
+    requires within { index ≤ length (items_in lists.old.items number) }
+    ensures value { PutsIn number index element lists.old.items lists.new.items }
+{
+    // There is room, so this can't fail.
+    let _ = lists[usize::from(number)].insert(index, element);
 }

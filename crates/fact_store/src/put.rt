@@ -1,11 +1,11 @@
-ghost use Rattle.std.specs.Prelude.{◌≡◌, ℕ, ◌^◌, ◌<◌, ◌≤◌, length, insert};
+ghost use Rattle.std.specs.Prelude.{◌≡◌, ℕ, ◌^◌, ◌<◌, ◌≤◌, Some, length, insert};
 ghost use Rattle.list_words.specs.Order.{put_in_order, Ascends};
 ghost use Rattle.ldar_facts.specs.Facts.{goes_first};
 ghost use Rattle.ldar_facts.specs.Stated.{Stated};
 ghost use Rattle.fact_store.specs.Kept.{entries_at};
-ghost use Rattle.fact_store.specs.Lists.{AreHeld, CanTake, Takes, is_up_to};
+ghost use Rattle.fact_store.specs.Takes.{AreHeld, CanTake, Takes, is_up_to};
 
-use crate::lists::Lists;
+use crate::lists::{Lists, list_of, put_in};
 use crate::place::Place;
 use ldar_facts::{Fact, Key, precedes};
 
@@ -30,7 +30,7 @@ fn index_for(arrived: &[(Key, Fact)], places: &[Place], key: &Key) -> usize
 }
 
 /// Puts the place of one more fact, with this key, into the list of the number that it names, if it names one.
-pub fn put_place(lists: &mut Lists, arrived: &[(Key, Fact)], number: Option<u16>, key: &Key)
+pub fn put_place(lists: &mut Lists<Place>, arrived: &[(Key, Fact)], number: Option<u16>, key: &Key)
     requires takes { CanTake arrived.now number lists.old.items }
     requires few { length arrived.now < 2 ^ 32 }
     ensures { Takes arrived.now number key.now lists.old.items lists.new.items }
@@ -41,7 +41,7 @@ pub fn put_place(lists: &mut Lists, arrived: &[(Key, Fact)], number: Option<u16>
 }
 
 /// Puts the place of one more fact, with this key, into the list of this number.
-fn put_at(lists: &mut Lists, arrived: &[(Key, Fact)], number: u16, key: &Key)
+fn put_at(lists: &mut Lists<Place>, arrived: &[(Key, Fact)], number: u16, key: &Key)
     requires takes { CanTake arrived.now (Some number) lists.old.items }
     requires few { length arrived.now < 2 ^ 32 }
     ensures { Takes arrived.now (Some number) key.now lists.old.items lists.new.items }
@@ -49,8 +49,6 @@ fn put_at(lists: &mut Lists, arrived: &[(Key, Fact)], number: u16, key: &Key)
     let place = Place {
         at: arrived.len() as u32,
     };
-    let list = &mut lists[usize::from(number)];
-    let index = index_for(arrived, list.as_slice(), key);
-    // There is room, so this can't fail.
-    let _ = list.insert(index, place);
+    let index = index_for(arrived, list_of(lists, number), key);
+    put_in(lists, number, index, place);
 }

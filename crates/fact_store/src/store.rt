@@ -2,13 +2,11 @@ ghost use Rattle.std.specs.Prelude.{◌≡◌, ℕ, ◌+◌, ◌<◌, Some, fals
 ghost use Rattle.ldar_facts.specs.Named as named;
 ghost use Rattle.fact_store.specs.Kept.{Kept, ArePlacesOf, is_held};
 
-use crate::lists::{Lists, list_of};
-use crate::numbers::unit_number;
+use crate::index::Index;
+use crate::naming::Naming;
 use crate::place::Place;
-use crate::put::put_place;
-use crate::room::{room_by_component, room_by_instrument, room_by_reading, room_by_unit};
 use crate::steps::Steps;
-use ldar_facts::{Fact, Key, Memory, component_of, reading_instrument, tested_instrument};
+use ldar_facts::{Fact, Key, Memory};
 use std::alloc::Global;
 use std::marker::Model;
 use std::sync::ledger::Ledger;
@@ -21,10 +19,10 @@ pub struct FactStore {
     /// The facts that room was made for last, and how many of them have come.
     reserved: Vec<Fact>,
     used: usize,
-    components: Lists,
-    units: Lists,
-    instruments: Lists,
-    readings: Lists,
+    components: Index,
+    units: Index,
+    instruments: Index,
+    readings: Index,
 }
 
 impl Model for FactStore {
@@ -36,7 +34,7 @@ impl Model for FactStore {
 
     ghost view = { λ s. record { arrived = s.arrived.items; spare = drop s.used s.reserved.items } };
 
-    ghost invariant = { λ s. IsSound s.arrived (drop s.used s.reserved.items) s.components.items s.units.items s.instruments.items s.readings.items };
+    ghost invariant = { λ s. IsSound s.arrived (drop s.used s.reserved.items) s.components s.units s.instruments s.readings };
 }
 
 impl FactStore {
@@ -49,10 +47,10 @@ impl FactStore {
             arrived: Vec::new(alloc),
             reserved: Vec::new(alloc),
             used: 0,
-            components: Vec::new(alloc),
-            units: Vec::new(alloc),
-            instruments: Vec::new(alloc),
-            readings: Vec::new(alloc),
+            components: Index::new(alloc, Naming::Component),
+            units: Index::new(alloc, Naming::Unit),
+            instruments: Index::new(alloc, Naming::Tested),
+            readings: Index::new(alloc, Naming::Reading),
         }
     }
 
@@ -63,10 +61,10 @@ impl FactStore {
     {
         let reserved = Vec::from_slice(self.alloc, facts)?;
         self.arrived.reserve(facts.len())?;
-        room_by_component(self.alloc, &mut self.components, facts)?;
-        room_by_unit(self.alloc, &mut self.units, facts)?;
-        room_by_instrument(self.alloc, &mut self.instruments, facts)?;
-        room_by_reading(self.alloc, &mut self.readings, facts)?;
+        self.components.reserve(self.alloc, facts)?;
+        self.units.reserve(self.alloc, facts)?;
+        self.instruments.reserve(self.alloc, facts)?;
+        self.readings.reserve(self.alloc, facts)?;
         self.reserved = reserved;
         self.used = 0;
         Ok(())
@@ -80,25 +78,10 @@ impl FactStore {
         ensures { self.new ≡ record { arrived = self.old.arrived ++ (key, fact) ∷ []; spare = drop 1 self.old.spare } }
     {
         let arrived = self.arrived.as_slice();
-        put_place(
-            &mut self.components,
-            arrived,
-            component_of(&fact.body),
-            &key,
-        );
-        put_place(&mut self.units, arrived, unit_number(&fact.body), &key);
-        put_place(
-            &mut self.instruments,
-            arrived,
-            tested_instrument(&fact.body),
-            &key,
-        );
-        put_place(
-            &mut self.readings,
-            arrived,
-            reading_instrument(&fact.body),
-            &key,
-        );
+        self.components.put(arrived, &key, &fact.body);
+        self.units.put(arrived, &key, &fact.body);
+        self.instruments.put(arrived, &key, &fact.body);
+        self.readings.put(arrived, &key, &fact.body);
         self.arrived.push_reserved((key, fact));
         self.used += 1;
     }
@@ -107,28 +90,28 @@ impl FactStore {
     pub fn of_component(&self, component: u16) -> &[Place]
         ensures { ArePlacesOf named.component_of component self.now result.now }
     {
-        list_of(&self.components, component)
+        self.components.places_of(component)
     }
 
     /// The places of the facts that name a process unit.
     pub fn of_unit(&self, unit: u8) -> &[Place]
         ensures { ArePlacesOf named.unit_of unit self.now result.now }
     {
-        list_of(&self.units, u16::from(unit))
+        self.units.places_of(u16::from(unit))
     }
 
     /// The places of the calibrations, precision tests and drift assessments of an instrument.
     pub fn of_instrument(&self, instrument: u16) -> &[Place]
         ensures { ArePlacesOf named.tested_instrument instrument self.now result.now }
     {
-        list_of(&self.instruments, instrument)
+        self.instruments.places_of(instrument)
     }
 
     /// The places of the readings of an instrument.
     pub fn readings_of(&self, instrument: u16) -> &[Place]
         ensures { ArePlacesOf named.reading_instrument instrument self.now result.now }
     {
-        list_of(&self.readings, instrument)
+        self.readings.places_of(instrument)
     }
 
     /// The fact at a place, with its key. This is the only way to read one, and it counts.

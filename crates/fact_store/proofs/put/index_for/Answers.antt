@@ -1,7 +1,7 @@
 use Rattle.std.proofs.Common.{◌≡◌, true, false, rules}
 use Rattle.std.specs.List.Sorted.{IsPartitionPoint}
 use Rattle.std.proofs.lemmas.List.Sorted.{IsPartitionPoint-from_clause}
-use Rattle.fact_store.specs.Lists.{is_up_to}
+use Rattle.fact_store.specs.Takes.{is_up_to}
 use Rattle.fact_store.proofs.PlaceLemmas.{up_to_in_front, put_behind}
 use Rattle.fact_store.proofs.put.index_for.Goals as goal
 

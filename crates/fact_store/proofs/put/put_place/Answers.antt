@@ -1,5 +1,5 @@
 use Rattle.std.proofs.Common.{None}
-use Rattle.fact_store.specs.Lists.{CanTake}
+use Rattle.fact_store.specs.Takes.{CanTake}
 use Rattle.fact_store.proofs.TakeLemmas.{takes_none}
 use Rattle.fact_store.proofs.put.put_place.Goals as goal
 

@@ -1,0 +1,77 @@
+ghost use Rattle.std.specs.Prelude.{◌≡◌, ℕ, ◌<◌, ◌≤◌, IsTrue, IfOk, length, insert, option_map, unwrap_or};
+ghost use Rattle.std.specs.List.{filter_map};
+ghost use Rattle.list_words.specs.Order.{put_in_order, Ascends};
+ghost use Rattle.ldar_facts.specs.Named.{is_numbered};
+ghost use Rattle.fact_store.specs.Lists.{items_in, room_in};
+ghost use Rattle.ldar_law.specs.Force as force;
+ghost use Rattle.ldar_law.specs.RegisterLaws.{class_first};
+ghost use Rattle.component_register.specs.Classes.{class_named, TakesClass};
+
+use fact_store::lists::{Lists, list_of, put_in};
+use ldar_days::Day;
+use ldar_facts::{Class, Fact, FactBody, Key, precedes};
+use std::alloc::{AllocError, Global};
+
+/// The component of which a fact enters a class.
+fn reclassed(body: &FactBody) -> Option<u16>
+    ensures value { result ≡ class_named body.now }
+{
+    match *body {
+        FactBody::Class { component, .. } => Some(component),
+        _ => None,
+    }
+}
+
+/// The components of which some facts enter classes, as often as they do.
+pub fn reclassed_among(alloc: Global, facts: &[Fact]) -> Result<Vec<u16>, AllocError>
+    ensures value { IfOk result (λ numbers. numbers.items ≡ filter_map (λ fact. class_named fact.body) facts.now) }
+{
+    facts
+        .iter()
+        .filter_map(|fact| reclassed(&fact.body))
+        .collect(alloc)
+}
+
+/// Where a class that is entered with a key belongs among those of a component.
+fn index_for(classes: &[(Key, Class)], key: &Key) -> usize
+    requires { Ascends class_first classes.now }
+    ensures within { result ≤ length classes.now }
+    ensures value { (class : Class) → put_in_order class_first (key.now, class) classes.now
+        ≡ insert classes.now result (key.now, class) }
+{
+    classes.partition_point(|entered| !precedes(key, &entered.0))
+}
+
+/// Puts the class that a fact enters among those of its component, in key order.
+pub fn put_class(classes: &mut Lists<(Key, Class)>, key: &Key, body: &FactBody)
+    requires roomy { (n : ℕ) → IsTrue (is_numbered (class_named body.now) n) → 0 < room_in classes.old.items n }
+    requires ordered { (n : ℕ) → Ascends class_first (items_in classes.old.items n) }
+    ensures { TakesClass key.now body.now classes.old.items classes.new.items }
+{
+    if let FactBody::Class { component, class } = *body {
+        let index = index_for(list_of(classes, component), key);
+        put_in(classes, component, index, (*key, class));
+    }
+}
+
+/// The class that was entered, or another where none was.
+pub fn class_or(entered: &Option<(Key, Class)>, class: Class) -> Class
+    ensures value { result ≡ unwrap_or (option_map (λ entered. entered.1) entered.now) class }
+{
+    match *entered {
+        Some((_, entered)) => entered,
+        None => class,
+    }
+}
+
+/// The last class that was entered by a day.
+pub fn class_by(classes: &[(Key, Class)], day: Day) -> Option<(Key, Class)>
+    requires { Ascends class_first classes.now }
+    ensures value { result ≡ force.class_by day classes.now }
+{
+    let count = classes.partition_point(|entered| entered.0.day <= day);
+    if count == 0 {
+        return None;
+    }
+    Some(classes[count - 1])
+}
