@@ -1,0 +1,4 @@
+pub mod Heads
+pub mod Cuts
+pub mod Parsed
+pub mod Items
