@@ -2,3 +2,4 @@ pub mod Heads
 pub mod Cuts
 pub mod Parsed
 pub mod Items
+pub mod Answers
