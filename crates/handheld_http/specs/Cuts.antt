@@ -1,0 +1,69 @@
+-- What stands at the front of the bytes of a connection: a request, the beginning of one, or what is refused.
+use Rattle.std.specs.Prelude.{◌≡◌, ℕ, ◌+◌, ◌<◌, ◌≤◌, ◌⊎◌, Bool, List, length, take, Ok, Err}
+use Rattle.httparse.specs.Grammar.{RequestHead}
+use Rattle.handheld_http.specs.Heads.{longest_head, EndsHead, HasNoEnd, IsHead, pairs_of, body_length, closes}
+use Rattle.handheld_http.specs.declared.outcome.Cut.{Cut}
+use Rattle.handheld_http.specs.declared.outcome.Cut.TheVariants.{Whole, More, Refused}
+use Rattle.handheld_http.specs.declared.outcome.Front.{Front}
+use Rattle.handheld_http.specs.declared.outcome.Front.TheVariants.{Head, Unended, Refused as FrontRefused}
+
+-- the bytes begin with the head h, of so many bytes, which is followed by so many bytes of body
+pub record Begins (bytes : List ℕ) (head body : ℕ) (closing : Bool) (h : RequestHead) : Type 0 where
+  pub ends : EndsHead bytes head
+  pub reads : IsHead (take head bytes) h
+  pub length : body_length h.method (pairs_of h) ≡ Ok body
+  pub closing_is : closes h.minor (pairs_of h) ≡ closing
+
+-- the bytes begin with some head of a request
+abbrev pub BeginsRequest : List ℕ → ℕ → ℕ → Bool → Type 0
+BeginsRequest bytes head body closing = (h : RequestHead) × Begins bytes head body closing h
+
+-- no head ends in time
+pub record IsTooLong (bytes : List ℕ) (status : ℕ) : Type 0 where
+  pub endless : HasNoEnd bytes
+  pub long : longest_head ≤ length bytes
+  pub status_is : status ≡ 431
+
+-- what ends is no head
+pub record IsNoHead (bytes : List ℕ) (status : ℕ) : Type 0 where
+  pub head : ℕ
+  pub ends : EndsHead bytes head
+  pub none : (h : RequestHead) → ¬ (IsHead (take head bytes) h)
+  pub status_is : status ≡ 400
+
+-- the fields of the head rule out a body that is read here
+pub record HasNoBody (bytes : List ℕ) (status : ℕ) : Type 0 where
+  pub head : ℕ
+  pub h : RequestHead
+  pub ends : EndsHead bytes head
+  pub reads : IsHead (take head bytes) h
+  pub length : body_length h.method (pairs_of h) ≡ Err status
+
+-- the bytes are refused with this status, whatever follows
+abbrev pub Refuses : List ℕ → ℕ → Type 0
+Refuses bytes status = IsTooLong bytes status ⊎ (IsNoHead bytes status ⊎ HasNoBody bytes status)
+
+-- no head has ended yet
+pub record HasNoHeadYet (bytes : List ℕ) : Type 0 where
+  pub endless : HasNoEnd bytes
+  pub short : length bytes < longest_head
+
+-- what is known of the head at the front
+abbrev pub IsFront : List ℕ → Front → Type 0
+IsFront bytes (Head head body closing) = BeginsRequest bytes head body closing
+IsFront bytes Unended = HasNoHeadYet bytes
+IsFront bytes (FrontRefused status) = Refuses bytes status
+
+-- a head is there, and bytes of its body are missing
+pub record LacksBody (bytes : List ℕ) : Type 0 where
+  pub head : ℕ
+  pub body : ℕ
+  pub closing : Bool
+  pub begins : BeginsRequest bytes head body closing
+  pub short : length bytes < head + body
+
+-- what stands at the front
+abbrev pub IsCut : List ℕ → Cut → Type 0
+IsCut bytes (Whole head body closing) = BeginsRequest bytes head body closing × (head + body ≤ length bytes)
+IsCut bytes More = HasNoHeadYet bytes ⊎ LacksBody bytes
+IsCut bytes (Refused status) = Refuses bytes status

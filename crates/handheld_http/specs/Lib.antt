@@ -1,0 +1,5 @@
+pub mod Heads
+pub mod Cuts
+pub mod Parsed
+pub mod Items
+pub mod Answers

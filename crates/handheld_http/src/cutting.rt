@@ -1,0 +1,77 @@
+ghost use Rattle.std.specs.Prelude.{◌≡◌, ℕ, ◌≤◌, length, take, IfSome, IfNone};
+ghost use Rattle.handheld_http.specs.Heads.{EndsHead, HasNoEnd};
+ghost use Rattle.handheld_http.specs.Cuts.{IsFront, IsCut};
+
+use crate::heads::{LONGEST_HEAD, judge};
+use crate::outcome::{Cut, Front};
+use memchr::memmem;
+
+const EMPTY_LINE: &[u8] = &[13, 10, 13, 10];
+
+/// The bytes among which a head ends.
+fn front(bytes: &[u8]) -> &[u8]
+    ensures { result.now ≡ take 8192 bytes.now }
+{
+    if bytes.len() < LONGEST_HEAD {
+        return bytes;
+    }
+    &bytes[..LONGEST_HEAD]
+}
+
+/// Where the head at the front ends, if it ends.
+fn end_of_head(bytes: &[u8]) -> Option<usize>
+    ensures found { IfSome result (EndsHead bytes.now) }
+    ensures none { IfNone result (HasNoEnd bytes.now) }
+{
+    let Some(at) = memmem::find(front(bytes), EMPTY_LINE) else {
+        return None;
+    };
+    Some(at + EMPTY_LINE.len())
+}
+
+/// What is known of the request at the front by its head alone.
+pub fn head_of(bytes: &[u8]) -> Front
+    ensures value { IsFront bytes.now result }
+{
+    let Some(head) = end_of_head(bytes) else {
+        return unended(bytes);
+    };
+    match judge(&bytes[..head]) {
+        Ok(says) => Front::Head {
+            head,
+            body: says.body,
+            closing: says.closing,
+        },
+        Err(status) => Front::Refused { status },
+    }
+}
+
+/// What is known where no head ends.
+fn unended(bytes: &[u8]) -> Front
+    requires { HasNoEnd bytes.now }
+    ensures { IsFront bytes.now result }
+{
+    if bytes.len() < LONGEST_HEAD {
+        return Front::Unended;
+    }
+    Front::Refused { status: 431 }
+}
+
+/// What stands at the front of the bytes that came: a request, the beginning of one, or what is refused.
+pub fn cut(bytes: &[u8]) -> Cut
+    ensures value { IsCut bytes.now result }
+{
+    match head_of(bytes) {
+        Front::Head {
+            head,
+            body,
+            closing,
+        } if body <= bytes.len() - head => Cut::Whole {
+            head,
+            body,
+            closing,
+        },
+        Front::Head { .. } | Front::Unended => Cut::More,
+        Front::Refused { status } => Cut::Refused { status },
+    }
+}

@@ -1,0 +1,48 @@
+//! Laws of the requests of a connection. Each function has an empty body, and its clause says the law.
+
+ghost use Rattle.handheld_http.specs.Items.{OneCut, NoProperFront, ItemsAreInRange, HeadStays, RefusalStays, WholeIsItem, MoreIsNone, RefusedIsNone, ItemIsCut};
+
+/// Some bytes are cut in one way.
+pub fn one_cut()
+    ensures { OneCut }
+{}
+
+/// No request is a proper front of another.
+pub fn no_proper_front()
+    ensures { NoProperFront }
+{}
+
+/// A request has 4 to 270,336 bytes.
+pub fn items_are_in_range()
+    ensures { ItemsAreInRange }
+{}
+
+/// What a head says stays as more bytes come, so it is read once.
+pub fn head_stays()
+    ensures { HeadStays }
+{}
+
+/// What is refused stays refused.
+pub fn refusal_stays()
+    ensures { RefusalStays }
+{}
+
+/// A whole request that was cut is a request, closing or not as the cut says.
+pub fn whole_is_item()
+    ensures { WholeIsItem }
+{}
+
+/// Where more is awaited, no front is a request, and nothing is refused.
+pub fn more_is_none()
+    ensures { MoreIsNone }
+{}
+
+/// Where the bytes are refused, no front is a request, whatever follows.
+pub fn refused_is_none()
+    ensures { RefusedIsNone }
+{}
+
+/// A request is cut from what begins with it.
+pub fn item_is_cut()
+    ensures { ItemIsCut }
+{}

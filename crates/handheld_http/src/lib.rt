@@ -1,0 +1,21 @@
+//! HTTP requests with batches as JSON: where a request ends, what it asks, and the bytes of each answer.
+#![tactic(auto)]
+
+mod answer;
+mod cutting;
+mod fields;
+mod heads;
+pub mod laws;
+mod outcome;
+mod paragraph;
+mod reply_line;
+mod response;
+
+pub use answer::{Answer, Asked, Refusal};
+pub use cutting::{cut, head_of};
+pub use heads::{LONGEST_BODY, LONGEST_HEAD};
+pub use outcome::{Cut, Front};
+pub use response::reply_bytes;
+
+#[cfg(test)]
+mod tests;
