@@ -11,12 +11,13 @@ use Rattle.ldar_facts.specs.declared.batch.Batch.{Batch}
 use Rattle.ldar_facts.specs.Grammar.{Spells}
 use Rattle.ldar_facts.specs.Identity.{identity_of, position_of}
 use Rattle.ldar_facts.proofs.GrammarLaws.{spelling_length}
-use Rattle.ldar_journal.specs.Image.{header, Opens}
+use Rattle.ldar_journal.specs.Image.{header, batches_of, Opens}
 use Rattle.ldar_journal.specs.Damage.{IsDamagedAt}
-use Rattle.ldar_journal.specs.Shelf.{OpensEither}
-use Rattle.ldar_journal.specs.Opening.{IsRefused}
+use Rattle.ldar_journal.specs.Shelf.{OpensToEither, OpensEither}
+use Rattle.ldar_journal.specs.Opening.{IsOpened, IsRefused}
 use Rattle.ldar_journal.specs.declared.opening.OpenWhy.{OpenWhy}
 use Rattle.ldar_journal.specs.declared.opening.OpenWhy.TheVariants.{Disk, NotAJournal, Damaged, Memory as OpenMemory}
+use Rattle.ldar_journal.proofs.ShelfLemmas.{either_history}
 use Rattle.ldar_journal.proofs.Histories.{damaged_opens_to_none, no_header_opens_to_none}
 use Rattle.ldar_cli.specs.declared.status.Status.{Status}
 use Rattle.ldar_cli.specs.declared.status.Status.TheVariants.{Done, Usage, ReadFault, WriteFault, DiskFault, Memory, NoJournal, BadInput, NotEmpty}
@@ -88,22 +89,41 @@ opens_after : (bytes : List ℕ) (after doubt : List Batch) → doubt ≡ [] →
 opens_after bytes after doubt none (inl opens) = opens
 opens_after bytes after doubt none (inr opens) = subst (Opens bytes) (ap (λ (d : List Batch). after ++ d) none ∙ append-nil after) opens
 
+-- what a journal that was opened opens to
+pub opened_history : (old new : Option (List ℕ)) (frames : List (List Batch)) (history : List Batch) → IsOpened old new frames → batches_of frames ≡ history
+    → Told new (λ bytes. Opens bytes history)
+opened_history None None frames history opens are = tt
+opened_history None (Some new) frames history opens are = absurd opens
+opened_history (Some old) None frames history opens are = absurd opens
+opened_history (Some old) (Some new) frames history opens are = subst (λ (bytes : List ℕ). Opens bytes history) (sym opens.0) (frames, are, opens.1)
+
 -- what is answered where the batch was added
-pub Carries-added : (old new : Option (List ℕ)) (history after doubt : List Batch) (batch : Batch) (position : ℕ) (line : List ℕ)
+pub Carries-added : (old new : Option (List ℕ)) (frames : List (List Batch)) (history after doubt : List Batch) (batch : Batch) (position : ℕ) (line : List ℕ)
     → Told old (λ bytes. Opens bytes history) → BothTold old new (λ old new. length old ≤ length new)
-    → Told new (λ bytes. OpensEither bytes after doubt) → doubt ≡ [] → Accepts history batch position after
+    → Told new (λ bytes. OpensToEither bytes frames doubt) → batches_of frames ≡ after → doubt ≡ [] → Accepts history batch position after
     → line ≡ line_of (Receipt batch.handheld batch.number position) → BothTold old new (Carries history batch line)
-Carries-added None None history after doubt batch position line opened grows opens none accepts says = tt
-Carries-added None (Some new) history after doubt batch position line opened grows opens none accepts says = absurd grows
-Carries-added (Some old) None history after doubt batch position line opened grows opens none accepts says = absurd grows
-Carries-added (Some old) (Some new) history after doubt batch position line opened grows opens none accepts says = record {
+Carries-added None None frames history after doubt batch position line opened grows opens are none accepts says = tt
+Carries-added None (Some new) frames history after doubt batch position line opened grows opens are none accepts says = absurd grows
+Carries-added (Some old) None frames history after doubt batch position line opened grows opens are none accepts says = absurd grows
+Carries-added (Some old) (Some new) frames history after doubt batch position line opened grows opens are none accepts says = record {
   reply = Receipt batch.handheld batch.number position;
   after = after;
   opened = opened;
-  opens = opens_after new after doubt none opens;
+  opens = opens_after new after doubt none (either_history new frames after doubt are opens);
   docks = (refl, refl, inr accepts);
   says = says;
 }
+
+-- what a journal whose append failed opens to
+pub torn : (old new : Option (List ℕ)) (frames : List (List Batch)) (history doubt : List Batch) (batch : Batch) → Told old (λ bytes. Opens bytes history)
+    → BothTold old new (λ old new. length old ≤ length new) → Told new (λ bytes. OpensToEither bytes frames doubt) → batches_of frames ≡ history
+    → (doubt ≡ []) ⊎ (doubt ≡ batch ∷ []) → BothTold old new (λ old new. Opens old history × OpensEither new history (batch ∷ []))
+torn None None frames history doubt batch opened grows opens are is = tt
+torn None (Some new) frames history doubt batch opened grows opens are is = absurd grows
+torn (Some old) None frames history doubt batch opened grows opens are is = absurd grows
+torn (Some old) (Some new) frames history doubt batch opened grows opens are (inl none) = (opened, inl (opens_after new history doubt none (either_history new frames history doubt are opens)))
+torn (Some old) (Some new) frames history doubt batch opened grows opens are (inr one) =
+    (opened, subst (λ (d : List Batch). OpensEither new history d) one (either_history new frames history doubt are opens))
 
 -- ---- ends
 
@@ -118,6 +138,12 @@ pub ends_bad : (content : Option (List ℕ)) (history : List Batch) → Told con
     → BothTold content content (λ old new. (new ≡ old) × (before : List Batch) × Opens old before)
 ends_bad None history opens = tt
 ends_bad (Some bytes) history opens = (refl, history, opens)
+
+-- a read fault or want of memory before a batch was taken
+pub ends_early : (status : Status) (taken : List ℕ) (left content : Option (List ℕ)) (history : List Batch) → (status ≡ ReadFault) ⊎ (status ≡ Memory)
+    → Told content (λ bytes. Opens bytes history) → DockEnds status taken left [] content content
+ends_early status taken left content history (inl fault) opens = rw fault (refl, ends_bad content history opens)
+ends_early status taken left content history (inr wanted) opens = rw wanted (refl, Same-itself content)
 
 -- an input that is one batch was taken to its end
 pub HasEnded-batch : (left : Option (List ℕ)) (taken : List ℕ) (batch : Batch) → Spells taken batch → HasEnded left ⊎ (11_785 < length taken) → HasEnded left

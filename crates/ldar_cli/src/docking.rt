@@ -6,7 +6,7 @@ ghost use Rattle.ldar_ports.specs.Source.{Takes};
 ghost use Rattle.ldar_ports.specs.Sink.{Piece, Puts, bytes_of};
 ghost use Rattle.ldar_facts.specs.declared.batch.Batch.{Batch};
 ghost use Rattle.ldar_facts.specs.Identity.{identity_of, position_of};
-ghost use Rattle.ldar_journal.specs.Image.{Opens};
+ghost use Rattle.ldar_journal.specs.Image.{batches_of, Opens};
 ghost use Rattle.ldar_cli.specs.Dock.{line_of, Docks, IsNew};
 ghost use Rattle.ldar_cli.specs.declared.reply.Reply.{Reply};
 ghost use Rattle.ldar_cli.specs.Run.{DockEnds};
@@ -68,7 +68,7 @@ fn dock_into<S: Source, D: Disk, K: Sink>(
     journal: &mut Journal<D>,
     accepted: &Accepted,
 ) -> Status
-    requires same { journal.old.history ≡ accepted.now }
+    requires same { batches_of journal.old.frames ≡ accepted.now }
     requires settled { journal.old.doubt ≡ [] }
     requires opens { Told (D.content journal.old.disk) (λ bytes. Opens bytes accepted.now) }
     ensures ends { (taken : List ℕ) × (put : List Piece)
@@ -112,7 +112,7 @@ fn keep<D: Disk>(
     accepted: &Accepted,
     batch: Batch,
 ) -> Result<String, Status>
-    requires same { journal.old.history ≡ accepted.now }
+    requires same { batches_of journal.old.frames ≡ accepted.now }
     requires settled { journal.old.doubt ≡ [] }
     requires opens { Told (D.content journal.old.disk) (λ bytes. Opens bytes accepted.now) }
     ensures value { IfOk result (λ line. BothTold (D.content journal.old.disk) (D.content journal.new.disk)
@@ -153,7 +153,7 @@ fn add<D: Disk>(
     accepted: &Accepted,
     batch: Batch,
 ) -> Result<String, Status>
-    requires same { journal.old.history ≡ accepted.now }
+    requires same { batches_of journal.old.frames ≡ accepted.now }
     requires settled { journal.old.doubt ≡ [] }
     requires opens { Told (D.content journal.old.disk) (λ bytes. Opens bytes accepted.now) }
     requires is_new { IsNew accepted.now batch }

@@ -3,7 +3,7 @@ use Rattle.std.specs.Prelude.{◌≡◌, ◌⊎◌, ℕ, ◌≤◌, List, ◌++�
 use Rattle.ldar_facts.specs.declared.batch.Batch.{Batch}
 use Rattle.ldar_journal.specs.declared.opening.OpenWhy.{OpenWhy}
 use Rattle.ldar_journal.specs.declared.opening.OpenWhy.TheVariants.{Disk, NotAJournal, Damaged, Memory}
-use Rattle.ldar_journal.specs.Image.{frame, IsFrame, IsFront, IsKept}
+use Rattle.ldar_journal.specs.Image.{frame, batches_of, IsFrame, IsFront, IsKept}
 
 -- a frame of these batches stands open at the place, and may be kept after this history
 pub record IsNextFrame (image : List ℕ) (place : ℕ) (history batches : List Batch) : Type 0 where
@@ -15,12 +15,12 @@ pub record IsNextFrame (image : List ℕ) (place : ℕ) (history batches : List 
 -- The first bad frame has its gate at this place: before it stand good frames, and none stands here. Where no frame is bad,
 -- the place is the end of the image, at which a gate is missing.
 pub record IsDamagedAt (image : List ℕ) (place : ℕ) : Type 0 where
-  pub history : List Batch
+  pub frames : List (List Batch)
   pub within : place ≤ length image
-  pub front : IsFront (take place image) history
-  pub kept : IsKept history
+  pub front : IsFront (take place image) frames
+  pub kept : IsKept (batches_of frames)
   pub open_gate : (place ≡ length image) ⊎ (slice_index image place ≡ 1)
-  pub bad : (batches : List Batch) → ¬ (IsNextFrame image place history batches)
+  pub bad : (batches : List Batch) → ¬ (IsNextFrame image place (batches_of frames) batches)
 
 -- a fact for one reason
 abbrev pub OnNotAJournal : Type 0 → OpenWhy → Type 0

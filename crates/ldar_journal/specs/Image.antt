@@ -1,5 +1,5 @@
 -- The bytes of a journal, and the history that they open to.
-use Rattle.std.specs.Prelude.{◌≡◌, ◌≢◌, ℕ, ◌<◌, ◌≤◌, List, ◌∷◌, ◌++◌, length, take, codes, replicate, sum_by, slice_index, IsTrue}
+use Rattle.std.specs.Prelude.{◌≡◌, ◌≢◌, ℕ, ◌+◌, ◌<◌, ◌≤◌, List, ◌∷◌, ◌++◌, length, take, codes, replicate, sum_by, slice_index, IsTrue}
 use Rattle.std.specs.List.{flat_map, AllByRecursion}
 use Rattle.ldar_facts.specs.declared.batch.Batch.{Batch}
 use Rattle.ldar_facts.specs.Fields.{IsFilled, big_endian}
@@ -32,11 +32,17 @@ pub record IsFrame (batches : List Batch) : Type 0 where
   pub fits : length batches ≤ 16
   pub each : AllByRecursion IsBatch batches
 
--- these bytes are the header and whole open frames, whose batches in order are the history
-pub record IsFront (front : List ℕ) (history : List Batch) : Type 0 where
-  pub frames : List (List Batch)
+-- the batches of frames, one frame after the other
+abbrev pub batches_of : List (List Batch) → List Batch
+batches_of frames = flat_map (λ batches. batches) frames
+
+-- where the gate behind these frames stands: each takes its gate, four bytes of length and its payload
+abbrev pub end_of : List (List Batch) → ℕ
+end_of frames = 16 + sum_by (λ batches. 5 + length (payload batches)) frames
+
+-- these bytes are the header and these frames, whole and open, one after the other
+pub record IsFront (front : List ℕ) (frames : List (List Batch)) : Type 0 where
   pub each : AllByRecursion IsFrame frames
-  pub batches : flat_map (λ batches. batches) frames ≡ history
   pub spells : front ≡ header ++ flat_map frame frames
 
 -- how many facts the batches have
@@ -48,13 +54,17 @@ pub record IsKept (history : List Batch) : Type 0 where
   pub differ : IsTrue (identities_differ history)
   pub fits : fact_count history ≤ 8_000_000
 
--- the image opens to this history, whose last frame ends at this place, at which a closed gate stands; what follows it is free
-pub record EndsAt (image : List ℕ) (place : ℕ) (history : List Batch) : Type 0 where
+-- the image opens to these frames, the last of which ends at this place, at which a closed gate stands; what follows it is free
+pub record EndsAt (image : List ℕ) (place : ℕ) (frames : List (List Batch)) : Type 0 where
   pub within : place < length image
-  pub front : IsFront (take place image) history
+  pub front : IsFront (take place image) frames
   pub closed : slice_index image place ≢ 1
-  pub kept : IsKept history
+  pub kept : IsKept (batches_of frames)
 
--- the image opens to this history
+-- the image opens to these frames
+abbrev pub OpensTo : List ℕ → List (List Batch) → Type 0
+OpensTo image frames = (place : ℕ) × EndsAt image place frames
+
+-- the image opens to this history: frames whose batches in order it is
 abbrev pub Opens : List ℕ → List Batch → Type 0
-Opens image history = (place : ℕ) × EndsAt image place history
+Opens image history = (frames : List (List Batch)) × (batches_of frames ≡ history) × OpensTo image frames

@@ -1,39 +1,49 @@
 -- A journal over its disk.
-use Rattle.std.specs.Prelude.{◌≡◌, ◌⊎◌, ℕ, ◌+◌, ◌*◌, ◌<◌, ◌≤◌, Option, List, [], ◌∷◌, ◌++◌, length, take, drop}
+use Rattle.std.specs.Prelude.{◌≡◌, ◌⊎◌, ℕ, ◌+◌, ◌<◌, Option, List, [], ◌∷◌, ◌++◌, length, take, drop}
+use Rattle.std.specs.List.{AllByRecursion}
 use Rattle.disk_model.specs.Told.{Told}
 use Rattle.ldar_facts.specs.declared.batch.Batch.{Batch}
 use Rattle.ldar_facts.specs.Fields.{big_endian}
-use Rattle.ldar_journal.specs.Image.{payload, fact_count, IsFrame, IsFront, IsKept, EndsAt, Opens}
+use Rattle.ldar_journal.specs.Image.{payload, batches_of, end_of, IsFrame, IsFront, IsKept, EndsAt, OpensTo, Opens}
 
--- a journal as contracts see it: its disk, its batches, and the batches of a frame that may stand or not, if any
+-- a journal as contracts see it: its disk, its frames, and the batches of one more frame that may stand or not, if any
 pub record Shelf (D : Type 0) : Type 0 where
   pub disk : D
-  pub history : List Batch
+  pub frames : List (List Batch)
   pub doubt : List Batch
 
 -- what follows the gate of a frame: its length, its payload and a closed gate
 abbrev pub behind_gate : List Batch → List ℕ
 behind_gate batches = big_endian 4 (length (payload batches)) ++ payload batches ++ 0 ∷ []
 
--- the whole frame of these batches stands behind a gate at this place, whatever the gate holds, and may be kept after this history
-pub record IsInDoubt (bytes : List ℕ) (place : ℕ) (history batches : List Batch) : Type 0 where
+-- behind these frames the whole frame of these batches stands behind a gate at this place, whatever the gate holds, and may be kept
+pub record IsInDoubt (bytes : List ℕ) (place : ℕ) (frames : List (List Batch)) (batches : List Batch) : Type 0 where
   pub within : place < length bytes
-  pub front : IsFront (take place bytes) history
+  pub front : IsFront (take place bytes) frames
   pub is : IsFrame batches
-  pub kept : IsKept (history ++ batches)
+  pub kept : IsKept (batches_of frames ++ batches)
   pub rest : List ℕ
   pub stands : drop (place + 1) bytes ≡ behind_gate batches ++ rest
 
 -- a closed gate stands at the place, or a frame in doubt
-abbrev pub Stands : List ℕ → ℕ → List Batch → List Batch → Type 0
-Stands bytes place history [] = EndsAt bytes place history
-Stands bytes place history (batch ∷ batches) = IsInDoubt bytes place history (batch ∷ batches)
+abbrev pub Stands : List ℕ → ℕ → List (List Batch) → List Batch → Type 0
+Stands bytes place frames [] = EndsAt bytes place frames
+Stands bytes place frames (batch ∷ batches) = IsInDoubt bytes place frames (batch ∷ batches)
+
+-- what a journal knows of itself, whatever its disk tells: its frames may be kept, and its gate stands behind them
+pub record IsCounted (place : ℕ) (frames : List (List Batch)) : Type 0 where
+  pub each : AllByRecursion IsFrame frames
+  pub kept : IsKept (batches_of frames)
+  pub at_end : place ≡ end_of frames
 
 -- what a journal keeps of its disk and its place
-pub record IsShelved (content : Option (List ℕ)) (place : ℕ) (history doubt : List Batch) : Type 0 where
-  pub stands : Told content (λ bytes. Stands bytes place history doubt)
-  pub kept : IsKept history
-  pub fits : place ≤ 16 + 188_565 * fact_count history
+pub record IsShelved (content : Option (List ℕ)) (place : ℕ) (frames : List (List Batch)) (doubt : List Batch) : Type 0 where
+  pub stands : Told content (λ bytes. Stands bytes place frames doubt)
+  pub counted : IsCounted place frames
+
+-- the bytes open to the frames, or to these and one more with the batches in doubt
+abbrev pub OpensToEither : List ℕ → List (List Batch) → List Batch → Type 0
+OpensToEither bytes frames doubt = OpensTo bytes frames ⊎ OpensTo bytes (frames ++ doubt ∷ [])
 
 -- the bytes open to the history, or to it with the batches in doubt
 abbrev pub OpensEither : List ℕ → List Batch → List Batch → Type 0

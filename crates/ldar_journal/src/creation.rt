@@ -1,5 +1,6 @@
 ghost use Rattle.std.specs.Prelude.{◌≡◌, ◌⊎◌, ◌<◌, ◌≤◌, [], ◌∷◌, ◌++◌, length, OnOk, Err};
 ghost use Rattle.disk_model.specs.Faults.{Rose};
+ghost use Rattle.disk_model.specs.Keeps.{Keeps};
 ghost use Rattle.disk_model.specs.Told.{BothTold};
 ghost use Rattle.ldar_journal.specs.Image.{header};
 
@@ -38,9 +39,7 @@ pub fn create<D: Disk>(disk: &mut D) -> Result<(), CreateError>
     ensures after_fault { result ≡ Err CreateError.Disk → BothTold (D.content disk.old) (D.content disk.new)
         (λ old new. (new ≡ old) ⊎ ((old ≡ []) × (length new ≤ 17))) }
 
-    ensures time { D.clock disk.old ≤ D.clock disk.new }
-    ensures name { D.name disk.new ≡ D.name disk.old }
-    ensures count { D.faults disk.old ≤ D.faults disk.new }
+    ensures keeps { Keeps D.clock D.name D.faults disk.old disk.new }
     ensures cause { result ≡ Err CreateError.Disk → Rose (D.faults disk.old) (D.faults disk.new) }
 {
     let mut first = [0u8; 1];

@@ -40,35 +40,34 @@ impl Chapter {
     }
 }
 
-/// The batches of chapters one after the other, for proofs alone.
+/// Frames one after the other, each as its batches, for proofs alone.
 #[derive(Drop)]
-pub struct History {
+pub struct Frames {
     chapters: Log<Chapter, ()>,
 }
 
-impl Model for History {
-    ghost use Rattle.std.specs.Prelude.{List};
-    ghost use Rattle.std.specs.List.{flat_map};
+impl Model for Frames {
+    ghost use Rattle.std.specs.Prelude.{List, map};
     ghost use Rattle.ldar_facts.specs.declared.batch.Batch.{Batch};
 
-    ghost Value = { List Batch };
+    ghost Value = { List (List Batch) };
 
-    ghost view = { λ h. flat_map (λ e. e.0) h.chapters.items };
+    ghost view = { λ f. map (λ e. e.0) f.chapters.items };
 }
 
-impl History {
-    /// No batch.
-    pub fn new() -> History
+impl Frames {
+    /// No frame.
+    pub fn new() -> Frames
         ensures value { result ≡ [] }
     {
-        History {
+        Frames {
             chapters: Log::new(),
         }
     }
 
-    /// Goes on with a chapter.
+    /// Goes on with a frame of these batches.
     pub fn push(&mut self, chapter: &Chapter)
-        ensures value { self.new ≡ self.old ++ chapter.now }
+        ensures value { self.new ≡ self.old ++ chapter.now ∷ [] }
     {
         self.chapters = self.chapters.and(chapter, &());
     }

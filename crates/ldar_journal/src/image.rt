@@ -1,10 +1,12 @@
-ghost use Rattle.std.specs.Prelude.{◌≡◌, ◌≢◌, ◌+◌, ◌*◌, ◌<◌, ◌≤◌, ◌++◌, length, take, slice_index, Err, IfOk, IfErr};
+ghost use Rattle.std.specs.Prelude.{◌≡◌, ◌≢◌, ◌<◌, ◌++◌, length, take, slice_index, Err, IfOk, IfErr};
 ghost use Rattle.std.specs.Bool.{MatchBool};
-ghost use Rattle.ldar_journal.specs.Image.{header, fact_count, IsKept, EndsAt};
+ghost use Rattle.ldar_journal.specs.Image.{header, batches_of, IsKept, EndsAt};
+ghost use Rattle.ldar_journal.specs.Shelf.{IsCounted};
 ghost use Rattle.ldar_journal.specs.Damage.{OnNotAJournal, IfDamaged, IsDamagedAt};
 
 use crate::accepted::Accepted;
 use crate::frame::frame_at;
+use crate::history::{Chapter, Frames};
 use crate::opening::OpenWhy;
 use ldar_facts::{Batch, Memory};
 use std::alloc::Global;
@@ -12,11 +14,20 @@ use std::alloc::Global;
 /// What a journal begins with: its name and version in letters, and eight zero bytes.
 pub const HEADER: [u8; 16] = *b"LDARJNL1\0\0\0\0\0\0\0\0";
 
-/// The history that an image opens to, and the place of its closed gate.
-pub fn read_image(alloc: Global, image: &[u8]) -> Result<(Accepted, usize), OpenWhy>
-    ensures value { IfOk result (λ found. EndsAt image.now found.1 found.0) }
-    ensures kept { IfOk result (λ found. IsKept found.0) }
-    ensures in_range { IfOk result (λ found. found.1 ≤ 16 + 188_565 * fact_count found.0) }
+/// What an image opens to.
+#[derive(Drop)]
+pub struct Opened {
+    pub accepted: Accepted,
+    pub frames: Frames,
+    /// The place of the closed gate.
+    pub end: usize,
+}
+
+/// The batches and the frames that an image opens to, and the place of its closed gate.
+pub fn read_image(alloc: Global, image: &[u8]) -> Result<Opened, OpenWhy>
+    ensures value { IfOk result (λ opened. EndsAt image.now opened.end opened.frames) }
+    ensures batches { IfOk result (λ opened. opened.accepted ≡ batches_of opened.frames) }
+    ensures counted { IfOk result (λ opened. IsCounted opened.end opened.frames) }
     ensures not_a_journal { IfErr result (OnNotAJournal (take 16 image.now ≢ header)) }
     ensures no_fault { result ≢ Err OpenWhy.Disk }
     ensures damaged { IfErr result (IfDamaged (IsDamagedAt image.now)) }
@@ -25,21 +36,28 @@ pub fn read_image(alloc: Global, image: &[u8]) -> Result<(Accepted, usize), Open
         return Err(OpenWhy::NotAJournal);
     }
     let mut accepted = Accepted::new(alloc);
+    let mut frames = Frames::new();
     let mut place = 16;
     while is_open(image, place) {
         let (_, rest) = image.split_at(place);
         let Some((batches, used)) = frame_at(alloc, rest)? else {
             return Err(OpenWhy::Damaged { at: place as u64 });
         };
+        let chapter = Chapter::of(&batches);
         if !adopt_all(&mut accepted, batches)? {
             return Err(OpenWhy::Damaged { at: place as u64 });
         }
+        frames.push(&chapter);
         place += used;
     }
     if place == image.len() {
         return Err(OpenWhy::Damaged { at: place as u64 });
     }
-    Ok((accepted, place))
+    Ok(Opened {
+        accepted,
+        frames,
+        end: place,
+    })
 }
 
 /// Whether the header stands at the front.

@@ -1,8 +1,24 @@
 //! Laws of the journal's bytes, as contracts of functions with nothing to do.
-ghost use Rattle.std.specs.Prelude.{◌≡◌, ◌≢◌, ℕ, List, take};
+ghost use Rattle.std.specs.Prelude.{◌≡◌, ◌≢◌, ℕ, List, [], ◌∷◌, ◌++◌, take, drop};
 ghost use Rattle.ldar_facts.specs.declared.batch.Batch.{Batch};
-ghost use Rattle.ldar_journal.specs.Image.{header, Opens};
+ghost use Rattle.ldar_journal.specs.Image.{header, frame, end_of, EndsAt, OpensTo, Opens};
 ghost use Rattle.ldar_journal.specs.Damage.{IsDamagedAt};
+
+/// Bytes open to at most one row of frames.
+pub fn one_row_of_frames()
+    ensures { (image : List ℕ) (one other : List (List Batch)) → OpensTo image one → OpensTo image other → one ≡ other }
+{}
+
+/// How long a journal is: its frames say where its gate stands.
+pub fn gate_behind_the_frames()
+    ensures { (image : List ℕ) (place : ℕ) (frames : List (List Batch)) → EndsAt image place frames → place ≡ end_of frames }
+{}
+
+/// Where each frame stands: at the end of those before it.
+pub fn frame_behind_those_before()
+    ensures { (image : List ℕ) (before : List (List Batch)) (batches : List Batch) (after : List (List Batch))
+        → OpensTo image (before ++ batches ∷ after) → (rest : List ℕ) × (drop (end_of before) image ≡ frame batches ++ rest) }
+{}
 
 /// Bytes open to at most one history.
 pub fn one_history()

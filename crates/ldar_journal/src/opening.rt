@@ -1,13 +1,15 @@
-ghost use Rattle.std.specs.Prelude.{◌≡◌, ◌≢◌, ◌+◌, ◌*◌, ◌<◌, ◌≤◌, [], length, take, true, false, Ok, Err, IfOk, OnOk, IfErr};
+ghost use Rattle.std.specs.Prelude.{◌≡◌, ◌≢◌, ◌<◌, ◌≤◌, [], length, take, true, false, Ok, Err, IfOk, OnOk, IfErr, MatchResult};
 ghost use Rattle.disk_model.specs.Faults.{Rose};
+ghost use Rattle.disk_model.specs.Keeps.{Keeps};
 ghost use Rattle.disk_model.specs.Told.{Told, BothTold};
-ghost use Rattle.ldar_journal.specs.Image.{header, fact_count, IsKept, EndsAt};
-ghost use Rattle.ldar_journal.specs.Opening.{IsOpened, IsRefused, GoesOn};
+ghost use Rattle.ldar_journal.specs.Image.{header, batches_of, IsKept, EndsAt};
+ghost use Rattle.ldar_journal.specs.Shelf.{IsCounted};
+ghost use Rattle.ldar_journal.specs.Opening.{IsOpened, IsRefused};
 ghost use Rattle.ldar_journal.specs.Damage.{OnNotAJournal, IfDamaged, IsDamagedAt};
 ghost use Rattle.ldar_journal.specs.Piece.{IsFrontOf, IsFaultOrMemory};
 
 use crate::accepted::Accepted;
-use crate::image::read_image;
+use crate::image::{Opened, read_image};
 use crate::journal::Journal;
 use disk_model::{Disk, DiskFault};
 use ldar_facts::Batch;
@@ -62,13 +64,12 @@ pub fn open_journal<D: Disk>(
     alloc: Global,
     disk: D,
 ) -> Result<(Journal<D>, Vec<Batch>), OpenError<D>>
-    ensures value { IfOk result (λ r. (r.0.history ≡ r.1.items) × (r.0.doubt ≡ [])) }
-    ensures opens { IfOk result (λ r. IsOpened (D.content disk) (D.content r.0.disk) r.1.items) }
+    ensures value { IfOk result (λ r. (batches_of r.0.frames ≡ r.1.items) × (r.0.doubt ≡ [])) }
+    ensures opens { IfOk result (λ r. IsOpened (D.content disk) (D.content r.0.disk) r.0.frames) }
     ensures kept { IfOk result (λ r. IsKept r.1.items) }
     ensures refused { IfErr result (λ e. IsRefused (D.content disk) (D.content e.disk) e.why) }
     ensures cause { IfErr result (λ e. e.why ≡ OpenWhy.Disk → Rose (D.faults disk) (D.faults e.disk)) }
-    ensures goes_on { IfOk result (λ r. GoesOn (D.clock disk) (D.faults disk) (D.name disk) (D.clock r.0.disk) (D.faults r.0.disk) (D.name r.0.disk)) }
-    ensures goes_on_err { IfErr result (λ e. GoesOn (D.clock disk) (D.faults disk) (D.name disk) (D.clock e.disk) (D.faults e.disk) (D.name e.disk)) }
+    ensures keeps { MatchResult result (λ r. Keeps D.clock D.name D.faults disk r.0.disk) (λ e. Keeps D.clock D.name D.faults disk e.disk) }
 {
     let (journal, accepted) = open_accepted(alloc, disk)?;
     Ok((journal, accepted.into_batches()))
@@ -79,44 +80,44 @@ pub fn open_accepted<D: Disk>(
     alloc: Global,
     disk: D,
 ) -> Result<(Journal<D>, Accepted), OpenError<D>>
-    ensures value { IfOk result (λ r. (r.0.history ≡ r.1) × (r.0.doubt ≡ [])) }
-    ensures opens { IfOk result (λ r. IsOpened (D.content disk) (D.content r.0.disk) r.1) }
+    ensures value { IfOk result (λ r. (batches_of r.0.frames ≡ r.1) × (r.0.doubt ≡ [])) }
+    ensures opens { IfOk result (λ r. IsOpened (D.content disk) (D.content r.0.disk) r.0.frames) }
     ensures kept { IfOk result (λ r. IsKept r.1) }
 
     // Why it was not opened; the bytes stay.
     ensures refused { IfErr result (λ e. IsRefused (D.content disk) (D.content e.disk) e.why) }
     ensures cause { IfErr result (λ e. e.why ≡ OpenWhy.Disk → Rose (D.faults disk) (D.faults e.disk)) }
 
-    ensures goes_on { IfOk result (λ r. GoesOn (D.clock disk) (D.faults disk) (D.name disk) (D.clock r.0.disk) (D.faults r.0.disk) (D.name r.0.disk)) }
-    ensures goes_on_err { IfErr result (λ e. GoesOn (D.clock disk) (D.faults disk) (D.name disk) (D.clock e.disk) (D.faults e.disk) (D.name e.disk)) }
+    ensures keeps { MatchResult result (λ r. Keeps D.clock D.name D.faults disk r.0.disk) (λ e. Keeps D.clock D.name D.faults disk e.disk) }
 {
     let mut disk = disk;
     match opened(alloc, &mut disk) {
-        Ok((accepted, end)) => {
-            let journal = Journal::at(disk, end, accepted.as_slice());
-            Ok((journal, accepted))
+        Ok(opened) => {
+            let Opened {
+                accepted,
+                frames,
+                end,
+            } = opened;
+            Ok((Journal::at(disk, end as u64, frames), accepted))
         }
         Err(why) => Err(OpenError { disk, why }),
     }
 }
 
 /// What the bytes of a disk open to.
-fn opened<D: Disk>(alloc: Global, disk: &mut D) -> Result<(Accepted, u64), OpenWhy>
-    ensures value { IfOk result (λ found. Told (D.content disk.new) (λ bytes. EndsAt bytes found.1 found.0)) }
-    ensures kept { IfOk result (λ found. IsKept found.0) }
-    ensures in_range { IfOk result (λ found. found.1 ≤ 16 + 188_565 * fact_count found.0) }
+fn opened<D: Disk>(alloc: Global, disk: &mut D) -> Result<Opened, OpenWhy>
+    ensures value { IfOk result (λ opened. Told (D.content disk.new) (λ bytes. EndsAt bytes opened.end opened.frames)) }
+    ensures batches { IfOk result (λ opened. opened.accepted ≡ batches_of opened.frames) }
+    ensures counted { IfOk result (λ opened. IsCounted opened.end opened.frames) }
     ensures not_a_journal { IfErr result (OnNotAJournal (Told (D.content disk.old) (λ bytes. take 16 bytes ≢ header))) }
     ensures damaged { IfErr result (IfDamaged (λ at. Told (D.content disk.old) (λ bytes. IsDamagedAt bytes at))) }
     ensures unchanged { BothTold (D.content disk.old) (D.content disk.new) (λ old new. new ≡ old) }
     ensures cause { result ≡ Err OpenWhy.Disk → Rose (D.faults disk.old) (D.faults disk.new) }
-    ensures time { D.clock disk.old ≤ D.clock disk.new }
-    ensures name { D.name disk.new ≡ D.name disk.old }
-    ensures count { D.faults disk.old ≤ D.faults disk.new }
+    ensures keeps { Keeps D.clock D.name D.faults disk.old disk.new }
 {
     disk.sync()?;
     let image = read_all(alloc, disk)?;
-    let (accepted, end) = read_image(alloc, &image)?;
-    Ok((accepted, end as u64))
+    read_image(alloc, &image)
 }
 
 /// All bytes of a disk.
@@ -125,9 +126,7 @@ fn read_all<D: Disk>(alloc: Global, disk: &mut D) -> Result<Vec<u8>, OpenWhy>
     ensures unchanged { BothTold (D.content disk.old) (D.content disk.new) (λ old new. new ≡ old) }
     ensures cause { result ≡ Err OpenWhy.Disk → Rose (D.faults disk.old) (D.faults disk.new) }
     ensures only { IfErr result IsFaultOrMemory }
-    ensures time { D.clock disk.old ≤ D.clock disk.new }
-    ensures name { D.name disk.new ≡ D.name disk.old }
-    ensures count { D.faults disk.old ≤ D.faults disk.new }
+    ensures keeps { Keeps D.clock D.name D.faults disk.old disk.new }
 {
     let mut bytes = Vec::new(alloc);
     let mut piece = buffer(alloc)?;
@@ -153,9 +152,7 @@ fn read_piece<D: Disk>(disk: &mut D, bytes: &mut Vec<u8>, piece: &mut [u8]) -> R
     ensures unchanged { BothTold (D.content disk.old) (D.content disk.new) (λ old new. new ≡ old) }
     ensures cause { result ≡ Err OpenWhy.Disk → Rose (D.faults disk.old) (D.faults disk.new) }
     ensures only { IfErr result IsFaultOrMemory }
-    ensures time { D.clock disk.old ≤ D.clock disk.new }
-    ensures name { D.name disk.new ≡ D.name disk.old }
-    ensures count { D.faults disk.old ≤ D.faults disk.new }
+    ensures keeps { Keeps D.clock D.name D.faults disk.old disk.new }
 {
     let read = disk.read_at(bytes.len() as u64, piece)?;
     if read == 0 {

@@ -3,7 +3,7 @@ ghost use Rattle.std.specs.List.{AllByRecursion};
 ghost use Rattle.ldar_journal.specs.Image.{IsBatch, payload, IsFrame};
 ghost use Rattle.ldar_journal.specs.Shelf.{behind_gate};
 
-use crate::history::{Chapter, History};
+use crate::history::{Chapter, Frames};
 use ldar_facts::{Batch, Memory, write_batch};
 use std::alloc::Global;
 use std::marker::Model;
@@ -37,11 +37,11 @@ impl Frame {
         self.bytes.as_slice()
     }
 
-    /// Adds the batches of this frame to a history.
-    pub fn add_to(&self, history: &mut History)
-        ensures { history.new ≡ history.old ++ self.now }
+    /// Adds this frame to others.
+    pub fn add_to(&self, frames: &mut Frames)
+        ensures { frames.new ≡ frames.old ++ self.now ∷ [] }
     {
-        history.push(&self.batches);
+        frames.push(&self.batches);
     }
 }
 

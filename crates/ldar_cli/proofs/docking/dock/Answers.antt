@@ -1,16 +1,20 @@
 use Rattle.std.proofs.Common.{◌≡◌, ℕ, List, Option, [], sym, subst}
 use Rattle.disk_model.proofs.ToldLemmas.{BothTold-weaker}
 use Rattle.ldar_ports.specs.Sink.{bytes_of}
-use Rattle.ldar_journal.specs.Image.{Opens}
+use Rattle.ldar_journal.specs.Image.{OpensTo}
 use Rattle.ldar_cli.specs.declared.status.Status.{Status}
 use Rattle.ldar_cli.specs.Run.{DockEnds}
-use Rattle.ldar_cli.proofs.DockLemmas.{Takes-none, Puts-none, Same-is, ends_refused}
+use Rattle.ldar_cli.proofs.DockLemmas.{Takes-none, Puts-none, Same-is, opened_history, ends_refused}
 use Rattle.ldar_cli.proofs.docking.dock.Goals as goal
+
+pub dock_into-status-requires-clause-opens : goal.dock_into-status-requires-clause-opens
+dock_into-status-requires-clause-opens g c =
+    opened_history (g.D.Disk.content c.args.disk) (g.D.Disk.content c.in-Ok.journal.disk) c.in-Ok.journal.frames c.in-Ok.accepted c.in-Ok.ensures.opens c.in-Ok.ensures.value.0
 
 pub returns-in-Ok-clause-ends : goal.returns-in-Ok-clause-ends
 returns-in-Ok-clause-ends g c =
     let ends = c.dock_into-status.ensures.ends in
-    let stays = BothTold-weaker (λ old new. (new ≡ old) × Opens old c.in-Ok.accepted) (λ old new. new ≡ old) (λ old new both. both.0)
+    let stays = BothTold-weaker (λ old new. (new ≡ old) × OpensTo old c.in-Ok.journal.frames) (λ old new. new ≡ old) (λ old new both. both.0)
     (g.D.Disk.content c.args.disk) (g.D.Disk.content c.in-Ok.journal.disk) c.in-Ok.ensures.opens in
     let same : g.D.Disk.content c.in-Ok.journal.disk ≡ g.D.Disk.content c.args.disk = Same-is (g.D.Disk.content c.args.disk) (g.D.Disk.content c.in-Ok.journal.disk) stays in
     let disk : c.dock_into-status.new.journal.disk ≡ c.into_disk.result = sym c.into_disk.ensures.value in (

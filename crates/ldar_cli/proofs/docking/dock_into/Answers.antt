@@ -7,7 +7,7 @@ use Rattle.ldar_ports.specs.Sink.{bytes_of}
 use Rattle.ldar_facts.specs.declared.batch.Batch.{Batch}
 use Rattle.ldar_facts.specs.Grammar.{Spells}
 use Rattle.ldar_cli.specs.Dock.{IsBadInput}
-use Rattle.ldar_cli.proofs.DockLemmas.{Puts-none, ends_empty, ends_bad, ends_after_fault, ends_done, ends_unsaid, HasEnded-batch}
+use Rattle.ldar_cli.proofs.DockLemmas.{Puts-none, ends_early, ends_empty, ends_bad, ends_after_fault, ends_done, ends_unsaid, HasEnded-batch}
 use Rattle.ldar_cli.proofs.docking.dock_into.Goals as goal
 
 -- no list of 0 elements has some
@@ -36,6 +36,16 @@ returns-then-is_empty-clause-ends g c =
         ended_empty taken.0 none taken.2.1,
         ends_empty (g.D.Disk.content c.args.journal.now.disk) c.args.accepted.now taken.0 c.requires.opens none,
       ),
+    )
+
+pub returns-in-Err-clause-ends : goal.returns-in-Err-clause-ends
+returns-in-Err-clause-ends g c =
+    let taken = c.in-Err.ensures.taken in (
+      taken.0,
+      [],
+      taken.1,
+      Puts-none (g.K.Sink.pieces c.args.output.now),
+      ends_early c.in-Err.status taken.0 (g.S.Source.left c.read_input.new.input) (g.D.Disk.content c.args.journal.now.disk) c.args.accepted.now c.in-Err.ensures.only c.requires.opens,
     )
 
 pub returns-in-Ok-None-clause-ends : goal.returns-in-Ok-None-clause-ends
