@@ -1,3 +1,4 @@
+-- How the private readers are proved; nothing here has to be believed. It stands in specs/ since their clauses cite it.
 -- One form behind another: if each is read rightly, so are both.
 use Rattle.std.specs.Prelude.{◌≡◌, ℕ, ◌+◌, ◌<◌, Bool, true, false, if◌then◌else◌, ◌⊎◌, List, [], ◌∷◌, ◌++◌, length, get_or, Ok, Err, refl}
 use Rattle.std.proofs.Common.{sym, ap, subst, ◌∙◌, inl, inr, append_assoc}
@@ -89,7 +90,8 @@ module _ {A B : Type 0} (first : Form A) (next : A → Form B) where
       let front = first.text p.0 in
       let second = next (first.value p.0) in
       let grouped : text p ++ rest ≡ front ++ (second.text p.1 ++ rest) = append_assoc front (second.text p.1) rest in
-      let once : read (front ++ (second.text p.1 ++ rest)) ≡ second.read (second.text p.1 ++ rest) = ap (λ r. r then λ x. (next x.0).read x.1) (first.reads.again p.0 (second.text p.1 ++ rest)) in
+      let once : read (front ++ (second.text p.1 ++ rest)) ≡ second.read (second.text p.1 ++ rest) =
+      ap (λ r. r then λ x. (next x.0).read x.1) (first.reads.again p.0 (second.text p.1 ++ rest)) in
       ap read grouped ∙ once ∙ second.reads.again p.1 rest
 
   -- whatever the first one's value, some text of the second completes it

@@ -1,5 +1,6 @@
 -- The facts of batches in key order, those up to a view day, and what is true of them.
-use Rattle.std.specs.Prelude.{◌≡◌, ℕ, ◌+◌, ◌↔◌, Bool, nat_le, IsTrue, Some, List, [], ◌∷◌, ◌++◌, length, filter, take_while, slice_get, sum_by, Contains, IsPermutation}
+use Rattle.std.specs.Prelude.{◌≡◌, ℕ, ◌+◌, ◌↔◌, Bool, nat_le, IsTrue, Some, List, [], ◌∷◌, ◌++◌, length, filter, take_while, slice_get, sum_by, Contains}
+use Rattle.std.specs.Prelude.{IsPermutation}
 use Rattle.std.specs.List.{flat_map}
 use Rattle.std.specs.Ordering.{is_lt, nat_cmp, on, then_cmp}
 use Rattle.std.specs.declared.cmp.Ordering.{Ordering}

@@ -1,3 +1,4 @@
+-- How the private readers are proved; nothing here has to be believed. It stands in specs/ since their clauses cite it.
 -- How each field of the table is read.
 use Rattle.std.specs.Prelude.{ℕ, Bool, ◌==◌, IsTrue, if◌then◌else◌, Option, Some, None, refl}
 use Rattle.ldar_facts.specs.declared.class.Class.{Class}
