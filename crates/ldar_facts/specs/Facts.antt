@@ -20,6 +20,7 @@ key_cmp =
     then_cmp (on (λ k. k.day) nat_cmp) (then_cmp (on (λ k. k.minute) nat_cmp) (then_cmp (on (λ k. k.handheld) nat_cmp)
     (then_cmp (on (λ k. k.number) nat_cmp) (on (λ k. k.index) nat_cmp))))
 
+-- the first key is the earlier one
 abbrev pub is_earlier : Key → Key → Bool
 is_earlier a b = is_lt (key_cmp a b)
 

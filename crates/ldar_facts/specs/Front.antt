@@ -18,6 +18,7 @@ abbrev pub read_of_stop : ℕ → Stop → Read
 read_of_stop len stops.Short = reads.Short
 read_of_stop len (stops.Wrong left) = reads.Bad (len - left)
 
+-- what the reading of a batch answers for so many bytes
 abbrev pub read_of : ℕ → Outcome Batch → Read
 read_of len (Ok found) = reads.Whole found.0 (len - length found.1)
 read_of len (Err stop) = read_of_stop len stop

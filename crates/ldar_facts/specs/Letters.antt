@@ -10,15 +10,19 @@ use Rattle.ldar_facts.specs.Number.{number_form}
 abbrev pub letters : List (ℕ × ℕ)
 letters = (45, 45) ∷ (48, 57) ∷ (65, 90) ∷ []
 
+-- the same, and the zero byte
 abbrev pub letters_or_zero : List (ℕ × ℕ)
 letters_or_zero = (0, 0) ∷ letters
 
+-- a letter of a name
 abbrev pub letter : Form ℕ
 letter = number_form 1 letters refl
 
+-- a letter, or the zero byte behind the last one
 abbrev pub letter_or_zero : Form ℕ
 letter_or_zero = number_form 1 letters_or_zero refl
 
+-- a zero byte
 abbrev pub zero_byte : Form ℕ
 zero_byte = number_form 1 ((0, 0) ∷ []) refl
 
@@ -36,5 +40,6 @@ unfoldable pub behind : ℕ → List ℕ → Form (List ℕ)
 behind zero name = done name
 behind (suc more) name = letter_or_zero >>= λ b. either (b == 0) (ended more name) (behind more (name ++ b ∷ []))
 
+-- a name in its twelve bytes
 unfoldable pub name_form : Form (List ℕ)
 name_form = letter >>= λ b. behind 11 (b ∷ [])
