@@ -1,10 +1,11 @@
 #!/usr/bin/env python3
 """Measures the reading of batches by ldar_facts, beside a plain Rust program (batches.rs) that reads the same bytes.
 
-FACTS facts of all kinds in turn are read in batches of 512 from memory, PASSES times. The program crates/facts_bench
-is proved and built first, so rt and rustc have to be on the path.
+FACTS facts are read in batches of 512 from memory, PASSES times, once with all kinds in turn and once as readings alone.
+Each pass reads them twice: one caller of the reader sums what they say, and another counts them, since a reader with one
+caller is compiled into it. The program crates/facts_bench is proved and built first, so rt and rustc have to be on the path.
 usage: batches.py [FACTS [PASSES]]     1000000 20 if left out
-       batches.py --write FACTS        writes the batches to standard output
+       batches.py --write FACTS        writes the batches of all kinds to standard output
 """
 import pathlib
 import resource
@@ -48,16 +49,20 @@ def body(kind, i):
     }[kind]
 
 
-def fact(i):
-    kind = 1 + i % 15
+ALL_KINDS = range(1, 16)
+READINGS = (10,)
+
+
+def fact(i, kinds):
+    kind = kinds[i % len(kinds)]
     return bytes([kind]) + number(2, 13_879 + i // 1_440 % 33_603) + number(2, i % 1_440) + body(kind, i)
 
 
-def batches(facts):
+def batches(facts, kinds):
     for first in range(0, facts, 512):
         count = min(512, facts - first)
         yield b"\x42" + number(2, 7) + number(4, first // 512) + number(2, count)
-        yield from (fact(i) for i in range(first, first + count))
+        yield from (fact(i, kinds) for i in range(first, first + count))
 
 
 def seconds(program, path, passes):
@@ -78,23 +83,30 @@ def main():
     with tempfile.TemporaryDirectory() as folder:
         rust = pathlib.Path(folder) / "rust"
         subprocess.run(["rustc", "-O", "--edition", "2021", "-o", rust, here / "batches.rs"], check=True)
-        path = pathlib.Path(folder) / "batches"
-        data = b"".join(batches(facts))
-        path.write_bytes(data)
-        print(f"{facts} facts in {len(data)} bytes, {passes} times")
-        print(f"{'':6} {'facts a second':>15} {'MB a second':>12}")
-        tolds = []
-        for name, program in (("ours", crate / "out/facts_bench"), ("Rust", rust)):
-            loaded, _ = seconds(program, path, 0)
-            took, told = seconds(program, path, passes)
-            each = (took - loaded) / passes
-            tolds.append(told)
-            print(f"{name:6} {facts / each:15,.0f} {len(data) / each / 1e6:12.1f}")
-        if tolds[0] != tolds[1]:
-            print("they read otherwise:", *tolds)
+        for name, kinds in (("all kinds", ALL_KINDS), ("readings", READINGS)):
+            measure(folder, rust, name, facts, kinds, passes)
+
+
+def measure(folder, rust, name, facts, kinds, passes):
+    path = pathlib.Path(folder) / "batches"
+    data = b"".join(batches(facts, kinds))
+    path.write_bytes(data)
+    print(f"{name}: {facts} facts in {len(data)} bytes, {passes} times by two callers")
+    print(f"{'':6} {'facts a second':>15} {'MB a second':>12}")
+    tolds, tooks = [], []
+    for name, program in (("ours", crate / "out/facts_bench"), ("Rust", rust)):
+        loaded, _ = seconds(program, path, 0)
+        took, told = seconds(program, path, passes)
+        each = (took - loaded) / passes / 2
+        tolds.append(told)
+        tooks.append(each)
+        print(f"{name:6} {facts / each:15,.0f} {len(data) / each / 1e6:12.1f}")
+    print(f"ours takes {tooks[0] / tooks[1]:.2f} times as long")
+    if tolds[0] != tolds[1]:
+        print("they read otherwise:", *tolds)
 
 
 if sys.argv[1:2] == ["--write"]:
-    sys.stdout.buffer.write(b"".join(batches(int(sys.argv[2]))))
+    sys.stdout.buffer.write(b"".join(batches(int(sys.argv[2]), ALL_KINDS)))
 else:
     main()

@@ -111,19 +111,31 @@ fn component_of(body: &Body) -> u16 {
     }
 }
 
+fn read_once(bytes: &[u8], facts: &mut u64, sum: &mut u64) {
+    let mut cursor = Cursor { rest: bytes };
+    while let Some(batch) = cursor.batch() {
+        for fact in &batch.facts {
+            let said = u64::from(fact.day) ^ u64::from(fact.minute) << 16 ^ u64::from(component_of(&fact.body)) << 32;
+            *facts += 1;
+            *sum = sum.wrapping_mul(3).wrapping_add(said);
+        }
+    }
+}
+
+fn count_once(bytes: &[u8], facts: &mut u64) {
+    let mut cursor = Cursor { rest: bytes };
+    while let Some(batch) = cursor.batch() {
+        *facts += batch.facts.len() as u64;
+    }
+}
+
 fn main() {
     let words: Vec<String> = std::env::args().skip(1).collect();
     let bytes = std::fs::read(&words[1]).expect("a file");
     let (mut facts, mut sum) = (0u64, 0u64);
     for _ in 0..words[2].parse::<u32>().expect("a number") {
-        let mut cursor = Cursor { rest: &bytes };
-        while let Some(batch) = cursor.batch() {
-            for fact in &batch.facts {
-                let said = u64::from(fact.day) ^ u64::from(fact.minute) << 16 ^ u64::from(component_of(&fact.body)) << 32;
-                facts += 1;
-                sum = sum.wrapping_mul(3).wrapping_add(said);
-            }
-        }
+        read_once(&bytes, &mut facts, &mut sum);
+        count_once(&bytes, &mut facts);
     }
     println!("{}: {facts} facts of {} bytes, {sum}", words[1], bytes.len());
 }

@@ -22,8 +22,18 @@ first_day-march m low high =
     let y : pos (m / 12) +ℤ pos 10000 ≡ pos (m / 12 + 10000) = omega (arith, signed_arith) in
     let y' : pos (m / 12) +ℤ pos 10000 ≡ pos (suc (m / 12 + 9999)) = omega (arith, signed_arith) in
     elim (cases_lt (m % 12) 2) [
-      | inl early ↦ omega (arith, first_day-day_count m (omega arith), day_count-early (pos (m / 12)) (m / 12 + 9999) (m % 12 + 1) 1 y' (omega arith) (omega arith) (omega arith))
-      | inr late ↦ omega (arith, first_day-day_count m (omega arith), day_count-late (pos (m / 12)) (m / 12 + 10000) (m % 12 + 1) 1 y (omega arith) (omega arith) (omega arith))
+      | inl early ↦ omega (
+        arith,
+        first_day-day_count m (omega arith),
+        day_count-early (pos (m / 12)) (m / 12 + 9999) (m % 12 + 1) 1 y' (omega arith)
+            (omega arith) (omega arith),
+      )
+      | inr late ↦ omega (
+        arith,
+        first_day-day_count m (omega arith),
+        day_count-late (pos (m / 12)) (m / 12 + 10000) (m % 12 + 1) 1 y (omega arith)
+            (omega arith) (omega arith),
+      )
     ]
 
 -- a day's year and month, counted from March, and its place in the year
@@ -42,7 +52,8 @@ march_month-begun y m d h le =
     rw (year, month) (omega arith)
 
 -- and the next one begins after it
-march_month-ahead : (y m d t : ℕ) → m ≤ 11 → d < (153 * (m + 1) + 2) / 5 → t ≡ 1461 * y / 4 + d → t < 1461 * (y + 1) / 4 → 11_017 + t < march_day (12 * y + m + 1)
+march_month-ahead : (y m d t : ℕ) → m ≤ 11 → d < (153 * (m + 1) + 2) / 5 → t ≡ 1461 * y / 4 + d → t < 1461 * (y + 1) / 4
+    → 11_017 + t < march_day (12 * y + m + 1)
 march_month-ahead y m d t h lt is within =
     elim (cases_lt m 11) [
       | inl more ↦
@@ -78,7 +89,8 @@ month_of-march n h =
     let next = rw there at (first_day-march (march_month t + 1) (omega arith) (omega arith)) in
     let begun = march_month-begun y m d month.0 month.1 in
     let ahead = march_month-ahead y m d t month.0 month.2 (in_year t) (omega arith) in
-    month_of-only n (march_month t) h (omega arith) (omega (arith, in_year t, first, begun), omega (arith, next, ahead, first_day-next (march_month t) (omega arith)))
+    month_of-only n (march_month t) h (omega arith)
+    (omega (arith, in_year t, first, begun), omega (arith, next, ahead, first_day-next (march_month t) (omega arith)))
 
 -- for the bodies of `Day::month` and `first_day_of`
 pub ruleset march = (first_day-march, month_of-march, month_of-is, month_of-only, month_of-month)

@@ -4,7 +4,8 @@ use Rattle.std.proofs.lemmas.Bool.{cases_lt}
 use Rattle.std.proofs.lemmas.Bool.Decides.{nat_tests}
 use Rattle.jiff_core.specs.Calendar.{days_from_civil, day_count}
 use Rattle.jiff_core.proofs.SignedLemmas.{signed_arith}
-use Rattle.jiff_core.proofs.CalendarLemmas.{days_from_civil-day_count, day_count-next_month, day_count-next_year, day_count-last_of_year, day_count-day, days_in_month_bounds}
+use Rattle.jiff_core.proofs.CalendarLemmas.{days_from_civil-day_count, day_count-next_month, day_count-next_year, day_count-last_of_year, day_count-day}
+use Rattle.jiff_core.proofs.CalendarLemmas.{days_in_month_bounds}
 use Rattle.jiff_core.proofs.MarchLemmas.{day_count-early, day_count-late}
 use Rattle.ldar_days.specs.Calendar.{IsDay, IsMonth, IsInMonth, days_before, first_day, month_length, last_day, near, month_of, place_of}
 
@@ -68,7 +69,13 @@ first_day-next m h =
           let next = rw (year, month) at (first_day-day_count (m + 1) (omega arith)) in
           let this = rw here at (first_day-day_count m h) in
           let later : pos (m / 12 + 1) ≡ pos (m / 12) +ℤ pos 1 = omega (arith, signed_arith) in
-          rw here (omega (arith, day_count-next_year (pos (m / 12)) (pos (m / 12 + 1)) (omega (arith, signed_arith)) later, day_count-last_of_year (pos (m / 12)), day_count-day (pos (m / 12)) 12 31 1 (omega arith) (omega arith)))
+          rw here (omega (
+            arith,
+            day_count-next_year (pos (m / 12)) (pos (m / 12 + 1)) (omega (arith, signed_arith)) later,
+            day_count-last_of_year
+                (pos (m / 12)),
+            day_count-day (pos (m / 12)) 12 31 1 (omega arith) (omega arith),
+          ))
     ]
 
 -- a later month begins 28 days later or more

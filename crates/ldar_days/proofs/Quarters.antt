@@ -4,7 +4,8 @@ use Rattle.std.proofs.lemmas.Bool.{cases_lt}
 use Rattle.std.proofs.lemmas.Bool.Decides.{nat_tests}
 use Rattle.ldar_days.specs.Calendar.{IsDay, IsMonth, first_day, last_day, month_of}
 use Rattle.ldar_days.specs.Quarters.{last_whole, first_quarter, quarter_first, quarter_last, IsWithin180Days}
-use Rattle.ldar_days.proofs.Months.{month_of-is, month_of-near, month_of-month, month_of-only, first_day-next, first_day-lt, first_day-le, first_day-past, month_length_bounds, month_bounds}
+use Rattle.ldar_days.proofs.Months.{month_of-is, month_of-near, month_of-month, month_of-only, first_day-next, first_day-lt, first_day-le, first_day-past}
+use Rattle.ldar_days.proofs.Months.{month_length_bounds, month_bounds}
 
 -- a month that goes on after the day is not whole by it
 last_whole-more : (n : ℕ) → n < last_day (month_of n) → last_whole n ≡ month_of n - 1
@@ -35,7 +36,8 @@ last_whole-is n h =
     ]
 
 -- 40 CFR 60.481a: the first quarter ends with the last month all of whose days are among startup + 1 to startup + 180
-pub first_quarter-is : (s : ℕ) → IsDay s → s ≤ 46_751 → (s < first_day (first_quarter s + 2)) × (last_day (first_quarter s + 2) ≤ s + 180) × (s + 180 < last_day (first_quarter s + 3))
+pub first_quarter-is : (s : ℕ) → IsDay s → s ≤ 46_751 → (s < first_day (first_quarter s + 2)) × (last_day (first_quarter s + 2) ≤ s + 180) ×
+    (s + 180 < last_day (first_quarter s + 3))
 unfolding first_quarter
 first_quarter-is s h in_range =
     let month = month_of-month (s + 180) (omega arith) in
@@ -43,7 +45,17 @@ first_quarter-is s h in_range =
     let third : last_whole (s + 180) - 2 + 2 ≡ last_whole (s + 180) = omega arith in
     let after : last_whole (s + 180) - 2 + 3 ≡ last_whole (s + 180) + 1 = omega arith in
     let is = last_whole-is (s + 180) (omega arith) in
-    rw (third, after) (omega (arith, first_day-next (last_whole (s + 180)) (omega arith), month_length_bounds (last_whole (s + 180)), month_length_bounds (last_whole (s + 180) + 1)), is.0, is.1)
+    rw (third, after) (
+      omega (
+        arith,
+        first_day-next (last_whole (s + 180)) (omega arith),
+        month_length_bounds (last_whole (s + 180)),
+        month_length_bounds
+            (last_whole (s + 180) + 1),
+      ),
+      is.0,
+      is.1,
+    )
 
 -- quarter 1 lies in the calendar
 pub first_quarter-month : (s : ℕ) → IsDay s → s ≤ 46_751 → IsMonth (first_quarter s) × IsMonth (first_quarter s + 2)
@@ -76,7 +88,8 @@ month_of-next_day n h before_end =
     let month = month_of-month n h in
     let near_it = last_whole-near n in
     let is = last_whole-is n h in
-    sym (month_of-only (n + 1) (last_whole n + 1) (omega arith) (omega arith) (omega (arith, first_day-next (last_whole n) (omega arith), month_length_bounds (last_whole n)), omega arith))
+    sym (month_of-only (n + 1) (last_whole n + 1) (omega arith) (omega arith)
+    (omega (arith, first_day-next (last_whole n) (omega arith), month_length_bounds (last_whole n)), omega arith))
 
 -- so quarter 1 begins three months before the month of startup + 181
 pub first_quarter-month_of : (s : ℕ) → IsDay s → s ≤ 46_751 → month_of (s + 181) ≡ first_quarter s + 3
@@ -89,7 +102,8 @@ first_quarter-month_of s h in_range =
     omega arith
 
 -- a month of a quarter lies in it
-pub quarter-days : (s m q : ℕ) → IsMonth (first_quarter s) → IsMonth m → first_quarter s + 3 * q ≤ m + 3 → m < first_quarter s + 3 * q → (quarter_first s q ≤ first_day m) × (last_day m ≤ quarter_last s q)
+pub quarter-days : (s m q : ℕ) → IsMonth (first_quarter s) → IsMonth m → first_quarter s + 3 * q ≤ m + 3 → m < first_quarter s + 3 * q
+    → (quarter_first s q ≤ first_day m) × (last_day m ≤ quarter_last s q)
 quarter-days s m q first month low high =
     let begin = first_day-le (first_quarter s + 3 * q - 3) m (omega arith) (omega arith) in
     let end = first_day-le m (first_quarter s + 3 * q - 1) (omega arith) (omega arith) in
@@ -103,4 +117,13 @@ quarter_first-next s q first low within =
     rw same (omega (arith, first_day-next (first_quarter s + 3 * q - 1) (omega arith), month_length_bounds (first_quarter s + 3 * q - 1)))
 
 -- for the bodies over quarters
-pub ruleset quarters = (first_quarter-month_of, first_quarter-month, first_quarter-third, first_quarter-no_later, first_day-past, month_length_bounds, quarter-days, quarter_first-next)
+pub ruleset quarters = (
+  first_quarter-month_of,
+  first_quarter-month,
+  first_quarter-third,
+  first_quarter-no_later,
+  first_day-past,
+  month_length_bounds,
+  quarter-days,
+  quarter_first-next,
+)

@@ -1,5 +1,6 @@
 -- The texts of days: each day has its own, and `day_of` finds the day again.
-use Rattle.std.proofs.Common.{◌≡◌, ℕ, ◌+◌, ◌-◌, ◌*◌, ◌/◌, ◌%◌, ◌≤◌, Bool, ◌&&◌, true, false, cond, nat_le, List, take, drop, get_or, refl, sym, ap, ◌∙◌, arith, Option, Some, None, IfSome, IsNone}
+use Rattle.std.proofs.Common.{◌≡◌, ℕ, ◌+◌, ◌-◌, ◌*◌, ◌/◌, ◌%◌, ◌≤◌, Bool, ◌&&◌, true, false, cond, nat_le, List, take, drop, get_or, refl, sym, ap, ◌∙◌}
+use Rattle.std.proofs.Common.{arith, Option, Some, None, IfSome, IsNone}
 use Rattle.std.specs.Str.{bytes_eq}
 use Rattle.std.proofs.lemmas.Bool.Decides.{nat_tests}
 use Rattle.std.proofs.lemmas.Slice.Eq.{bytes_eq-Decides}
@@ -87,7 +88,8 @@ pub IsSpelled-is : (text : List ℕ) (n y m d : ℕ) → IsSpelled text y m d �
 IsSpelled-is text n y m d a date = rw (date.0, date.1, date.2) a.3
 
 -- the day at a place of a month has that date
-pub IsDate-day : (n month y m d : ℕ) → IsMonth month → month + 1 ≡ 12 * y + m → 1 ≤ m → m ≤ 12 → 1 ≤ d → d ≤ month_length month → n + 1 ≡ first_day month + d → IsDay n × IsDate n y m d
+pub IsDate-day : (n month y m d : ℕ) → IsMonth month → month + 1 ≡ 12 * y + m → 1 ≤ m → m ≤ 12 → 1 ≤ d → d ≤ month_length month
+    → n + 1 ≡ first_day month + d → IsDay n × IsDate n y m d
 IsDate-day n month y m d h is low high first last place =
     let bounds = month_bounds month h in
     let of = month_of-day month (d - 1) h (omega arith) in
@@ -96,7 +98,8 @@ IsDate-day n month y m d h is low high first last place =
     ((omega arith, omega arith), rw month_is (omega arith, omega arith, omega arith))
 
 -- and a date that lies in the calendar is such a day's
-pub IsDate-only : (n y m d : ℕ) → IsDay n → IsDate n y m d → (2_008 ≤ y) × (y ≤ 2_099) × (1 ≤ m) × (m ≤ 12) × (month_of n + 1 ≡ 12 * y + m) × (1 ≤ d) × (d ≤ month_length (month_of n))
+pub IsDate-only : (n y m d : ℕ) → IsDay n → IsDate n y m d → (2_008 ≤ y) × (y ≤ 2_099) × (1 ≤ m) × (m ≤ 12) × (month_of n + 1 ≡ 12 * y + m) × (1 ≤ d) ×
+    (d ≤ month_length (month_of n))
 IsDate-only n y m d h date =
     let month = month_of-month n h in
     let place = place_bound n h in
@@ -108,7 +111,8 @@ day_of-unspelled text h =
     day_of-none text (λ n day is. h (month_of n / 12) (month_of n % 12 + 1) (place_of n + 1) (rw is (IsSpelled-day_text n day)))
 
 -- and one that spells a date is read as the day of that date, if the calendar has it
-pub day_of-spelled : (text : List ℕ) (y m d : ℕ) (found : Option ℕ) → IsSpelled text y m d → IfSome found (λ n. IsDay n × IsDate n y m d) → (IsNone found → (n : ℕ) → IsDay n → ¬ (IsDate n y m d)) → found ≡ day_of text
+pub day_of-spelled : (text : List ℕ) (y m d : ℕ) (found : Option ℕ) → IsSpelled text y m d → IfSome found (λ n. IsDay n × IsDate n y m d)
+    → (IsNone found → (n : ℕ) → IsDay n → ¬ (IsDate n y m d)) → found ≡ day_of text
 day_of-spelled text y m d None spelled some none =
     sym (day_of-none text (λ n day is.
     let date = IsSpelled-only text y m d (month_of n / 12) (month_of n % 12 + 1) (place_of n + 1) spelled (rw is (IsSpelled-day_text n day)) in

@@ -10,5 +10,5 @@ mod text;
 
 pub use day::Day;
 pub use month::Month;
-pub use quarter::{first_quarter, quarter_first, quarter_last, quarter_of};
+pub use quarter::{LAST_STARTUP, first_quarter, quarter_first, quarter_last, quarter_of};
 pub use text::MonthText;

@@ -8,11 +8,14 @@ use crate::day::LAST_DAY;
 use crate::month::LAST_MONTH;
 use crate::{Day, Month};
 
+/// The last day of an initial startup whose quarters are told: 2097-12-31 (our own rule).
+pub const LAST_STARTUP: u32 = 46_751;
+
 /// The first month of a unit's quarter 1, by the day of its initial startup (40 CFR 60.481a).
 ///
 /// The quarter's last month is the last one all of whose days are among startup + 1 to startup + 180.
 pub fn first_quarter(startup: Day) -> Month
-    requires { startup ≤ 46_751 }
+    requires { startup ≤ LAST_STARTUP }
     ensures value { result ≡ spec.first_quarter startup }
     ensures in_range { IsMonth result }
     ensures third_month { spec.IsWithin180Days startup (result + 2) }
@@ -24,7 +27,7 @@ pub fn first_quarter(startup: Day) -> Month
 
 /// The quarter of a month, counted from 1, and `None` before quarter 1.
 pub fn quarter_of(startup: Day, month: Month) -> Option<u16>
-    requires { startup ≤ 46_751 }
+    requires { startup ≤ LAST_STARTUP }
     ensures value { result ≡ spec.quarter_of startup month }
     ensures found { IfSome result (λ quarter. (spec.quarter_first startup quarter ≤ first_day month)
         × (last_day month ≤ spec.quarter_last startup quarter)) }
@@ -39,7 +42,7 @@ pub fn quarter_of(startup: Day, month: Month) -> Option<u16>
 
 /// The first day of a quarter, or 2099-12-31 where it would begin after that day (our own rule).
 pub fn quarter_first(startup: Day, quarter: u16) -> Day
-    requires in_range { startup ≤ 46_751 }
+    requires in_range { startup ≤ LAST_STARTUP }
     requires quarter { 1 ≤ quarter }
     ensures value { result ≡ spec.quarter_first startup quarter }
     ensures in_range { IsDay result }
@@ -53,7 +56,7 @@ pub fn quarter_first(startup: Day, quarter: u16) -> Day
 
 /// The last day of a quarter, or 2099-12-31 where it would end after that day (our own rule).
 pub fn quarter_last(startup: Day, quarter: u16) -> Day
-    requires in_range { startup ≤ 46_751 }
+    requires in_range { startup ≤ LAST_STARTUP }
     requires quarter { 1 ≤ quarter }
     ensures value { result ≡ spec.quarter_last startup quarter }
     ensures before_next { result < 47_481 → spec.quarter_first startup (quarter + 1) ≡ result + 1 }

@@ -1,5 +1,6 @@
 -- What a reading of the form of a batch says of the grammar.
-use Rattle.std.proofs.Common.{◌≡◌, ℕ, suc, ◌+◌, ◌-◌, ◌≤◌, List, [], ◌∷◌, ◌++◌, length, take, drop, Result, Ok, Err, sym, ap, subst, ◌∙◌, append_assoc, length-append, arith}
+use Rattle.std.proofs.Common.{◌≡◌, ℕ, suc, ◌+◌, ◌-◌, ◌≤◌, List, [], ◌∷◌, ◌++◌, length, take, drop, Result, Ok, Err, sym, ap, subst, ◌∙◌, append_assoc}
+use Rattle.std.proofs.Common.{length-append, arith}
 use Rattle.std.specs.Prelude.{IfOk}
 use Rattle.std.proofs.lemmas.List.{append-nil, take_at, take-append-drop, length-drop}
 use Rattle.ldar_facts.specs.declared.batch.Batch.{Batch}
@@ -33,7 +34,8 @@ read_again bytes b rest is =
 
 -- so is one that stands at the front
 pub read_front : (bytes : List ℕ) (used : ℕ) (b : Batch) → Spells (take used bytes) b → batch.read bytes ≡ Ok (b, drop used bytes)
-read_front bytes used b is = subst (λ l. batch.read l ≡ Ok (b, drop used bytes)) (take-append-drop used bytes) (read_again (take used bytes) b (drop used bytes) is)
+read_front bytes used b is = subst (λ l. batch.read l ≡ Ok (b, drop used bytes)) (take-append-drop used bytes)
+    (read_again (take used bytes) b (drop used bytes) is)
 
 -- ---- what was read
 
@@ -47,7 +49,8 @@ none_follows bytes at front byte back len splits stops begins =
     let upto : take (at + 1) bytes ≡ front ++ byte ∷ [] = ap (take (at + 1)) shift ∙ take_at (front ++ byte ∷ []) back (at + 1) long in
     let whole : take (at + 1) bytes ++ more ≡ front ++ byte ∷ more = ap (λ l. l ++ more) upto ∙ append_assoc front (byte ∷ []) more in
     let read : batch.read (front ++ byte ∷ more) ≡ Ok (begins.0, []) =
-    subst (λ l. batch.read l ≡ Ok (begins.0, [])) (append-nil (take (at + 1) bytes ++ more) ∙ whole) (read_again (take (at + 1) bytes ++ more) begins.0 [] begins.2) in
+    subst (λ l. batch.read l ≡ Ok (begins.0, [])) (append-nil (take (at + 1) bytes ++ more) ∙ whole)
+    (read_again (take (at + 1) bytes ++ more) begins.0 [] begins.2) in
     let stop = stops more in
     absurd cc
 
@@ -67,7 +70,8 @@ module _ (bytes : List ℕ) (are : IsBytes bytes) where
   whole_spells b rest e =
       let p = batch.reads.found bytes b rest are e in
       let used : length (batch.text p.0) ≡ length bytes - length rest = omega (arith, ap length p.2, length-append (batch.text p.0) rest) in
-      let front : take (length bytes - length rest) bytes ≡ batch.text p.0 = ap (take (length bytes - length rest)) p.2 ∙ take_at (batch.text p.0) rest (length bytes - length rest) used in
+      let front : take (length bytes - length rest) bytes ≡ batch.text p.0 = ap (take (length bytes - length rest)) p.2
+      ∙ take_at (batch.text p.0) rest (length bytes - length rest) used in
       rw front (subst (Spells (batch.text p.0)) p.1 (spells p.0))
 
   no_batch : (stop : Stop) → batch.read bytes ≡ Err stop → HasNoBatch bytes
@@ -83,7 +87,8 @@ module _ (bytes : List ℕ) (are : IsBytes bytes) where
       let w = batch.reads.wrong bytes left are e in
       let len = length-append w.front (w.byte ∷ w.back) in
       let at : length w.front ≡ length bytes - left = omega (arith, w.left_is, ap length w.splits) in
-      let upto : take (length bytes - left) bytes ≡ w.front = ap (take (length bytes - left)) w.splits ∙ take_at w.front (w.byte ∷ w.back) (length bytes - left) at in
+      let upto : take (length bytes - left) bytes ≡ w.front = ap (take (length bytes - left)) w.splits
+      ∙ take_at w.front (w.byte ∷ w.back) (length bytes - left) at in
       record {
         within = omega (arith, w.left_is, ap length w.splits);
         before = (batch.value w.path, w.more, rw (upto, w.begins) (spells w.path));
@@ -104,12 +109,14 @@ module _ (bytes : List ℕ) (are : IsBytes bytes) where
   short (Err Short) e = (short_begins bytes are e, no_batch bytes are Short e)
   short (Err (Wrong left)) e = tt
 
-  pub bad : (reading : Outcome Batch) → batch.read bytes ≡ reading → IfBad (read_of (length bytes) reading) (λ at. IsFirstWrongPlace bytes at × HasNoBatch bytes)
+  pub bad : (reading : Outcome Batch) → batch.read bytes ≡ reading
+      → IfBad (read_of (length bytes) reading) (λ at. IsFirstWrongPlace bytes at × HasNoBatch bytes)
   bad (Ok found) e = tt
   bad (Err Short) e = tt
   bad (Err (Wrong left)) e = (first_wrong bytes are left e, no_batch bytes are (Wrong left) e)
 
-pub found : (bytes : List ℕ) (b : Batch) (used : ℕ) → used ≤ length bytes → Spells (take used bytes) b → read_of (length bytes) (batch.read bytes) ≡ reads.Whole b used
+pub found : (bytes : List ℕ) (b : Batch) (used : ℕ) → used ≤ length bytes → Spells (take used bytes) b
+    → read_of (length bytes) (batch.read bytes) ≡ reads.Whole b used
 found bytes b used fit is =
     let rest : length bytes - length (drop used bytes) ≡ used = omega (arith, length-drop used bytes) in
     ap (read_of (length bytes)) (read_front bytes used b is) ∙ ap (reads.Whole b) rest

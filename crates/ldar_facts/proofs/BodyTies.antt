@@ -5,7 +5,9 @@ use Rattle.std.specs.List.{AllByRecursion}
 use Rattle.std.proofs.lemmas.Bool.{eqb-true, eqb-false}
 use Rattle.std.proofs.lemmas.List.{append-nil}
 use Rattle.ldar_facts.specs.declared.body.FactBody.{FactBody}
-use Rattle.ldar_facts.specs.declared.body.FactBody.TheVariants.{Unit as UnitFact, Component as ComponentFact, Class as ClassFact, Retire, Election, Shutdown, Calibration, Precision, Drift, Reading, Visual, Attempt, Delay, Release, Indication}
+use Rattle.ldar_facts.specs.declared.body.FactBody.TheVariants.{Unit as UnitFact, Component as ComponentFact, Class as ClassFact, Retire, Election}
+use Rattle.ldar_facts.specs.declared.body.FactBody.TheVariants.{Shutdown, Calibration, Precision, Drift, Reading, Visual, Attempt, Delay, Release}
+use Rattle.ldar_facts.specs.declared.body.FactBody.TheVariants.{Indication}
 use Rattle.ldar_facts.specs.Fields.{IsFilled, IsAmong, fact_kinds, body_number, body_fields}
 use Rattle.ldar_facts.specs.Grammar.{spelled}
 use Rattle.ldar_facts.specs.Form.{Form}
@@ -31,8 +33,19 @@ component_fact : IsKind forms.component_fact 2
 unfolding forms.component_fact
 component_fact = record {
   number = λ p. refl;
-  filled = λ p. (field.component.filled p.0, (field.unit.filled p.1.0, (field.kind.filled p.1.1.0, (field.flag.filled p.1.1.1.0, (field.flag.filled p.1.1.1.1.0, field.class.filled p.1.1.1.1.1.0)))));
-  text = λ p. rw (field.component.text p.0, field.unit.text p.1.0, field.kind.text p.1.1.0, field.flag.text p.1.1.1.0, field.flag.text p.1.1.1.1.0, field.class.text p.1.1.1.1.1.0, append-nil);
+  filled = λ p. (
+    field.component.filled p.0,
+    (field.unit.filled p.1.0, (field.kind.filled p.1.1.0, (field.flag.filled p.1.1.1.0, (field.flag.filled p.1.1.1.1.0, field.class.filled p.1.1.1.1.1.0)))),
+  );
+  text = λ p. rw (
+    field.component.text p.0,
+    field.unit.text p.1.0,
+    field.kind.text p.1.1.0,
+    field.flag.text p.1.1.1.0,
+    field.flag.text p.1.1.1.1.0,
+    field.class.text p.1.1.1.1.1.0,
+    append-nil,
+  );
 }
 
 class_fact : IsKind forms.class_fact 3
@@ -95,8 +108,24 @@ reading : IsKind forms.reading 10
 unfolding forms.reading
 reading = record {
   number = λ p. refl;
-  filled = λ p. (field.component.filled p.0, (field.number_or_none.filled p.1.0, (field.number_or_none.filled p.1.1.0, (field.purpose.filled p.1.1.1.0, (field.concentration.filled p.1.1.1.1.0, (field.concentration.filled p.1.1.1.1.1.0, tt))))));
-  text = λ p. rw (field.component.text p.0, field.number_or_none.text p.1.0, field.number_or_none.text p.1.1.0, field.purpose.text p.1.1.1.0, field.concentration.text p.1.1.1.1.0, field.concentration.text p.1.1.1.1.1.0);
+  filled = λ p. (
+    field.component.filled p.0,
+    (
+      field.number_or_none.filled p.1.0,
+      (
+        field.number_or_none.filled p.1.1.0,
+        (field.purpose.filled p.1.1.1.0, (field.concentration.filled p.1.1.1.1.0, (field.concentration.filled p.1.1.1.1.1.0, tt))),
+      ),
+    ),
+  );
+  text = λ p. rw (
+    field.component.text p.0,
+    field.number_or_none.text p.1.0,
+    field.number_or_none.text p.1.1.0,
+    field.purpose.text p.1.1.1.0,
+    field.concentration.text p.1.1.1.1.0,
+    field.concentration.text p.1.1.1.1.1.0,
+  );
 }
 
 visual : IsKind forms.visual 11
@@ -119,7 +148,10 @@ delay : IsKind forms.delay 13
 unfolding forms.delay
 delay = record {
   number = λ p. refl;
-  filled = λ p. (field.component.filled p.0, (field.delay_ground.filled p.1.0, (field.number_or_none.filled p.1.1.0, (field.day_or_none.filled p.1.1.1.0, tt))));
+  filled = λ p. (
+    field.component.filled p.0,
+    (field.delay_ground.filled p.1.0, (field.number_or_none.filled p.1.1.0, (field.day_or_none.filled p.1.1.1.0, tt))),
+  );
   text = λ p. rw (field.component.text p.0, field.delay_ground.text p.1.0, field.number_or_none.text p.1.1.0, field.day_or_none.text p.1.1.1.0);
 }
 
@@ -176,7 +208,8 @@ body kind among =
 -- ---- each fact is read
 
 pub path : (b : FactBody) → AllByRecursion IsFilled (body_fields b) → (p : (forms.body (body_number b)).Path) × ((forms.body (body_number b)).value p ≡ b)
-unfolding forms.body forms.unit_fact forms.component_fact forms.class_fact forms.retire forms.election forms.shutdown forms.calibration forms.precision forms.drift forms.reading forms.visual forms.attempt forms.delay forms.release forms.indication
+unfolding forms.body forms.unit_fact forms.component_fact forms.class_fact forms.retire forms.election forms.shutdown forms.calibration forms.precision
+    forms.drift forms.reading forms.visual forms.attempt forms.delay forms.release forms.indication
 path (UnitFact unit older name) h =
     let p0 = field.unit.path unit h.0 in
     let p1 = field.flag.path older h.1.0 in

@@ -22,12 +22,15 @@ no_later x y Greater p ranks e = cc
 pub earlier_day : (a b : Key) → is_earlier a b ≡ true → a.day ≤ b.day
 earlier_day a b e = no_later a.day b.day (nat_cmp a.day b.day) _ (ranked a.day b.day (nat_cmp a.day b.day) refl) e
 
-pub view_day_cuts : (day : ℕ) (history : List Batch) → IsTrue (identities_differ history) → facts_to day history ≡ take_while (λ e. nat_le e.0.day day) (facts_of history)
+pub view_day_cuts : (day : ℕ) (history : List Batch) → IsTrue (identities_differ history)
+    → facts_to day history ≡ take_while (λ e. nat_le e.0.day day) (facts_of history)
 view_day_cuts day history differ =
     front_is_cut goes_first (λ e. nat_le e.0.day day) (facts_of history) (facts_ascend history differ)
     (λ x y earlier within. le-leb x.0.day day (omega (arith, earlier_day x.0 y.0 earlier, leb-true y.0.day day within)))
 
-pub cut_of_facts : (history : List Batch) (earlier : List Entry) (entry : Entry) (later : List Entry) → IsTrue (identities_differ history) → facts_of history ≡ earlier ++ entry ∷ later → (filter (λ e. is_earlier e.0 entry.0) (facts_of history) ≡ earlier) × (filter (λ e. is_earlier entry.0 e.0) (facts_of history) ≡ later)
+pub cut_of_facts : (history : List Batch) (earlier : List Entry) (entry : Entry) (later : List Entry) → IsTrue (identities_differ history)
+    → facts_of history ≡ earlier ++ entry ∷ later → (filter (λ e. is_earlier e.0 entry.0) (facts_of history) ≡ earlier) ×
+    (filter (λ e. is_earlier entry.0 e.0) (facts_of history) ≡ later)
 cut_of_facts history earlier entry later differ cut =
     let up : Ascends goes_first (earlier ++ entry ∷ later) = subst (Ascends goes_first) cut (facts_ascend history differ) in
     rw cut (earlier_of_cut goes_first strict_goes_first earlier entry later up, later_of_cut goes_first strict_goes_first earlier entry later up)

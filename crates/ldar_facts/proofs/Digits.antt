@@ -3,7 +3,8 @@ use Rattle.std.proofs.Common.{◌≡◌, ℕ, ◌<◌, ◌≤◌, true, false, L
 use Rattle.std.proofs.lemmas.Bool.{cases_lt}
 use Rattle.std.proofs.lemmas.List.{get_or_append_left, get_or_past}
 use Rattle.ldar_facts.specs.Form.{IsBytes}
-use Rattle.ldar_facts.specs.Number.{number_from, value_from, among, stop_of, stopped, read_whole, read_none, read_early}
+use Rattle.ldar_facts.specs.Number.{number_from, among, stop_of}
+use Rattle.ldar_facts.proofs.NumberSteps.{value_from, stopped, read_whole, read_none, read_early}
 
 -- a front of bytes has bytes
 IsBytes-front : (bytes front rest : List ℕ) → bytes ≡ front ++ rest → IsBytes bytes → IsBytes front
@@ -15,17 +16,21 @@ IsBytes-front bytes front rest splits are i =
 
 -- ---- what a function that looks at all the digits of a number answers
 
-pub whole : (digits rest bytes : List ℕ) (ranges : List (ℕ × ℕ)) (n : ℕ) → IsBytes bytes → bytes ≡ digits ++ rest → value_from 0 digits ≡ n → among ranges n ≡ true
+pub whole : (digits rest bytes : List ℕ) (ranges : List (ℕ × ℕ)) (n : ℕ) → IsBytes bytes → bytes ≡ digits ++ rest → value_from 0 digits ≡ n
+    → among ranges n ≡ true
     → number_from (length digits) ranges 0 bytes ≡ Ok (n, rest)
 whole digits rest bytes ranges n are splits is h =
-    rw splits (subst (λ v. number_from (length digits) ranges 0 (digits ++ rest) ≡ Ok (v, rest)) is (read_whole digits rest ranges 0 (IsBytes-front bytes digits rest splits are) (rw is h)))
+    rw splits (subst (λ v. number_from (length digits) ranges 0 (digits ++ rest) ≡ Ok (v, rest)) is
+    (read_whole digits rest ranges 0 (IsBytes-front bytes digits rest splits are) (rw is h)))
 
-pub none : (b : ℕ) (digits rest bytes : List ℕ) (ranges : List (ℕ × ℕ)) (n : ℕ) → bytes ≡ b ∷ digits ++ rest → value_from 0 (b ∷ digits) ≡ n → among ranges n ≡ false
+pub none : (b : ℕ) (digits rest bytes : List ℕ) (ranges : List (ℕ × ℕ)) (n : ℕ) → bytes ≡ b ∷ digits ++ rest → value_from 0 (b ∷ digits) ≡ n
+    → among ranges n ≡ false
     → number_from (length (b ∷ digits)) ranges 0 bytes ≡ Err (stop_of (number_from (length (b ∷ digits)) ranges 0 bytes))
 none b digits rest bytes ranges n splits is h =
     rw splits (stopped (number_from (length (b ∷ digits)) ranges 0 (b ∷ digits ++ rest)) (read_none b digits rest ranges 0 (rw is h)))
 
-pub early : (more : ℕ) (bytes : List ℕ) (ranges : List (ℕ × ℕ)) → length bytes < more → number_from more ranges 0 bytes ≡ Err (stop_of (number_from more ranges 0 bytes))
+pub early : (more : ℕ) (bytes : List ℕ) (ranges : List (ℕ × ℕ)) → length bytes < more
+    → number_from more ranges 0 bytes ≡ Err (stop_of (number_from more ranges 0 bytes))
 early more bytes ranges lt = stopped (number_from more ranges 0 bytes) (read_early more bytes ranges 0 lt)
 
 -- ---- the first one, two or four bytes

@@ -41,7 +41,8 @@ module _ (count i : ℕ) (front : List Stated) (bytes : List ℕ) (total : Outco
   unfolding forms.facts
   ends le =
       let left : count - i ≡ 0 = omega arith in
-      let step : with_front front ((forms.facts (count - i)).read bytes) ≡ Ok (front, bytes) = rw left (ap (λ (facts : List Stated). Ok (facts, bytes)) (append-nil front)) in
+      let step : with_front front ((forms.facts (count - i)).read bytes) ≡ Ok (front, bytes) =
+      rw left (ap (λ (facts : List Stated). Ok (facts, bytes)) (append-nil front)) in
       sym so_far ∙ step
 
 -- the list that was made is of these facts

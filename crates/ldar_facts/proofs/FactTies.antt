@@ -64,15 +64,18 @@ filled-front (x ∷ xs) ys h = let rest = filled-front xs ys h.1 in ((h.0, rest.
 facts-filled : (n : ℕ) (p : (forms.facts n).Path) → AllByRecursion IsFilled (flat_map fact_fields ((forms.facts n).value p))
 unfolding forms.facts
 facts-filled zero p = tt
-facts-filled (suc n) p = filled-append (fact_fields ((forms.fact).value p.0)) (flat_map fact_fields ((forms.facts n).value p.1.0)) (fact.filled p.0) (facts-filled n p.1.0)
+facts-filled (suc n) p = filled-append (fact_fields ((forms.fact).value p.0)) (flat_map fact_fields ((forms.facts n).value p.1.0)) (fact.filled p.0)
+    (facts-filled n p.1.0)
 
 facts-text : (n : ℕ) (p : (forms.facts n).Path) → (forms.facts n).text p ≡ spelled (flat_map fact_fields ((forms.facts n).value p))
 unfolding forms.facts
 facts-text zero p = refl
 facts-text (suc n) p =
-    rw (append-nil, fact.text p.0, facts-text n p.1.0) (sym (spelled-append (fact_fields ((forms.fact).value p.0)) (flat_map fact_fields ((forms.facts n).value p.1.0))))
+    rw (append-nil, fact.text p.0, facts-text n p.1.0)
+    (sym (spelled-append (fact_fields ((forms.fact).value p.0)) (flat_map fact_fields ((forms.facts n).value p.1.0))))
 
-facts-path : (facts : List Stated) → AllByRecursion IsFilled (flat_map fact_fields facts) → (p : (forms.facts (length facts)).Path) × ((forms.facts (length facts)).value p ≡ facts)
+facts-path : (facts : List Stated) → AllByRecursion IsFilled (flat_map fact_fields facts)
+    → (p : (forms.facts (length facts)).Path) × ((forms.facts (length facts)).value p ≡ facts)
 unfolding forms.facts
 facts-path [] h = (tt, refl)
 facts-path (first ∷ facts) h =

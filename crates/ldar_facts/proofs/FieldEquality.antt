@@ -20,7 +20,9 @@ use Rattle.ldar_facts.specs.declared.body.VisualState.TheVariants.{Dry, Drips, D
 use Rattle.ldar_facts.specs.declared.body.Sort.{Sort}
 use Rattle.ldar_facts.specs.declared.body.Sort.TheVariants.{Sensor, Evidence}
 use Rattle.ldar_facts.specs.declared.body.FactBody.{FactBody}
-use Rattle.ldar_facts.specs.declared.body.FactBody.TheVariants.{Unit as UnitFact, Component as ComponentFact, Class as ClassFact, Retire, Election, Shutdown, Calibration, Precision, Drift, Reading, Visual, Attempt, Delay, Release, Indication}
+use Rattle.ldar_facts.specs.declared.body.FactBody.TheVariants.{Unit as UnitFact, Component as ComponentFact, Class as ClassFact, Retire, Election}
+use Rattle.ldar_facts.specs.declared.body.FactBody.TheVariants.{Shutdown, Calibration, Precision, Drift, Reading, Visual, Attempt, Delay, Release}
+use Rattle.ldar_facts.specs.declared.body.FactBody.TheVariants.{Indication}
 use Rattle.ldar_facts.specs.Stated.{Stated}
 use Rattle.ldar_facts.specs.Name.{spelled_name}
 use Rattle.ldar_facts.specs.contracts.body.FactBodyPartialEq.TheImpl as bodies

@@ -20,7 +20,8 @@ use Rattle.ldar_facts.specs.Fields as fields
 use Rattle.ldar_facts.specs.Fields.{Field, number, name, IsAmong, IsFilled, bytes_of, big_endian}
 use Rattle.ldar_facts.specs.Form.{Form}
 use Rattle.ldar_facts.specs.Grammar.{spelled}
-use Rattle.ldar_facts.specs.Letters.{name_form, name_text, name_path}
+use Rattle.ldar_facts.specs.Letters.{name_form}
+use Rattle.ldar_facts.proofs.NameForm.{name_text, name_path}
 use Rattle.ldar_facts.specs.FieldForms as forms
 
 -- a form has the texts of a field
@@ -238,7 +239,8 @@ sort = record {
 
 -- ---- a day or none
 
-expected_filled : (n : ℕ) → IsAmong n fields.days_or_none → IsFilled (fields.day_or_none (forms.expected_of n)) × (big_endian 2 n ≡ bytes_of (fields.day_or_none (forms.expected_of n)))
+expected_filled : (n : ℕ) → IsAmong n fields.days_or_none → IsFilled (fields.day_or_none (forms.expected_of n)) ×
+    (big_endian 2 n ≡ bytes_of (fields.day_or_none (forms.expected_of n)))
 expected_filled n (inl none) = let is : n ≡ 0 = omega (arith, none) in rw is ((omega arith, omega arith), refl)
 expected_filled n (inr is_day) = let positive : (n ≡ 0) → ⊥ = λ is. omega (arith, is_day) in rw (ne_eqb n 0 positive) (is_day, refl)
 

@@ -1,11 +1,14 @@
 -- Laws of the grammar.
-use Rattle.std.proofs.Common.{◌≡◌, ℕ, suc, ◌+◌, ◌-◌, ◌*◌, ◌<◌, ◌≤◌, List, [], ◌∷◌, ◌++◌, length, take, drop, replicate, Some, None, Ok, refl, sym, ap, subst, ◌∙◌, append_assoc, length-append, arith, inl, inr}
+use Rattle.std.proofs.Common.{◌≡◌, ℕ, suc, ◌+◌, ◌-◌, ◌*◌, ◌<◌, ◌≤◌, List, [], ◌∷◌, ◌++◌, length, take, drop, replicate, Some, None, Ok, refl, sym, ap}
+use Rattle.std.proofs.Common.{subst, ◌∙◌, append_assoc, length-append, arith, inl, inr}
 use Rattle.std.specs.List.{flat_map, AllByRecursion}
 use Rattle.std.proofs.lemmas.Bool.{cases_lt}
 use Rattle.std.proofs.lemmas.List.{append-nil, length-replicate, take-append-drop, take-take}
 use Rattle.ldar_facts.specs.declared.batch.Batch.{Batch}
 use Rattle.ldar_facts.specs.declared.body.FactBody.{FactBody}
-use Rattle.ldar_facts.specs.declared.body.FactBody.TheVariants.{Unit as UnitFact, Component as ComponentFact, Class as ClassFact, Retire, Election, Shutdown, Calibration, Precision, Drift, Reading, Visual, Attempt, Delay, Release, Indication}
+use Rattle.ldar_facts.specs.declared.body.FactBody.TheVariants.{Unit as UnitFact, Component as ComponentFact, Class as ClassFact, Retire, Election}
+use Rattle.ldar_facts.specs.declared.body.FactBody.TheVariants.{Shutdown, Calibration, Precision, Drift, Reading, Visual, Attempt, Delay, Release}
+use Rattle.ldar_facts.specs.declared.body.FactBody.TheVariants.{Indication}
 use Rattle.ldar_facts.specs.Stated.{Stated}
 use Rattle.ldar_facts.specs.Name.{IsName, spelled_name}
 use Rattle.ldar_facts.specs.Fields.{IsFilled, IsFact, body_fields, fact_fields}
@@ -25,7 +28,8 @@ one_spelling bytes other b is is_other = is.spells ∙ sym is_other.spells
 
 pub no_proper_front : (bytes more : List ℕ) (b other : Batch) → Spells bytes b → Spells (bytes ++ more) other → more ≡ []
 no_proper_front bytes more b other is is_other =
-    let whole : batch.read (bytes ++ more) ≡ Ok (other, []) = subst (λ l. batch.read l ≡ Ok (other, [])) (append-nil (bytes ++ more)) (read_again (bytes ++ more) other [] is_other) in
+    let whole : batch.read (bytes ++ more) ≡ Ok (other, []) = subst (λ l. batch.read l ≡ Ok (other, [])) (append-nil (bytes ++ more))
+    (read_again (bytes ++ more) other [] is_other) in
     (ok_pair (b, more) (other, []) (sym (read_again bytes b more is) ∙ whole)).1
 
 -- ---- lengths
@@ -66,8 +70,10 @@ facts_length (fact ∷ facts) h =
     let parts = filled-front (fact_fields fact) (flat_map fact_fields facts) h in
     let one = fact_length fact parts.0 in
     let rest = facts_length facts parts.1 in
-    let both : length (spelled (fact_fields fact ++ flat_map fact_fields facts)) ≡ length (spelled (fact_fields fact)) + length (spelled (flat_map fact_fields facts))
-    = ap length (spelled-append (fact_fields fact) (flat_map fact_fields facts)) ∙ length-append (spelled (fact_fields fact)) (spelled (flat_map fact_fields facts)) in
+    let both : length (spelled (fact_fields fact ++ flat_map fact_fields facts)) ≡ length (spelled (fact_fields fact)) + length
+    (spelled (flat_map fact_fields facts))
+    = ap length (spelled-append (fact_fields fact) (flat_map fact_fields facts))
+    ∙ length-append (spelled (fact_fields fact)) (spelled (flat_map fact_fields facts)) in
     (omega (arith, both, one.0, rest.0), omega (arith, both, one.1, rest.1))
 
 -- a batch has 9 bytes before its facts
@@ -87,13 +93,15 @@ begins_front front rest begins = (begins.0, rest ++ begins.1, subst (λ l. Spell
 
 -- so no place of it is wrong
 pub none_wrong : (bytes : List ℕ) (at : ℕ) → Begins bytes → IsFirstWrongPlace bytes at → ⊥
-none_wrong bytes at begins is = is.after (begins_front (take (at + 1) bytes) (drop (at + 1) bytes) (subst Begins (sym (take-append-drop (at + 1) bytes)) begins))
+none_wrong bytes at begins is = is.after
+    (begins_front (take (at + 1) bytes) (drop (at + 1) bytes) (subst Begins (sym (take-append-drop (at + 1) bytes)) begins))
 
 -- a place before the first wrong one is not wrong
 not_before : (bytes : List ℕ) (at other : ℕ) → IsFirstWrongPlace bytes at → IsFirstWrongPlace bytes other → at < other → ⊥
 not_before bytes at other is is_other lt =
     let front : take (at + 1) (take other bytes) ≡ take (at + 1) bytes = take-take (at + 1) other bytes (omega arith) in
-    let begins = begins_front (take (at + 1) (take other bytes)) (drop (at + 1) (take other bytes)) (subst Begins (sym (take-append-drop (at + 1) (take other bytes))) is_other.before) in
+    let begins = begins_front (take (at + 1) (take other bytes)) (drop (at + 1) (take other bytes))
+    (subst Begins (sym (take-append-drop (at + 1) (take other bytes))) is_other.before) in
     is.after (subst Begins front begins)
 
 pub one_wrong_place : (bytes : List ℕ) (at other : ℕ) → IsFirstWrongPlace bytes at → IsFirstWrongPlace bytes other → at ≡ other

@@ -71,7 +71,8 @@ entries_apart batch index (fact ∷ facts) = (
 )
 
 -- those of two batches differ in handheld or number
-batches_apart : (a b : Batch) → is_same_identity a b ≡ false → (d e : Entry) → Among (entries_of a) d → Among (entries_of b) e → (goes_first d e || goes_first e d) ≡ true
+batches_apart : (a b : Batch) → is_same_identity a b ≡ false → (d e : Entry) → Among (entries_of a) d → Among (entries_of b) e
+    → (goes_first d e || goes_first e d) ≡ true
 batches_apart a b differ d e of_a of_b =
     let from_a = all_at (Comes a 0) (entries_of a) d (entries_come a 0 a.facts) of_a in
     let from_b = all_at (Comes b 0) (entries_of b) e (entries_come b 0 b.facts) of_b in

@@ -20,7 +20,9 @@ use Rattle.ldar_facts.specs.declared.body.VisualState.TheVariants.{Dry, Drips, D
 use Rattle.ldar_facts.specs.declared.body.Sort.{Sort}
 use Rattle.ldar_facts.specs.declared.body.Sort.TheVariants.{Sensor, Evidence}
 use Rattle.ldar_facts.specs.declared.body.FactBody.{FactBody}
-use Rattle.ldar_facts.specs.declared.body.FactBody.TheVariants.{Unit as UnitFact, Component as ComponentFact, Class as ClassFact, Retire, Election, Shutdown, Calibration, Precision, Drift, Reading, Visual, Attempt, Delay, Release, Indication}
+use Rattle.ldar_facts.specs.declared.body.FactBody.TheVariants.{Unit as UnitFact, Component as ComponentFact, Class as ClassFact, Retire, Election}
+use Rattle.ldar_facts.specs.declared.body.FactBody.TheVariants.{Shutdown, Calibration, Precision, Drift, Reading, Visual, Attempt, Delay, Release}
+use Rattle.ldar_facts.specs.declared.body.FactBody.TheVariants.{Indication}
 use Rattle.ldar_facts.specs.Stated.{Stated}
 use Rattle.ldar_facts.specs.Name.{spelled_name}
 use Rattle.ldar_facts.specs.contracts.body.FactBodyPartialEq.TheImpl as bodies
@@ -108,7 +110,8 @@ same_drift_fact i i' value value' readings readings' h = grind (arith, nat_tests
 same_reading_fact : (c c' : ℕ) (i i' : ℕ) (o o' : ℕ) (purpose purpose' : Purpose) (ppm ppm' : ℕ) (background background' : ℕ)
     → (bodies.eq-value).it (Reading c i o purpose ppm background) (Reading c' i' o' purpose' ppm' background') ≡ true
     → Reading c i o purpose ppm background ≡ Reading c' i' o' purpose' ppm' background'
-same_reading_fact c c' i i' o o' purpose purpose' ppm ppm' background background' h = grind (arith, nat_tests, same_kind, same_class, same_purpose, same_state, same_sort)
+same_reading_fact c c' i i' o o' purpose purpose' ppm ppm' background background' h =
+    grind (arith, nat_tests, same_kind, same_class, same_purpose, same_state, same_sort)
 
 -- visual inspections that are told to be the same are
 same_visual_fact : (c c' : ℕ) (state state' : VisualState)

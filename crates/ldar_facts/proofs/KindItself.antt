@@ -20,7 +20,9 @@ use Rattle.ldar_facts.specs.declared.body.VisualState.TheVariants.{Dry, Drips, D
 use Rattle.ldar_facts.specs.declared.body.Sort.{Sort}
 use Rattle.ldar_facts.specs.declared.body.Sort.TheVariants.{Sensor, Evidence}
 use Rattle.ldar_facts.specs.declared.body.FactBody.{FactBody}
-use Rattle.ldar_facts.specs.declared.body.FactBody.TheVariants.{Unit as UnitFact, Component as ComponentFact, Class as ClassFact, Retire, Election, Shutdown, Calibration, Precision, Drift, Reading, Visual, Attempt, Delay, Release, Indication}
+use Rattle.ldar_facts.specs.declared.body.FactBody.TheVariants.{Unit as UnitFact, Component as ComponentFact, Class as ClassFact, Retire, Election}
+use Rattle.ldar_facts.specs.declared.body.FactBody.TheVariants.{Shutdown, Calibration, Precision, Drift, Reading, Visual, Attempt, Delay, Release}
+use Rattle.ldar_facts.specs.declared.body.FactBody.TheVariants.{Indication}
 use Rattle.ldar_facts.specs.Stated.{Stated}
 use Rattle.ldar_facts.specs.Name.{spelled_name}
 use Rattle.ldar_facts.specs.contracts.body.FactBodyPartialEq.TheImpl as bodies
@@ -34,7 +36,8 @@ use Rattle.ldar_facts.specs.contracts.class.DesignationPartialEq.TheImpl as desi
 use Rattle.ldar_facts.specs.contracts.fact.FactPartialEq.TheImpl as facts
 use Rattle.ldar_facts.specs.contracts.name.NamePartialEq.TheImpl as names
 use Rattle.ldar_facts.proofs.FactTies.{same_stated}
-use Rattle.ldar_facts.proofs.FieldEquality.{kind_itself, service_itself, designation_itself, purpose_itself, state_itself, sort_itself, class_itself, flag_itself, pointwise_itself, name_itself}
+use Rattle.ldar_facts.proofs.FieldEquality.{kind_itself, service_itself, designation_itself, purpose_itself, state_itself, sort_itself, class_itself}
+use Rattle.ldar_facts.proofs.FieldEquality.{flag_itself, pointwise_itself, name_itself}
 
 -- so it is of units
 unit_fact_itself : (u : ℕ) (older : Bool) (name : List ℕ)

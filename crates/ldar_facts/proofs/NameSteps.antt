@@ -7,7 +7,8 @@ use Rattle.ldar_facts.specs.declared.stop.Stop.{Stop}
 use Rattle.ldar_facts.specs.Form.{◌then◌}
 use Rattle.ldar_facts.specs.Name.{IsName}
 use Rattle.ldar_facts.specs.Number.{number_from}
-use Rattle.ldar_facts.specs.Letters.{letters_or_zero, zeros, ended, behind, name_form, name_text}
+use Rattle.ldar_facts.specs.Letters.{letters_or_zero, zeros, ended, behind, name_form}
+use Rattle.ldar_facts.proofs.NameForm.{name_text}
 
 module _ (count i : ℕ) (lt : i < count) (bytes : List ℕ) where
   left : count - i ≡ suc (count - (i + 1))
@@ -17,7 +18,8 @@ module _ (count i : ℕ) (lt : i < count) (bytes : List ℕ) where
   unfolding zeros
   zeros_stop stop e = rw (left, e)
 
-  pub zeros_step : (b : ℕ) (rest : List ℕ) → number_from 1 ((0, 0) ∷ []) 0 bytes ≡ Ok (b, rest) → (zeros (count - i)).read bytes ≡ (zeros (count - (i + 1))).read rest
+  pub zeros_step : (b : ℕ) (rest : List ℕ) → number_from 1 ((0, 0) ∷ []) 0 bytes ≡ Ok (b, rest)
+      → (zeros (count - i)).read bytes ≡ (zeros (count - (i + 1))).read rest
   unfolding zeros
   zeros_step b rest e = rw (left, e)
 
@@ -55,7 +57,8 @@ is_some bytes (Some name) is none = refl
 is_some bytes None is none = absurd (none refl is)
 
 -- and it is that one
-pub same_name : (bytes : List ℕ) (found : Option (List ℕ)) (name : List ℕ) → found ≡ Some name → IfSome found (λ name. IsName bytes × (name ≡ bytes)) → bytes ≡ name
+pub same_name : (bytes : List ℕ) (found : Option (List ℕ)) (name : List ℕ) → found ≡ Some name → IfSome found (λ name. IsName bytes × (name ≡ bytes))
+    → bytes ≡ name
 same_name bytes (Some other) name is given = let same : other ≡ name = cc in sym given.1 ∙ same
 same_name bytes None name is given = absurd cc
 
@@ -74,7 +77,8 @@ module _ (len : ℕ) (lt : len < 12) (name bytes old rest : List ℕ) (b : ℕ) 
   zeros_fail stop e = after_zero ∙ ap (λ r. r then λ x. Ok (name, x.1)) e
 
 -- twelve letters
-pub all_letters : (len : ℕ) (letters bytes rest : List ℕ) → 12 ≤ len → length letters ≡ 12 → (behind (12 - len) (take len letters)).read rest ≡ name_form.read bytes
+pub all_letters : (len : ℕ) (letters bytes rest : List ℕ) → 12 ≤ len → length letters ≡ 12
+    → (behind (12 - len) (take len letters)).read rest ≡ name_form.read bytes
     → name_form.read bytes ≡ Ok (letters, rest)
 all_letters len letters bytes rest le room so_far =
     let whole = take_all len letters (omega arith) in

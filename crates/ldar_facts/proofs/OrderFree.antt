@@ -1,4 +1,5 @@
-use Rattle.std.proofs.Common.{◌≡◌, ◌↔◌, ℕ, zero, suc, ◌+◌, IsTrue, Some, List, [], ◌∷◌, ◌++◌, length, slice_get, sum_by, refl, sym, ap, ◌∙◌, subst, inl, inr, arith}
+use Rattle.std.proofs.Common.{◌≡◌, ◌↔◌, ℕ, zero, suc, ◌+◌, IsTrue, Some, List, [], ◌∷◌, ◌++◌, length, slice_get, sum_by, refl, sym, ap, ◌∙◌, subst, inl}
+use Rattle.std.proofs.Common.{inr, arith}
 use Rattle.std.specs.List.{Contains, flat_map}
 use Rattle.std.specs.List.Sorted.{IsPermutation}
 use Rattle.std.proofs.lemmas.List.{append-nil, length-append}
@@ -46,7 +47,8 @@ facts_count history =
     length_permutation (flat_map entries_of history) (facts_of history) (in_order_permutes goes_first (flat_map entries_of history))
     ∙ flat_length history
 
-pub one_more_batch : (history : List Batch) (batch : Batch) → IsTrue (identities_differ (history ++ batch ∷ [])) → facts_of (history ++ batch ∷ []) ≡ put_each goes_first (entries_of batch) (facts_of history)
+pub one_more_batch : (history : List Batch) (batch : Batch) → IsTrue (identities_differ (history ++ batch ∷ []))
+    → facts_of (history ++ batch ∷ []) ≡ put_each goes_first (entries_of batch) (facts_of history)
 one_more_batch history batch differ =
     let joined : flat_map entries_of (history ++ batch ∷ []) ≡ flat_map entries_of history ++ entries_of batch =
     flat_map-append entries_of history (batch ∷ []) ∙ ap (λ es. flat_map entries_of history ++ es) (append-nil (entries_of batch)) in
@@ -55,7 +57,8 @@ one_more_batch history batch differ =
     (subst (AllApart goes_first) joined (history_apart (history ++ batch ∷ []) differ)))
 
 -- an entry of a batch is one of its facts, with its key
-entry_is : (batch : Batch) (index : ℕ) (facts : List Stated) (entry : Entry) → Among (entries_from batch index facts) entry → (k : ℕ) × (slice_get facts k ≡ Some entry.1) × (entry.0 ≡ key_of batch (index + k) entry.1)
+entry_is : (batch : Batch) (index : ℕ) (facts : List Stated) (entry : Entry) → Among (entries_from batch index facts) entry
+    → (k : ℕ) × (slice_get facts k ≡ Some entry.1) × (entry.0 ≡ key_of batch (index + k) entry.1)
 entry_is batch index [] entry h = absurd h
 entry_is batch index (fact ∷ facts) entry h =
     elim h [
@@ -68,7 +71,8 @@ entry_is batch index (fact ∷ facts) entry h =
           (suc found.0, found.1, subst (λ n. entry.0 ≡ key_of batch n entry.1) place found.2)
     ]
 
-entry_from : (batch : Batch) (index : ℕ) (facts : List Stated) (k : ℕ) (fact : Stated) → slice_get facts k ≡ Some fact → Among (entries_from batch index facts) (key_of batch (index + k) fact, fact)
+entry_from : (batch : Batch) (index : ℕ) (facts : List Stated) (k : ℕ) (fact : Stated) → slice_get facts k ≡ Some fact
+    → Among (entries_from batch index facts) (key_of batch (index + k) fact, fact)
 entry_from batch index [] k fact e = cc
 entry_from batch index (first ∷ facts) zero fact e =
     let place : index ≡ index + 0 = omega arith in

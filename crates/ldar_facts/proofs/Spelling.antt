@@ -19,29 +19,34 @@ pub record IsWritten (batch : Batch) (count : ℕ) (bytes : List ℕ) : Type 0 w
   pub items : bytes ≡ spelled (head_fields batch) ++ spelled (flat_map fact_fields (take count batch.facts))
   pub filled : AllByRecursion IsFilled (flat_map fact_fields (take count batch.facts))
 
-more_fields : (facts : List Stated) (i : ℕ) (fact : Stated) → i < length facts → fact ≡ get_or facts i fact → flat_map fact_fields (take (i + 1) facts) ≡ flat_map fact_fields (take i facts) ++ fact_fields fact
+more_fields : (facts : List Stated) (i : ℕ) (fact : Stated) → i < length facts → fact ≡ get_or facts i fact
+    → flat_map fact_fields (take (i + 1) facts) ≡ flat_map fact_fields (take i facts) ++ fact_fields fact
 more_fields facts i fact lt is =
     let more : take (i + 1) facts ≡ take i facts ++ fact ∷ [] = take_more facts i fact lt ∙ ap (λ f. take i facts ++ f ∷ []) (sym is) in
-    ap (flat_map fact_fields) more ∙ flat_map-append fact_fields (take i facts) (fact ∷ []) ∙ ap (λ l. flat_map fact_fields (take i facts) ++ l) (append-nil (fact_fields fact))
+    ap (flat_map fact_fields) more ∙ flat_map-append fact_fields (take i facts) (fact ∷ [])
+    ∙ ap (λ l. flat_map fact_fields (take i facts) ++ l) (append-nil (fact_fields fact))
 
 -- nothing but the head
 pub head_written : (batch : Batch) (bytes : List ℕ) → bytes ≡ spelled (head_fields batch) → IsWritten batch 0 bytes
 head_written batch bytes is = record { items = is; filled = tt }
 
 -- one fact more
-pub one_more : (batch : Batch) (i : ℕ) (bytes bytes' : List ℕ) (fact : Stated) → IsWritten batch i bytes → i < length batch.facts → fact ≡ get_or batch.facts i fact → IsFact fact
+pub one_more : (batch : Batch) (i : ℕ) (bytes bytes' : List ℕ) (fact : Stated) → IsWritten batch i bytes → i < length batch.facts
+    → fact ≡ get_or batch.facts i fact → IsFact fact
     → bytes' ≡ bytes ++ spelled (fact_fields fact) → IsWritten batch (i + 1) bytes'
 one_more batch i bytes bytes' fact so_far lt is is_fact added =
     let so = flat_map fact_fields (take i batch.facts) in
     let fields = more_fields batch.facts i fact lt is in
     record {
-      items = added ∙ ap (λ l. l ++ spelled (fact_fields fact)) so_far.items ∙ append_assoc (spelled (head_fields batch)) (spelled so) (spelled (fact_fields fact))
+      items = added ∙ ap (λ l. l ++ spelled (fact_fields fact)) so_far.items
+          ∙ append_assoc (spelled (head_fields batch)) (spelled so) (spelled (fact_fields fact))
           ∙ ap (λ l. spelled (head_fields batch) ++ l) (sym (spelled-append so (fact_fields fact)) ∙ ap spelled (sym fields));
       filled = rw fields (filled-append so (fact_fields fact) so_far.filled is_fact);
     }
 
 -- all of them
-pub all_written : (batch : Batch) (i : ℕ) (bytes : List ℕ) → IsWritten batch i bytes → length batch.facts ≤ i → 0 < length batch.facts → length batch.facts ≤ 512
+pub all_written : (batch : Batch) (i : ℕ) (bytes : List ℕ) → IsWritten batch i bytes → length batch.facts ≤ i → 0 < length batch.facts
+    → length batch.facts ≤ 512
     → batch.handheld ≤ 65_535 → batch.number ≤ 4_294_967_295 → Spells bytes batch
 all_written batch i bytes so_far le some few any_handheld any_number =
     let all = take_all i batch.facts le in

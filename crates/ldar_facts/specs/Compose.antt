@@ -1,3 +1,4 @@
+-- How the private readers are proved; nothing here has to be believed. It stands in specs/ since their clauses cite it.
 -- One form behind another: if each is read rightly, so are both.
 use Rattle.std.specs.Prelude.{◌≡◌, ℕ, ◌+◌, ◌<◌, Bool, true, false, if◌then◌else◌, ◌⊎◌, List, [], ◌∷◌, ◌++◌, length, get_or, Ok, Err, refl}
 use Rattle.std.proofs.Common.{sym, ap, subst, ◌∙◌, inl, inr, append_assoc}
@@ -26,6 +27,7 @@ then_err (Err stop) next other e = inl cc
 
 -- ---- a value that stands in no bytes
 
+-- a reading that did not stop
 abbrev read_so : {A : Type 0} → A × List ℕ → Outcome A
 read_so x = Ok x
 
@@ -43,6 +45,7 @@ done_reads a = record {
   wrong = λ bytes left are e. absurd cc;
 }
 
+-- what stands in no bytes
 abbrev pub done : {A : Type 0} → A → Form A
 done a = record {
   Path = Unit {0};
@@ -55,15 +58,19 @@ done a = record {
 -- ---- a form, and one behind it that the first one's value decides
 
 module _ {A B : Type 0} (first : Form A) (next : A → Form B) where
+  -- the ways of both
   abbrev pub Both : Type 0
   Both = (p : first.Path) × (next (first.value p)).Path
 
+  -- the value of both
   abbrev pub value : Both → B
   value p = (next (first.value p.0)).value p.1
 
+  -- the bytes of both
   abbrev pub text : Both → List ℕ
   text p = first.text p.0 ++ (next (first.value p.0)).text p.1
 
+  -- how both are read
   abbrev pub read : List ℕ → Outcome B
   read bytes = first.read bytes then λ x. (next x.0).read x.1
 
@@ -89,7 +96,8 @@ module _ {A B : Type 0} (first : Form A) (next : A → Form B) where
       let front = first.text p.0 in
       let second = next (first.value p.0) in
       let grouped : text p ++ rest ≡ front ++ (second.text p.1 ++ rest) = append_assoc front (second.text p.1) rest in
-      let once : read (front ++ (second.text p.1 ++ rest)) ≡ second.read (second.text p.1 ++ rest) = ap (λ r. r then λ x. (next x.0).read x.1) (first.reads.again p.0 (second.text p.1 ++ rest)) in
+      let once : read (front ++ (second.text p.1 ++ rest)) ≡ second.read (second.text p.1 ++ rest) =
+      ap (λ r. r then λ x. (next x.0).read x.1) (first.reads.again p.0 (second.text p.1 ++ rest)) in
       ap read grouped ∙ once ∙ second.reads.again p.1 rest
 
   -- whatever the first one's value, some text of the second completes it
@@ -178,19 +186,23 @@ first >>= next = record {
 
 -- ---- one of two forms, by a test
 
+-- the ways of the one that the test picks
 abbrev pub Either : Bool → Type 0 → Type 0 → Type 0
 Either true P Q = P
 Either false P Q = Q
 
 module _ {A : Type 0} (first second : Form A) where
+  -- its value
   abbrev pub either_value : (test : Bool) → Either test first.Path second.Path → A
   either_value true p = first.value p
   either_value false p = second.value p
 
+  -- its bytes
   abbrev pub either_text : (test : Bool) → Either test first.Path second.Path → List ℕ
   either_text true p = first.text p
   either_text false p = second.text p
 
+  -- how it is read
   abbrev pub either_read : Bool → List ℕ → Outcome A
   either_read test bytes = if test then first.read bytes else second.read bytes
 
@@ -198,6 +210,7 @@ module _ {A : Type 0} (first second : Form A) where
   either_reads true = first.reads
   either_reads false = second.reads
 
+-- the first form where the test is passed, and else the second
 abbrev pub either : {A : Type 0} → Bool → Form A → Form A → Form A
 either test first second = record {
   Path = Either test first.Path second.Path;

@@ -1,8 +1,11 @@
+-- How the private readers are proved; nothing here has to be believed. It stands in specs/ since their clauses cite it.
 -- How the facts of each kind are read, and a batch of them.
 use Rattle.std.specs.Prelude.{ℕ, zero, suc, ◌==◌, List, [], ◌∷◌, refl}
 use Rattle.ldar_facts.specs.declared.batch.Batch.{Batch}
 use Rattle.ldar_facts.specs.declared.body.FactBody.{FactBody}
-use Rattle.ldar_facts.specs.declared.body.FactBody.TheVariants.{Unit as UnitFact, Component as ComponentFact, Class as ClassFact, Retire, Election, Shutdown, Calibration, Precision, Drift, Reading, Visual, Attempt, Delay, Release, Indication}
+use Rattle.ldar_facts.specs.declared.body.FactBody.TheVariants.{Unit as UnitFact, Component as ComponentFact, Class as ClassFact, Retire, Election}
+use Rattle.ldar_facts.specs.declared.body.FactBody.TheVariants.{Shutdown, Calibration, Precision, Drift, Reading, Visual, Attempt, Delay, Release}
+use Rattle.ldar_facts.specs.declared.body.FactBody.TheVariants.{Indication}
 use Rattle.ldar_facts.specs.declared.read_fact.Head.{Head}
 use Rattle.ldar_facts.specs.Fields as fields
 use Rattle.ldar_facts.specs.Stated.{Stated}
@@ -12,6 +15,7 @@ use Rattle.ldar_facts.specs.Number.{number_form}
 use Rattle.ldar_facts.specs.Letters.{name_form}
 use Rattle.ldar_facts.specs.FieldForms as field
 
+-- a process unit
 unfoldable pub unit_fact : Form FactBody
 unit_fact = do
   unit ← field.unit
@@ -19,6 +23,7 @@ unit_fact = do
   name ← name_form
   done (UnitFact unit older name)
 
+-- a component
 unfoldable pub component_fact : Form FactBody
 component_fact = do
   component ← field.component
@@ -29,17 +34,20 @@ component_fact = do
   class ← field.class
   done (ComponentFact component unit kind monomer replaces class)
 
+-- a class of a component
 unfoldable pub class_fact : Form FactBody
 class_fact = do
   component ← field.component
   class ← field.class
   done (ClassFact component class)
 
+-- a retirement
 unfoldable pub retire : Form FactBody
 retire = do
   component ← field.component
   done (Retire component)
 
+-- the choice of a programme of skip periods
 unfoldable pub election : Form FactBody
 election = do
   unit ← field.unit
@@ -47,18 +55,21 @@ election = do
   notified ← field.day
   done (Election unit mode notified)
 
+-- a shutdown
 unfoldable pub shutdown : Form FactBody
 shutdown = do
   unit ← field.unit
   days ← field.shutdown_length
   done (Shutdown unit days)
 
+-- a calibration
 unfoldable pub calibration : Form FactBody
 calibration = do
   instrument ← field.instrument
   gas ← field.known_value
   done (Calibration instrument gas)
 
+-- a precision test
 unfoldable pub precision : Form FactBody
 precision = do
   instrument ← field.instrument
@@ -66,6 +77,7 @@ precision = do
   readings ← field.readings
   done (Precision instrument value readings)
 
+-- a drift assessment
 unfoldable pub drift : Form FactBody
 drift = do
   instrument ← field.instrument
@@ -73,6 +85,7 @@ drift = do
   readings ← field.readings
   done (Drift instrument value readings)
 
+-- a reading
 unfoldable pub reading : Form FactBody
 reading = do
   component ← field.component
@@ -83,18 +96,21 @@ reading = do
   background ← field.concentration
   done (Reading component instrument operator purpose ppm background)
 
+-- a visual inspection
 unfoldable pub visual : Form FactBody
 visual = do
   component ← field.component
   state ← field.state
   done (Visual component state)
 
+-- an attempt at a repair
 unfoldable pub attempt : Form FactBody
 attempt = do
   component ← field.component
   complete ← field.flag
   done (Attempt component complete)
 
+-- a delay of repair
 unfoldable pub delay : Form FactBody
 delay = do
   component ← field.component
@@ -103,11 +119,13 @@ delay = do
   expected ← field.day_or_none
   done (Delay component reason signer expected)
 
+-- a pressure release
 unfoldable pub release : Form FactBody
 release = do
   component ← field.component
   done (Release component)
 
+-- an indication
 unfoldable pub indication : Form FactBody
 indication = do
   component ← field.component
@@ -123,6 +141,7 @@ body kind =
     (either (kind == 9) drift (either (kind == 10) reading (either (kind == 11) visual (either (kind == 12) attempt
     (either (kind == 13) delay (either (kind == 14) release indication)))))))))))))
 
+-- a fact: its kind, day and minute, and what it says
 unfoldable pub fact : Form Stated
 fact = do
   kind ← field.fact_kind
@@ -148,6 +167,7 @@ head = do
   count ← number_form 2 fields.counts refl
   done (record { handheld = handheld; number = number; count = count })
 
+-- a batch: its head and its facts
 unfoldable pub batch : Form Batch
 batch = do
   head ← head

@@ -1,5 +1,6 @@
 -- The facts of batches in key order, those up to a view day, and what is true of them.
-use Rattle.std.specs.Prelude.{◌≡◌, ℕ, ◌+◌, ◌↔◌, Bool, nat_le, IsTrue, Some, List, [], ◌∷◌, ◌++◌, length, filter, take_while, slice_get, sum_by, Contains, IsPermutation}
+use Rattle.std.specs.Prelude.{◌≡◌, ℕ, ◌+◌, ◌↔◌, Bool, nat_le, IsTrue, Some, List, [], ◌∷◌, ◌++◌, length, filter, take_while, slice_get, sum_by, Contains}
+use Rattle.std.specs.Prelude.{IsPermutation}
 use Rattle.std.specs.List.{flat_map}
 use Rattle.std.specs.Ordering.{is_lt, nat_cmp, on, then_cmp}
 use Rattle.std.specs.declared.cmp.Ordering.{Ordering}
@@ -19,6 +20,7 @@ key_cmp =
     then_cmp (on (λ k. k.day) nat_cmp) (then_cmp (on (λ k. k.minute) nat_cmp) (then_cmp (on (λ k. k.handheld) nat_cmp)
     (then_cmp (on (λ k. k.number) nat_cmp) (on (λ k. k.index) nat_cmp))))
 
+-- the first key is the earlier one
 abbrev pub is_earlier : Key → Key → Bool
 is_earlier a b = is_lt (key_cmp a b)
 

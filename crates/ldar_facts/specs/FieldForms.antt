@@ -1,3 +1,4 @@
+-- How the private readers are proved; nothing here has to be believed. It stands in specs/ since their clauses cite it.
 -- How each field of the table is read.
 use Rattle.std.specs.Prelude.{ℕ, Bool, ◌==◌, IsTrue, if◌then◌else◌, Option, Some, None, refl}
 use Rattle.ldar_facts.specs.declared.class.Class.{Class}
@@ -18,45 +19,59 @@ use Rattle.ldar_facts.specs.Form.{Form}
 use Rattle.ldar_facts.specs.Compose.{done, ◌>>=◌}
 use Rattle.ldar_facts.specs.Number.{number_form, is_proper}
 
+-- the number of a component
 unfoldable pub component : Form ℕ
 component = number_form 2 fields.components refl
 
+-- the number of a process unit
 unfoldable pub unit : Form ℕ
 unit = number_form 1 fields.units refl
 
+-- the number of an instrument
 unfoldable pub instrument : Form ℕ
 instrument = number_form 2 fields.instruments refl
 
+-- the number of an instrument or a person, or 0
 unfoldable pub number_or_none : Form ℕ
 number_or_none = number_form 2 fields.numbers_or_none refl
 
+-- a concentration that was read
 unfoldable pub concentration : Form ℕ
 concentration = number_form 4 fields.concentrations refl
 
+-- the concentration of a gas
 unfoldable pub known_value : Form ℕ
 known_value = number_form 4 fields.known_values refl
 
+-- a day
 unfoldable pub day : Form ℕ
 day = number_form 2 fields.days refl
 
+-- a minute of a day
 unfoldable pub minute : Form ℕ
 minute = number_form 2 fields.minutes refl
 
+-- the kind of a fact
 unfoldable pub fact_kind : Form ℕ
 fact_kind = number_form 1 fields.fact_kinds refl
 
+-- a month of a quarter
 unfoldable pub month : Form ℕ
 month = number_form 1 fields.months refl
 
+-- a programme of skip periods
 unfoldable pub mode : Form ℕ
 mode = number_form 1 fields.modes refl
 
+-- the days of a shutdown
 unfoldable pub shutdown_length : Form ℕ
 shutdown_length = number_form 2 fields.shutdown_lengths refl
 
+-- the ground of a delay
 unfoldable pub delay_ground : Form ℕ
 delay_ground = number_form 1 fields.grounds refl
 
+-- no or yes
 unfoldable pub flag : Form Bool
 flag = do
   n ← number_form 1 fields.flags refl
@@ -64,57 +79,71 @@ flag = do
 
 -- ---- what a number stands for
 
+-- what a component with this number is
 abbrev pub kind_of : ℕ → Kind
 kind_of n = if n == 1 then Valve else (if n == 2 then Pump else (if n == 3 then Compressor else Relief))
 
+-- what flows there by this number
 abbrev pub service_of : ℕ → Service
 service_of n = if n == 1 then Gas else (if n == 2 then Light else (if n == 3 then Heavy else (if n == 4 then Vacuum else Under300)))
 
+-- the designation with this number
 abbrev pub designation_of : ℕ → Designation
 designation_of n = if n == 0 then Plain else (if n == 1 then Nde else (if n == 2 then Unsafe else Difficult))
 
+-- the purpose with this number
 abbrev pub purpose_of : ℕ → Purpose
 purpose_of n = if n == 1 then Routine else FollowUp
 
+-- what was found, by this number
 abbrev pub state_of : ℕ → VisualState
 state_of n = if n == 0 then Dry else (if n == 1 then Drips else Designated)
 
+-- the sort with this number
 abbrev pub sort_of : ℕ → Sort
 sort_of n = if n == 1 then Sensor else Evidence
 
+-- the day with this number, or none
 abbrev pub expected_of : ℕ → Option ℕ
 expected_of n = if n == 0 then None else Some n
 
+-- what a component is
 unfoldable pub kind : Form Kind
 kind = do
   n ← number_form 1 fields.component_kinds refl
   done (kind_of n)
 
+-- what flows through a component
 unfoldable pub service : Form Service
 service = do
   n ← number_form 1 fields.services refl
   done (service_of n)
 
+-- how a component is designated
 unfoldable pub designation : Form Designation
 designation = do
   n ← number_form 1 fields.designations refl
   done (designation_of n)
 
+-- why a reading was taken
 unfoldable pub purpose : Form Purpose
 purpose = do
   n ← number_form 1 fields.purposes refl
   done (purpose_of n)
 
+-- what a visual inspection found
 unfoldable pub state : Form VisualState
 state = do
   n ← number_form 1 fields.visual_states refl
   done (state_of n)
 
+-- what an indication speaks of
 unfoldable pub sort : Form Sort
 sort = do
   n ← number_form 1 fields.sorts refl
   done (sort_of n)
 
+-- a day, or 0 for none
 unfoldable pub day_or_none : Form (Option ℕ)
 day_or_none = do
   n ← number_form 2 fields.days_or_none refl
@@ -132,6 +161,7 @@ plans_proper Difficult = refl
 unfoldable pub plan : Designation → Form ℕ
 plan d = number_form 1 (fields.plans d) (plans_proper d)
 
+-- the class of a component
 unfoldable pub class : Form Class
 class = do
   service ← service

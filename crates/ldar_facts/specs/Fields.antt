@@ -15,7 +15,9 @@ use Rattle.ldar_facts.specs.declared.body.VisualState.TheVariants.{Dry, Drips, D
 use Rattle.ldar_facts.specs.declared.body.Sort.{Sort}
 use Rattle.ldar_facts.specs.declared.body.Sort.TheVariants.{Sensor, Evidence}
 use Rattle.ldar_facts.specs.declared.body.FactBody.{FactBody}
-use Rattle.ldar_facts.specs.declared.body.FactBody.TheVariants.{Unit as UnitFact, Component as ComponentFact, Class as ClassFact, Retire, Election, Shutdown, Calibration, Precision, Drift, Reading, Visual, Attempt, Delay, Release, Indication}
+use Rattle.ldar_facts.specs.declared.body.FactBody.TheVariants.{Unit as UnitFact, Component as ComponentFact, Class as ClassFact, Retire, Election}
+use Rattle.ldar_facts.specs.declared.body.FactBody.TheVariants.{Shutdown, Calibration, Precision, Drift, Reading, Visual, Attempt, Delay, Release}
+use Rattle.ldar_facts.specs.declared.body.FactBody.TheVariants.{Indication}
 use Rattle.ldar_facts.specs.Name.{IsName, spelled_name}
 use Rattle.ldar_facts.specs.Stated.{Stated}
 
@@ -51,9 +53,11 @@ bytes_of (name bytes) = spelled_name bytes
 abbrev pub first_letters : List (ℕ × ℕ)
 first_letters = (66, 66) ∷ []
 
+-- who sends a batch
 abbrev pub handhelds : List (ℕ × ℕ)
 handhelds = (0, 65_535) ∷ []
 
+-- the number of a batch at its handheld
 abbrev pub batch_numbers : List (ℕ × ℕ)
 batch_numbers = (0, 4_294_967_295) ∷ []
 
@@ -69,18 +73,23 @@ days = (13_879, 47_481) ∷ []
 abbrev pub days_or_none : List (ℕ × ℕ)
 days_or_none = (0, 0) ∷ days
 
+-- minutes of a day
 abbrev pub minutes : List (ℕ × ℕ)
 minutes = (0, 1_439) ∷ []
 
+-- the fifteen kinds of facts
 abbrev pub fact_kinds : List (ℕ × ℕ)
 fact_kinds = (1, 15) ∷ []
 
+-- the numbers of process units
 abbrev pub units : List (ℕ × ℕ)
 units = (1, 64) ∷ []
 
+-- the numbers of components
 abbrev pub components : List (ℕ × ℕ)
 components = (1, 60_000) ∷ []
 
+-- the numbers of instruments
 abbrev pub instruments : List (ℕ × ℕ)
 instruments = (1, 65_535) ∷ []
 
@@ -96,15 +105,19 @@ concentrations = (0, 999_999) ∷ []
 abbrev pub known_values : List (ℕ × ℕ)
 known_values = (1, 999_999) ∷ []
 
+-- no and yes
 abbrev pub flags : List (ℕ × ℕ)
 flags = (0, 1) ∷ []
 
+-- what a component is
 abbrev pub component_kinds : List (ℕ × ℕ)
 component_kinds = (1, 4) ∷ []
 
+-- what flows through a component
 abbrev pub services : List (ℕ × ℕ)
 services = (1, 5) ∷ []
 
+-- how a component is designated
 abbrev pub designations : List (ℕ × ℕ)
 designations = (0, 3) ∷ []
 
@@ -127,9 +140,11 @@ modes = (0, 1) ∷ (3, 3) ∷ []
 abbrev pub shutdown_lengths : List (ℕ × ℕ)
 shutdown_lengths = (1, 366) ∷ []
 
+-- why a reading was taken
 abbrev pub purposes : List (ℕ × ℕ)
 purposes = (1, 2) ∷ []
 
+-- what a visual inspection found
 abbrev pub visual_states : List (ℕ × ℕ)
 visual_states = (0, 2) ∷ []
 
@@ -137,38 +152,48 @@ visual_states = (0, 2) ∷ []
 abbrev pub grounds : List (ℕ × ℕ)
 grounds = (0, 5) ∷ []
 
+-- what an indication speaks of
 abbrev pub sorts : List (ℕ × ℕ)
 sorts = (1, 2) ∷ []
 
 -- ---- the fields that several kinds have
 
+-- the number of a component
 abbrev pub component : ℕ → Field
 component n = number 2 components n
 
+-- the number of a process unit
 abbrev pub unit : ℕ → Field
 unit n = number 1 units n
 
+-- the number of an instrument
 abbrev pub instrument : ℕ → Field
 instrument n = number 2 instruments n
 
+-- the number of an instrument or a person, or 0
 abbrev pub number_or_none : ℕ → Field
 number_or_none n = number 2 numbers_or_none n
 
+-- a concentration that was read
 abbrev pub concentration : ℕ → Field
 concentration n = number 4 concentrations n
 
+-- the concentration of a gas
 abbrev pub known_value : ℕ → Field
 known_value n = number 4 known_values n
 
+-- yes is 1 and no is 0
 abbrev pub flag : Bool → Field
 flag b = number 1 flags (if b then 1 else 0)
 
+-- the number of what a component is
 abbrev pub kind_number : Kind → ℕ
 kind_number Valve = 1
 kind_number Pump = 2
 kind_number Compressor = 3
 kind_number Relief = 4
 
+-- the number of what flows through a component
 abbrev pub service_number : Service → ℕ
 service_number Gas = 1
 service_number Light = 2
@@ -176,12 +201,14 @@ service_number Heavy = 3
 service_number Vacuum = 4
 service_number Under300 = 5
 
+-- the number of a designation
 abbrev pub designation_number : Designation → ℕ
 designation_number Plain = 0
 designation_number Nde = 1
 designation_number Unsafe = 2
 designation_number Difficult = 3
 
+-- the fields of a class: service, designation, months of the plan and month of the quarter
 abbrev pub class_fields : Class → List Field
 class_fields c =
     number 1 services (service_number c.service)
@@ -189,15 +216,18 @@ class_fields c =
     ∷ number 1 (plans c.designation) c.plan
     ∷ number 1 months c.month ∷ []
 
+-- the number of a purpose
 abbrev pub purpose_number : Purpose → ℕ
 purpose_number Routine = 1
 purpose_number FollowUp = 2
 
+-- the number of what was found
 abbrev pub state_number : VisualState → ℕ
 state_number Dry = 0
 state_number Drips = 1
 state_number Designated = 2
 
+-- the number of what an indication speaks of
 abbrev pub sort_number : Sort → ℕ
 sort_number Sensor = 1
 sort_number Evidence = 2
@@ -207,6 +237,7 @@ abbrev pub day_or_none : Option ℕ → Field
 day_or_none None = number 2 ((0, 0) ∷ []) 0
 day_or_none (Some day) = number 2 days day
 
+-- three readings, one after the other
 abbrev pub readings_fields : ℕ × ℕ × ℕ → List Field
 readings_fields r = concentration r.0 ∷ concentration r.1 ∷ concentration r.2 ∷ []
 

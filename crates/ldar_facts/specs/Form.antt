@@ -1,5 +1,5 @@
--- Outcome from the front of some bytes, and what it means that this is done rightly. The clauses of the private readers
--- cite this file; what `read_batch` promises is in Grammar.
+-- How the private readers are proved; nothing here has to be believed. It stands in specs/ since their clauses cite it.
+-- Reading from the front of some bytes, and what it means that this is done rightly; what `read_batch` promises is in Grammar.
 use Rattle.std.specs.Prelude.{◌≡◌, ℕ, suc, ◌<◌, List, ◌∷◌, ◌++◌, length, slice_index, Result, Ok, Err}
 use Rattle.ldar_facts.specs.declared.stop.Stop.{Stop}
 use Rattle.ldar_facts.specs.declared.stop.Stop.TheVariants.{Short, Wrong}

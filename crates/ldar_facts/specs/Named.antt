@@ -1,7 +1,9 @@
 -- Which component, process unit and instrument a fact names. Each kind is listed, so that a new one is asked for.
 use Rattle.std.specs.Prelude.{ℕ, Bool, false, nat_eq, Option, Some, None}
 use Rattle.ldar_facts.specs.declared.body.FactBody.{FactBody}
-use Rattle.ldar_facts.specs.declared.body.FactBody.TheVariants.{Unit as UnitFact, Component as ComponentFact, Class as ClassFact, Retire, Election, Shutdown, Calibration, Precision, Drift, Reading, Visual, Attempt, Delay, Release, Indication}
+use Rattle.ldar_facts.specs.declared.body.FactBody.TheVariants.{Unit as UnitFact, Component as ComponentFact, Class as ClassFact, Retire, Election}
+use Rattle.ldar_facts.specs.declared.body.FactBody.TheVariants.{Shutdown, Calibration, Precision, Drift, Reading, Visual, Attempt, Delay, Release}
+use Rattle.ldar_facts.specs.declared.body.FactBody.TheVariants.{Indication}
 
 -- the component that a fact names
 abbrev pub component_of : FactBody → Option ℕ

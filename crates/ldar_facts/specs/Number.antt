@@ -1,8 +1,11 @@
+-- How the private readers are proved; nothing here has to be believed. It stands in specs/ since their clauses cite it.
 -- A number in so many bytes, the greatest first, which stops at the first byte with which it can lie in none of its ranges.
-use Rattle.std.specs.Prelude.{◌≡◌, ℕ, zero, suc, ◌+◌, ◌*◌, ◌-◌, ◌/◌, ◌%◌, ◌^◌, ◌<◌, ◌≤◌, ◌⊎◌, Bool, true, false, ◌&&◌, nat_le, nat_lt, IsTrue, if◌then◌else◌, List, [], ◌∷◌, ◌++◌, length, Ok, Err, refl}
+use Rattle.std.specs.Prelude.{◌≡◌, ℕ, zero, suc, ◌+◌, ◌*◌, ◌-◌, ◌/◌, ◌%◌, ◌^◌, ◌<◌, ◌≤◌, ◌⊎◌, Bool, true, false, ◌&&◌, nat_le, nat_lt, IsTrue}
+use Rattle.std.specs.Prelude.{if◌then◌else◌, List, [], ◌∷◌, ◌++◌, length, Ok, Err, refl}
 use Rattle.std.specs.List.{list_any, list_all}
 use Rattle.std.proofs.Common.{sym, ap, subst, ◌∙◌, inl, inr, cond, arith}
-use Rattle.std.proofs.lemmas.Bool.{cases_lt, cases_Bool, leb-true, ltb-true, le-leb, and_parts, and_from, or_cases, or_left, or_right, cond-true, cond-false, false≢true}
+use Rattle.std.proofs.lemmas.Bool.{cases_lt, cases_Bool, leb-true, ltb-true, le-leb, and_parts, and_from, or_cases, or_left, or_right, cond-true}
+use Rattle.std.proofs.lemmas.Bool.{cond-false, false≢true}
 use Rattle.std.proofs.lemmas.Nat.{mul-le, le-div, div_below}
 use Rattle.std.proofs.Math.Nat.{pow-suc, one-le-pow, div-eq_of_lt-le}
 use Rattle.ldar_facts.specs.declared.stop.Stop.{Stop}
@@ -45,7 +48,7 @@ pub record IsIn (p n v : ℕ) : Type 0 where
   pub low : n * p ≤ v
   pub high : v < n * p + p
 
-block_up : (p n b v : ℕ) → b < 256 → IsIn p (n * 256 + b) v → IsIn (p * 256) n v
+pub block_up : (p n b v : ℕ) → b < 256 → IsIn p (n * 256 + b) v → IsIn (p * 256) n v
 block_up p n b v lt h =
     let most : (b + 1) * p ≤ 256 * p = mul-le (b + 1) p 256 p (omega arith) (omega arith) in
     record { low = omega (arith, h.low); high = omega (arith, most, h.high) }
@@ -64,7 +67,8 @@ digit_of p n b v pos lt h =
 
 -- ---- which beginnings the ranges let pass
 
-some_in_range : (p n : ℕ) (range : ℕ × ℕ) → 0 < p → n * p ≤ range.1 → range.0 ≤ n * p + (p - 1) → range.0 ≤ range.1 → (v : ℕ) × (range.0 ≤ v) × (v ≤ range.1) × IsIn p n v
+some_in_range : (p n : ℕ) (range : ℕ × ℕ) → 0 < p → n * p ≤ range.1 → range.0 ≤ n * p + (p - 1) → range.0 ≤ range.1
+    → (v : ℕ) × (range.0 ≤ v) × (v ≤ range.1) × IsIn p n v
 some_in_range p n range pos low high fit =
     elim (cases_lt (n * p) range.0) [
       | inl above ↦ (range.0, omega arith, fit, record { low = omega arith; high = omega arith })
@@ -101,7 +105,8 @@ may_be-from more n v (range ∷ ranges) among is_in =
     elim (among_cases range ranges v among) [
       | inl here ↦
           or_left (may_be_in more n range) (may_be more ranges n)
-          (and_from (nat_le (n * 256 ^ more) range.1) (nat_le range.0 (n * 256 ^ more + (256 ^ more - 1))) (le-leb _ _ (omega (arith, is_in.low, here.1))) (le-leb _ _ (omega (arith, is_in.high, here.0))))
+          (and_from (nat_le (n * 256 ^ more) range.1) (nat_le range.0 (n * 256 ^ more + (256 ^ more - 1))) (le-leb _ _ (omega (arith, is_in.low, here.1)))
+          (le-leb _ _ (omega (arith, is_in.high, here.0))))
       | inr there ↦ or_right (may_be_in more n range) (may_be more ranges n) (may_be-from more n v ranges there is_in)
     ]
 
@@ -125,7 +130,8 @@ module _ (ranges : List (ℕ × ℕ)) (are_ranges : AreRanges ranges) where
   read more n bytes = number_from more ranges n bytes
 
   -- a number that goes on with one more digit
-  wider : (more n b : ℕ) → b < 256 → (p : Rest more (n * 256 + b)) → (q : Rest (suc more) n) × (q.0 ≡ p.0) × (text (suc more) n q ≡ b ∷ text more (n * 256 + b) p)
+  wider : (more n b : ℕ) → b < 256 → (p : Rest more (n * 256 + b))
+      → (q : Rest (suc more) n) × (q.0 ≡ p.0) × (text (suc more) n q ≡ b ∷ text more (n * 256 + b) p)
   wider more n b lt p =
       let q : Rest (suc more) n = (p.0, p.1, rw pow-suc (block_up (256 ^ more) n b p.0 lt p.2)) in
       (q, refl, ap (λ d. d ∷ big_endian more p.0) (digit_of (256 ^ more) n b p.0 (pow_pos more) lt p.2))
@@ -212,7 +218,8 @@ module _ (ranges : List (ℕ × ℕ)) (are_ranges : AreRanges ranges) where
               path = q.0;
               more = w.more;
               begins = ap (λ l. b ∷ l) w.begins ∙ sym q.2;
-              stops = λ other. cond-true (may_be more ranges m) (number_from more ranges m (w.front ++ w.byte ∷ other)) (Err (Wrong (suc (length (w.front ++ w.byte ∷ other))))) passes ∙ w.stops other;
+              stops = λ other. cond-true (may_be more ranges m) (number_from more ranges m (w.front ++ w.byte ∷ other))
+                  (Err (Wrong (suc (length (w.front ++ w.byte ∷ other))))) passes ∙ w.stops other;
             }
         | inr stops ↦
             let here = sym (cond-false (may_be more ranges m) (number_from more ranges m bytes) (Err (Wrong (suc (length bytes)))) stops) ∙ e in
@@ -236,7 +243,7 @@ module _ (ranges : List (ℕ × ℕ)) (are_ranges : AreRanges ranges) where
 abbrev pub among : List (ℕ × ℕ) → ℕ → Bool
 among ranges n = list_any (λ range. nat_le range.0 n && nat_le n range.1) ranges
 
-is_among : (ranges : List (ℕ × ℕ)) (n : ℕ) → among ranges n ≡ true → IsAmong n ranges
+pub is_among : (ranges : List (ℕ × ℕ)) (n : ℕ) → among ranges n ≡ true → IsAmong n ranges
 is_among [] n h = absurd cc
 is_among (range ∷ ranges) n h =
     elim (or_cases (nat_le range.0 n && nat_le n range.1) (among ranges n) h) [
@@ -244,7 +251,7 @@ is_among (range ∷ ranges) n h =
       | inr there ↦ among_cons range ranges n (inr (is_among ranges n there))
     ]
 
-may_be-among : (ranges : List (ℕ × ℕ)) (n : ℕ) → may_be 0 ranges n ≡ true → among ranges n ≡ true
+pub may_be-among : (ranges : List (ℕ × ℕ)) (n : ℕ) → may_be 0 ranges n ≡ true → among ranges n ≡ true
 may_be-among [] n h = h
 may_be-among (range ∷ ranges) n h =
     elim (or_cases (may_be_in 0 n range) (may_be 0 ranges n) h) [
@@ -256,11 +263,12 @@ may_be-among (range ∷ ranges) n h =
       | inr there ↦ or_right (nat_le range.0 n && nat_le n range.1) (among ranges n) (may_be-among ranges n there)
     ]
 
-no_value : {A : Type 0} (test : Bool) (next : Outcome A) (stop : Stop) (x : A × List ℕ) → cond test next (Err stop) ≡ Ok x → (test ≡ true) × (next ≡ Ok x)
+pub no_value : {A : Type 0} (test : Bool) (next : Outcome A) (stop : Stop) (x : A × List ℕ) → cond test next (Err stop) ≡ Ok x → (test ≡ true) × (next ≡ Ok x)
 no_value true next stop x e = (refl, e)
 no_value false next stop x e = absurd cc
 
-pub read_among : (more : ℕ) (ranges : List (ℕ × ℕ)) (n : ℕ) (bytes : List ℕ) (v : ℕ) (rest : List ℕ) → 0 < more → number_from more ranges n bytes ≡ Ok (v, rest) → IsAmong v ranges
+pub read_among : (more : ℕ) (ranges : List (ℕ × ℕ)) (n : ℕ) (bytes : List ℕ) (v : ℕ) (rest : List ℕ) → 0 < more
+    → number_from more ranges n bytes ≡ Ok (v, rest) → IsAmong v ranges
 unfolding number_from
 read_among zero ranges n bytes v rest pos e = absurd (omega (arith, pos))
 read_among (suc more) ranges n [] v rest pos e = absurd cc
@@ -363,54 +371,7 @@ number_form width ranges proper = record {
   reads = number_reads width ranges proper;
 }
 
--- ---- what a function that looks at all the digits at once has to know
-
--- the number that goes on with these digits
-abbrev pub value_from : ℕ → List ℕ → ℕ
-value_from n [] = n
-value_from n (b ∷ digits) = value_from (n * 256 + b) digits
-
-value_in : (digits : List ℕ) (n : ℕ) → IsBytes digits → IsIn (256 ^ length digits) n (value_from n digits)
-value_in [] n are = record { low = omega arith; high = omega arith }
-value_in (b ∷ digits) n are = rw pow-suc (block_up (256 ^ length digits) n b (value_from (n * 256 + b) digits) (are 0) (value_in digits (n * 256 + b) (λ i. are (suc i))))
-
--- digits of a number among the ranges are read
-pub read_whole : (digits rest : List ℕ) (ranges : List (ℕ × ℕ)) (n : ℕ) → IsBytes digits → among ranges (value_from n digits) ≡ true
-    → number_from (length digits) ranges n (digits ++ rest) ≡ Ok (value_from n digits, rest)
-unfolding number_from
-read_whole [] rest ranges n are h = refl
-read_whole (b ∷ digits) rest ranges n are h =
-    let behind : IsBytes digits = λ i. are (suc i) in
-    let passes = may_be-from (length digits) (n * 256 + b) (value_from (n * 256 + b) digits) ranges (is_among ranges (value_from (n * 256 + b) digits) h) (value_in digits (n * 256 + b) behind) in
-    rw passes (read_whole digits rest ranges (n * 256 + b) behind h)
-
 -- why reading stopped; Short where it did not
 abbrev pub stop_of : {A : Type 0} → Outcome A → Stop
 stop_of (Ok x) = Short
 stop_of (Err stop) = stop
-
--- a reading that is no value is a stop
-pub stopped : {A : Type 0} (r : Outcome A) → ((x : A × List ℕ) → r ≡ Ok x → ⊥) → r ≡ Err (stop_of r)
-stopped (Ok x) h = absurd (h x refl)
-stopped (Err stop) h = refl
-
--- digits of no such number are not
-pub read_none : (b : ℕ) (digits rest : List ℕ) (ranges : List (ℕ × ℕ)) (n : ℕ) → among ranges (value_from n (b ∷ digits)) ≡ false → (x : ℕ × List ℕ)
-    → number_from (length (b ∷ digits)) ranges n (b ∷ digits ++ rest) ≡ Ok x → ⊥
-unfolding number_from
-read_none b [] rest ranges n h x e =
-    let step = no_value (may_be 0 ranges (n * 256 + b)) (Ok (n * 256 + b, rest)) (Wrong (suc (length rest))) x e in
-    false≢true (sym h ∙ may_be-among ranges (n * 256 + b) step.0)
-read_none b (d ∷ digits) rest ranges n h x e =
-    let bytes = d ∷ digits ++ rest in
-    let step = no_value (may_be (suc (length digits)) ranges (n * 256 + b)) (number_from (suc (length digits)) ranges (n * 256 + b) bytes) (Wrong (suc (length bytes))) x e in
-    read_none d digits rest ranges (n * 256 + b) h x step.1
-
--- nor are too few
-pub read_early : (more : ℕ) (bytes : List ℕ) (ranges : List (ℕ × ℕ)) (n : ℕ) → length bytes < more → (x : ℕ × List ℕ) → number_from more ranges n bytes ≡ Ok x → ⊥
-unfolding number_from
-read_early zero bytes ranges n lt x e = absurd (omega (arith, lt))
-read_early (suc more) [] ranges n lt x e = absurd cc
-read_early (suc more) (b ∷ bytes) ranges n lt x e =
-    let step = no_value (may_be more ranges (n * 256 + b)) (number_from more ranges (n * 256 + b) bytes) (Wrong (suc (length bytes))) x e in
-    read_early more bytes ranges (n * 256 + b) (omega (arith, lt)) x step.1

@@ -1,5 +1,5 @@
--- Fields at known places of some bytes, and a fact that was added from there. The clauses of the private readers at
--- constant places cite this file; what `read_batch` promises is in Grammar.
+-- How the private readers are proved; nothing here has to be believed. It stands in specs/ since their clauses cite it.
+-- Fields at known places of some bytes, and a fact that was added from there.
 use Rattle.std.specs.Prelude.{◌≡◌, ℕ, List, [], ◌∷◌, ◌++◌, drop, Ok}
 use Rattle.std.specs.List.{AllByRecursion}
 use Rattle.ldar_facts.specs.Stated.{Stated}

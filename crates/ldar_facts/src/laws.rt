@@ -4,27 +4,30 @@ ghost use Rattle.std.specs.Prelude.{◌≡◌, ℕ, ◌+◌, ◌*◌, ◌≤◌,
 ghost use Rattle.ldar_facts.specs.declared.batch.Batch.{Batch};
 ghost use Rattle.ldar_facts.specs.Grammar.{Spells, Begins, IsFirstWrongPlace};
 
+/// The bytes of the longest batch: 9, and 23 for each of 512 facts.
+pub const LONGEST_BATCH: usize = 11_785;
+
 /// Some bytes spell at most one batch.
 pub fn one_batch()
-    ensures { (bytes : List ℕ) (batch other : Batch) → Spells bytes batch → Spells bytes other → batch ≡ other }
+    ensures law { (bytes : List ℕ) (batch other : Batch) → Spells bytes batch → Spells bytes other → batch ≡ other }
 {}
 
 /// A batch has one spelling.
 pub fn one_spelling()
-    ensures { (bytes other : List ℕ) (batch : Batch) → Spells bytes batch → Spells other batch → bytes ≡ other }
+    ensures law { (bytes other : List ℕ) (batch : Batch) → Spells bytes batch → Spells other batch → bytes ≡ other }
 {}
 
 /// No spelling is a proper front of another.
 pub fn no_proper_front()
-    ensures { (bytes more : List ℕ) (batch other : Batch) → Spells bytes batch → Spells (bytes ++ more) other → more ≡ [] }
+    ensures law { (bytes more : List ℕ) (batch other : Batch) → Spells bytes batch → Spells (bytes ++ more) other → more ≡ [] }
 {}
 
-/// A spelling has 9 bytes and 7 to 23 for each fact: 16 to 11,785.
+/// A spelling has 9 bytes and 7 to 23 for each fact: 16 to `LONGEST_BATCH`.
 pub fn spelling_length()
     ensures facts { (bytes : List ℕ) (batch : Batch) → Spells bytes batch
         → (9 + 7 * length batch.facts ≤ length bytes) × (length bytes ≤ 9 + 23 * length batch.facts) }
     ensures in_range { (bytes : List ℕ) (batch : Batch) → Spells bytes batch
-        → (16 ≤ length bytes) × (length bytes ≤ 11_785) }
+        → (16 ≤ length bytes) × (length bytes ≤ LONGEST_BATCH) }
 {}
 
 /// Bytes that begin a batch have no wrong place, and others have one first wrong place at most.

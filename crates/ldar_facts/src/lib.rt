@@ -33,6 +33,7 @@ pub use class::{Class, Designation, Kind, Service};
 pub use fact::Fact;
 pub use identity::Identity;
 pub use key::Key;
+pub use laws::LONGEST_BATCH;
 pub use ldar_days::Day;
 pub use name::Name;
 pub use named::{component_of, reading_instrument, tested_instrument, unit_of};

@@ -5,7 +5,7 @@ use crate::key::Key;
 
 /// Whether the first key is the earlier one: by day, minute, handheld, batch number and index.
 pub fn precedes(a: &Key, b: &Key) -> bool
-    ensures { result ≡ is_earlier a.now b.now }
+    ensures value { result ≡ is_earlier a.now b.now }
 {
     a < b
 }

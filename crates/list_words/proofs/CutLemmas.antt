@@ -32,7 +32,8 @@ module _ {X : Type 0} (before : X → X → Bool) where
 
   pub earlier_of_cut : IsStrictOrder before → (xs : List X) (x : X) (ys : List X) → Ascends before (xs ++ x ∷ ys) → filter (λ y. before y x) (xs ++ x ∷ ys) ≡ xs
   earlier_of_cut strict [] x ys up =
-      rw (strict.irreflexive x) (filter_none (λ y. before y x) ys (all_weaker (λ y. before x y ≡ true) (λ y. before y x ≡ false) (λ y e. not_behind before strict x y e) ys up.0))
+      rw (strict.irreflexive x) (filter_none (λ y. before y x) ys
+      (all_weaker (λ y. before x y ≡ true) (λ y. before y x ≡ false) (λ y e. not_behind before strict x y e) ys up.0))
   earlier_of_cut strict (w ∷ ws) x ys up =
       rw (before_last w x ws ys up.0) (ap (λ zs. w ∷ zs) (earlier_of_cut strict ws x ys up.1))
 
@@ -41,10 +42,12 @@ module _ {X : Type 0} (before : X → X → Bool) where
       elim (cases_Bool (p y)) [ inl t ↦ absurd (false≢true (sym e ∙ closed x y later t)) | inr f ↦ f ]
 
   -- what passes of an ascending list is a front, where all that is before what passes does
-  pub front_is_cut : (p : X → Bool) (xs : List X) → Ascends before xs → ((x y : X) → before x y ≡ true → p y ≡ true → p x ≡ true) → filter p xs ≡ take_while p xs
+  pub front_is_cut : (p : X → Bool) (xs : List X) → Ascends before xs → ((x y : X) → before x y ≡ true → p y ≡ true → p x ≡ true)
+      → filter p xs ≡ take_while p xs
   front_is_cut p [] up closed = refl
   front_is_cut p (x ∷ xs) up closed =
       elim (cases_Bool (p x)) [
         | inl e ↦ rw (take_while-cons p x xs, e) (ap (λ ys. x ∷ ys) (front_is_cut p xs up.1 closed))
-        | inr e ↦ rw (take_while-cons p x xs, e) (filter_none p xs (all_weaker (λ y. before x y ≡ true) (λ y. p y ≡ false) (λ y later. fails_behind p x y e later closed) xs up.0))
+        | inr e ↦ rw (take_while-cons p x xs, e)
+            (filter_none p xs (all_weaker (λ y. before x y ≡ true) (λ y. p y ≡ false) (λ y later. fails_behind p x y e later closed) xs up.0))
       ]

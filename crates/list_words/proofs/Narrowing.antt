@@ -42,7 +42,8 @@ filter_narrowed p q implies (x ∷ xs) =
     ]
 
 -- where what fails q gives nothing, a filter in front changes nothing
-pub filter_map_narrowed : {X Y : Type 0} (f : X → Option Y) (q : X → Bool) → ((x : X) → q x ≡ false → f x ≡ None) → (xs : List X) → filter_map f (filter q xs) ≡ filter_map f xs
+pub filter_map_narrowed : {X Y : Type 0} (f : X → Option Y) (q : X → Bool) → ((x : X) → q x ≡ false → f x ≡ None) → (xs : List X)
+    → filter_map f (filter q xs) ≡ filter_map f xs
 filter_map_narrowed f q implies [] = refl
 filter_map_narrowed f q implies (x ∷ xs) =
     elim (cases_Bool (q x)) [

@@ -1,4 +1,5 @@
-use Rattle.std.proofs.Common.{◌≡◌, ℕ, zero, suc, ◌+◌, ◌-◌, ◌*◌, ◌<◌, ◌≤◌, true, cond, nat_lt, Some, None, List, [], ◌∷◌, ◌++◌, length, take, drop, slice_get, refl, ap, ◌∙◌, arith}
+use Rattle.std.proofs.Common.{◌≡◌, ℕ, zero, suc, ◌+◌, ◌-◌, ◌*◌, ◌<◌, ◌≤◌, true, cond, nat_lt, Some, None, List, [], ◌∷◌, ◌++◌, length, take, drop}
+use Rattle.std.proofs.Common.{slice_get, refl, ap, ◌∙◌, arith}
 use Rattle.std.specs.List.{flat_map}
 use Rattle.std.proofs.lemmas.Bool.{lt-ltb}
 use Rattle.std.proofs.lemmas.Bool.Decides.{nat_tests}
@@ -28,13 +29,15 @@ cut_step n (x ∷ xs) some more =
     (cut_same (length xs) (length (drop n (x ∷ xs))) n (drop n (x ∷ xs)) some (shorter (length xs) n x xs some (omega arith)) (omega arith))
 
 -- a part of what is left is the next part of the list
-next_part : {X : Type 0} (n : ℕ) (xs : List X) (i : ℕ) → cond (nat_lt (i * n) (length (drop n xs))) (Some (take n (drop (i * n) (drop n xs)))) None ≡ cond (nat_lt (suc i * n) (length xs)) (Some (take n (drop (suc i * n) xs))) None
+next_part : {X : Type 0} (n : ℕ) (xs : List X) (i : ℕ) → cond (nat_lt (i * n) (length (drop n xs))) (Some (take n (drop (i * n) (drop n xs)))) None ≡ cond
+    (nat_lt (suc i * n) (length xs)) (Some (take n (drop (suc i * n) xs))) None
 next_part n xs i =
     let on : suc i * n ≡ n + i * n = omega arith in
     let test : nat_lt (i * n) (length xs - n) ≡ nat_lt (n + i * n) (length xs) = grind (arith, nat_tests) in
     rw (on, drop-drop (i * n) n xs, length-drop n xs, test) refl
 
-part_at : {X : Type 0} (most n : ℕ) (xs : List X) (i : ℕ) → 0 < n → length xs ≤ most → slice_get (cut_up_to most n xs) i ≡ cond (nat_lt (i * n) (length xs)) (Some (take n (drop (i * n) xs))) None
+part_at : {X : Type 0} (most n : ℕ) (xs : List X) (i : ℕ) → 0 < n → length xs ≤ most
+    → slice_get (cut_up_to most n xs) i ≡ cond (nat_lt (i * n) (length xs)) (Some (take n (drop (i * n) xs))) None
 part_at zero n [] i some bound = grind (arith, nat_tests)
 part_at zero n (x ∷ xs) i some bound = absurd (omega arith)
 part_at (suc most) n [] i some bound = grind (arith, nat_tests)

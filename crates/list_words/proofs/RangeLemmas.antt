@@ -18,10 +18,12 @@ unfolding until
 until_more low end h = let e : end - low ≡ suc (end - (low + 1)) = omega arith in rw e refl
 
 -- a loop that pushes what each number gives, one step on
-pub filter_map_until : {B : Type 0} (f : ℕ → Option B) (done : List B) (low end : ℕ) → low < end → (done ++ option_to_list (f low)) ++ filter_map f (until (low + 1) end) ≡ done ++ filter_map f (until low end)
+pub filter_map_until : {B : Type 0} (f : ℕ → Option B) (done : List B) (low end : ℕ) → low < end
+    → (done ++ option_to_list (f low)) ++ filter_map f (until (low + 1) end) ≡ done ++ filter_map f (until low end)
 filter_map_until f done low end h = rw (until_more low end h, cons_option_is, append_assoc) refl
 
-pub flat_map_until : {B : Type 0} (f : ℕ → List B) (done : List B) (low end : ℕ) → low < end → (done ++ f low) ++ flat_map f (until (low + 1) end) ≡ done ++ flat_map f (until low end)
+pub flat_map_until : {B : Type 0} (f : ℕ → List B) (done : List B) (low end : ℕ) → low < end
+    → (done ++ f low) ++ flat_map f (until (low + 1) end) ≡ done ++ flat_map f (until low end)
 flat_map_until f done low end h = rw (until_more low end h, append_assoc) refl
 
 pub list_any_until : (p : ℕ → Bool) (low end : ℕ) → low < end → list_any p (until low end) ≡ (p low || list_any p (until (low + 1) end))

@@ -3,7 +3,9 @@ use Rattle.std.specs.List.{list_any, cons_option}
 use Rattle.std.specs.Option.{option_or}
 use Rattle.std.proofs.lemmas.Bool.{cases_Bool, false≢true, or_cases, or_left, or_right}
 use Rattle.std.proofs.lemmas.List.{append_assoc, append-nil}
-use Rattle.list_words.specs.Words.{somewhere_from, first_from, first_given_from, each_from, each_where, last_such, Passes, PassesFirst, Gives, GivesFirst, PassesLast, SomewhereDecides, FirstWhereIsFirst, FirstWhereFinds, FirstGivenIsFirst, FirstGivenFinds, EachWhereHolds, LastSuchIsLast, LastSuchFinds}
+use Rattle.list_words.specs.Words.{somewhere_from, first_from, first_given_from, each_from, each_where, last_such, Passes, PassesFirst, Gives, GivesFirst}
+use Rattle.list_words.specs.Words.{PassesLast, SomewhereDecides, FirstWhereIsFirst, FirstWhereFinds, FirstGivenIsFirst, FirstGivenFinds, EachWhereHolds}
+use Rattle.list_words.specs.Words.{LastSuchIsLast, LastSuchFinds}
 use Rattle.list_words.proofs.Members.{Among, among_from_Contains, Contains-from_among}
 use Rattle.list_words.proofs.WordLemmas.{last_such-cons, last_such_here}
 
@@ -13,7 +15,8 @@ use Rattle.list_words.proofs.WordLemmas.{last_such-cons, last_such_here}
 front_cons : {X : Type 0} (front : List X) (x : X) (b : List X) → (front ++ x ∷ []) ++ b ≡ front ++ x ∷ b
 front_cons front x b = append_assoc front (x ∷ []) b
 
-somewhere_holds : {X : Type 0} (p : List X → X → List X → Bool) (front xs : List X) → somewhere_from p front xs ≡ true → (x : X) × Passes (λ b y a. p (front ++ b) y a) xs x
+somewhere_holds : {X : Type 0} (p : List X → X → List X → Bool) (front xs : List X) → somewhere_from p front xs ≡ true
+    → (x : X) × Passes (λ b y a. p (front ++ b) y a) xs x
 somewhere_holds p front [] h = absurd (false≢true h)
 somewhere_holds p front (x ∷ xs) h =
     elim (or_cases (p front x xs) (somewhere_from p (front ++ x ∷ []) xs) h) [
@@ -29,7 +32,8 @@ somewhere_holds p front (x ∷ xs) h =
       )
     ]
 
-somewhere_reaches : {X : Type 0} (p : List X → X → List X → Bool) (front before : List X) (x : X) (after : List X) → p (front ++ before) x after ≡ true → somewhere_from p front (before ++ x ∷ after) ≡ true
+somewhere_reaches : {X : Type 0} (p : List X → X → List X → Bool) (front before : List X) (x : X) (after : List X) → p (front ++ before) x after ≡ true
+    → somewhere_from p front (before ++ x ∷ after) ≡ true
 somewhere_reaches p front [] x after e = or_left _ _ (rw (append-nil front) at e)
 somewhere_reaches p front (w ∷ ws) x after e =
     or_right _ _ (somewhere_reaches p (front ++ w ∷ []) ws x after (rw (front_cons front w ws) e))
@@ -46,7 +50,9 @@ cases_Option None = inl refl
 cases_Option (Some x) = inr (x, refl)
 
 -- where the front is one element longer, nothing in it gives anything
-none_longer : {X Y : Type 0} (f : List X → X → List X → Option Y) (front : List X) (w : X) (ws rest : List X) → f front w (ws ++ rest) ≡ None → ((a : List X) (y : X) (b : List X) → ws ≡ a ++ y ∷ b → f ((front ++ w ∷ []) ++ a) y (b ++ rest) ≡ None) → (a : List X) (y : X) (b : List X) → w ∷ ws ≡ a ++ y ∷ b → f (front ++ a) y (b ++ rest) ≡ None
+none_longer : {X Y : Type 0} (f : List X → X → List X → Option Y) (front : List X) (w : X) (ws rest : List X) → f front w (ws ++ rest) ≡ None
+    → ((a : List X) (y : X) (b : List X) → ws ≡ a ++ y ∷ b → f ((front ++ w ∷ []) ++ a) y (b ++ rest) ≡ None) → (a : List X) (y : X) (b : List X)
+    → w ∷ ws ≡ a ++ y ∷ b → f (front ++ a) y (b ++ rest) ≡ None
 none_longer f front w ws rest here others [] y b e =
     let same : w ≡ y = cc in
     let tail : ws ≡ b = cc in
@@ -61,7 +67,8 @@ nothing_in_front : {X : Type 0} (a : List X) (y : X) (b : List X) → ¬ ([] ≡
 nothing_in_front [] y b e = cc
 nothing_in_front (v ∷ a) y b e = cc
 
-given_holds : {X Y : Type 0} (f : List X → X → List X → Option Y) (front xs : List X) (given : Y) → first_given_from f front xs ≡ Some given → GivesFirst (λ b y a. f (front ++ b) y a) xs given
+given_holds : {X Y : Type 0} (f : List X → X → List X → Option Y) (front xs : List X) (given : Y) → first_given_from f front xs ≡ Some given
+    → GivesFirst (λ b y a. f (front ++ b) y a) xs given
 given_holds f front [] given h = cc
 given_holds f front (x ∷ xs) given h =
     elim (cases_Option (f front x xs)) [
@@ -85,7 +92,9 @@ given_holds f front (x ∷ xs) given h =
       }
     ]
 
-given_reaches : {X Y : Type 0} (f : List X → X → List X → Option Y) (front before : List X) (x : X) (after : List X) (given : Y) → f (front ++ before) x after ≡ Some given → ((a : List X) (y : X) (b : List X) → before ≡ a ++ y ∷ b → f (front ++ a) y (b ++ x ∷ after) ≡ None) → first_given_from f front (before ++ x ∷ after) ≡ Some given
+given_reaches : {X Y : Type 0} (f : List X → X → List X → Option Y) (front before : List X) (x : X) (after : List X) (given : Y)
+    → f (front ++ before) x after ≡ Some given → ((a : List X) (y : X) (b : List X) → before ≡ a ++ y ∷ b → f (front ++ a) y (b ++ x ∷ after) ≡ None)
+    → first_given_from f front (before ++ x ∷ after) ≡ Some given
 given_reaches f front [] x after given e none = rw (rw (append-nil front) at e) refl
 given_reaches f front (w ∷ ws) x after given e none =
     rw (rw (append-nil front) at (none [] w ws refl))
@@ -160,7 +169,8 @@ is_some-or : {X : Type 0} (o r : Option X) → is_some (option_or o r) ≡ (is_s
 is_some-or None r = refl
 is_some-or (Some x) r = refl
 
-given_finds : {X Y : Type 0} (f : List X → X → List X → Option Y) (front xs : List X) → is_some (first_given_from f front xs) ≡ somewhere_from (λ b x a. is_some (f b x a)) front xs
+given_finds : {X Y : Type 0} (f : List X → X → List X → Option Y) (front xs : List X)
+    → is_some (first_given_from f front xs) ≡ somewhere_from (λ b x a. is_some (f b x a)) front xs
 given_finds f front [] = refl
 given_finds f front (x ∷ xs) =
     is_some-or (f front x xs) (first_given_from f (front ++ x ∷ []) xs)
@@ -181,7 +191,8 @@ pub first_where_finds : (X : Type 0) → FirstWhereFinds X
 first_where_finds X p xs = first_finds p [] xs
 
 -- what a later element gives, and what this one or a later one gives
-each_later : {X Y : Type 0} (f : List X → X → List X → Option Y) (front : List X) (x : X) (xs : List X) (given : Y) → Gives (λ b y a. f ((front ++ x ∷ []) ++ b) y a) xs given → Gives (λ b y a. f (front ++ b) y a) (x ∷ xs) given
+each_later : {X Y : Type 0} (f : List X → X → List X → Option Y) (front : List X) (x : X) (xs : List X) (given : Y)
+    → Gives (λ b y a. f ((front ++ x ∷ []) ++ b) y a) xs given → Gives (λ b y a. f (front ++ b) y a) (x ∷ xs) given
 each_later f front x xs given rest =
     record {
       before = x ∷ rest.before;
@@ -191,14 +202,18 @@ each_later f front x xs given rest =
       gives = rw (sym (front_cons front x rest.before)) rest.gives;
     }
 
-each_first : {X Y : Type 0} (f : List X → X → List X → Option Y) (front : List X) (x : X) (xs : List X) (given y : Y) → f front x xs ≡ Some y → Among (y ∷ each_from f (front ++ x ∷ []) xs) given → (Among (each_from f (front ++ x ∷ []) xs) given → Gives (λ b y a. f ((front ++ x ∷ []) ++ b) y a) xs given) → Gives (λ b y a. f (front ++ b) y a) (x ∷ xs) given
+each_first : {X Y : Type 0} (f : List X → X → List X → Option Y) (front : List X) (x : X) (xs : List X) (given y : Y) → f front x xs ≡ Some y
+    → Among (y ∷ each_from f (front ++ x ∷ []) xs) given →
+    (Among (each_from f (front ++ x ∷ []) xs) given → Gives (λ b y a. f ((front ++ x ∷ []) ++ b) y a) xs given)
+    → Gives (λ b y a. f (front ++ b) y a) (x ∷ xs) given
 each_first f front x xs given y e h rest =
     elim h [
       | inl same ↦ record { before = []; element = x; after = xs; stands = refl; gives = rw (append-nil front) (e ∙ ap (λ z. Some z) same) }
       | inr later ↦ each_later f front x xs given (rest later)
     ]
 
-each_holds : {X Y : Type 0} (f : List X → X → List X → Option Y) (front xs : List X) (given : Y) → Among (each_from f front xs) given → Gives (λ b y a. f (front ++ b) y a) xs given
+each_holds : {X Y : Type 0} (f : List X → X → List X → Option Y) (front xs : List X) (given : Y) → Among (each_from f front xs) given
+    → Gives (λ b y a. f (front ++ b) y a) xs given
 each_holds f front [] given h = absurd h
 each_holds f front (x ∷ xs) given h =
     elim (cases_Option (f front x xs)) [
@@ -210,7 +225,8 @@ among_option : {Y : Type 0} (o : Option Y) (ys : List Y) (given : Y) → Among y
 among_option None ys given h = h
 among_option (Some y) ys given h = inr h
 
-each_reaches : {X Y : Type 0} (f : List X → X → List X → Option Y) (front before : List X) (x : X) (after : List X) (given : Y) → f (front ++ before) x after ≡ Some given → Among (each_from f front (before ++ x ∷ after)) given
+each_reaches : {X Y : Type 0} (f : List X → X → List X → Option Y) (front before : List X) (x : X) (after : List X) (given : Y)
+    → f (front ++ before) x after ≡ Some given → Among (each_from f front (before ++ x ∷ after)) given
 each_reaches f front [] x after given e = rw (rw (append-nil front) at e) (inl refl)
 each_reaches f front (w ∷ ws) x after given e =
     among_option (f front w (ws ++ x ∷ after)) (each_from f (front ++ w ∷ []) (ws ++ x ∷ after)) given

@@ -1,4 +1,5 @@
-use Rattle.std.proofs.Common.{◌≡◌, ℕ, ◌+◌, ◌-◌, ◌<◌, ◌≤◌, Bool, true, false, ◌||◌, cond, Option, Some, None, List, [], ◌∷◌, ◌++◌, length, take, drop, get_or, reverse, find, refl, sym, ap, ◌∙◌, inl, inr, arith}
+use Rattle.std.proofs.Common.{◌≡◌, ℕ, ◌+◌, ◌-◌, ◌<◌, ◌≤◌, Bool, true, false, ◌||◌, cond, Option, Some, None, List, [], ◌∷◌, ◌++◌, length, take, drop}
+use Rattle.std.proofs.Common.{get_or, reverse, find, refl, sym, ap, ◌∙◌, inl, inr, arith}
 use Rattle.std.specs.List.{list_any, cons_option, filter_map, AllWithin}
 use Rattle.std.specs.List.Sorted.{IsPartitionPoint}
 use Rattle.std.specs.Option.{option_or, option_to_list}
@@ -8,16 +9,22 @@ use Rattle.std.proofs.lemmas.Bool.{cases_Bool, or_parts}
 use Rattle.list_words.specs.Words.{somewhere_from, first_from, first_given_from, each_from, last_such}
 
 -- one more element, as at a step of a loop
-pub somewhere_more : {X : Type 0} (p : List X → X → List X → Bool) (xs : List X) (i : ℕ) (d : X) → i < length xs → somewhere_from p (take i xs) (drop i xs) ≡ (p (take i xs) (get_or xs i d) (drop (i + 1) xs) || somewhere_from p (take (i + 1) xs) (drop (i + 1) xs))
+pub somewhere_more : {X : Type 0} (p : List X → X → List X → Bool) (xs : List X) (i : ℕ) (d : X) → i < length xs
+    → somewhere_from p (take i xs) (drop i xs) ≡ (p (take i xs) (get_or xs i d) (drop (i + 1) xs) || somewhere_from p (take (i + 1) xs) (drop (i + 1) xs))
 somewhere_more p xs i d h = rw (drop_more xs i d h, take_more xs i d h) refl
 
-pub first_more : {X : Type 0} (p : List X → X → List X → Bool) (xs : List X) (i : ℕ) (d : X) → i < length xs → first_from p (take i xs) (drop i xs) ≡ cond (p (take i xs) (get_or xs i d) (drop (i + 1) xs)) (Some (get_or xs i d)) (first_from p (take (i + 1) xs) (drop (i + 1) xs))
+pub first_more : {X : Type 0} (p : List X → X → List X → Bool) (xs : List X) (i : ℕ) (d : X) → i < length xs
+    → first_from p (take i xs) (drop i xs) ≡ cond (p (take i xs) (get_or xs i d) (drop (i + 1) xs)) (Some (get_or xs i d))
+    (first_from p (take (i + 1) xs) (drop (i + 1) xs))
 first_more p xs i d h = rw (drop_more xs i d h, take_more xs i d h) refl
 
-pub first_given_more : {X Y : Type 0} (f : List X → X → List X → Option Y) (xs : List X) (i : ℕ) (d : X) → i < length xs → first_given_from f (take i xs) (drop i xs) ≡ option_or (f (take i xs) (get_or xs i d) (drop (i + 1) xs)) (first_given_from f (take (i + 1) xs) (drop (i + 1) xs))
+pub first_given_more : {X Y : Type 0} (f : List X → X → List X → Option Y) (xs : List X) (i : ℕ) (d : X) → i < length xs
+    → first_given_from f (take i xs) (drop i xs) ≡ option_or (f (take i xs) (get_or xs i d) (drop (i + 1) xs))
+    (first_given_from f (take (i + 1) xs) (drop (i + 1) xs))
 first_given_more f xs i d h = rw (drop_more xs i d h, take_more xs i d h) refl
 
-pub each_more : {X Y : Type 0} (f : List X → X → List X → Option Y) (xs : List X) (i : ℕ) (d : X) → i < length xs → each_from f (take i xs) (drop i xs) ≡ cons_option (f (take i xs) (get_or xs i d) (drop (i + 1) xs)) (each_from f (take (i + 1) xs) (drop (i + 1) xs))
+pub each_more : {X Y : Type 0} (f : List X → X → List X → Option Y) (xs : List X) (i : ℕ) (d : X) → i < length xs
+    → each_from f (take i xs) (drop i xs) ≡ cons_option (f (take i xs) (get_or xs i d) (drop (i + 1) xs)) (each_from f (take (i + 1) xs) (drop (i + 1) xs))
 each_more f xs i d h = rw (drop_more xs i d h, take_more xs i d h) refl
 
 -- past the last element
@@ -31,16 +38,20 @@ pub each_none : {X Y : Type 0} (f : List X → X → List X → Option Y) (front
 each_none f front xs i h = rw (drop_all i xs h) refl
 
 -- an element that passes ends the walk, and one that fails is passed over
-pub somewhere_found : {X : Type 0} (p : List X → X → List X → Bool) (xs : List X) (i : ℕ) (d : X) → i < length xs → p (take i xs) (get_or xs i d) (drop (i + 1) xs) ≡ true → somewhere_from p (take i xs) (drop i xs) ≡ true
+pub somewhere_found : {X : Type 0} (p : List X → X → List X → Bool) (xs : List X) (i : ℕ) (d : X) → i < length xs
+    → p (take i xs) (get_or xs i d) (drop (i + 1) xs) ≡ true → somewhere_from p (take i xs) (drop i xs) ≡ true
 somewhere_found p xs i d h e = somewhere_more p xs i d h ∙ rw e refl
 
-pub somewhere_past : {X : Type 0} (p : List X → X → List X → Bool) (xs : List X) (i : ℕ) (d : X) → i < length xs → p (take i xs) (get_or xs i d) (drop (i + 1) xs) ≡ false → somewhere_from p (take i xs) (drop i xs) ≡ somewhere_from p (take (i + 1) xs) (drop (i + 1) xs)
+pub somewhere_past : {X : Type 0} (p : List X → X → List X → Bool) (xs : List X) (i : ℕ) (d : X) → i < length xs
+    → p (take i xs) (get_or xs i d) (drop (i + 1) xs) ≡ false → somewhere_from p (take i xs) (drop i xs) ≡ somewhere_from p (take (i + 1) xs) (drop (i + 1) xs)
 somewhere_past p xs i d h e = somewhere_more p xs i d h ∙ rw e refl
 
-pub first_found : {X : Type 0} (p : List X → X → List X → Bool) (xs : List X) (i : ℕ) (d : X) → i < length xs → p (take i xs) (get_or xs i d) (drop (i + 1) xs) ≡ true → first_from p (take i xs) (drop i xs) ≡ Some (get_or xs i d)
+pub first_found : {X : Type 0} (p : List X → X → List X → Bool) (xs : List X) (i : ℕ) (d : X) → i < length xs
+    → p (take i xs) (get_or xs i d) (drop (i + 1) xs) ≡ true → first_from p (take i xs) (drop i xs) ≡ Some (get_or xs i d)
 first_found p xs i d h e = first_more p xs i d h ∙ rw e refl
 
-pub first_past : {X : Type 0} (p : List X → X → List X → Bool) (xs : List X) (i : ℕ) (d : X) → i < length xs → p (take i xs) (get_or xs i d) (drop (i + 1) xs) ≡ false → first_from p (take i xs) (drop i xs) ≡ first_from p (take (i + 1) xs) (drop (i + 1) xs)
+pub first_past : {X : Type 0} (p : List X → X → List X → Bool) (xs : List X) (i : ℕ) (d : X) → i < length xs
+    → p (take i xs) (get_or xs i d) (drop (i + 1) xs) ≡ false → first_from p (take i xs) (drop i xs) ≡ first_from p (take (i + 1) xs) (drop (i + 1) xs)
 first_past p xs i d h e = first_more p xs i d h ∙ rw e refl
 
 -- what `cons_option` puts in front is a list of at most one
@@ -49,10 +60,13 @@ cons_option_is None xs = refl
 cons_option_is (Some x) xs = refl
 
 -- a loop that pushes what each element gives, one step on and at its end
-pub each_pushed : {X Y : Type 0} (f : List X → X → List X → Option Y) (done : List Y) (xs : List X) (i : ℕ) (d : X) → i < length xs → (done ++ option_to_list (f (take i xs) (get_or xs i d) (drop (i + 1) xs))) ++ each_from f (take (i + 1) xs) (drop (i + 1) xs) ≡ done ++ each_from f (take i xs) (drop i xs)
+pub each_pushed : {X Y : Type 0} (f : List X → X → List X → Option Y) (done : List Y) (xs : List X) (i : ℕ) (d : X) → i < length xs
+    → (done ++ option_to_list (f (take i xs) (get_or xs i d) (drop (i + 1) xs))) ++ each_from f (take (i + 1) xs) (drop (i + 1) xs) ≡ done ++ each_from f
+    (take i xs) (drop i xs)
 each_pushed f done xs i d h = rw (each_more f xs i d h, cons_option_is, append_assoc) refl
 
-pub each_done : {X Y : Type 0} (f : List X → X → List X → Option Y) (done all : List Y) (front xs : List X) (i : ℕ) → length xs ≤ i → done ++ each_from f front (drop i xs) ≡ all → done ≡ all
+pub each_done : {X Y : Type 0} (f : List X → X → List X → Option Y) (done all : List Y) (front xs : List X) (i : ℕ) → length xs ≤ i
+    → done ++ each_from f front (drop i xs) ≡ all → done ≡ all
 each_done f done all front xs i h e = sym (append-nil done) ∙ (ap (λ ys. done ++ ys) (sym (each_none f front xs i h)) ∙ e)
 
 -- what does not look around is the plain word
@@ -84,7 +98,8 @@ pub last_such-push : {X : Type 0} (p : X → Bool) (xs : List X) (x : X) → las
 last_such-push p xs x = last_such-append p xs (x ∷ []) ∙ elim (cases_Bool (p x)) [ inl e ↦ rw e refl | inr e ↦ rw e refl ]
 
 -- one more element, as at a step of a loop that keeps the last
-pub last_such_more : {X : Type 0} (p : X → Bool) (xs : List X) (i : ℕ) (d : X) → i < length xs → last_such p (take (i + 1) xs) ≡ cond (p (get_or xs i d)) (Some (get_or xs i d)) (last_such p (take i xs))
+pub last_such_more : {X : Type 0} (p : X → Bool) (xs : List X) (i : ℕ) (d : X) → i < length xs
+    → last_such p (take (i + 1) xs) ≡ cond (p (get_or xs i d)) (Some (get_or xs i d)) (last_such p (take i xs))
 last_such_more p xs i d h = ap (last_such p) (take_more xs i d h) ∙ last_such-push p (take i xs) (get_or xs i d)
 
 -- where none passes there is no last one
@@ -103,12 +118,14 @@ pub list_any_rest : {X : Type 0} (p : X → Bool) (xs : List X) (n : ℕ) → Al
 list_any_rest p xs n h = list_any_none p (drop n xs) (λ k d l. rw (get_or-drop n xs k d) (h (n + k) d (omega arith) (omega (arith, length-drop n xs))))
 
 -- where the elements before a place pass and those from it on do not, as `partition_point` finds it
-pub last_such_at : {X : Type 0} (p : X → Bool) (xs : List X) (n : ℕ) (d : X) → 0 < n → n ≤ length xs → IsPartitionPoint (λ y. p y ≡ true) (λ y. p y ≡ false) xs n → last_such p xs ≡ Some (get_or xs (n - 1) d)
+pub last_such_at : {X : Type 0} (p : X → Bool) (xs : List X) (n : ℕ) (d : X) → 0 < n → n ≤ length xs
+    → IsPartitionPoint (λ y. p y ≡ true) (λ y. p y ≡ false) xs n → last_such p xs ≡ Some (get_or xs (n - 1) d)
 last_such_at p xs n d some within parts =
     let here : n - 1 < length xs = omega arith in
     let next : n - 1 + 1 ≡ n = omega arith in
     let none : list_any p (drop (n - 1 + 1) xs) ≡ false = rw next (list_any_rest p xs n parts.1) in
-    let split : xs ≡ take (n - 1) xs ++ get_or xs (n - 1) d ∷ drop (n - 1 + 1) xs = sym (take-append-drop (n - 1) xs) ∙ ap (λ rest. take (n - 1) xs ++ rest) (drop_more xs (n - 1) d here) in
+    let split : xs ≡ take (n - 1) xs ++ get_or xs (n - 1) d ∷ drop (n - 1 + 1) xs = sym (take-append-drop (n - 1) xs)
+    ∙ ap (λ rest. take (n - 1) xs ++ rest) (drop_more xs (n - 1) d here) in
     ap (last_such p) split ∙ last_such_here p (take (n - 1) xs) (get_or xs (n - 1) d) (drop (n - 1 + 1) xs) (parts.0 (n - 1) d (omega arith) (omega arith)) none
 
 pub last_such_nowhere : {X : Type 0} (p : X → Bool) (xs : List X) → IsPartitionPoint (λ y. p y ≡ true) (λ y. p y ≡ false) xs 0 → last_such p xs ≡ None

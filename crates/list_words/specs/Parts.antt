@@ -1,3 +1,4 @@
+-- A list cut into parts of so many elements.
 use Rattle.std.specs.Prelude.{◌≡◌, ℕ, ◌*◌, ◌<◌, zero, suc, nat_lt, Some, None, if◌then◌else◌, List, [], ◌∷◌, length, take, drop, slice_get}
 use Rattle.std.specs.List.{flat_map}
 

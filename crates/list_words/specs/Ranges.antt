@@ -1,3 +1,4 @@
+-- Numbers one after the other, from one to another.
 use Rattle.std.specs.Prelude.{◌≡◌, ℕ, ◌+◌, ◌-◌, ◌<◌, ◌≤◌, ◌↔◌, List, Contains, slice_index}
 use Rattle.std.specs.List.{range_with_len}
 

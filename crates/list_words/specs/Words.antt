@@ -1,4 +1,6 @@
-use Rattle.std.specs.Prelude.{◌≡◌, ◌↔◌, Bool, true, false, ◌||◌, Decides, Option, Some, None, is_some, if◌then◌else◌, List, [], ◌∷◌, ◌++◌, reverse, find, Contains}
+-- Words on lists that see an element among those before and after it: somewhere, the first, each, the last.
+use Rattle.std.specs.Prelude.{◌≡◌, ◌↔◌, Bool, true, false, ◌||◌, Decides, Option, Some, None, is_some, if◌then◌else◌, List, [], ◌∷◌, ◌++◌, reverse, find}
+use Rattle.std.specs.Prelude.{Contains}
 use Rattle.std.specs.List.{list_any, cons_option}
 use Rattle.std.specs.Option.{option_or}
 

@@ -19,4 +19,5 @@ returns-then-day-lt1-clause-none c = λ none n day date.
 
 pub returns-clause-found : goal.returns-clause-found
 returns-clause-found c =
-    IsDate-day c.at.result c.at-month.result c.args.year c.args.month c.args.day (omega arith, omega arith) (omega arith) (omega arith) (omega arith) (omega arith) (omega (arith, month_length_bounds c.at-month.result)) (omega arith)
+    IsDate-day c.at.result c.at-month.result c.args.year c.args.month c.args.day (omega arith, omega arith) (omega arith) (omega arith) (omega arith)
+    (omega arith) (omega (arith, month_length_bounds c.at-month.result)) (omega arith)

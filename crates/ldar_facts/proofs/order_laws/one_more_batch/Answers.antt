@@ -2,4 +2,4 @@ use Rattle.ldar_facts.proofs.OrderFree.{one_more_batch}
 use Rattle.ldar_facts.proofs.order_laws.one_more_batch.Goals as goal
 
 pub returns : goal.returns
-returns c = one_more_batch
+returns c = record { law = one_more_batch }

@@ -10,7 +10,8 @@ pub returns-clause-whole : goal.returns-clause-whole
 returns-clause-whole c =
     let bytes = c.args.bytes.now in
     let reading = (forms.batch).read bytes in
-    of_answer c.read_front.result (read_of (length bytes) reading) (λ read. IfWhole read (λ b used. (used ≤ length bytes) × Spells (take used bytes) b)) c.read_front.ensures
+    of_answer c.read_front.result (read_of (length bytes) reading)
+    (λ read. IfWhole read (λ b used. (used ≤ length bytes) × Spells (take used bytes) b)) c.read_front.ensures
     (whole bytes (λ i. omega (arith, c.type_inv.bytes i)) reading refl)
 
 pub returns-clause-short : goal.returns-clause-short
@@ -24,10 +25,12 @@ pub returns-clause-bad : goal.returns-clause-bad
 returns-clause-bad c =
     let bytes = c.args.bytes.now in
     let reading = (forms.batch).read bytes in
-    of_answer c.read_front.result (read_of (length bytes) reading) (λ read. IfBad read (λ at. IsFirstWrongPlace bytes at × HasNoBatch bytes)) c.read_front.ensures
+    of_answer c.read_front.result (read_of (length bytes) reading)
+    (λ read. IfBad read (λ at. IsFirstWrongPlace bytes at × HasNoBatch bytes)) c.read_front.ensures
     (bad bytes (λ i. omega (arith, c.type_inv.bytes i)) reading refl)
 
 pub returns-clause-found : goal.returns-clause-found
 returns-clause-found c = λ batch used fit is.
     let bytes = c.args.bytes.now in
-    of_answer c.read_front.result (read_of (length bytes) ((forms.batch).read bytes)) (λ read. read ≡ Whole batch used) c.read_front.ensures (found bytes batch used fit is)
+    of_answer c.read_front.result (read_of (length bytes) ((forms.batch).read bytes)) (λ read. read ≡ Whole batch used) c.read_front.ensures
+    (found bytes batch used fit is)

@@ -1,6 +1,6 @@
 use Rattle.std.proofs.Common.{◌≡◌, ◌≢◌, ℕ, ◌<◌, List, [], ◌∷◌, length, get_or, sym, ◌∙◌, arith}
 use Rattle.std.proofs.lemmas.Bool.{eqb-true, eqb-false}
-use Rattle.ldar_facts.specs.Number.{value_from}
+use Rattle.ldar_facts.proofs.NumberSteps.{value_from}
 use Rattle.ldar_facts.proofs.Digits.{whole, none, early, front_1}
 use Rattle.ldar_facts.proofs.read_number.byte.Goals as goal
 
@@ -17,7 +17,8 @@ returns-then-not-is_among c =
     let splits = front_1 c.args.bytes.now front c.split_at.result.1.now (omega arith) c.split_at.ensures.front c.split_at.ensures.back in
     let digits : List ℕ = [] in
     let is : value_from 0 (get_or front 0 0 ∷ digits) ≡ get_or front 0 0 = omega arith in
-    rw c.first_wrong-then-not-is_among.ensures (none (get_or front 0 0) digits c.split_at.result.1.now c.args.bytes.now c.args.ranges.now (get_or front 0 0) splits is cc)
+    rw c.first_wrong-then-not-is_among.ensures
+    (none (get_or front 0 0) digits c.split_at.result.1.now c.args.bytes.now c.args.ranges.now (get_or front 0 0) splits is cc)
 
 pub returns : goal.returns
 returns c =

@@ -2,4 +2,4 @@ use Rattle.list_words.proofs.WordLaws.{each_where_holds}
 use Rattle.list_words.proofs.laws.each_gift.Goals as goal
 
 pub returns : goal.returns
-returns g c = each_where_holds _ _
+returns g c = record { law = each_where_holds _ _ }

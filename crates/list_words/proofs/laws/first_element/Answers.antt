@@ -2,4 +2,4 @@ use Rattle.list_words.proofs.WordLaws.{first_where_is_first}
 use Rattle.list_words.proofs.laws.first_element.Goals as goal
 
 pub returns : goal.returns
-returns g c = first_where_is_first _
+returns g c = record { law = first_where_is_first _ }

@@ -2,4 +2,4 @@ use Rattle.list_words.proofs.OrderLaws.{in_order_ascends}
 use Rattle.list_words.proofs.laws.in_order_ascends.Goals as goal
 
 pub returns : goal.returns
-returns g c = in_order_ascends _
+returns g c = record { law = in_order_ascends _ }

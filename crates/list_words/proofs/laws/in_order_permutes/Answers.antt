@@ -2,4 +2,4 @@ use Rattle.list_words.proofs.OrderLaws.{in_order_permutes}
 use Rattle.list_words.proofs.laws.in_order_permutes.Goals as goal
 
 pub returns : goal.returns
-returns g c = in_order_permutes _
+returns g c = record { law = in_order_permutes _ }

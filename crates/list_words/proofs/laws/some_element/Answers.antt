@@ -2,4 +2,4 @@ use Rattle.list_words.proofs.WordLaws.{somewhere_decides}
 use Rattle.list_words.proofs.laws.some_element.Goals as goal
 
 pub returns : goal.returns
-returns g c = somewhere_decides _
+returns g c = record { law = somewhere_decides _ }

@@ -2,4 +2,4 @@ use Rattle.list_words.proofs.RangeLemmas.{until_holds}
 use Rattle.list_words.proofs.laws.until_holds.Goals as goal
 
 pub returns : goal.returns
-returns c = until_holds
+returns c = record { law = until_holds }

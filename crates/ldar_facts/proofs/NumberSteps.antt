@@ -1,0 +1,64 @@
+-- What a function that looks at all the digits of a number at once has to know.
+use Rattle.std.specs.Prelude.{◌≡◌, ℕ, zero, suc, ◌+◌, ◌*◌, ◌-◌, ◌/◌, ◌%◌, ◌^◌, ◌<◌, ◌≤◌, ◌⊎◌, Bool, true, false, ◌&&◌, nat_le, nat_lt, IsTrue}
+use Rattle.std.specs.Prelude.{if◌then◌else◌, List, [], ◌∷◌, ◌++◌, length, Ok, Err, refl}
+use Rattle.std.specs.List.{list_any, list_all}
+use Rattle.std.proofs.Common.{sym, ap, subst, ◌∙◌, inl, inr, cond, arith}
+use Rattle.std.proofs.lemmas.Bool.{cases_lt, cases_Bool, leb-true, ltb-true, le-leb, and_parts, and_from, or_cases, or_left, or_right, cond-true}
+use Rattle.std.proofs.lemmas.Bool.{cond-false, false≢true}
+use Rattle.std.proofs.lemmas.Nat.{mul-le, le-div, div_below}
+use Rattle.std.proofs.Math.Nat.{pow-suc, one-le-pow, div-eq_of_lt-le}
+use Rattle.ldar_facts.specs.declared.stop.Stop.{Stop}
+use Rattle.ldar_facts.specs.declared.stop.Stop.TheVariants.{Short, Wrong}
+use Rattle.ldar_facts.specs.Fields.{IsAmong, big_endian}
+use Rattle.ldar_facts.specs.Compose.{ok_pair}
+use Rattle.ldar_facts.specs.Form.{Outcome, ◌then◌, IsBytes, IsWrong, Reads, Form}
+use Rattle.ldar_facts.specs.Number.{may_be, number_from, among, stop_of, IsIn, may_be-from, is_among, may_be-among, no_value, block_up}
+
+-- the number that goes on with these digits
+abbrev pub value_from : ℕ → List ℕ → ℕ
+value_from n [] = n
+value_from n (b ∷ digits) = value_from (n * 256 + b) digits
+
+value_in : (digits : List ℕ) (n : ℕ) → IsBytes digits → IsIn (256 ^ length digits) n (value_from n digits)
+value_in [] n are = record { low = omega arith; high = omega arith }
+value_in (b ∷ digits) n are = rw pow-suc
+    (block_up (256 ^ length digits) n b (value_from (n * 256 + b) digits) (are 0) (value_in digits (n * 256 + b) (λ i. are (suc i))))
+
+-- digits of a number among the ranges are read
+pub read_whole : (digits rest : List ℕ) (ranges : List (ℕ × ℕ)) (n : ℕ) → IsBytes digits → among ranges (value_from n digits) ≡ true
+    → number_from (length digits) ranges n (digits ++ rest) ≡ Ok (value_from n digits, rest)
+unfolding number_from
+read_whole [] rest ranges n are h = refl
+read_whole (b ∷ digits) rest ranges n are h =
+    let behind : IsBytes digits = λ i. are (suc i) in
+    let passes = may_be-from (length digits) (n * 256 + b) (value_from (n * 256 + b) digits) ranges (is_among ranges (value_from (n * 256 + b) digits) h)
+    (value_in digits (n * 256 + b) behind) in
+    rw passes (read_whole digits rest ranges (n * 256 + b) behind h)
+
+-- a reading that is no value is a stop
+pub stopped : {A : Type 0} (r : Outcome A) → ((x : A × List ℕ) → r ≡ Ok x → ⊥) → r ≡ Err (stop_of r)
+stopped (Ok x) h = absurd (h x refl)
+stopped (Err stop) h = refl
+
+-- digits of no such number are not
+pub read_none : (b : ℕ) (digits rest : List ℕ) (ranges : List (ℕ × ℕ)) (n : ℕ) → among ranges (value_from n (b ∷ digits)) ≡ false → (x : ℕ × List ℕ)
+    → number_from (length (b ∷ digits)) ranges n (b ∷ digits ++ rest) ≡ Ok x → ⊥
+unfolding number_from
+read_none b [] rest ranges n h x e =
+    let step = no_value (may_be 0 ranges (n * 256 + b)) (Ok (n * 256 + b, rest)) (Wrong (suc (length rest))) x e in
+    false≢true (sym h ∙ may_be-among ranges (n * 256 + b) step.0)
+read_none b (d ∷ digits) rest ranges n h x e =
+    let bytes = d ∷ digits ++ rest in
+    let step = no_value (may_be (suc (length digits)) ranges (n * 256 + b)) (number_from (suc (length digits)) ranges (n * 256 + b) bytes)
+    (Wrong (suc (length bytes))) x e in
+    read_none d digits rest ranges (n * 256 + b) h x step.1
+
+-- nor are too few
+pub read_early : (more : ℕ) (bytes : List ℕ) (ranges : List (ℕ × ℕ)) (n : ℕ) → length bytes < more → (x : ℕ × List ℕ)
+    → number_from more ranges n bytes ≡ Ok x → ⊥
+unfolding number_from
+read_early zero bytes ranges n lt x e = absurd (omega (arith, lt))
+read_early (suc more) [] ranges n lt x e = absurd cc
+read_early (suc more) (b ∷ bytes) ranges n lt x e =
+    let step = no_value (may_be more ranges (n * 256 + b)) (number_from more ranges (n * 256 + b) bytes) (Wrong (suc (length bytes))) x e in
+    read_early more bytes ranges (n * 256 + b) (omega (arith, lt)) x step.1
