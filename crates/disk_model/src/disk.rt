@@ -65,7 +65,7 @@ pub trait Disk: Drop {
         ensures crash { MatchResult result
             (λ _. Tears at (length bytes.now) (images self.old) (images self.new))
             (λ _. Tears at (length bytes.now) (images self.old) (images self.new)
-                ⊎ Same (images self.old) (images self.new)) }
+            ⊎ Same (images self.old) (images self.new)) }
         ensures any_moment { Elapses clock images left self.old self.new }
         ensures roomy { Roomy room clock self.old self.new (λ end.
             at + length bytes.now ≤ end → clock self.old < 2 ^ 64 - 1 → IsOk result) }
