@@ -32,6 +32,7 @@ impl Disk for NoDisk {
         ensures value { IsOk result × IfOk result (λ n. n ≡ 0) }
         ensures unchanged { into.new ≡ into.old }
     {
+        // Nothing stands here, so nothing is put into the slice.
         let _ = into;
         Ok(0)
     }
