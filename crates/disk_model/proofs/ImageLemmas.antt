@@ -1,5 +1,5 @@
 -- What a crash may leave of a disk in memory.
-use Rattle.std.proofs.Common.{◌≡◌, ◌≤◌, ◌+◌, ℕ, List, [], ◌∷◌, length, take, refl, sym, subst, arith}
+use Rattle.std.proofs.Common.{◌≡◌, ◌≤◌, ℕ, List, [], ◌∷◌, length, refl, sym, subst, arith}
 use Rattle.disk_model.specs.MemoryDisk.{bytes_after, changes, change_of, after_event}
 use Rattle.disk_model.specs.Moments.{Images}
 use Rattle.disk_model.specs.declared.noted.Event.{Event}

@@ -13,7 +13,8 @@ drop-filled : (end : ℕ) (old : List ℕ) → drop end (old ++ replicate (end -
 drop-filled end old =
     elim (cases_lt (length old) end) [
       | inl longer ↦
-          let le : length (old ++ replicate (end - length old) 0) ≤ end = omega (arith, length-append old (replicate (end - length old) 0), length-replicate {A = ℕ} (end - length old) 0) in
+          let le : length (old ++ replicate (end - length old) 0) ≤ end =
+          omega (arith, length-append old (replicate (end - length old) 0), length-replicate {A = ℕ} (end - length old) 0) in
           let le' : length old ≤ end = omega arith in
           drop_of_length-le _ le ∙ sym (drop_of_length-le old le')
       | inr within ↦
@@ -53,7 +54,8 @@ take-filled_to : (at end : ℕ) (old : List ℕ) → at ≤ end → take at (old
 take-filled_to at end old le =
     elim (cases_lt (length old) at) [
       | inl past ↦
-          let whole : length (filled_to at old) ≤ at = omega (arith, length-append old (replicate (at - length old) 0), length-replicate {A = ℕ} (at - length old) 0) in
+          let whole : length (filled_to at old) ≤ at =
+          omega (arith, length-append old (replicate (at - length old) 0), length-replicate {A = ℕ} (at - length old) 0) in
           take-filled at end old past le ∙ sym (take_all at (filled_to at old) whole)
       | inr within ↦
           take-append-le at old (replicate (end - length old) 0) within ∙ sym (take-append-le at old (replicate (at - length old) 0) within)

@@ -1,33 +1,17 @@
 -- The calls of a disk in memory up to one of them.
-use Rattle.std.proofs.Common.{◌≡◌, ◌<◌, ◌≤◌, ◌+◌, ◌-◌, ℕ, List, [], ◌∷◌, ◌++◌, length, take, get_or, reverse, refl, sym, ap, subst, ◌∙◌, arith, inl, inr, true, false, eqb, Result, Ok, Err, IfOk}
+use Rattle.std.proofs.Common.{◌≡◌, ◌≤◌, ℕ, List, [], ◌∷◌, ◌++◌, length, take, reverse, refl, sym, ap, subst, ◌∙◌, arith}
+use Rattle.std.proofs.Common.{inl, inr, eqb, true, false, Result, Ok, Err, IfOk}
 use Rattle.std.proofs.lemmas.Bool.{cases_Bool, eq-eqb, ne_eqb}
-use Rattle.std.proofs.lemmas.List.{reverse-append, take_more, take_all, length-reverse, length-take}
-use Rattle.disk_model.specs.MemoryDisk.{DiskState, bytes_after, after_event, changes, change_of, new_disk}
+use Rattle.std.proofs.lemmas.List.{reverse-append, length-reverse, length-take}
+use Rattle.disk_model.specs.MemoryDisk.{DiskState, bytes_after, changes, change_of, new_disk}
 use Rattle.disk_model.specs.MomentLaws.{left_counts_now}
 use Rattle.disk_model.specs.Moments.{Left}
 use Rattle.disk_model.specs.Stopped.{up_to, without, after_part, stopped_in, stopped_bytes, IsLeftIn}
+use Rattle.disk_model.specs.declared.noted.Event.{Event}
 use Rattle.disk_model.specs.declared.noted.Event.TheVariants.{Wrote, Synced}
 use Rattle.disk_model.specs.declared.noted.Noted.{Noted}
 use Rattle.disk_model.proofs.ImageLemmas.{bytes_are_image}
 use Rattle.disk_model.proofs.WriteLemmas.{written_torn}
-
--- one call more is the latest
-pub reverse_more : {X : Type 0} (xs : List X) (i : ℕ) (d : X) → i < length xs → reverse (take (i + 1) xs) ≡ get_or xs i d ∷ reverse (take i xs)
-reverse_more xs i d within = ap reverse (take_more xs i d within) ∙ reverse-append (take i xs) (get_or xs i d ∷ [])
-
--- the bytes after one call more
-pub redone_more : (start : List ℕ) (past : List Noted) (i : ℕ) (d : Noted) (bytes bytes' : List ℕ) → i < length past
-    → bytes ≡ bytes_after start (reverse (take i past))
-    → bytes' ≡ after_event (get_or past i d).event bytes
-    → bytes' ≡ bytes_after start (reverse (take (i + 1) past))
-redone_more start past i d bytes bytes' within so_far is_new =
-    is_new
-    ∙ ap (after_event (get_or past i d).event) so_far
-    ∙ ap (bytes_after start) (sym (reverse_more past i d within))
-
--- all calls are so many
-pub reverse_all : {X : Type 0} (xs : List X) (n : ℕ) → length xs ≤ n → reverse (take n xs) ≡ reverse xs
-reverse_all xs n whole = ap reverse (take_all n xs whole)
 
 -- each write and sync is one change
 length_changes : (start : List ℕ) (past : List Noted) → length (changes start past) ≡ length past
@@ -54,15 +38,15 @@ clock_before_other start call past up_to_it earlier other are split is_other =
     size ∙ rw (latest, differs, length_changes start (other ∷ reverse earlier)) refl
 
 -- what came through of a call was left since the clock before it
-part_is_left : (start : List ℕ) (past : List Noted) (noted : Noted) (left : List ℕ)
-    → Left start (changes start (noted ∷ past)) (length (changes start past)) (after_part noted.event left (bytes_after start past))
-part_is_left start past noted left =
-    elim noted.event as (λ event. Left start (change_of event (bytes_after start past) ∷ changes start past) (length (changes start past)) (after_part event left (bytes_after start past))) [
-      | Wrote write ↦
-          let part : length (take (length write.bytes) left) ≤ length write.bytes = omega (arith, length-take (length write.bytes) left) in
-          inl (omega arith, (bytes_after start past, bytes_are_image start past, written_torn write.at (length write.bytes) (take (length write.bytes) left) (bytes_after start past) part))
-      | Synced ↦ inr (left_counts_now start (changes start past) _ _ (omega arith) (bytes_are_image start past))
-    ]
+part_is_left : (start : List ℕ) (past : List Noted) (event : Event) (left : List ℕ)
+    → Left start (change_of event (bytes_after start past) ∷ changes start past) (length (changes start past))
+    (after_part event left (bytes_after start past))
+part_is_left start past (Wrote write) left =
+    let bytes = bytes_after start past in
+    let count = length write.bytes in
+    let part : length (take count left) ≤ count = omega (arith, length-take count left) in
+    inl (omega arith, (bytes, bytes_are_image start past, written_torn write.at count (take count left) bytes part))
+part_is_left start past Synced left = inr (left_counts_now start (changes start past) _ _ (omega arith) (bytes_are_image start past))
 
 -- a crash inside a call may have left what a stop in it leaves, where the call is the latest of these
 stopped_in_is_left : (call : ℕ) (start : List ℕ) (past : List Noted) (left : List ℕ)
@@ -70,7 +54,7 @@ stopped_in_is_left : (call : ℕ) (start : List ℕ) (past : List Noted) (left :
 stopped_in_is_left call start [] left = (omega arith, refl)
 stopped_in_is_left call start (noted ∷ past) left =
     elim (cases_Bool (eqb noted.call call)) [
-      | inl is_it ↦ rw is_it (part_is_left start past noted left)
+      | inl is_it ↦ rw is_it (part_is_left start past noted.event left)
       | inr is_not ↦ rw is_not (inl (omega arith, bytes_are_image start (noted ∷ past)))
     ]
 

@@ -1,9 +1,10 @@
 -- What a write makes of bytes.
-use Rattle.std.proofs.Common.{◌≡◌, ◌<◌, ◌≤◌, ◌+◌, ◌-◌, ℕ, List, [], ◌∷◌, ◌++◌, length, take, drop, min, replicate, refl, sym, ap, ◌∙◌, arith, inl, inr}
+use Rattle.std.proofs.Common.{◌⊎◌, ◌≡◌, ◌<◌, ◌≤◌, ◌+◌, ◌-◌, ℕ, List, [], ◌∷◌, ◌++◌, length, take, drop, min, replicate, refl, sym, ap, ◌∙◌, arith, inl, inr}
 use Rattle.std.proofs.lemmas.Bool.{cases_lt}
 use Rattle.std.proofs.lemmas.List.{take-append-le, take-take, take_all, length-append, length-replicate, length-take-le, length-drop}
 use Rattle.std.proofs.lemmas.Slice.{drop-append-drop}
 use Rattle.disk_model.specs.Disk.{Torn}
+use Rattle.disk_model.specs.Images.{Tears, Same}
 use Rattle.disk_model.specs.Writes.{written, filled_to}
 
 -- as many bytes as there are, up to a place, are the bytes before this place
@@ -52,8 +53,8 @@ torn_of at n put old within =
       no_longer = omega (arith, length-append front put, length-append (front ++ put) behind, length-drop (at + length put) old);
     }
 
--- bytes that no write changed
-torn_none : (at n : ℕ) (old : List ℕ) → Torn at n old old
+-- a torn write may have changed nothing
+pub torn_none : (at n : ℕ) (old : List ℕ) → Torn at n old old
 torn_none at n old = record { before = take-min at old; after = refl; no_shorter = omega arith; no_longer = omega arith }
 
 -- a write of some bytes of a range, from its front on, is what a torn write of the range may leave
@@ -71,3 +72,11 @@ pub written-some : (at : ℕ) (bytes old : List ℕ) → 0 < length bytes
     → written at bytes old ≡ take at (filled_to at old) ++ bytes ++ drop (at + length bytes) old
 written-some at [] old some = absurd (omega arith)
 written-some at (byte ∷ bytes) old some = refl
+
+-- where a crash may leave anything, it may after a write
+pub tears_any : (at n : ℕ) → Tears at n (λ _. Unit {0}) (λ _. Unit {0})
+tears_any at n = record { only = λ c any. (c, tt, torn_none at n c); all = λ c d any torn. tt }
+
+-- the same of a write that failed
+pub tears_or_stays_any : (at n : ℕ) → Tears at n (λ _. Unit {0}) (λ _. Unit {0}) ⊎ Same (λ _. Unit {0}) (λ _. Unit {0})
+tears_or_stays_any at n = inl (tears_any at n)

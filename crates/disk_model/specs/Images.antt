@@ -27,8 +27,8 @@ pub record Elapses {D : Type 0} (clock_of : D → ℕ) (images_of : D → List �
   pub before : (t : ℕ) (c : List ℕ) → t ≤ clock_of old → left_of old t c → left_of new t c
   pub still : clock_of new ≡ clock_of old → Same (images_of old) (images_of new)
 
--- A call of a disk that may tell its room: the room stays. Where it is told, the clock rises by one at most, and the call answers as is said of it.
-pub record Roomy {D : Type 0} (room_of : D → Option ℕ) (clock_of : D → ℕ) (old new : D) (answers : ℕ → Type 0) : Type 0 where
+-- A call of a disk that may tell its room: the room stays. Where it is told, the clock rises by one at most, and the call keeps its promise for this room.
+pub record Roomy {D : Type 0} (room_of : D → Option ℕ) (clock_of : D → ℕ) (old new : D) (promise : ℕ → Type 0) : Type 0 where
   pub stays : room_of new ≡ room_of old
   pub step : (end : ℕ) → room_of old ≡ Some end → clock_of new ≤ clock_of old + 1
-  pub answers_there : (end : ℕ) → room_of old ≡ Some end → answers end
+  pub answers : (end : ℕ) → room_of old ≡ Some end → promise end

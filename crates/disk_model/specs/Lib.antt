@@ -6,6 +6,8 @@ pub mod Keeps
 pub mod MemoryDisk
 pub mod MomentLaws
 pub mod Moments
+pub mod Steps
 pub mod Stopped
+pub mod SureDisk
 pub mod Told
 pub mod Writes

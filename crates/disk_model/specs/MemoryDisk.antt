@@ -1,8 +1,8 @@
 -- A disk in memory, what its calls leave of it, and what a stop leaves.
-use Rattle.std.specs.Prelude.{ℕ, List, [], ◌∷◌, length, take, ltb, eqb, if◌then◌else◌}
+use Rattle.std.specs.Prelude.{ℕ, List, [], ◌∷◌, length}
 use Rattle.disk_model.specs.Calls.{CallCounts, after_pass, after_fault}
 use Rattle.disk_model.specs.Moments.{Change, WroteAt, SyncedAs, Images, Left}
-use Rattle.disk_model.specs.Writes.{Write, written}
+use Rattle.disk_model.specs.Writes.{written}
 use Rattle.disk_model.specs.declared.noted.Event.{Event}
 use Rattle.disk_model.specs.declared.noted.Event.TheVariants.{Wrote, Synced}
 use Rattle.disk_model.specs.declared.noted.Noted.{Noted}

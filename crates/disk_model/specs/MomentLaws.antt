@@ -1,5 +1,5 @@
 -- The laws of time, for a disk whose clock counts its changes.
-use Rattle.std.specs.Prelude.{◌≡◌, ◌≤◌, ◌⊎◌, ℕ, List, [], ◌∷◌, length}
+use Rattle.std.specs.Prelude.{◌≤◌, ℕ, List, [], ◌∷◌, length}
 use Rattle.std.proofs.Common.{inl, inr, arith}
 use Rattle.disk_model.specs.Moments.{Change, Images, Left}
 

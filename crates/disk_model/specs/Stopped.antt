@@ -1,7 +1,7 @@
 -- A disk in memory as a stop inside one of its calls left it.
 use Rattle.std.specs.Prelude.{ℕ, List, [], ◌∷◌, length, take, ltb, eqb, if◌then◌else◌}
 use Rattle.disk_model.specs.Writes.{written}
-use Rattle.disk_model.specs.MemoryDisk.{DiskState, after_event, bytes_after, clock_of, left_of}
+use Rattle.disk_model.specs.MemoryDisk.{DiskState, bytes_after, clock_of, left_of}
 use Rattle.disk_model.specs.declared.noted.Event.{Event}
 use Rattle.disk_model.specs.declared.noted.Event.TheVariants.{Wrote, Synced}
 use Rattle.disk_model.specs.declared.noted.Noted.{Noted}

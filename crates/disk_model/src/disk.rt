@@ -59,13 +59,14 @@ pub trait Disk: Drop {
 
     /// Writes bytes over what is there, and past the end. After a fault its range, and what lies
     /// past the old end, may hold any bytes; so they may after a crash, until a sync went through.
+    /// At the last clock, 2^64 - 1, it fails and changes nothing but the count.
     fn write_at(&mut self, at: u64, bytes: &[u8]) -> Result<(), DiskFault>
         ensures written { BothTold (content self.old) (content self.new)
             (λ old new. Torn at (length bytes.now) old new × OnOk result (Holds at bytes.now old new)) }
         ensures crash { MatchResult result
             (λ _. Tears at (length bytes.now) (images self.old) (images self.new))
             (λ _. Tears at (length bytes.now) (images self.old) (images self.new)
-                ⊎ Same (images self.old) (images self.new)) }
+            ⊎ Same (images self.old) (images self.new)) }
         ensures any_moment { Elapses clock images left self.old self.new }
         ensures roomy { Roomy room clock self.old self.new (λ end.
             at + length bytes.now ≤ end → clock self.old < 2 ^ 64 - 1 → IsOk result) }
@@ -75,7 +76,8 @@ pub trait Disk: Drop {
         ensures cause { OnErr result (Rose (faults self.old) (faults self.new)) };
 
     /// Makes the content stable: a crash then leaves just what a read gives. After a fault a crash
-    /// leaves what it might have left before.
+    /// leaves what it might have left before. At the last clock it fails and changes nothing but
+    /// the count.
     fn sync(&mut self) -> Result<(), DiskFault>
         ensures same { BothTold (content self.old) (content self.new) (λ old new. new ≡ old) }
         ensures durable { OnOk result

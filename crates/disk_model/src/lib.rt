@@ -1,17 +1,23 @@
-//! A disk as the office sees it: what a call reads, writes and keeps, its clock and its faults.
+//! A disk as the office sees it: what a call reads, writes and keeps, what a crash may leave, its clock and its faults.
 #![tactic(auto)]
 
 mod calls;
 mod disk;
 mod memory_disk;
+mod no_disk;
 mod noted;
+mod past;
 mod places;
+mod replay;
+mod sure_disk;
 
 pub use calls::Calls;
 pub use disk::{Disk, DiskFault};
 pub use memory_disk::MemoryDisk;
+pub use no_disk::NoDisk;
 /// Memory ran out.
 pub use std::alloc::AllocError as Memory;
+pub use sure_disk::SureDisk;
 
 #[cfg(test)]
 mod tests;

@@ -2,14 +2,14 @@ ghost use Rattle.std.specs.Prelude.{◌≡◌, ◌<◌, ◌≤◌, ◌^◌, ◌+
 ghost use Rattle.disk_model.specs.Calls.{IsFailing};
 ghost use Rattle.disk_model.specs.Disk.{Reads, Torn, Holds};
 ghost use Rattle.disk_model.specs.Faults.{Rose};
-ghost use Rattle.disk_model.specs.MemoryDisk.{bytes_of, clock_of, images_of, left_of, new_disk, after_failing, after_read, after_write, after_sync, noted_write, bytes_after};
+ghost use Rattle.disk_model.specs.MemoryDisk.{bytes_of, clock_of, images_of, left_of, new_disk, after_failing, after_read, after_write, after_sync, changes, noted_write};
 ghost use Rattle.disk_model.specs.MomentLaws.{left_counts_now, left_only_now, left_since_earlier};
-ghost use Rattle.disk_model.specs.MemoryDisk.{changes};
-ghost use Rattle.disk_model.specs.Stopped.{up_to, disk_before, stopped_bytes, IsLeftIn};
+ghost use Rattle.disk_model.specs.Stopped.{disk_before, stopped_bytes, IsLeftIn};
 ghost use Rattle.disk_model.specs.Writes.{written};
 
 use crate::noted::Noted;
 use crate::places::{copy_from, overwrite};
+use crate::replay::{redone, up_to};
 use crate::{Calls, Disk, DiskFault, Memory};
 use std::alloc::Global;
 use std::marker::Model;
@@ -28,7 +28,7 @@ pub struct MemoryDisk {
 }
 
 impl Model for MemoryDisk {
-    ghost use Rattle.std.specs.Prelude.{◌≡◌, reverse};
+    ghost use Rattle.std.specs.Prelude.{◌≡◌, length, reverse};
     ghost use Rattle.disk_model.specs.MemoryDisk.{DiskState, bytes_after, changes};
 
     ghost Value = { DiskState };
@@ -38,8 +38,6 @@ impl Model for MemoryDisk {
       past = reverse m.past.items;
       calls = m.calls;
     } };
-
-    ghost use Rattle.std.specs.Prelude.{length};
 
     ghost invariant = { λ m. (m.bytes.items ≡ bytes_after m.start.items (reverse m.past.items))
         × (m.clock ≡ length (changes m.start.items (reverse m.past.items))) };
@@ -122,28 +120,6 @@ impl MemoryDisk {
         }
         past.len() as u64
     }
-}
-
-// What the calls with numbers up to this one did, the first first.
-fn up_to(past: &[Noted], call: u64) -> &[Noted]
-    ensures value { reverse result.now ≡ up_to call (reverse past.now) }
-{
-    let mut n = past.len();
-    while n > 0 && past[n - 1].call > call {
-        n -= 1;
-    }
-    &past[..n]
-}
-
-// The bytes after calls, the first first.
-fn redone(alloc: Global, start: &[u8], past: &[Noted]) -> Result<Vec<u8>, Memory>
-    ensures value { IfOk result (λ bytes. bytes.items ≡ bytes_after start.now (reverse past.now)) }
-{
-    let mut bytes = Vec::from_slice(alloc, start)?;
-    for noted in past {
-        noted.redo(&mut bytes)?;
-    }
-    Ok(bytes)
 }
 
 // Writes, and notes it. It gives up only where it can't grow, and then it changes nothing.

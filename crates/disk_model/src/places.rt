@@ -1,4 +1,4 @@
-ghost use Rattle.std.specs.Prelude.{◌≡◌, ◌<◌, ◌≤◌, ◌^◌, ◌+◌, ◌-◌, ◌++◌, length, take, drop, min, replicate, OnOk, OnErr};
+ghost use Rattle.std.specs.Prelude.{◌≡◌, ◌<◌, ◌≤◌, ◌^◌, ◌+◌, ◌-◌, ◌++◌, length, take, drop, min, replicate, vec_capacity, IsOk, OnOk, OnErr};
 ghost use Rattle.disk_model.specs.Disk.{Torn, Holds};
 ghost use Rattle.disk_model.specs.Writes.{written};
 
@@ -18,13 +18,14 @@ pub fn copy_from(bytes: &[u8], at: usize, into: &mut [u8]) -> usize
     n
 }
 
-// Puts bytes over what is there and past the end. It gives up only where it would have to grow.
+// Puts bytes over what is there and past the end. It gives up only where it would have to grow past the capacity.
 pub fn overwrite(content: &mut Vec<u8>, at: usize, bytes: &[u8]) -> Result<(), AllocError>
     ensures value { OnOk result (content.new.items ≡ written at bytes.now content.old.items) }
     ensures torn { OnOk result (Torn at (length bytes.now) content.old.items content.new.items) }
     ensures holds { OnOk result (Holds at bytes.now content.old.items content.new.items) }
     ensures unchanged { OnErr result (content.new.items ≡ content.old.items) }
-    ensures grows { OnErr result (length content.old.items < at + length bytes.now) }
+    ensures roomy { at + length bytes.now ≤ vec_capacity content.old → IsOk result }
+    ensures capacity { vec_capacity content.old ≤ vec_capacity content.new }
 {
     if bytes.is_empty() {
         return Ok(());
@@ -42,7 +43,8 @@ fn reach(content: &mut Vec<u8>, end: usize) -> Result<(), AllocError>
     ensures value { OnOk result
         (content.new.items ≡ content.old.items ++ replicate (end - length content.old.items) 0) }
     ensures unchanged { OnErr result (content.new.items ≡ content.old.items) }
-    ensures grows { OnErr result (length content.old.items < end) }
+    ensures roomy { end ≤ vec_capacity content.old → IsOk result }
+    ensures capacity { vec_capacity content.old ≤ vec_capacity content.new }
 {
     if end > content.len() {
         content.resize(end, 0)?;
@@ -52,7 +54,8 @@ fn reach(content: &mut Vec<u8>, end: usize) -> Result<(), AllocError>
 
 fn put_in(content: &mut Vec<u8>, at: usize, bytes: &[u8])
     requires { at + length bytes.now ≤ length content.old.items }
-    ensures { content.new.items
+    ensures capacity { vec_capacity content.new ≡ vec_capacity content.old }
+    ensures value { content.new.items
         ≡ take at content.old.items ++ bytes.now ++ drop (at + length bytes.now) content.old.items }
 {
     put_in_slice(content, at, bytes);

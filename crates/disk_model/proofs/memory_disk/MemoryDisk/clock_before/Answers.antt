@@ -5,9 +5,15 @@ use Rattle.disk_model.proofs.memory_disk.MemoryDisk.clock_before.Goals as goal
 pub returns-then-last-call : goal.returns-then-last-call
 returns-then-last-call c =
     let disk = c.args.self.now in
-    record { value = clock_before_it disk.start c.args.call disk.past c.up_to-past.result.now c.in-Some.earlier.now c.in-Some.last.now (search rules) (search rules) (search rules) }
+    let earlier = c.in-Some.earlier.now in
+    let last = c.in-Some.last.now in
+    let calls = c.up_to-past.result.now in
+    record { value = clock_before_it disk.start c.args.call disk.past calls earlier last (search rules) (search rules) (search rules) }
 
 pub returns-else-last-call : goal.returns-else-last-call
 returns-else-last-call c =
     let disk = c.args.self.now in
-    record { value = clock_before_other disk.start c.args.call disk.past c.up_to-past.result.now c.in-Some.earlier.now c.in-Some.last.now (search rules) (search rules) (search rules) }
+    let earlier = c.in-Some.earlier.now in
+    let last = c.in-Some.last.now in
+    let calls = c.up_to-past.result.now in
+    record { value = clock_before_other disk.start c.args.call disk.past calls earlier last (search rules) (search rules) (search rules) }

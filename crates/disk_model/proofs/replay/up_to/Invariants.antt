@@ -1,6 +1,6 @@
 use Rattle.std.proofs.Common.{◌≡◌, ◌≤◌, length, take, reverse}
 use Rattle.disk_model.specs.Stopped.{up_to}
-use Rattle.disk_model.proofs.memory_disk.up_to.Given as goal
+use Rattle.disk_model.proofs.replay.up_to.Given as goal
 
 -- the calls behind the place are later than the one asked for
 abbrev pub invariant-loop-n : goal.invariant-loop-n

@@ -1,6 +1,6 @@
 use Rattle.std.proofs.Common.{◌≡◌, take, reverse}
 use Rattle.disk_model.specs.MemoryDisk.{bytes_after}
-use Rattle.disk_model.proofs.memory_disk.redone.Given as goal
+use Rattle.disk_model.proofs.replay.redone.Given as goal
 
 -- the bytes after the calls gone over so far
 abbrev pub invariant-loop-noted : goal.invariant-loop-noted
