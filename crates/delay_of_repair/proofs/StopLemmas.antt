@@ -5,7 +5,8 @@ use Rattle.ldar_law.specs.Delays.{end_of, end_of_first}
 
 module _ (attempts : List ℕ) where
   -- the end of the shutdown at a place
-  pub known_end : (stops : List Stop) (place : ℕ) (stop : Stop) → slice_get stops place ≡ Some stop → end_of_first attempts (drop place stops) ≡ Date (end_of attempts stop)
+  pub known_end : (stops : List Stop) (place : ℕ) (stop : Stop) → slice_get stops place ≡ Some stop →
+      end_of_first attempts (drop place stops) ≡ Date (end_of attempts stop)
   known_end [] place stop found = cc
   known_end (x ∷ xs) zero stop found = let same : x ≡ stop = cc in rw same refl
   known_end (x ∷ xs) (suc place) stop found = known_end xs place stop found

@@ -14,7 +14,8 @@ module _ {X : Type 0} (before : X → X → Bool) where
   alone (x ∷ xs) (suc n) few = alone xs n (omega (arith, few))
 
   -- one more in front of some in order, which is before the first of them
-  pub one_in_front : IsStrictOrder before → (xs : List X) (n : ℕ) (d e : X) → 1 < n → n ≤ length xs → before (get_or xs (n - 1 - 1) d) (get_or xs (n - 1) e) ≡ true → Ascends before (drop (n - 1) xs) → Ascends before (drop (n - 1 - 1) xs)
+  pub one_in_front : IsStrictOrder before → (xs : List X) (n : ℕ) (d e : X) → 1 < n → n ≤ length xs →
+      before (get_or xs (n - 1 - 1) d) (get_or xs (n - 1) e) ≡ true → Ascends before (drop (n - 1) xs) → Ascends before (drop (n - 1 - 1) xs)
   one_in_front strict xs n d e some within first up =
       let x = get_or xs (n - 1 - 1) d in
       let y = get_or xs (n - 1) e in

@@ -38,24 +38,27 @@ module _ (detected : ℕ) (attempts : List ℕ) (stops : List Stop) where
   -- the place is that of the delay
   placed : (delays : List DelayEntry) (c : ℕ × DelayEntry) → last_counted detected attempts stops delays ≡ Some c → slice_get (reverse delays) c.0 ≡ Some c.1
   placed [] c e = cc
-  placed (latest ∷ earlier) c e = elim (cases_Bool (is_past latest.key.day (due_given detected attempts stops (option_map (λ o. o.1) (last_counted detected attempts stops earlier))))) [
-    | inl t ↦ rw (reverse_more latest earlier)
-        (kept_place (reverse earlier) (latest ∷ []) c.0 c.1
-        (placed earlier c (subst (λ b. cond b (last_counted detected attempts stops earlier) (Some (length earlier, latest)) ≡ Some c) t e)))
-    | inr f ↦
-        let this : Some (length earlier, latest) ≡ Some c = subst (λ b. cond b (last_counted detected attempts stops earlier) (Some (length earlier, latest)) ≡ Some c) f e in
-        let same : (length earlier, latest) ≡ c = ap (λ o. unwrap_or o c) this in
-        rw (reverse_more latest earlier)
-        (subst (λ d. slice_get (reverse earlier ++ latest ∷ []) d.0 ≡ Some d.1) same
-        (subst (λ n. slice_get (reverse earlier ++ latest ∷ []) n ≡ Some latest) (length-reverse earlier) (next_place (reverse earlier) latest)))
-  ]
+  placed (latest ∷ earlier) c e =
+      elim (cases_Bool (is_past latest.key.day (due_given detected attempts stops (option_map (λ o. o.1) (last_counted detected attempts stops earlier))))) [
+        | inl t ↦ rw (reverse_more latest earlier)
+            (kept_place (reverse earlier) (latest ∷ []) c.0 c.1
+            (placed earlier c (subst (λ b. cond b (last_counted detected attempts stops earlier) (Some (length earlier, latest)) ≡ Some c) t e)))
+        | inr f ↦
+            let this : Some (length earlier, latest) ≡ Some c = subst (λ b. cond b (last_counted detected attempts stops earlier) (Some (length earlier, latest)) ≡ Some c) f e in
+            let same : (length earlier, latest) ≡ c = ap (λ o. unwrap_or o c) this in
+            rw (reverse_more latest earlier)
+            (subst (λ d. slice_get (reverse earlier ++ latest ∷ []) d.0 ≡ Some d.1) same
+            (subst (λ n. slice_get (reverse earlier ++ latest ∷ []) n ≡ Some latest) (length-reverse earlier) (next_place (reverse earlier) latest)))
+      ]
 
-  found_there : (delays : List DelayEntry) (o : Option (ℕ × DelayEntry)) → last_counted detected attempts stops (reverse delays) ≡ o → option_and_then (slice_get delays) (option_map (λ c. c.0) o) ≡ option_map (λ c. c.1) o
+  found_there : (delays : List DelayEntry) (o : Option (ℕ × DelayEntry)) → last_counted detected attempts stops (reverse delays) ≡ o →
+      option_and_then (slice_get delays) (option_map (λ c. c.0) o) ≡ option_map (λ c. c.1) o
   found_there delays None e = refl
   found_there delays (Some c) e = subst (λ ds. slice_get ds c.0 ≡ Some c.1) (reverse_twice delays) (placed (reverse delays) c e)
 
 pub counted_place_is_of_delay : CountedPlaceIsOfDelay
-counted_place_is_of_delay detected attempts stops delays = found_there detected attempts stops delays (last_counted detected attempts stops (reverse delays)) refl
+counted_place_is_of_delay detected attempts stops delays =
+    found_there detected attempts stops delays (last_counted detected attempts stops (reverse delays)) refl
 
 -- where one more stands at the end, what stands at a place is one of the others or this one
 one_or_last : {X : Type 0} (xs : List X) (x : X) (place : ℕ) (y : X) → slice_get (xs ++ x ∷ []) place ≡ Some y →
@@ -90,7 +93,8 @@ module _ (detected : ℕ) (attempts : List ℕ) (stops : List Stop) where
       ap (λ ds. is_past latest.key.day (due_given detected attempts stops (option_map (λ c. c.1) (last_counted detected attempts stops ds)))) (reverse_twice earlier)
 
   -- with one more delay that is ignored, each is that was
-  more_ignored : (delays : List DelayEntry) (delay : DelayEntry) → is_ignored detected attempts stops delays delay ≡ true → AreIgnored detected attempts stops delays → AreIgnored detected attempts stops (delays ++ delay ∷ [])
+  more_ignored : (delays : List DelayEntry) (delay : DelayEntry) → is_ignored detected attempts stops delays delay ≡ true →
+      AreIgnored detected attempts stops delays → AreIgnored detected attempts stops (delays ++ delay ∷ [])
   more_ignored delays delay ignored all place other stands = elim (one_or_last delays delay place other stands) [
     | inl here ↦ let within : place ≤ length delays = let lt : place < length delays = here.0 in omega arith in
         rw (front_kept delays delay place within) (all place other here.1)
@@ -98,7 +102,8 @@ module _ (detected : ℕ) (attempts : List ℕ) (stops : List Stop) where
   ]
 
   -- .. and the last one that counts stays the last
-  last_stays : (delays : List DelayEntry) (delay : DelayEntry) (place : ℕ) → is_ignored detected attempts stops delays delay ≡ true → IsLastCounted detected attempts stops delays place → IsLastCounted detected attempts stops (delays ++ delay ∷ []) place
+  last_stays : (delays : List DelayEntry) (delay : DelayEntry) (place : ℕ) → is_ignored detected attempts stops delays delay ≡ true →
+      IsLastCounted detected attempts stops delays place → IsLastCounted detected attempts stops (delays ++ delay ∷ []) place
   last_stays delays delay place ignored last = record {
     delay = last.delay;
     stands = kept_place delays (delay ∷ []) place last.delay last.stands;
@@ -111,7 +116,8 @@ module _ (detected : ℕ) (attempts : List ℕ) (stops : List Stop) where
   }
 
   -- one more delay that counts is the last that does
-  is_last : (delays : List DelayEntry) (delay : DelayEntry) → is_ignored detected attempts stops delays delay ≡ false → IsLastCounted detected attempts stops (delays ++ delay ∷ []) (length delays)
+  is_last : (delays : List DelayEntry) (delay : DelayEntry) → is_ignored detected attempts stops delays delay ≡ false →
+      IsLastCounted detected attempts stops (delays ++ delay ∷ []) (length delays)
   is_last delays delay counts = record {
     delay = delay;
     stands = next_place delays delay;
@@ -127,7 +133,8 @@ module _ (detected : ℕ) (attempts : List ℕ) (stops : List Stop) where
   Given None delays = AreIgnored detected attempts stops delays
   Given (Some c) delays = IsLastCounted detected attempts stops delays c.0
 
-  given_more : (o : Option (ℕ × DelayEntry)) (delays : List DelayEntry) (delay : DelayEntry) → is_ignored detected attempts stops delays delay ≡ true → Given o delays → Given o (delays ++ delay ∷ [])
+  given_more : (o : Option (ℕ × DelayEntry)) (delays : List DelayEntry) (delay : DelayEntry) → is_ignored detected attempts stops delays delay ≡ true →
+      Given o delays → Given o (delays ++ delay ∷ [])
   given_more None delays delay ignored given = more_ignored delays delay ignored given
   given_more (Some c) delays delay ignored given = last_stays delays delay c.0 ignored given
 
@@ -142,23 +149,28 @@ module _ (detected : ℕ) (attempts : List ℕ) (stops : List Stop) where
       ])
 
 -- .. of delays in key order
-given_in_order : (detected : ℕ) (attempts : List ℕ) (stops : List Stop) (delays : List DelayEntry) → Given detected attempts stops (last_counted detected attempts stops (reverse delays)) delays
+given_in_order : (detected : ℕ) (attempts : List ℕ) (stops : List Stop) (delays : List DelayEntry) →
+    Given detected attempts stops (last_counted detected attempts stops (reverse delays)) delays
 given_in_order detected attempts stops delays =
     subst (Given detected attempts stops (last_counted detected attempts stops (reverse delays))) (reverse_twice delays) (given_of detected attempts stops (reverse delays))
 
 -- where one counts, not all are ignored
-not_all : (detected : ℕ) (attempts : List ℕ) (stops : List Stop) (delays : List DelayEntry) (place : ℕ) → IsLastCounted detected attempts stops delays place → AreIgnored detected attempts stops delays → ⊥
+not_all : (detected : ℕ) (attempts : List ℕ) (stops : List Stop) (delays : List DelayEntry) (place : ℕ) → IsLastCounted detected attempts stops delays place →
+    AreIgnored detected attempts stops delays → ⊥
 not_all detected attempts stops delays place last all = false≢true (sym last.counts ∙ all place last.delay last.stands)
 
-none_given : (detected : ℕ) (attempts : List ℕ) (stops : List Stop) (delays : List DelayEntry) (o : Option (ℕ × DelayEntry)) → Given detected attempts stops o delays → (option_map (λ c. c.0) o ≡ None) ↔ AreIgnored detected attempts stops delays
+none_given : (detected : ℕ) (attempts : List ℕ) (stops : List Stop) (delays : List DelayEntry) (o : Option (ℕ × DelayEntry)) →
+    Given detected attempts stops o delays → (option_map (λ c. c.0) o ≡ None) ↔ AreIgnored detected attempts stops delays
 none_given detected attempts stops delays None given = (λ e. given, λ all. refl)
-none_given detected attempts stops delays (Some c) given = (λ e. absurd (let no : ⊥ = cc in no), λ all. absurd (not_all detected attempts stops delays c.0 given all))
+none_given detected attempts stops delays (Some c) given =
+    (λ e. absurd (let no : ⊥ = cc in no), λ all. absurd (not_all detected attempts stops delays c.0 given all))
 
 pub none_counted : NoneCounted
 none_counted detected attempts stops delays =
     none_given detected attempts stops delays (last_counted detected attempts stops (reverse delays)) (given_in_order detected attempts stops delays)
 
-last_given : (detected : ℕ) (attempts : List ℕ) (stops : List Stop) (delays : List DelayEntry) (place : ℕ) (o : Option (ℕ × DelayEntry)) → Given detected attempts stops o delays → option_map (λ c. c.0) o ≡ Some place → IsLastCounted detected attempts stops delays place
+last_given : (detected : ℕ) (attempts : List ℕ) (stops : List Stop) (delays : List DelayEntry) (place : ℕ) (o : Option (ℕ × DelayEntry)) →
+    Given detected attempts stops o delays → option_map (λ c. c.0) o ≡ Some place → IsLastCounted detected attempts stops delays place
 last_given detected attempts stops delays place None given e = cc
 last_given detected attempts stops delays place (Some c) given e =
     let same : c.0 ≡ place = cc in subst (IsLastCounted detected attempts stops delays) same given

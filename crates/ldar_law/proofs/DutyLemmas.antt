@@ -86,7 +86,8 @@ five_grow : (a b : ℕ) → a ≤ b → five_after a ≤ five_after b
 five_grow a b h = omega (arith, h)
 
 -- what events give that stand by their days
-block_events : (cause : ℕ) (f : List Event → Event → List Event → Option Duty) → ((before : List Event) (e : Event) (after : List Event) → IfSome (f before e after) (IsOf cause (five_after e.key.day))) →
+block_events : (cause : ℕ) (f : List Event → Event → List Event → Option Duty) →
+    ((before : List Event) (e : Event) (after : List Event) → IfSome (f before e after) (IsOf cause (five_after e.key.day))) →
     (front events : List Event) (low : ℕ) → Ascends (λ a b. nat_le a.key.day b.key.day) events → AllByRecursion (λ e. low ≤ e.key.day) events → IsBlock cause (five_after low) (each_from f front events)
 block_events cause f gives front [] low asc from = (tt, tt)
 block_events cause f gives front (e ∷ events) low asc from =
@@ -146,15 +147,18 @@ module _ (item : Equipment) (classes : List (Key × Class)) (startup : ℕ) (eve
   unfolding weekly
   weekly_form week = given _ _ (IsOf 6 (week_last week)) (refl, refl)
 
-  pub drip_form : (before : List Event) (e : Event) (after : List Event) → IfSome (drip item classes startup events skipped t before e after) (IsOf 7 (five_after e.key.day))
+  pub drip_form : (before : List Event) (e : Event) (after : List Event) →
+      IfSome (drip item classes startup events skipped t before e after) (IsOf 7 (five_after e.key.day))
   unfolding drip
   drip_form before e after = given _ _ (IsOf 7 (five_after e.key.day)) (refl, refl)
 
-  pub release_form : (before : List Event) (e : Event) (after : List Event) → IfSome (release item classes startup events skipped t before e after) (IsOf 8 (five_after e.key.day))
+  pub release_form : (before : List Event) (e : Event) (after : List Event) →
+      IfSome (release item classes startup events skipped t before e after) (IsOf 8 (five_after e.key.day))
   unfolding release
   release_form before e after = given _ _ (IsOf 8 (five_after e.key.day)) (refl, refl)
 
-  pub evidence_form : (before : List Event) (e : Event) (after : List Event) → IfSome (evidence item classes startup events skipped t before e after) (IsOf 9 (five_after e.key.day))
+  pub evidence_form : (before : List Event) (e : Event) (after : List Event) →
+      IfSome (evidence item classes startup events skipped t before e after) (IsOf 9 (five_after e.key.day))
   unfolding evidence
   evidence_form before e after = given _ _ (IsOf 9 (five_after e.key.day)) (refl, refl)
 

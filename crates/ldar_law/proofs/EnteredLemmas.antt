@@ -20,7 +20,8 @@ some_if true x = refl
 some_if false x = refl
 
 -- there is a first of what facts give exactly where some fact gives something
-first_where_given : {X : Type 0} (f : Entry → Option X) (p : Entry → Bool) → ((e : Entry) → is_some (f e) ≡ p e) → (es : List Entry) → is_some (slice_get (filter_map f es) 0) ≡ list_any p es
+first_where_given : {X : Type 0} (f : Entry → Option X) (p : Entry → Bool) → ((e : Entry) → is_some (f e) ≡ p e) → (es : List Entry) →
+    is_some (slice_get (filter_map f es) 0) ≡ list_any p es
 first_where_given f p same [] = refl
 first_where_given f p same (e ∷ es) =
     elim (f e) as (λ o. is_some o ≡ p e → is_some (slice_get (cons_option o (filter_map f es)) 0) ≡ (p e || list_any p es)) [
@@ -28,7 +29,8 @@ first_where_given f p same (e ∷ es) =
       | Some x ↦ λ is. rw (sym is) refl
     ] (same e)
 
-component_given : (number : ℕ) (retired : Option ℕ) (day : ℕ) (body : FactBody) → is_some (component_entered number retired day body) ≡ enters_component number body
+component_given : (number : ℕ) (retired : Option ℕ) (day : ℕ) (body : FactBody) →
+    is_some (component_entered number retired day body) ≡ enters_component number body
 component_given number retired day (ComponentFact other unit kind monomer replaces class) = some_if (nat_eq other number) _
 component_given number retired day _ = refl
 
@@ -56,11 +58,14 @@ unit_where_entered number facts =
     first_where_given (λ e. unit_entered number e.0.day e.1.body) (λ e. enters_unit number e.1.body) (λ e. unit_given number e.0.day e.1.body) facts
 
 -- some class that a fact gives is of a day up to one
-class_given_by : (day : ℕ) (e : Entry) (o : Option Class) (enters : Bool) (rest : List (Key × Class)) (others : Bool) → is_some o ≡ enters → list_any (λ entered. nat_le entered.0.day day) rest ≡ others → list_any (λ entered. nat_le entered.0.day day) (cons_option (option_map (λ class. (e.0, class)) o) rest) ≡ ((enters && nat_le e.0.day day) || others)
+class_given_by : (day : ℕ) (e : Entry) (o : Option Class) (enters : Bool) (rest : List (Key × Class)) (others : Bool) → is_some o ≡ enters →
+    list_any (λ entered. nat_le entered.0.day day) rest ≡ others →
+    list_any (λ entered. nat_le entered.0.day day) (cons_option (option_map (λ class. (e.0, class)) o) rest) ≡ ((enters && nat_le e.0.day day) || others)
 class_given_by day e None enters rest others is same = rw (sym is) same
 class_given_by day e (Some class) enters rest others is same = rw (sym is) (ap (λ b. nat_le e.0.day day || b) same)
 
-classes_given : (number day : ℕ) (facts : List Entry) → list_any (λ entered. nat_le entered.0.day day) (classes_of number facts) ≡ list_any (λ e. enters_class number e.1.body && nat_le e.0.day day) facts
+classes_given : (number day : ℕ) (facts : List Entry) →
+    list_any (λ entered. nat_le entered.0.day day) (classes_of number facts) ≡ list_any (λ e. enters_class number e.1.body && nat_le e.0.day day) facts
 classes_given number day [] = refl
 classes_given number day (e ∷ es) =
     class_given_by day e (class_entered number e.1.body) (enters_class number e.1.body) (classes_of number es) _ (class_given number e.1.body) (classes_given number day es)

@@ -37,7 +37,8 @@ of_numbers : (cause : ℕ) (f : ℕ → Option Duty) → ((n : ℕ) → IfSome (
 of_numbers cause f gives [] = tt
 of_numbers cause f gives (n ∷ ns) = one_more cause (f n) (filter_map f ns) (gives n) (of_numbers cause f gives ns)
 
-of_events : (cause : ℕ) (f : List Event → Event → List Event → Option Duty) → ((before : List Event) (e : Event) (after : List Event) → IfSome (f before e after) (Has cause)) →
+of_events : (cause : ℕ) (f : List Event → Event → List Event → Option Duty) →
+    ((before : List Event) (e : Event) (after : List Event) → IfSome (f before e after) (Has cause)) →
     (front events : List Event) → AllByRecursion (Has cause) (each_from f front events)
 of_events cause f gives front [] = tt
 of_events cause f gives front (e ∷ events) =
@@ -53,42 +54,66 @@ none_kept wanted cause other [] all = refl
 none_kept wanted cause other (d ∷ ds) all = rw (all.0, other) (none_kept wanted cause other ds all.1)
 
 -- a block of another cause in front, and the block of the cause itself
-passed : (wanted cause : ℕ) → nat_eq cause wanted ≡ false → (xs ys zs : List Duty) → AllByRecursion (Has cause) xs → filter (λ d. nat_eq d.cause wanted) ys ≡ zs → filter (λ d. nat_eq d.cause wanted) (xs ++ ys) ≡ zs
+passed : (wanted cause : ℕ) → nat_eq cause wanted ≡ false → (xs ys zs : List Duty) → AllByRecursion (Has cause) xs →
+    filter (λ d. nat_eq d.cause wanted) ys ≡ zs → filter (λ d. nat_eq d.cause wanted) (xs ++ ys) ≡ zs
 passed wanted cause other xs ys zs all rest = rw (filter-append (λ d. nat_eq d.cause wanted) xs ys, none_kept wanted cause other xs all) rest
 
-taken : (cause : ℕ) (xs ys : List Duty) → AllByRecursion (Has cause) xs → filter (λ d. nat_eq d.cause cause) ys ≡ [] → filter (λ d. nat_eq d.cause cause) (xs ++ ys) ≡ xs
+taken : (cause : ℕ) (xs ys : List Duty) → AllByRecursion (Has cause) xs → filter (λ d. nat_eq d.cause cause) ys ≡ [] →
+    filter (λ d. nat_eq d.cause cause) (xs ++ ys) ≡ xs
 taken cause xs ys all none = rw (filter-append (λ d. nat_eq d.cause cause) xs ys, all_kept cause xs all, none) (append-nil xs)
 
 module _ (item : Equipment) (classes : List (Key × Class)) (startup : ℕ) (events : List Event) (skipped : List Bool) (t : ℕ) where
   firsts : AllByRecursion (Has 1) (option_to_list (first_monitoring item classes startup events skipped t))
-  firsts = alone 1 (first_monitoring item classes startup events skipped t) (has_cause 1 _ (first_monitoring item classes startup events skipped t) (first_form item classes startup events skipped t))
+  firsts =
+      alone 1 (first_monitoring item classes startup events skipped t)
+      (has_cause 1 _ (first_monitoring item classes startup events skipped t) (first_form item classes startup events skipped t))
 
   months : (ns : List ℕ) → AllByRecursion (Has 2) (filter_map (monthly item classes startup events skipped t) ns)
-  months = of_numbers 2 (monthly item classes startup events skipped t) (λ n. has_cause 2 _ (monthly item classes startup events skipped t n) (monthly_form item classes startup events skipped t n))
+  months =
+      of_numbers 2 (monthly item classes startup events skipped t)
+      (λ n. has_cause 2 _ (monthly item classes startup events skipped t n) (monthly_form item classes startup events skipped t n))
 
   quarters : (ns : List ℕ) → AllByRecursion (Has 3) (filter_map (quarterly item classes startup events skipped t) ns)
-  quarters = of_numbers 3 (quarterly item classes startup events skipped t) (λ n. has_cause 3 _ (quarterly item classes startup events skipped t n) (quarterly_form item classes startup events skipped t n))
+  quarters =
+      of_numbers 3 (quarterly item classes startup events skipped t)
+      (λ n. has_cause 3 _ (quarterly item classes startup events skipped t n) (quarterly_form item classes startup events skipped t n))
 
   years : (ns : List ℕ) → AllByRecursion (Has 4) (filter_map (yearly item classes startup events skipped t) ns)
-  years = of_numbers 4 (yearly item classes startup events skipped t) (λ n. has_cause 4 _ (yearly item classes startup events skipped t n) (yearly_form item classes startup events skipped t n))
+  years =
+      of_numbers 4 (yearly item classes startup events skipped t)
+      (λ n. has_cause 4 _ (yearly item classes startup events skipped t n) (yearly_form item classes startup events skipped t n))
 
   windows : (ns : List ℕ) → AllByRecursion (Has 5) (filter_map (planned item classes startup events skipped t) ns)
-  windows = of_numbers 5 (planned item classes startup events skipped t) (λ n. has_cause 5 _ (planned item classes startup events skipped t n) (planned_form item classes startup events skipped t n))
+  windows =
+      of_numbers 5 (planned item classes startup events skipped t)
+      (λ n. has_cause 5 _ (planned item classes startup events skipped t n) (planned_form item classes startup events skipped t n))
 
   weeks : (ns : List ℕ) → AllByRecursion (Has 6) (filter_map (weekly item classes startup events skipped t) ns)
-  weeks = of_numbers 6 (weekly item classes startup events skipped t) (λ n. has_cause 6 _ (weekly item classes startup events skipped t n) (weekly_form item classes startup events skipped t n))
+  weeks =
+      of_numbers 6 (weekly item classes startup events skipped t)
+      (λ n. has_cause 6 _ (weekly item classes startup events skipped t n) (weekly_form item classes startup events skipped t n))
 
   drips : AllByRecursion (Has 7) (each_where (drip item classes startup events skipped t) events)
-  drips = of_events 7 (drip item classes startup events skipped t) (λ before e after. has_cause 7 _ (drip item classes startup events skipped t before e after) (drip_form item classes startup events skipped t before e after)) [] events
+  drips =
+      of_events 7 (drip item classes startup events skipped t)
+      (λ before e after. has_cause 7 _ (drip item classes startup events skipped t before e after)
+      (drip_form item classes startup events skipped t before e after)) [] events
 
   releases : AllByRecursion (Has 8) (each_where (release item classes startup events skipped t) events)
-  releases = of_events 8 (release item classes startup events skipped t) (λ before e after. has_cause 8 _ (release item classes startup events skipped t before e after) (release_form item classes startup events skipped t before e after)) [] events
+  releases =
+      of_events 8 (release item classes startup events skipped t)
+      (λ before e after. has_cause 8 _ (release item classes startup events skipped t before e after)
+      (release_form item classes startup events skipped t before e after)) [] events
 
   evidences : AllByRecursion (Has 9) (each_where (evidence item classes startup events skipped t) events)
-  evidences = of_events 9 (evidence item classes startup events skipped t) (λ before e after. has_cause 9 _ (evidence item classes startup events skipped t before e after) (evidence_form item classes startup events skipped t before e after)) [] events
+  evidences =
+      of_events 9 (evidence item classes startup events skipped t)
+      (λ before e after. has_cause 9 _ (evidence item classes startup events skipped t before e after)
+      (evidence_form item classes startup events skipped t before e after)) [] events
 
   -- the duties of a cause from the seventh on are those of the blocks from there on
-  past_periods : (wanted : ℕ) → nat_eq 1 wanted ≡ false → nat_eq 2 wanted ≡ false → nat_eq 3 wanted ≡ false → nat_eq 4 wanted ≡ false → nat_eq 5 wanted ≡ false → nat_eq 6 wanted ≡ false →
+  past_periods : (wanted : ℕ) → nat_eq 1 wanted ≡ false → nat_eq 2 wanted ≡ false → nat_eq 3 wanted ≡ false → nat_eq 4 wanted ≡ false →
+      nat_eq 5 wanted ≡ false → nat_eq 6 wanted ≡ false →
       (zs : List Duty) → filter (λ d. nat_eq d.cause wanted) (each_where (drip item classes startup events skipped t) events
       ++ (each_where (release item classes startup events skipped t) events ++ each_where (evidence item classes startup events skipped t) events)) ≡ zs →
       filter (λ d. nat_eq d.cause wanted) (duties_of item classes startup events skipped t) ≡ zs
@@ -110,9 +135,12 @@ event_duties_follow_events item classes startup events skipped t =
     let all_releases = releases item classes startup events skipped t in
     let all_evidences = evidences item classes startup events skipped t in (
       past_periods item classes startup events skipped t 7 refl refl refl refl refl refl drip_list
-          (taken 7 drip_list (release_list ++ evidence_list) all_drips (passed 7 8 refl release_list evidence_list [] all_releases (none_kept 7 9 refl evidence_list all_evidences))),
+          (taken 7 drip_list (release_list ++ evidence_list) all_drips
+          (passed 7 8 refl release_list evidence_list [] all_releases (none_kept 7 9 refl evidence_list all_evidences))),
       past_periods item classes startup events skipped t 8 refl refl refl refl refl refl release_list
-          (passed 8 7 refl drip_list (release_list ++ evidence_list) release_list all_drips (taken 8 release_list evidence_list all_releases (none_kept 8 9 refl evidence_list all_evidences))),
+          (passed 8 7 refl drip_list (release_list ++ evidence_list) release_list all_drips
+          (taken 8 release_list evidence_list all_releases (none_kept 8 9 refl evidence_list all_evidences))),
       past_periods item classes startup events skipped t 9 refl refl refl refl refl refl evidence_list
-          (passed 9 7 refl drip_list (release_list ++ evidence_list) evidence_list all_drips (passed 9 8 refl release_list evidence_list evidence_list all_releases (all_kept 9 evidence_list all_evidences))),
+          (passed 9 7 refl drip_list (release_list ++ evidence_list) evidence_list all_drips
+          (passed 9 8 refl release_list evidence_list evidence_list all_releases (all_kept 9 evidence_list all_evidences))),
     )

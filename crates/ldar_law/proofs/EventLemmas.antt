@@ -24,7 +24,8 @@ use Rattle.ldar_law.proofs.FitnessLemmas.{fitness_is_of_instrument}
 
 module _ (item : Equipment) (classes : List (Key × Class)) where
   -- the fitness of a reading has no effect on what is none
-  no_reading_same : (day : ℕ) (fitness other : Fitness) (body : FactBody) → is_reading body ≡ false → happening item classes day fitness body ≡ happening item classes day other body
+  no_reading_same : (day : ℕ) (fitness other : Fitness) (body : FactBody) → is_reading body ≡ false →
+      happening item classes day fitness body ≡ happening item classes day other body
   no_reading_same day fitness other (Reading _ _ _ purpose ppm background) e = absurd (false≢true (sym e))
   no_reading_same day fitness other _ e = refl
 
@@ -62,7 +63,8 @@ readings_are_of_instrument item classes facts e instrument of = by_instrument it
 
 -- an event has the key of its fact
 module _ (item : Equipment) (classes : List (Key × Class)) (fit : Entry → Fitness) where
-  later_at : (key : Key) (e : Entry) (o : Option Happening) (rest : List Event) → is_earlier key e.0 ≡ true → AllByRecursion (λ x. is_earlier key x.key ≡ true) rest →
+  later_at : (key : Key) (e : Entry) (o : Option Happening) (rest : List Event) → is_earlier key e.0 ≡ true →
+      AllByRecursion (λ x. is_earlier key x.key ≡ true) rest →
       AllByRecursion (λ x. is_earlier key x.key ≡ true) (cons_option (option_map (λ what. record { key = e.0; what = what }) o) rest)
   later_at key e None rest h all = all
   later_at key e (Some what) rest h all = (h, all)
@@ -73,12 +75,14 @@ module _ (item : Equipment) (classes : List (Key × Class)) (fit : Entry → Fit
   all_later key (e ∷ facts) h =
       later_at key e (happening item classes e.0.day (fit e) e.1.body) (filter_map (λ e. event_of item classes e (fit e)) facts) h.0 (all_later key facts h.1)
 
-  one_more_event : (e : Entry) (o : Option Happening) (rest : List Event) → AllByRecursion (λ x. is_earlier e.0 x.key ≡ true) rest → Ascends (λ a b. is_earlier a.key b.key) rest →
+  one_more_event : (e : Entry) (o : Option Happening) (rest : List Event) → AllByRecursion (λ x. is_earlier e.0 x.key ≡ true) rest →
+      Ascends (λ a b. is_earlier a.key b.key) rest →
       Ascends (λ a b. is_earlier a.key b.key) (cons_option (option_map (λ what. record { key = e.0; what = what }) o) rest)
   one_more_event e None rest all asc = asc
   one_more_event e (Some what) rest all asc = (all, asc)
 
-  events_ascend_by : (facts : List Entry) → Ascends goes_first facts → Ascends (λ a b. is_earlier a.key b.key) (filter_map (λ e. event_of item classes e (fit e)) facts)
+  events_ascend_by : (facts : List Entry) → Ascends goes_first facts →
+      Ascends (λ a b. is_earlier a.key b.key) (filter_map (λ e. event_of item classes e (fit e)) facts)
   events_ascend_by [] h = tt
   events_ascend_by (e ∷ facts) h =
       one_more_event e (happening item classes e.0.day (fit e) e.1.body) (filter_map (λ e. event_of item classes e (fit e)) facts) (all_later e.0 facts h.0) (events_ascend_by facts h.1)

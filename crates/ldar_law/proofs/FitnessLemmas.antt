@@ -19,7 +19,8 @@ calibration_is_own : (instrument : ℕ) (body : FactBody) → is_calibration ins
 calibration_is_own instrument (Calibration of gas) e = e
 calibration_is_own instrument _ e = absurd (false≢true e)
 
-calibration_within_is_own : (instrument most : ℕ) (body : FactBody) → is_calibration_within instrument most body ≡ true → is_numbered (tested_instrument body) instrument ≡ true
+calibration_within_is_own : (instrument most : ℕ) (body : FactBody) → is_calibration_within instrument most body ≡ true →
+    is_numbered (tested_instrument body) instrument ≡ true
 calibration_within_is_own instrument most (Calibration of gas) e = (both e).0
 calibration_within_is_own instrument most _ e = absurd (false≢true e)
 
@@ -27,7 +28,8 @@ precision_is_own : (instrument : ℕ) (body : FactBody) → is_passed_precision 
 precision_is_own instrument (Precision of value readings) e = (both e).0
 precision_is_own instrument _ e = absurd (false≢true e)
 
-drift_is_own : (instrument limit ppm : ℕ) (body : FactBody) → is_drift_past instrument limit ppm body ≡ true → is_numbered (tested_instrument body) instrument ≡ true
+drift_is_own : (instrument limit ppm : ℕ) (body : FactBody) → is_drift_past instrument limit ppm body ≡ true →
+    is_numbered (tested_instrument body) instrument ≡ true
 drift_is_own instrument limit ppm (Drift of value readings) e =
     (both (both e).0).0
 drift_is_own instrument limit ppm _ e = absurd (false≢true e)
@@ -45,19 +47,22 @@ module _ (facts : List Entry) (key : Key) (instrument : ℕ) where
   tested_same = list_any_narrowed _ (is_own instrument)
       (λ e passes. precision_is_own instrument e.1.body (both (both passes).0).0) facts
 
-  before_same : (later : Key) → is_calibrated_before (facts_of_instrument instrument facts) key instrument later ≡ is_calibrated_before facts key instrument later
+  before_same : (later : Key) →
+      is_calibrated_before (facts_of_instrument instrument facts) key instrument later ≡ is_calibrated_before facts key instrument later
   before_same later = list_any_narrowed _ (is_own instrument)
       (λ e passes. calibration_is_own instrument e.1.body (both (both passes).0).0) facts
 
   -- each fact voids the reading among the instrument's own as among all
-  voids_same : (limit ppm : ℕ) (e : Entry) → is_voided_by (facts_of_instrument instrument facts) key instrument limit ppm e ≡ is_voided_by facts key instrument limit ppm e
+  voids_same : (limit ppm : ℕ) (e : Entry) →
+      is_voided_by (facts_of_instrument instrument facts) key instrument limit ppm e ≡ is_voided_by facts key instrument limit ppm e
   voids_same limit ppm e = rw (before_same e.0) refl
 
   voiding_is_own : (limit ppm : ℕ) (e : Entry) → is_voided_by facts key instrument limit ppm e ≡ true → is_own instrument e ≡ true
   voiding_is_own limit ppm e passes =
       drift_is_own instrument limit ppm e.1.body (both (both (both (both passes).0).0).0).1
 
-  voided_same : (limit ppm : ℕ) → find (is_voided_by (facts_of_instrument instrument facts) key instrument limit ppm) (facts_of_instrument instrument facts) ≡ find (is_voided_by facts key instrument limit ppm) facts
+  voided_same : (limit ppm : ℕ) → find (is_voided_by (facts_of_instrument instrument facts) key instrument limit ppm) (facts_of_instrument instrument facts)
+      ≡ find (is_voided_by facts key instrument limit ppm) facts
   voided_same limit ppm =
       find_agree _ _ (voids_same limit ppm) (facts_of_instrument instrument facts)
       ∙ find_narrowed (is_voided_by facts key instrument limit ppm) (is_own instrument) (voiding_is_own limit ppm) facts

@@ -22,7 +22,8 @@ not_yet a b day no_later out = elim (cases_Bool (nat_le b day)) [
 ]
 
 -- behind a fact whose day has not come, none has a day that has
-none_later : (p : Entry → Bool) (day : ℕ) (e : Entry) (es : List Entry) → nat_le e.0.day day ≡ false → AllByRecursion (λ x. goes_first e x ≡ true) es → list_any (λ x. p x && nat_le x.0.day day) es ≡ false
+none_later : (p : Entry → Bool) (day : ℕ) (e : Entry) (es : List Entry) → nat_le e.0.day day ≡ false → AllByRecursion (λ x. goes_first e x ≡ true) es →
+    list_any (λ x. p x && nat_le x.0.day day) es ≡ false
 none_later p day e [] out later = refl
 none_later p day e (x ∷ xs) out later =
     let past = not_yet e.0.day x.0.day day (earlier_day e.0 x.0 later.0) out in
@@ -47,7 +48,8 @@ module _ {C : Type 0} (f : Entry → Option (Key × C)) (keyed : (e : Entry) (y 
   abbrev pub given_first : Key × C → Key × C → Bool
   given_first a b = is_earlier a.0 b.0
 
-  given_all : (x : Entry) (y : Key × C) → y.0 ≡ x.0 → (es : List Entry) → AllByRecursion (λ e. goes_first x e ≡ true) es → AllByRecursion (λ z. given_first y z ≡ true) (filter_map f es)
+  given_all : (x : Entry) (y : Key × C) → y.0 ≡ x.0 → (es : List Entry) → AllByRecursion (λ e. goes_first x e ≡ true) es →
+      AllByRecursion (λ z. given_first y z ≡ true) (filter_map f es)
   given_all x y same [] later = tt
   given_all x y same (e ∷ es) later =
       elim (f e) as (λ o. f e ≡ o → AllByRecursion (λ z. given_first y z ≡ true) (cons_option o (filter_map f es))) [
@@ -72,12 +74,14 @@ module _ {C : Type 0} (f : Entry → Option (Key × C)) (keyed : (e : Entry) (y 
         | inr t ↦ rw t (ap (λ ys. cons_option (f e) ys) (given-put_none x none es))
       ]
 
-  put_behind : (y : Key × C) (o : Option (Key × C)) (ys : List (Key × C)) → ((z : Key × C) → o ≡ Some z → given_first y z ≡ false) → cons_option o (put_in_order given_first y ys) ≡ put_in_order given_first y (cons_option o ys)
+  put_behind : (y : Key × C) (o : Option (Key × C)) (ys : List (Key × C)) → ((z : Key × C) → o ≡ Some z → given_first y z ≡ false) →
+      cons_option o (put_in_order given_first y ys) ≡ put_in_order given_first y (cons_option o ys)
   put_behind y None ys behind = refl
   put_behind y (Some z) ys behind = rw (behind z refl) refl
 
   -- one more fact that gives something
-  pub given-put_some : (x : Entry) (y : Key × C) → f x ≡ Some y → (es : List Entry) → Ascends goes_first es → filter_map f (put_in_order goes_first x es) ≡ put_in_order given_first y (filter_map f es)
+  pub given-put_some : (x : Entry) (y : Key × C) → f x ≡ Some y → (es : List Entry) → Ascends goes_first es →
+      filter_map f (put_in_order goes_first x es) ≡ put_in_order given_first y (filter_map f es)
   given-put_some x y some [] up = rw some refl
   given-put_some x y some (e ∷ es) up =
       elim (cases_Bool (goes_first x e)) [

@@ -10,7 +10,8 @@ use Rattle.ldar_law.specs.MonthLaws.{CleanTwiceFromDecides, QuarterlyDecides}
 use Rattle.ldar_law.proofs.TestLemmas.{both, list_any_implied, passing}
 
 -- a clean month has an event: what holds of the month holds of some event's
-of_some_event : (events : List Event) (holds : ℕ → Bool) (k : ℕ) → is_clean events k ≡ true → holds k ≡ true → list_any (λ e. holds (month_of e.key.day)) events ≡ true
+of_some_event : (events : List Event) (holds : ℕ → Bool) (k : ℕ) → is_clean events k ≡ true → holds k ≡ true →
+    list_any (λ e. holds (month_of e.key.day)) events ≡ true
 unfolding is_clean
 of_some_event events holds k clean held =
     list_any_implied (λ e. is_routine_below e.what && is_in_month k e) (λ e. holds (month_of e.key.day))

@@ -39,7 +39,8 @@ abbrev of_one : Bool → ℕ
 of_one b = if b then 1 else 0
 
 -- the counts on from some
-counts_on : (tally : Tally) (marks : List Mark) → fold with_mark tally marks ≡ record { leaking = tally.leaking + count_by (λ mark. mark.leaking) marks; monitored = tally.monitored + count_by (λ mark. mark.monitored) marks }
+counts_on : (tally : Tally) (marks : List Mark) → fold with_mark tally marks
+    ≡ record { leaking = tally.leaking + count_by (λ mark. mark.leaking) marks; monitored = tally.monitored + count_by (λ mark. mark.monitored) marks }
 counts_on tally [] =
     let a : tally.leaking + 0 ≡ tally.leaking = omega arith in
     let b : tally.monitored + 0 ≡ tally.monitored = omega arith in

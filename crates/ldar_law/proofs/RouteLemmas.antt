@@ -39,7 +39,8 @@ stop_added stops duty component = elim (cases_Bool (has stops duty.component)) [
 ]
 
 -- and so does each of some duties
-stops_added : (duties : List Duty) (stops : List ℕ) (component : ℕ) → has (fold with_stop stops duties) component ≡ (has stops component || list_any (λ d. nat_eq d.component component) duties)
+stops_added : (duties : List Duty) (stops : List ℕ) (component : ℕ) →
+    has (fold with_stop stops duties) component ≡ (has stops component || list_any (λ d. nat_eq d.component component) duties)
 stops_added [] stops component = sym (or-false (has stops component))
 stops_added (duty ∷ duties) stops component =
     stops_added duties (with_stop stops duty) component

@@ -67,7 +67,8 @@ kept b true implies e = refl
 kept b false implies e = absurd (false≢true (sym (implies refl) ∙ e))
 
 -- a part that leaves out only facts that are silent on a component has all that the register holds of it
-pub has_component : (number : ℕ) (q : Entry → Bool) → ((e : Entry) → q e ≡ false → IsSilentOnComponent number e.1.body) → (facts : List Entry) → HasComponent number (filter q facts) facts
+pub has_component : (number : ℕ) (q : Entry → Bool) → ((e : Entry) → q e ≡ false → IsSilentOnComponent number e.1.body) → (facts : List Entry) →
+    HasComponent number (filter q facts) facts
 has_component number q silent facts =
     let retired : retired_on number (filter q facts) ≡ retired_on number facts =
     ap (λ found. option_map (λ e. e.0.day) found) (find_narrowed (λ e. retires number e.1.body) q (λ e. kept (retires number e.1.body) (q e) (λ out. (silent e out).stays)) facts) in
@@ -79,7 +80,8 @@ has_component number q silent facts =
     }
 
 -- .. and so of a process unit
-pub has_unit : (number : ℕ) (q : Entry → Bool) → ((e : Entry) → q e ≡ false → IsSilentOnUnit number e.1.body) → (facts : List Entry) → HasUnit number (filter q facts) facts
+pub has_unit : (number : ℕ) (q : Entry → Bool) → ((e : Entry) → q e ≡ false → IsSilentOnUnit number e.1.body) → (facts : List Entry) →
+    HasUnit number (filter q facts) facts
 has_unit number q silent facts =
     record {
       entry = ap (λ entered. slice_get entered 0)

@@ -22,7 +22,8 @@ not_false true e = refl
 not_false false e = sym e
 
 -- where the last one passes, one does
-last_passes : (q : Event → List Event → Bool) (front rest : List Event) (x : Event) → q x [] ≡ true → somewhere_from (λ _ y after. q y after) front (rest ++ x ∷ []) ≡ true
+last_passes : (q : Event → List Event → Bool) (front rest : List Event) (x : Event) → q x [] ≡ true →
+    somewhere_from (λ _ y after. q y after) front (rest ++ x ∷ []) ≡ true
 last_passes q front [] x h = rw h refl
 last_passes q front (z ∷ rest) x h = rw (last_passes q (front ++ z ∷ []) rest x h) (or-true (q z (rest ++ x ∷ [])))
 
@@ -31,23 +32,27 @@ leak_unsettled : (kind : Kind) (front : List Event) (leak : Event) → is_leak l
 leak_unsettled kind front leak h = last_passes (λ y after. is_leak y.what && not (is_settled kind y after)) [] front leak (ap (λ b. b && true) h)
 
 -- what holds of what is given, and of the rest
-all_given : (b : Bool) (s : Span) (P : Span → Type 0) (rest : List Span) → P s → AllByRecursion P rest → AllByRecursion P (cons_option (if b then Some s else None) rest)
+all_given : (b : Bool) (s : Span) (P : Span → Type 0) (rest : List Span) → P s → AllByRecursion P rest →
+    AllByRecursion P (cons_option (if b then Some s else None) rest)
 all_given true s P rest h all = (h, all)
 all_given false s P rest h all = all
 
 -- where nothing is given, what holds of the rest
-all_skipped : (b : Bool) (s : Span) (P : Span → Type 0) (rest : List Span) → b ≡ false → AllByRecursion P rest → AllByRecursion P (cons_option (if b then Some s else None) rest)
+all_skipped : (b : Bool) (s : Span) (P : Span → Type 0) (rest : List Span) → b ≡ false → AllByRecursion P rest →
+    AllByRecursion P (cons_option (if b then Some s else None) rest)
 all_skipped true s P rest e all = absurd (false≢true (sym e))
 all_skipped false s P rest e all = all
 
 -- one more in front, where it is closed before all of the rest
-one_more : (b : Bool) (s : Span) (rest : List Span) → (b ≡ true → AllByRecursion (λ r. closes_before s r ≡ true) rest) → Ascends closes_before rest → Ascends closes_before (cons_option (if b then Some s else None) rest)
+one_more : (b : Bool) (s : Span) (rest : List Span) → (b ≡ true → AllByRecursion (λ r. closes_before s r ≡ true) rest) → Ascends closes_before rest →
+    Ascends closes_before (cons_option (if b then Some s else None) rest)
 one_more true s rest h asc = (h refl, asc)
 one_more false s rest h asc = asc
 
 module _ (kind : Kind) (events : List Event) where
   -- tags are detected where events are
-  detected_later : (key : Key) (front xs : List Event) → AllByRecursion (λ e. is_earlier key e.key ≡ true) xs → AllByRecursion (λ s. is_earlier key s.detected ≡ true) (each_from (span_at kind events) front xs)
+  detected_later : (key : Key) (front xs : List Event) → AllByRecursion (λ e. is_earlier key e.key ≡ true) xs →
+      AllByRecursion (λ s. is_earlier key s.detected ≡ true) (each_from (span_at kind events) front xs)
   detected_later key front [] h = tt
   detected_later key front (x ∷ xs) h =
       all_given (opens kind front x) _ (λ s. is_earlier key s.detected ≡ true) _ h.0 (detected_later key (front ++ x ∷ []) xs h.1)
@@ -69,7 +74,8 @@ module _ (kind : Kind) (events : List Event) where
   one_event front y ys false e later rec = rec (not_false (is_unsettled kind (front ++ y ∷ [])) e)
 
   -- while something is unsettled no tag opens, and the closing is before the next one
-  closed_before : (front xs : List Event) → is_unsettled kind front ≡ true → Ascends (λ a b. is_earlier a.key b.key) xs → AllByRecursion (IsBefore (closing front xs)) (each_from (span_at kind events) front xs)
+  closed_before : (front xs : List Event) → is_unsettled kind front ≡ true → Ascends (λ a b. is_earlier a.key b.key) xs →
+      AllByRecursion (IsBefore (closing front xs)) (each_from (span_at kind events) front xs)
   closed_before front [] unsettled asc = tt
   closed_before front (y ∷ ys) unsettled asc =
       all_skipped (opens kind front y) _ (IsBefore (closing front (y ∷ ys))) _

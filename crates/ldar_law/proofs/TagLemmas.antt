@@ -88,7 +88,8 @@ rest_left span rest asc begins = go span.closed refl begins
         (λ x h. out x (subst (λ k. is_earlier x.key k ≡ false) begins.2 (not_both closing.key x.key h))) after asc'.0 in
         subst (λ es. delays_of span es ≡ []) (sym begins.3) (all_left span (closing ∷ after) (out closing first, later))
 
-between_kept : (span : Span) (leak : Event) (between rest : List Event) → Ascends (λ a b. is_earlier a.key b.key) (leak ∷ (between ++ rest)) → span.detected ≡ leak.key → BeginsWithClosing span.closed rest →
+between_kept : (span : Span) (leak : Event) (between rest : List Event) → Ascends (λ a b. is_earlier a.key b.key) (leak ∷ (between ++ rest)) →
+    span.detected ≡ leak.key → BeginsWithClosing span.closed rest →
     AllByRecursion (λ e. is_within span e.key ≡ true) between
 between_kept span leak between rest asc detected begins = go span.closed refl begins
   where
@@ -103,7 +104,8 @@ between_kept span leak between rest asc detected begins = go span.closed refl be
         (before_one (λ a b. is_earlier a.key b.key) between begins.0 begins.1 (subst (λ es. Ascends (λ a b. is_earlier a.key b.key) (between ++ es)) begins.3 asc.1)) in
         both_hold between later earlier
       where
-        both_hold : (xs : List Event) → AllByRecursion (λ x. is_earlier span.detected x.key ≡ true) xs → AllByRecursion (λ x. is_earlier x.key key ≡ true) xs → AllByRecursion (λ x. is_within span x.key ≡ true) xs
+        both_hold : (xs : List Event) → AllByRecursion (λ x. is_earlier span.detected x.key ≡ true) xs →
+            AllByRecursion (λ x. is_earlier x.key key ≡ true) xs → AllByRecursion (λ x. is_within span x.key ≡ true) xs
         both_hold [] h h' = tt
         both_hold (x ∷ xs) h h' = (rw (e, h.0, h'.0) refl, both_hold xs h.1 h'.1)
 

@@ -44,23 +44,27 @@ module _ {X : Type 0} (before : X → X → Bool) (weak : IsWeakOrder before) wh
   each_in_order [] = tt
   each_in_order (x ∷ xs) = put_keeps x (in_order before xs) (each_in_order xs)
 
-  later_step : (x y : X) (b : Bool) (o : Option X) → before x y ≡ true → option_or o (Some x) ≡ later_of before x o → option_or (option_or o (cond b (Some y) None)) (Some x) ≡ later_of before x (option_or o (cond b (Some y) None))
+  later_step : (x y : X) (b : Bool) (o : Option X) → before x y ≡ true → option_or o (Some x) ≡ later_of before x o →
+      option_or (option_or o (cond b (Some y) None)) (Some x) ≡ later_of before x (option_or o (cond b (Some y) None))
   later_step x y true None e same = rw e refl
   later_step x y false None e same = refl
   later_step x y b (Some z) e same = same
 
   -- the last that passes of those behind an element is later
-  later_than : (p : X → Bool) (x : X) (xs : List X) → AllByRecursion (λ y. before x y ≡ true) xs → option_or (last_such p xs) (Some x) ≡ later_of before x (last_such p xs)
+  later_than : (p : X → Bool) (x : X) (xs : List X) → AllByRecursion (λ y. before x y ≡ true) xs →
+      option_or (last_such p xs) (Some x) ≡ later_of before x (last_such p xs)
   later_than p x [] all = refl
   later_than p x (y ∷ ys) all = rw (last_such-cons p y ys) (later_step x y (p y) (last_such p ys) all.0 (later_than p x ys all.1))
 
-  later_behind : (x y : X) (b : Bool) (o : Option X) → before x y ≡ false → option_or (later_of before x o) (cond b (Some y) None) ≡ later_of before x (option_or o (cond b (Some y) None))
+  later_behind : (x y : X) (b : Bool) (o : Option X) → before x y ≡ false →
+      option_or (later_of before x o) (cond b (Some y) None) ≡ later_of before x (option_or o (cond b (Some y) None))
   later_behind x y true None e = rw e refl
   later_behind x y false None e = refl
   later_behind x y b (Some z) e = elim (cases_Bool (before x z)) [ inl back ↦ rw back refl | inr not_back ↦ rw not_back refl ]
 
   -- the last that passes, after one more: the new one or the old one, whichever is later
-  pub last_such-put : (p : X → Bool) (x : X) (xs : List X) → InOrder before xs → last_such p (put_in_order before x xs) ≡ cond (p x) (later_of before x (last_such p xs)) (last_such p xs)
+  pub last_such-put : (p : X → Bool) (x : X) (xs : List X) → InOrder before xs →
+      last_such p (put_in_order before x xs) ≡ cond (p x) (later_of before x (last_such p xs)) (last_such p xs)
   last_such-put p x [] o = refl
   last_such-put p x (y ∷ ys) o =
       elim (cases_Bool (before x y)) [
@@ -163,7 +167,8 @@ module _ {C : Type 0} (f : Entry → Option (Key × C)) (keyed : (e : Entry) (y 
   abbrev given_first : Key × C → Key × C → Bool
   given_first a b = is_earlier a.0 b.0
 
-  given_all : (x : Entry) (y : Key × C) → y.0 ≡ x.0 → (es : List Entry) → AllByRecursion (λ e. goes_first x e ≡ true) es → AllByRecursion (λ z. given_first y z ≡ true) (filter_map f es)
+  given_all : (x : Entry) (y : Key × C) → y.0 ≡ x.0 → (es : List Entry) → AllByRecursion (λ e. goes_first x e ≡ true) es →
+      AllByRecursion (λ z. given_first y z ≡ true) (filter_map f es)
   given_all x y same [] later = tt
   given_all x y same (e ∷ es) later =
       elim (f e) as (λ o. f e ≡ o → AllByRecursion (λ z. given_first y z ≡ true) (cons_option o (filter_map f es))) [
@@ -171,7 +176,8 @@ module _ {C : Type 0} (f : Entry → Option (Key × C)) (keyed : (e : Entry) (y 
         | Some z ↦ λ is. (rw (same, keyed e z is) later.0, given_all x y same es later.1)
       ] refl
 
-  given_none_before : (x : Entry) (y : Key × C) → y.0 ≡ x.0 → (es : List Entry) → AllByRecursion (λ e. goes_first e x ≡ false) es → AllByRecursion (λ z. given_first z y ≡ false) (filter_map f es)
+  given_none_before : (x : Entry) (y : Key × C) → y.0 ≡ x.0 → (es : List Entry) → AllByRecursion (λ e. goes_first e x ≡ false) es →
+      AllByRecursion (λ z. given_first z y ≡ false) (filter_map f es)
   given_none_before x y same [] later = tt
   given_none_before x y same (e ∷ es) later =
       elim (f e) as (λ o. f e ≡ o → AllByRecursion (λ z. given_first z y ≡ false) (cons_option o (filter_map f es))) [
@@ -196,7 +202,8 @@ module _ {C : Type 0} (f : Entry → Option (Key × C)) (keyed : (e : Entry) (y 
         | inr t ↦ rw t (ap (λ ys. cons_option (f e) ys) (given-put_none x none es))
       ]
 
-  put_behind : (y : Key × C) (o : Option (Key × C)) (ys : List (Key × C)) → ((z : Key × C) → o ≡ Some z → given_first y z ≡ false) → cons_option o (put_in_order given_first y ys) ≡ put_in_order given_first y (cons_option o ys)
+  put_behind : (y : Key × C) (o : Option (Key × C)) (ys : List (Key × C)) → ((z : Key × C) → o ≡ Some z → given_first y z ≡ false) →
+      cons_option o (put_in_order given_first y ys) ≡ put_in_order given_first y (cons_option o ys)
   put_behind y None ys behind = refl
   put_behind y (Some z) ys behind = rw (behind z refl) refl
 
@@ -205,7 +212,8 @@ module _ {C : Type 0} (f : Entry → Option (Key × C)) (keyed : (e : Entry) (y 
   front_put y (z ∷ zs) all = rw all.0 refl
 
   -- one more fact that gives something
-  pub given-put_some : (x : Entry) (y : Key × C) → f x ≡ Some y → (es : List Entry) → InOrder goes_first es → filter_map f (put_in_order goes_first x es) ≡ put_in_order given_first y (filter_map f es)
+  pub given-put_some : (x : Entry) (y : Key × C) → f x ≡ Some y → (es : List Entry) → InOrder goes_first es →
+      filter_map f (put_in_order goes_first x es) ≡ put_in_order given_first y (filter_map f es)
   given-put_some x y some [] o = rw some refl
   given-put_some x y some (e ∷ es) o =
       elim (cases_Bool (goes_first x e)) [

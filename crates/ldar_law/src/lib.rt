@@ -1,6 +1,7 @@
 //! The leak programme as definitions: what the facts of a history mean on a view day, and the types that speak of it.
 #![tactic(auto)]
 
+mod asked;
 mod delay;
 mod duty;
 mod election;
@@ -16,6 +17,7 @@ pub mod laws;
 mod leak_definition;
 mod months;
 mod numbers;
+mod quarter;
 mod regime;
 mod reply;
 mod report;
@@ -31,6 +33,7 @@ mod text;
 mod unit_entry;
 mod verdict;
 
+pub use asked::{component_asked, is_registered, unit_asked};
 pub use delay::{DelayEntry, DelayLine, Stop, Until, attempt_by, repair_by};
 pub use duty::{Duty, is_listed};
 pub use election::ElectionEntry;
@@ -42,11 +45,12 @@ pub use items::Items;
 pub use key_order::are_in_key_order;
 pub use kind::{is_compressor, is_pump, is_valve, is_valve_or_pump};
 pub use leak_definition::limit;
-pub use months::{has_leak_in, is_clean, is_clean_twice, is_clean_twice_from};
+pub use months::{has_leak_in, is_clean, is_clean_twice, is_clean_twice_from, is_quarterly};
 pub use numbers::{
     ATTEMPT_DAYS, EVENT_DAYS, FIRST_DAYS, GAS_MARGIN, LAST_FACT_DAY, LISTED_DAYS, MOST_COMPONENTS,
     MOST_FACTS, NOTICE_DAYS, REPAIR_DAYS, VERIFICATION_DAYS,
 };
+pub use quarter::{is_in_quarter, judging_day, month_in_quarter, quarter_start};
 pub use regime::Regime;
 pub use reply::Reply;
 pub use report::{Amended, Cells, Filed, MonthCells, Report};

@@ -56,6 +56,18 @@ fn delay(from: Day, days: u32, ground: u8) -> Event {
     }
 }
 
+/// A visual inspection of a pump, which designates drips as a leak or is dry.
+fn look(from: Day, days: u32, designated: bool) -> Event {
+    Event {
+        key: key(from, days),
+        what: Happening::Look {
+            drips: designated,
+            designated,
+            leak: designated,
+        },
+    }
+}
+
 /// Whether the events have just this tag, of a valve.
 fn has_tag(alloc: Global, events: &[Event], tag: Span) -> Result<bool, Fail> {
     let spans = spans_of(alloc, Kind::Valve, events)?;
@@ -122,5 +134,51 @@ fn two_clean_months_make_a_tag_removable(rt: HostRuntime) -> Result<(), Fail> {
         removable: true,
     };
     assert!(rt; has_tag(rt.alloc(), &events, tag)?);
+    Ok(())
+}
+
+#[test]
+fn drips_of_a_pump_have_a_tag_each(rt: HostRuntime) -> Result<(), Fail> {
+    let leak = leak_day()?;
+    let events = [
+        read(leak, 0, 20),
+        look(leak, 1, false),
+        look(leak, 2, true),
+        read(leak, 3, 20),
+        attempt(leak, 4),
+        look(leak, 5, false),
+        read(leak, 6, 20),
+        look(leak, 7, false),
+        look(leak, 40, true),
+        look(leak, 41, false),
+        attempt(leak, 42),
+        attempt(leak, 43),
+        look(leak, 44, true),
+        look(leak, 45, false),
+        attempt(leak, 46),
+        read(leak, 47, 20),
+        look(leak, 90, true),
+    ];
+    let first = Span {
+        detected: key(leak, 2),
+        attempted: Some(leak.plus_days(4)),
+        closed: Some(key(leak, 5)),
+        removable: true,
+    };
+    // The drips of day 44 are settled with those of day 40, and by an attempt that follows them.
+    let second = Span {
+        detected: key(leak, 40),
+        attempted: Some(leak.plus_days(42)),
+        closed: Some(key(leak, 47)),
+        removable: true,
+    };
+    let third = Span {
+        detected: key(leak, 90),
+        attempted: None,
+        closed: None,
+        removable: false,
+    };
+    let spans = spans_of(rt.alloc(), Kind::Pump, &events)?;
+    assert_eq!(rt; spans.as_slice(), [first, second, third].as_slice());
     Ok(())
 }

@@ -10,7 +10,8 @@ use Rattle.ldar_law.specs.Events.{events_with, fitness_in}
 use Rattle.ldar_law.proofs.EventLemmas.{events_are_judged_in_order}
 use Rattle.method21_reading.specs.Readings.{AreEventsAmongAll}
 
-pub events_among_all : (item : Equipment) (classes : List (Key × Class)) (facts : List Entry) (fitness : List Fitness) (events : List Event) → events ≡ events_with item classes facts fitness → AreEventsAmongAll item classes facts fitness events
+pub events_among_all : (item : Equipment) (classes : List (Key × Class)) (facts : List Entry) (fitness : List Fitness) (events : List Event) →
+    events ≡ events_with item classes facts fitness → AreEventsAmongAll item classes facts fitness events
 events_among_all item classes facts fitness events given =
     λ all own judged.
     given

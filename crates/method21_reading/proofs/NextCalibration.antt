@@ -44,14 +44,17 @@ or_assoc true b c = refl
 or_assoc false b c = refl
 
 -- one fact more
-nearer_is : (key : Key) (instrument : ℕ) (next : Option Key) (e : Entry) (later : Key) → is_before (nearer key instrument next e) later ≡ (is_before next later || (is_calibration instrument e.1.body && is_earlier key e.0 && is_earlier e.0 later))
+nearer_is : (key : Key) (instrument : ℕ) (next : Option Key) (e : Entry) (later : Key) → is_before (nearer key instrument next e) later
+    ≡ (is_before next later || (is_calibration instrument e.1.body && is_earlier key e.0 && is_earlier e.0 later))
 nearer_is key instrument next e later =
     elim (cases_Bool (is_calibration instrument e.1.body && is_earlier key e.0)) [
       | inl t ↦ rw t (before_either next e.0 later)
       | inr t ↦ rw t (or_false (is_before next later))
     ]
 
-pub nearer_step : (key : Key) (instrument : ℕ) (next : Option Key) (e : Entry) (es : List Entry) (later : Key) → (is_before next later || is_calibrated_before (e ∷ es) key instrument later) ≡ (is_before (nearer key instrument next e) later || is_calibrated_before es key instrument later)
+pub nearer_step : (key : Key) (instrument : ℕ) (next : Option Key) (e : Entry) (es : List Entry) (later : Key) →
+    (is_before next later || is_calibrated_before (e ∷ es) key instrument later)
+    ≡ (is_before (nearer key instrument next e) later || is_calibrated_before es key instrument later)
 nearer_step key instrument next e es later =
     sym (or_assoc (is_before next later) (is_calibration instrument e.1.body && is_earlier key e.0 && is_earlier e.0 later) (is_calibrated_before es key instrument later))
     ∙ ap (λ b. b || is_calibrated_before es key instrument later) (sym (nearer_is key instrument next e later))
@@ -60,6 +63,8 @@ pub nearest_of_all : (next : Option Key) (later : Key) → (is_before next later
 nearest_of_all next later = sym (or_false (is_before next later))
 
 -- the next calibration alone says what lies between
-pub voided_same : (facts : List Entry) (next : Option Key) (key : Key) (instrument limit ppm : ℕ) → ((later : Key) → is_calibrated_before facts key instrument later ≡ is_before next later) → find (is_voided_until next key instrument limit ppm) facts ≡ find (is_voided_by facts key instrument limit ppm) facts
+pub voided_same : (facts : List Entry) (next : Option Key) (key : Key) (instrument limit ppm : ℕ) →
+    ((later : Key) → is_calibrated_before facts key instrument later ≡ is_before next later) →
+    find (is_voided_until next key instrument limit ppm) facts ≡ find (is_voided_by facts key instrument limit ppm) facts
 voided_same facts next key instrument limit ppm says =
     find_agree (is_voided_until next key instrument limit ppm) (is_voided_by facts key instrument limit ppm) (λ e. rw (says e.0) refl) facts

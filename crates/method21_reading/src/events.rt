@@ -1,10 +1,11 @@
-ghost use Rattle.std.specs.Prelude.{◌≡◌, IfOk};
+ghost use Rattle.std.specs.Prelude.{◌≡◌, ◌++◌, OnOk, IfOk};
+ghost use Rattle.std.specs.Option.{option_to_list};
 ghost use Rattle.ldar_law.specs.Events as law;
 ghost use Rattle.method21_reading.specs.Readings.{AreEventsAmongAll};
 
 use crate::happening::happening;
 use ldar_facts::{Class, Fact, FactBody, Key, Memory};
-use ldar_law::{Equipment, Event, Fitness};
+use ldar_law::{Equipment, Event, Fitness, Happening};
 use std::alloc::Global;
 
 /// The events of a component: its facts in key order, each judged on its own day by the classes entered for it,
@@ -23,9 +24,7 @@ pub fn events_of(
     let mut events = Vec::new(alloc);
     let mut left = fitness;
     for e in facts {
-        if let Some(event) = event_of(equipment, classes, e, &next_fitness(left)) {
-            events.push(event)?;
-        }
+        push_event(&mut events, equipment, classes, e, &next_fitness(left))?;
         left = fitness_left(&e.1.body, left);
     }
     Ok(events)
@@ -41,12 +40,40 @@ pub fn event_of(
 ) -> Option<Event>
     ensures value { result ≡ law.event_of equipment.now classes.now e.now fitness.now }
 {
-    let day = e.0.day;
-    let item = equipment.standing_on(classes, day);
-    match happening(&item, day, fitness, &e.1.body) {
+    match judged(equipment, classes, e, fitness) {
         Some(what) => Some(Event { key: e.0, what }),
         None => None,
     }
+}
+
+/// What a fact of the component is, judged on its own day; a reading by its fitness.
+fn judged(
+    equipment: &Equipment,
+    classes: &[(Key, Class)],
+    e: &(Key, Fact),
+    fitness: &Fitness,
+) -> Option<Happening>
+    ensures value { result ≡ law.happening equipment.now classes.now e.now.0.day fitness.now e.now.1.body }
+{
+    let day = e.0.day;
+    let item = equipment.standing_on(classes, day);
+    happening(&item, day, fitness, &e.1.body)
+}
+
+/// Adds what a fact of the component is as an event, if it is one.
+fn push_event(
+    events: &mut Vec<Event>,
+    equipment: &Equipment,
+    classes: &[(Key, Class)],
+    e: &(Key, Fact),
+    fitness: &Fitness,
+) -> Result<(), Memory>
+    ensures taken { OnOk result (events.new.items ≡ events.old.items ++ option_to_list (law.event_of equipment.now classes.now e.now fitness.now)) }
+{
+    if let Some(what) = judged(equipment, classes, e, fitness) {
+        events.push(Event { key: e.0, what })?;
+    }
+    Ok(())
 }
 
 /// Whether a fact is a reading.

@@ -480,3 +480,17 @@ fn two_readings(
     let last = events.last().ok_or("no event")?.what;
     Ok((first, last))
 }
+
+#[test]
+fn each_of_many_readings_is_an_event(rt: HostRuntime) -> Result<(), Fail> {
+    let on = day("2024-02-20")?;
+    let item = component(on, Kind::Valve, false, plain(Service::Gas));
+    let facts = [reading(on, 700); 40];
+    let events = events_of(rt.alloc(), &item, &[], &facts, &[Fitness::Fit; 40])?;
+    let event = Event {
+        key: key(on, 600),
+        what: read(700, true, false, true),
+    };
+    assert_eq!(rt; events.as_slice(), [event; 40].as_slice());
+    Ok(())
+}

@@ -20,7 +20,8 @@ module _ {X : Type 0} (n m : ℕ) (xs : List X) (least : m ≡ min (length xs) n
   ]
 
 -- the next route goes through the first so many of the components that are left
-pub next_route : (n m : ℕ) (rest part others : List ℕ) (routes more : List Route) → 0 < n → 0 < length rest → m ≡ min (length rest) n → part ≡ take m rest → others ≡ drop m rest → more ≡ routes ++ route_through part ∷ [] → routes ++ map route_through (cut n rest) ≡ more ++ map route_through (cut n others)
+pub next_route : (n m : ℕ) (rest part others : List ℕ) (routes more : List Route) → 0 < n → 0 < length rest → m ≡ min (length rest) n → part ≡ take m rest →
+    others ≡ drop m rest → more ≡ routes ++ route_through part ∷ [] → routes ++ map route_through (cut n rest) ≡ more ++ map route_through (cut n others)
 next_route n m rest part others routes more some left least front back pushed =
     let part_is : part ≡ take n rest = front ∙ take_least n m rest least in
     let others_are : others ≡ drop n rest = back ∙ drop_least n m rest least in

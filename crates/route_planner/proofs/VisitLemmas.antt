@@ -78,7 +78,8 @@ pub sorted_visits : (asked sorted : List Visit) → IsPermutation asked sorted �
 sorted_visits asked sorted moved up = sorted_is_in_order goes_first goes_first_order visit_same asked sorted moved up
 
 -- visits go in the order of their duties
-put_visit : (duty : Duty) (duties : List Duty) → map visit_of (put_in_order is_more_urgent duty duties) ≡ put_in_order goes_first (visit_of duty) (map visit_of duties)
+put_visit : (duty : Duty) (duties : List Duty) →
+    map visit_of (put_in_order is_more_urgent duty duties) ≡ put_in_order goes_first (visit_of duty) (map visit_of duties)
 put_visit duty [] = refl
 put_visit duty (d ∷ ds) =
     let alike : goes_first (visit_of duty) (visit_of d) ≡ is_more_urgent duty d = goes_first_is (visit_of duty) (visit_of d) in
@@ -103,9 +104,11 @@ stops_are duties =
     ap (fold with_visit []) (sym (visits_in_order undone)) ∙ sym (stops_of_visits (in_order is_more_urgent undone) [])
 
 -- a visit to a component that is a stop already
-pub known_stop : (stops : List ℕ) (visit : Visit) (visits : List Visit) → list_any (λ stop. nat_eq stop visit.component) stops ≡ true → fold with_visit stops (visit ∷ visits) ≡ fold with_visit stops visits
+pub known_stop : (stops : List ℕ) (visit : Visit) (visits : List Visit) → list_any (λ stop. nat_eq stop visit.component) stops ≡ true →
+    fold with_visit stops (visit ∷ visits) ≡ fold with_visit stops visits
 known_stop stops visit visits known = rw known refl
 
 -- .. and to one that isn't
-pub new_stop : (stops : List ℕ) (visit : Visit) (visits : List Visit) → list_any (λ stop. nat_eq stop visit.component) stops ≡ false → fold with_visit stops (visit ∷ visits) ≡ fold with_visit (stops ++ visit.component ∷ []) visits
+pub new_stop : (stops : List ℕ) (visit : Visit) (visits : List Visit) → list_any (λ stop. nat_eq stop visit.component) stops ≡ false →
+    fold with_visit stops (visit ∷ visits) ≡ fold with_visit (stops ++ visit.component ∷ []) visits
 new_stop stops visit visits new = rw new refl

@@ -32,7 +32,7 @@ fn routes_through(alloc: Global, components: &[u16], stops: usize) -> Result<Vec
 #[tactic(auto, unfolding(ldar_law::specs::Routes::routes_of))]
 pub fn routes(alloc: Global, duties: &[Duty], stops: u16) -> Result<Vec<Route>, RouteError>
     ensures value { IfOk result (λ routes. routes.items ≡ law.routes_of duties.now stops) }
-    ensures no_stops { IsErrOf result RouteError.NoStops ↔ (stops ≡ 0) }
+    ensures cause { IsErrOf result RouteError.NoStops ↔ (stops ≡ 0) }
 {
     if stops == 0 {
         return Err(RouteError::NoStops);

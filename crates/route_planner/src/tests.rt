@@ -72,6 +72,31 @@ fn routes_are_cut_by_stops(rt: HostRuntime) -> Result<(), Fail> {
 }
 
 #[test]
+fn twelve_components_are_visited_in_routes_of_five(rt: HostRuntime) -> Result<(), Fail> {
+    let alloc = rt.alloc();
+    let duties = [
+        open(12, "2024-02-29")?,
+        open(5, "2024-02-29")?,
+        open(11, "2024-02-28")?,
+        open(2, "2024-02-29")?,
+        open(9, "2024-02-29")?,
+        open(4, "2024-02-29")?,
+        open(7, "2024-02-29")?,
+        open(10, "2024-02-29")?,
+        open(1, "2024-02-29")?,
+        open(8, "2024-02-29")?,
+        open(3, "2024-02-29")?,
+        open(6, "2024-02-29")?,
+    ];
+    let walks = routes(alloc, &duties, 5).map_err(|_| "routes")?;
+    assert_eq!(rt;
+        text_of(alloc, &walks)?.as_str(),
+        "11 1 2 3 4 / 5 6 7 8 9 / 10 12 / "
+    );
+    Ok(())
+}
+
+#[test]
 fn a_component_is_a_stop_once(rt: HostRuntime) -> Result<(), Fail> {
     let alloc = rt.alloc();
     let cases = [

@@ -30,7 +30,11 @@ module _ (tallies : List Tally) (elections : List ElectionEntry) (startup : ℕ)
   told_first = (refl, refl)
 
   -- the streak goes on by one quarter
-  pub told_next : (past : ℕ) → 1 ≤ past → (streak next : Streak) (was_skipped was_good : Bool) → was_skipped ≡ skips_after (mode_on elections (quarter_first startup past)) streak.skips streak.good → was_good ≡ option_map_or is_good (slice_get tallies (past - 1)) false → Tells streak (quarters tallies elections startup (past - 1)) → ((before : List Past) → Tells streak before → Tells next ((was_skipped, was_good) ∷ before)) → Tells next (quarters tallies elections startup (past + 1 - 1))
+  pub told_next : (past : ℕ) → 1 ≤ past → (streak next : Streak) (was_skipped was_good : Bool) →
+      was_skipped ≡ skips_after (mode_on elections (quarter_first startup past)) streak.skips streak.good →
+      was_good ≡ option_map_or is_good (slice_get tallies (past - 1)) false → Tells streak (quarters tallies elections startup (past - 1)) →
+      ((before : List Past) → Tells streak before → Tells next ((was_skipped, was_good) ∷ before)) →
+      Tells next (quarters tallies elections startup (past + 1 - 1))
   unfolding quarters
   told_next zero begun streak next was_skipped was_good skip good told goes_on = absurd (omega (arith, begun))
   told_next (suc n) begun streak next was_skipped was_good skip good told goes_on =
@@ -45,7 +49,8 @@ module _ (tallies : List Tally) (elections : List ElectionEntry) (startup : ℕ)
       (subst (λ b. Tells next ((skips mode before, b) ∷ before)) good two)
 
   -- the streak before a quarter says whether it is skipped
-  pub skipped_by_streak : (quarter : ℕ) (streak : Streak) → Tells streak (quarters tallies elections startup (quarter - 1)) → skips_after (mode_on elections (quarter_first startup quarter)) streak.skips streak.good ≡ is_skipped tallies elections startup quarter
+  pub skipped_by_streak : (quarter : ℕ) (streak : Streak) → Tells streak (quarters tallies elections startup (quarter - 1)) →
+      skips_after (mode_on elections (quarter_first startup quarter)) streak.skips streak.good ≡ is_skipped tallies elections startup quarter
   unfolding is_skipped
   skipped_by_streak quarter streak told =
       by_streak (mode_on elections (quarter_first startup quarter)) streak (quarters tallies elections startup (quarter - 1)) told

@@ -2,10 +2,10 @@ ghost use Rattle.std.specs.Prelude.{◌≡◌, ◌≤◌, false, []};
 ghost use Rattle.ldar_law.specs.Percent as law;
 ghost use Rattle.ldar_law.specs.declared.numbers.TheConstants.{LAST_FACT_DAY};
 
-use crate::readings::{has_routine_in, is_found_leaking, is_in_quarter, is_read};
-use ldar_days::{Day, quarter_last};
+use crate::readings::{has_routine_in, is_found_leaking, is_read};
+use ldar_days::Day;
 use ldar_facts::{Class, Key};
-use ldar_law::{Equipment, Event, Mark};
+use ldar_law::{Equipment, Event, Mark, is_in_quarter, judging_day};
 
 /// Whether the component is a valve that is counted in the quarter, as a view of the day has it.
 fn is_counted(
@@ -19,8 +19,8 @@ fn is_counted(
     requires quarter { 1 ≤ quarter }
     ensures value { result ≡ law.is_counted item.now classes.now startup [] false quarter day }
 {
-    let judging_day = quarter_last(startup, quarter).min(day);
-    item.is_under_valve_rules(classes, judging_day) && !item.is_nde(classes, judging_day)
+    let judged_on = judging_day(startup, quarter, day);
+    item.is_under_valve_rules(classes, judged_on) && !item.is_nde(classes, judged_on)
 }
 
 /// Whether it begins in the quarter and its first monitoring was missed by the day (our own rule).

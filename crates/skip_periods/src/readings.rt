@@ -5,19 +5,8 @@ ghost use Rattle.ldar_law.specs.Happenings as happenings;
 ghost use Rattle.ldar_law.specs.Percent as law;
 ghost use Rattle.ldar_law.specs.declared.numbers.TheConstants.{LAST_FACT_DAY};
 
-use ldar_days::{Day, quarter_of};
-use ldar_law::Event;
-
-/// Whether the day lies in the quarter.
-pub fn is_in_quarter(startup: Day, quarter: u16, day: Day) -> bool
-    requires startup { startup ≤ LAST_FACT_DAY }
-    ensures value { result ≡ law.is_in_quarter startup quarter day }
-{
-    match quarter_of(startup, day.month()) {
-        Some(number) => number == quarter,
-        None => false,
-    }
-}
+use ldar_days::Day;
+use ldar_law::{Event, is_in_quarter};
 
 /// Whether the component was monitored in the quarter.
 pub fn is_read(startup: Day, events: &[Event], quarter: u16) -> bool

@@ -10,17 +10,17 @@ pub fn least_rule()
 
 /// A batch is denied exactly for its first fact that a rule denies, with that fact's place and rule.
 pub fn first_fact()
-    ensures { FirstFactIsTold }
+    ensures law { FirstFactIsTold }
 {}
 
 /// A batch passes exactly where no fact of it is denied and no more than 8,000,000 facts would be held.
 pub fn passing_batch()
-    ensures { PassesUndenied }
+    ensures law { PassesUndenied }
 {}
 
 /// A batch is too much exactly where no fact of it is denied and more than 8,000,000 facts would be held.
 pub fn full_history()
-    ensures { FullUndenied }
+    ensures law { FullUndenied }
 {}
 
 /// A history is ruly exactly where each batch passes after those before it, and where it has 8,000,000 facts at most,
@@ -32,15 +32,15 @@ pub fn ruly_history()
 
 /// The order in which batches came has no effect on the verdict on another.
 pub fn verdict_forgets_order()
-    ensures { VerdictForgetsOrder }
+    ensures law { VerdictForgetsOrder }
 {}
 
 /// Of the facts of a history only those of the register count for what is denied.
 pub fn register_decides()
-    ensures { RegisterDecides }
+    ensures law { RegisterDecides }
 {}
 
 /// Where a batch is judged, the class in force is the later one of the history's and of those that the batch enters.
 pub fn class_after_facts()
-    ensures { ClassAfterFacts }
+    ensures law { ClassAfterFacts }
 {}

@@ -4,10 +4,10 @@ ghost use Rattle.ldar_law.specs.DutyLaws.{DutiesStandInOrder, EventDutiesFollowE
 
 /// The duties of a component stand by cause and due day, without being sorted.
 pub fn duties_stand_in_order()
-    ensures { DutiesStandInOrder }
+    ensures law { DutiesStandInOrder }
 {}
 
 /// Of one of the causes that follow events, the duties stand in the order of the events.
 pub fn event_duties_follow_events()
-    ensures { EventDutiesFollowEvents }
+    ensures law { EventDutiesFollowEvents }
 {}

@@ -4,10 +4,10 @@ ghost use Rattle.ldar_law.specs.MonthLaws.{CleanTwiceFromDecides, QuarterlyDecid
 
 /// Two months in a row are clean, from a month on: there is such a month.
 pub fn clean_twice_from_decides()
-    ensures { CleanTwiceFromDecides }
+    ensures law { CleanTwiceFromDecides }
 {}
 
 /// A month is quarterly where it lies in a quarter, and for some month what makes it quarterly holds.
 pub fn quarterly_decides()
-    ensures { QuarterlyDecides }
+    ensures law { QuarterlyDecides }
 {}

@@ -4,15 +4,15 @@ ghost use Rattle.ldar_law.specs.QuarterLaws.{TallyCounts, StopsAreUndone, Streak
 
 /// The counts of a quarter are those of its marks.
 pub fn tally_counts()
-    ensures { TallyCounts }
+    ensures law { TallyCounts }
 {}
 
 /// A streak reaches so far where so many of the last quarters that were not skipped exist and are good.
 pub fn streak_is_of_good_quarters()
-    ensures { StreakIsOfGoodQuarters }
+    ensures law { StreakIsOfGoodQuarters }
 {}
 
 /// A component is a stop of the routes just where it has a duty that isn't done.
 pub fn stops_are_undone()
-    ensures { StopsAreUndone }
+    ensures law { StopsAreUndone }
 {}

@@ -4,20 +4,20 @@ ghost use Rattle.ldar_law.specs.ReadingLaws.{EventsAreJudgedInOrder, ReadingsAre
 
 /// A reading is judged by its instrument's own facts as by all facts.
 pub fn fitness_is_of_instrument()
-    ensures { FitnessIsOfInstrument }
+    ensures law { FitnessIsOfInstrument }
 {}
 
 /// Judging each reading where it stands, or by a list with the fitness of each in order, gives the same events.
 pub fn events_are_judged_in_order()
-    ensures { EventsAreJudgedInOrder }
+    ensures law { EventsAreJudgedInOrder }
 {}
 
 /// A reading of a component is judged by the facts of its instrument as by all facts.
 pub fn readings_are_of_instrument()
-    ensures { ReadingsAreOfInstrument }
+    ensures law { ReadingsAreOfInstrument }
 {}
 
 /// The events of a component are in key order, as the facts are.
 pub fn events_ascend()
-    ensures { EventsAscend }
+    ensures law { EventsAscend }
 {}

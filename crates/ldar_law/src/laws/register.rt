@@ -4,45 +4,45 @@ ghost use Rattle.ldar_law.specs.RegisterLaws.{OwnFactsSuffice, UnitFactsSuffice,
 
 /// The facts that name a component have all that the register holds of it.
 pub fn own_facts_suffice()
-    ensures { OwnFactsSuffice }
+    ensures law { OwnFactsSuffice }
 {}
 
 /// The facts that name a process unit have all that the register holds of it.
 pub fn unit_facts_suffice()
-    ensures { UnitFactsSuffice }
+    ensures law { UnitFactsSuffice }
 {}
 
 /// The entries in the register have all that it holds.
 pub fn register_facts_suffice()
-    ensures { RegisterFactsSuffice }
+    ensures law { RegisterFactsSuffice }
 {}
 
 /// There is a component, with a class in force on each day, exactly where some fact enters it.
 pub fn component_where_entered()
-    ensures { ComponentWhereEntered }
+    ensures law { ComponentWhereEntered }
 {}
 
 /// There is a process unit exactly where some fact enters it.
 pub fn unit_where_entered()
-    ensures { UnitWhereEntered }
+    ensures law { UnitWhereEntered }
 {}
 
 /// There is a last class by a day exactly where some fact of a day up to it enters one.
 pub fn class_where_entered()
-    ensures { ClassWhereEntered }
+    ensures law { ClassWhereEntered }
 {}
 
 /// The members of a process unit are the components that facts enter in it, in order.
 pub fn members_are_entered()
-    ensures { MembersAreEntered }
+    ensures law { MembersAreEntered }
 {}
 
 /// A component is retired on a day where some fact of a day up to it takes it out of service.
 pub fn retired_by_some()
-    ensures { RetiredBySome }
+    ensures law { RetiredBySome }
 {}
 
 /// After one more fact the class in force is the one that it enters or the one before, whichever is later.
 pub fn one_more_fact_in_force()
-    ensures { OneMoreFactInForce }
+    ensures law { OneMoreFactInForce }
 {}

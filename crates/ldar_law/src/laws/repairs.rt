@@ -4,30 +4,30 @@ ghost use Rattle.ldar_law.specs.RepairLaws.{OneMoreDelay, CountedPlaceIsOfDelay,
 
 /// One more delay counts, or is ignored where its day is past the due day that those before it give.
 pub fn one_more_delay()
-    ensures { OneMoreDelay }
+    ensures law { OneMoreDelay }
 {}
 
 /// The place of the last delay that counts is its place among the delays.
 pub fn counted_place_is_of_delay()
-    ensures { CountedPlaceIsOfDelay }
+    ensures law { CountedPlaceIsOfDelay }
 {}
 
 /// No place is given exactly where each delay is past the due day that those before it give.
 pub fn none_counted()
-    ensures { NoneCounted }
+    ensures law { NoneCounted }
 {}
 
 /// The place that is given is that of a delay that is not ignored, and each one after it is.
 pub fn counted_place_is_last()
-    ensures { CountedPlaceIsLast }
+    ensures law { CountedPlaceIsLast }
 {}
 
 /// The delays of a tag are those of the part of the events between its detection and its closing.
 pub fn delays_lie_between()
-    ensures { DelaysLieBetween }
+    ensures law { DelaysLieBetween }
 {}
 
 /// Each tag of a component is closed before the next is detected.
 pub fn spans_follow()
-    ensures { SpansFollow }
+    ensures law { SpansFollow }
 {}

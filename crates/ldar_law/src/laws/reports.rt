@@ -4,12 +4,12 @@ ghost use Rattle.ldar_law.specs.ReportLaws.{CellsAreBounded, MonthsPastAreZero, 
 
 /// A report has 36 numbers, none of which is more than there are components.
 pub fn cells_are_bounded()
-    ensures { CellsAreBounded }
+    ensures law { CellsAreBounded }
 {}
 
 /// A month after December 2099 has zeros.
 pub fn months_past_are_zero()
-    ensures { MonthsPastAreZero }
+    ensures law { MonthsPastAreZero }
 {}
 
 /// What is amended are the numbers that differ, and nothing is exactly where all are equal.

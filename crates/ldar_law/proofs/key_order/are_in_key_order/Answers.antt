@@ -19,7 +19,8 @@ returns-then-not-precedes c = record {
   value = (
     λ no. absurd (false≢true no),
     λ up. absurd (false≢true (sym c.if-not-precedes.true ∙ c.precedes.ensures
-        ∙ out_of_order goes_first c.args.facts.now c.loop-place.place c.index-facts-place.result c.index-facts-place-in-loop-place.result c.loop-place-test.true (omega arith) up)),
+        ∙ out_of_order goes_first c.args.facts.now c.loop-place.place c.index-facts-place.result
+        c.index-facts-place-in-loop-place.result c.loop-place-test.true (omega arith) up)),
   );
 }
 

@@ -12,7 +12,8 @@ returns-then-count-eq0 c =
     let parts : IsPartitionPoint (λ e. nat_le e.0.day day ≡ true) (λ e. nat_le e.0.day day ≡ false) classes count =
     IsPartitionPoint-from_clause (λ e. nat_le e.0.day day) classes count c.partition_point-count.ensures.partitioned
     (entered_in_front day classes c.requires.ordered) (search rules) in
-    record { value = no_class_in_front day classes (subst (IsPartitionPoint (λ e. nat_le e.0.day day ≡ true) (λ e. nat_le e.0.day day ≡ false) classes) c.if-count-eq0.true parts) }
+    let here = subst (IsPartitionPoint (λ e. nat_le e.0.day day ≡ true) (λ e. nat_le e.0.day day ≡ false) classes) c.if-count-eq0.true parts in
+    record { value = no_class_in_front day classes here }
 
 pub returns-else-count-eq0 : goal.returns-else-count-eq0
 returns-else-count-eq0 c =

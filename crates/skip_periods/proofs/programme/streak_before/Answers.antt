@@ -16,7 +16,9 @@ loop-past-preserved c =
     let more = c.longer-streak.ensures in
     record {
       begun = omega arith;
-      told = told_next c.args.tallies.now c.args.elections.now c.args.startup l.past l.invariant.begun l.streak c.longer-streak.result c.is_skipped_after-is_skipped.result c.was_good.result
+      told =
+          told_next c.args.tallies.now c.args.elections.now c.args.startup l.past l.invariant.begun l.streak c.longer-streak.result
+          c.is_skipped_after-is_skipped.result c.was_good.result
           c.is_skipped_after-is_skipped.ensures.value c.was_good.ensures.value l.invariant.told more.value;
       skips = omega (arith, more.skips, l.invariant.skips);
       good = omega (arith, more.good, l.invariant.good);

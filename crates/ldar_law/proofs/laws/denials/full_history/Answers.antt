@@ -2,4 +2,4 @@ use Rattle.ldar_law.proofs.VerdictLemmas.{full_undenied}
 use Rattle.ldar_law.proofs.laws.denials.full_history.Goals as goal
 
 pub returns : goal.returns
-returns c = full_undenied
+returns c = record { law = full_undenied }

@@ -2,4 +2,4 @@ use Rattle.ldar_law.proofs.MonthLemmas.{clean_twice_from_decides}
 use Rattle.ldar_law.proofs.laws.months.clean_twice_from_decides.Goals as goal
 
 pub returns : goal.returns
-returns c = clean_twice_from_decides
+returns c = record { law = clean_twice_from_decides }

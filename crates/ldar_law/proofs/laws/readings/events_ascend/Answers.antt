@@ -2,4 +2,4 @@ use Rattle.ldar_law.proofs.EventLemmas.{events_ascend}
 use Rattle.ldar_law.proofs.laws.readings.events_ascend.Goals as goal
 
 pub returns : goal.returns
-returns c = events_ascend
+returns c = record { law = events_ascend }

@@ -2,4 +2,4 @@ use Rattle.ldar_law.proofs.ForceLemmas.{retired_by_some}
 use Rattle.ldar_law.proofs.laws.register.retired_by_some.Goals as goal
 
 pub returns : goal.returns
-returns c = retired_by_some
+returns c = record { law = retired_by_some }

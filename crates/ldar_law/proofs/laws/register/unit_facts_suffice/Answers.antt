@@ -2,4 +2,4 @@ use Rattle.ldar_law.proofs.SliceLemmas.{unit_facts_suffice}
 use Rattle.ldar_law.proofs.laws.register.unit_facts_suffice.Goals as goal
 
 pub returns : goal.returns
-returns c = unit_facts_suffice
+returns c = record { law = unit_facts_suffice }

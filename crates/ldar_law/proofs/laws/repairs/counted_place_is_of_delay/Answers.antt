@@ -2,4 +2,4 @@ use Rattle.ldar_law.proofs.DelayLemmas.{counted_place_is_of_delay}
 use Rattle.ldar_law.proofs.laws.repairs.counted_place_is_of_delay.Goals as goal
 
 pub returns : goal.returns
-returns c = counted_place_is_of_delay
+returns c = record { law = counted_place_is_of_delay }

@@ -2,4 +2,4 @@ use Rattle.ldar_law.proofs.SpanLemmas.{spans_follow}
 use Rattle.ldar_law.proofs.laws.repairs.spans_follow.Goals as goal
 
 pub returns : goal.returns
-returns c = spans_follow
+returns c = record { law = spans_follow }

@@ -2,4 +2,4 @@ use Rattle.ldar_law.proofs.ViewLemmas.{views_forget_order}
 use Rattle.ldar_law.proofs.laws.views.views_forget_order.Goals as goal
 
 pub returns : goal.returns
-returns c = views_forget_order
+returns c = record { law = views_forget_order }
