@@ -93,6 +93,15 @@ busy_day =
     calibrated (date 2024 2 20) 300 2501 ∷ calibrated (date 2024 2 20) 500 2500 ∷ drifted (date 2024 2 20) 650 440
     ∷ calibrated (date 2024 2 20) 700 500 ∷ drifted (date 2024 2 20) 800 440 ∷ drifted (date 2024 2 20) 900 430 ∷ []
 
+-- three readings of valve 1 in February, March and June, and an attempt behind the first
+abbrev pub three_readings : List Entry
+three_readings =
+    measured (date 2024 2 20) 1 20 ∷ fact (date 2024 2 22) 600 (AttemptFact 1 false) ∷ measured (date 2024 3 20) 1 30 ∷ measured (date 2024 6 20) 1 40 ∷ []
+
+-- the calibrations of the last two of these days, and a precision test of January
+abbrev pub calibrated_twice : List Entry
+calibrated_twice = precise (date 2024 1 2) ∷ calibrated (date 2024 3 20) 300 500 ∷ calibrated (date 2024 6 20) 300 500 ∷ []
+
 -- ---- components of unit 1
 
 -- a class without a plan, monitored in the first month of a quarter

@@ -157,6 +157,8 @@ pub fn an_attempt_lies_in_a_shutdown()
 pub fn a_shutdown_counts_from_the_detection()
     ensures first { repair_due (date 2024 2 20) [] (stop (date 2024 2 21) (date 2024 2 28) ∷ []) (delay (date 2024 3 1) 1 ∷ [])
         ≡ Date (date 2024 2 28) }
+    ensures before_the_delay { repair_due (date 2024 2 20) [] (stop (date 2024 2 21) (date 2024 2 28) ∷ stop (date 2024 8 25) (date 2024 9 1)
+        ∷ stop (date 2025 3 1) (date 2025 3 9) ∷ []) (delay (date 2024 3 1) 5 ∷ []) ≡ Date (date 2024 9 1) }
     ensures second { repair_due (date 2024 2 20) [] (stop (date 2024 1 5) (date 2024 1 9) ∷ stop (date 2024 8 1) (date 2024 8 9)
         ∷ stop (date 2025 3 1) (date 2025 3 9) ∷ []) (delay (date 2024 3 1) 5 ∷ []) ≡ Date (date 2025 3 9) }
 {}
