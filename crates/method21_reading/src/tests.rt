@@ -469,3 +469,25 @@ fn two_readings(
     let last = events.last().ok_or("no event")?.what;
     Ok((first, last))
 }
+
+#[test]
+fn each_of_twelve_readings_is_an_event(rt: HostRuntime) -> Result<(), Fail> {
+    let alloc = rt.alloc();
+    let first = day("2024-01-31")?;
+    let item = component(first, Kind::Valve, false, plain(Service::Gas));
+    let mut facts = Vec::new(alloc);
+    let mut fitness = Vec::new(alloc);
+    let mut expected = Vec::new(alloc);
+    for days in 0..12 {
+        let on = first.plus_days(days);
+        facts.push(reading(on, 499))?;
+        fitness.push(Fitness::Fit)?;
+        expected.push(Event {
+            key: key(on, 600),
+            what: read(499, true, true, false),
+        })?;
+    }
+    let events = events_of(alloc, &item, &[], &facts, &fitness)?;
+    assert_eq!(rt; events.as_slice(), expected.as_slice());
+    Ok(())
+}
