@@ -5,7 +5,8 @@ ghost use Rattle.std.specs.Prelude.{◌≡◌, None, Some, [], false, map, true,
 ghost use Rattle.ldar_facts.specs.declared.class.Kind.TheVariants.{Valve};
 ghost use Rattle.ldar_law.specs.declared.delay.Until.TheVariants.{Date, NoDate, Shutdown, WhileIsolated};
 ghost use Rattle.ldar_law.specs.Delays.{attempt_by, counted_place, repair_due};
-ghost use Rattle.ldar_law.specs.Short.{attempts, date, delay, delay_until, delays, line, reads, retires, stop, tag};
+ghost use Rattle.ldar_law.specs.Short.{date};
+ghost use Rattle.ldar_law.specs.ShortEvents.{attempts, delay, delay_until, delays, line, reads, retires, stop, tag};
 ghost use Rattle.ldar_law.specs.Tags.{delay_lines, is_late, is_shown, tags_of};
 
 /// Without a delay a leak is to be repaired within fifteen days (40 CFR 60.482-7a(d)(1)).
