@@ -26,6 +26,8 @@ pub mod Routes
 pub mod Samples
 pub mod Settling
 pub mod Short
+pub mod ShortEvents
+pub mod ShortLists
 pub mod Shown
 pub mod Skips
 pub mod Slices

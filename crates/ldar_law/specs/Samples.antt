@@ -1,5 +1,5 @@
 -- One of each: events, facts, rules, services, designations and kinds, for worked examples of tests.
-use Rattle.std.specs.Prelude.{ℕ, true, false, None, List, [], ◌∷◌}
+use Rattle.std.specs.Prelude.{ℕ, true, false, None, List, [], ◌∷◌, map}
 use Rattle.ldar_facts.specs.declared.body.FactBody.{FactBody}
 use Rattle.ldar_facts.specs.declared.body.FactBody.TheVariants.{Unit as UnitFact, Component as ComponentFact, Class as ClassFact, Retire as RetireFact, Election, Shutdown, Calibration, Precision, Drift, Reading, Visual, Attempt as AttemptFact, Delay as DelayFact, Release as ReleaseFact, Indication}
 use Rattle.ldar_facts.specs.declared.body.Purpose.TheVariants.{Routine}
@@ -11,11 +11,12 @@ use Rattle.ldar_facts.specs.declared.class.Kind.{Kind}
 use Rattle.ldar_facts.specs.declared.class.Kind.TheVariants.{Valve, Pump, Compressor, Relief}
 use Rattle.ldar_facts.specs.declared.class.Service.{Service}
 use Rattle.ldar_facts.specs.declared.class.Service.TheVariants.{Gas, Light, Heavy, Vacuum, Under300}
+use Rattle.ldar_facts.specs.Facts.{Entry}
 use Rattle.ldar_law.specs.declared.event.Happening.{Happening}
 use Rattle.ldar_law.specs.declared.event.Happening.TheVariants.{Read, Look, Attempt, Delay, Release, Sensor, Evidence, Retire}
 use Rattle.ldar_law.specs.declared.regime.Regime.{Regime}
 use Rattle.ldar_law.specs.declared.regime.Regime.TheVariants.{ValveRules, PumpRules, CompressorRules, ReliefRules, HeavyLiquidRules, LeftOut}
-use Rattle.ldar_law.specs.Short.{class}
+use Rattle.ldar_law.specs.Short.{class, fact}
 
 -- ---- events
 
@@ -40,6 +41,10 @@ each_fact =
     UnitFact 1 false [] ∷ ComponentFact 1 1 Valve false false (class Gas Plain) ∷ ClassFact 1 (class Gas Plain) ∷ RetireFact 1 ∷ Election 1 1 1 ∷ Shutdown 1 1
     ∷ Calibration 1 500 ∷ Precision 1 500 (500, 500, 500) ∷ Drift 1 500 (440, 440, 440) ∷ Reading 1 1 1 Routine 20 0 ∷ Visual 1 Drips
     ∷ AttemptFact 1 false ∷ DelayFact 1 1 9 None ∷ ReleaseFact 1 ∷ Indication 1 SensorSort true ∷ []
+
+-- .. with keys of one minute
+abbrev pub each_entry : List Entry
+each_entry = map (fact 1 0) each_fact
 
 -- ---- what a component is
 

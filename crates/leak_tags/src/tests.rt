@@ -97,6 +97,40 @@ fn a_reading_settles_after_an_attempt(rt: HostRuntime) -> Result<(), Fail> {
 }
 
 #[test]
+fn a_valve_has_a_second_tag_after_the_first(rt: HostRuntime) -> Result<(), Fail> {
+    let leak = leak_day()?;
+    let events = [
+        read(leak, 0, 620),
+        attempt(leak, 2),
+        read(leak, 15, 20),
+        // A leak while a tag is open opens no other.
+        read(leak, 20, 500),
+        read(leak, 21, 900),
+        attempt(leak, 22),
+        read(leak, 23, 499),
+        read(leak, 70, 20),
+        read(leak, 100, 20),
+        attempt(leak, 101),
+    ];
+    // April and May are clean, after both closings.
+    let first = Span {
+        detected: key(leak, 0),
+        attempted: Some(leak.plus_days(2)),
+        closed: Some(key(leak, 15)),
+        removable: true,
+    };
+    let second = Span {
+        detected: key(leak, 20),
+        attempted: Some(leak.plus_days(22)),
+        closed: Some(key(leak, 23)),
+        removable: true,
+    };
+    let spans = spans_of(rt.alloc(), Kind::Valve, &events)?;
+    assert_eq!(rt; spans.as_slice(), [first, second].as_slice());
+    Ok(())
+}
+
+#[test]
 fn two_readings_settle_a_delayed_leak(rt: HostRuntime) -> Result<(), Fail> {
     let leak = leak_day()?;
     // The ground of the delay, and whether the second reading closes the tag.

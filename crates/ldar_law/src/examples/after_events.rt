@@ -6,7 +6,9 @@ ghost use Rattle.ldar_facts.specs.declared.class.Designation.TheVariants.{Diffic
 ghost use Rattle.ldar_facts.specs.declared.class.Kind.TheVariants.{Pump, Relief, Valve};
 ghost use Rattle.ldar_facts.specs.declared.class.Service.TheVariants.{Gas, Heavy, Light};
 ghost use Rattle.ldar_law.specs.declared.event.Happening.TheVariants.{Look};
-ghost use Rattle.ldar_law.specs.Short.{attempts, class, date, designates, drips, dry, duties_on, duties_with, entered_on, event, follows_up, gear, has_done, of_cause, owes, pump, reads, reads_by, reads_in_vain, releases, relief, shows_evidence, unsafe_by, valve};
+ghost use Rattle.ldar_law.specs.Short.{class, date, entered_on, gear, pump, relief, unsafe_by, valve};
+ghost use Rattle.ldar_law.specs.ShortEvents.{attempts, designates, drips, dry, event, follows_up, reads, reads_by, reads_in_vain, releases, shows_evidence};
+ghost use Rattle.ldar_law.specs.ShortLists.{duties_on, duties_with, has_done, of_cause, owes};
 
 /// Drips of a pump with no detectable emissions ask for nothing.
 pub fn drips_of_a_designated_pump_ask_for_nothing()

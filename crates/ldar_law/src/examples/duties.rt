@@ -6,7 +6,9 @@ ghost use Rattle.ldar_facts.specs.declared.class.Designation.TheVariants.{Plain,
 ghost use Rattle.ldar_facts.specs.declared.class.Kind.TheVariants.{Valve, Pump, Compressor};
 ghost use Rattle.ldar_facts.specs.declared.class.Service.TheVariants.{Gas, Heavy};
 ghost use Rattle.ldar_law.specs.Months.{is_quarterly};
-ghost use Rattle.ldar_law.specs.Short.{date, month, class, unsafe_by, gear, valve, pump, relief, reads, reads_by, reads_over, dry, drips, designates, releases, shows_evidence, of_cause, duties_on, duties_of_30, owes, has_done, retired_valve, replacing_valve};
+ghost use Rattle.ldar_law.specs.Short.{date, month, class, unsafe_by, gear, valve, pump, relief, retired_valve, replacing_valve};
+ghost use Rattle.ldar_law.specs.ShortEvents.{reads, reads_by, reads_over, dry, drips, designates, releases, shows_evidence};
+ghost use Rattle.ldar_law.specs.ShortLists.{of_cause, duties_on, duties_of_30, owes, has_done};
 
 /// Two clean months before a quarter make a valve quarterly from that quarter on (40 CFR 60.482-7a(c)(1)). Quarters of the
 /// unit begin with January, April, July and October.

@@ -1,7 +1,8 @@
 //! What the facts of a component are as events: each judged on its own day, by the class of that day.
 #![tactic(auto, unfolding(ldar_days::specs::Calendar::first_day, ldar_days::specs::Calendar::month_of, ldar_days::specs::Calendar::month_length, crate::specs::Events::events_in))]
 
-ghost use Rattle.std.specs.Prelude.{◌≡◌, None, [], false, true, ◌∷◌};
+ghost use Rattle.std.specs.Prelude.{◌≡◌, None, [], false, map, true, ◌∷◌};
+ghost use Rattle.std.specs.List.{filter_map};
 ghost use Rattle.ldar_facts.specs.declared.body.FactBody.TheVariants.{Attempt as AttemptFact, Class as ClassFact, Delay as DelayFact, Indication, Reading, Release as ReleaseFact, Retire as RetireFact, Visual};
 ghost use Rattle.ldar_facts.specs.declared.body.Purpose.TheVariants.{FollowUp, Routine};
 ghost use Rattle.ldar_facts.specs.declared.body.Sort.TheVariants.{Evidence as EvidenceSort, Sensor as SensorSort};
@@ -10,7 +11,9 @@ ghost use Rattle.ldar_facts.specs.declared.class.Designation.TheVariants.{Nde, P
 ghost use Rattle.ldar_facts.specs.declared.class.Kind.TheVariants.{Compressor, Pump, Valve};
 ghost use Rattle.ldar_facts.specs.declared.class.Service.TheVariants.{Gas, Heavy, Light, Vacuum};
 ghost use Rattle.ldar_law.specs.declared.event.Happening.TheVariants.{Attempt, Delay, Evidence, Look, Read, Release, Retire, Sensor};
-ghost use Rattle.ldar_law.specs.Short.{class, compressor, date, entered_on, events_on, events_with_gas, gear, pump, relief, valve};
+ghost use Rattle.ldar_law.specs.declared.fitness.Fitness.TheVariants.{Fit, NoCalibration, NoPrecision};
+ghost use Rattle.ldar_law.specs.Events.{events_with, fitness_in};
+ghost use Rattle.ldar_law.specs.Short.{calibrated_twice, class, compressor, date, entered_on, events_on, events_with_gas, gear, pump, relief, three_readings, valve};
 
 /// A reading has its numbers, its purpose, whether it counts, and on which side of the leak definition it is.
 pub fn a_reading_as_an_event()
@@ -81,4 +84,11 @@ pub fn a_gas_by_the_leak_definition_of_the_day()
     ensures fit { events_with_gas 4000 (gear 5 Pump (class Heavy Plain) (date 2020 1 15)) (entered_on (date 2024 2 1) (class Light Plain)
         ∷ []) (Reading 5 1 1 Routine 20 0)
         ≡ Read 20 0 true true true false ∷ [] }
+{}
+
+/// The readings take the fitness of a list one after the other; other facts take none, and a reading for which none is left is not fit.
+pub fn events_by_a_list_of_fitness()
+    ensures events { map (λ e. e.what) (events_with (valve 1 (date 2020 1 15)) [] three_readings (NoCalibration ∷ Fit ∷ []))
+        ≡ Read 20 0 true false false false ∷ Attempt false ∷ Read 30 0 true true true false ∷ Read 40 0 true false false false ∷ [] }
+    ensures fitness { filter_map (fitness_in (valve 1 (date 2020 1 15)) [] calibrated_twice) three_readings ≡ NoCalibration ∷ Fit ∷ NoPrecision ∷ [] }
 {}

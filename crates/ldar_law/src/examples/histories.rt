@@ -5,7 +5,9 @@ ghost use Rattle.std.specs.Prelude.{◌≡◌, None, Some, [], false, true, ◌�
 ghost use Rattle.ldar_facts.specs.Facts.{facts_to};
 ghost use Rattle.ldar_facts.specs.declared.class.Kind.TheVariants.{Valve};
 ghost use Rattle.ldar_law.specs.declared.delay.Until.TheVariants.{Date};
-ghost use Rattle.ldar_law.specs.Short.{attempt, calibration, date, known, month, owes, precision_of_1, reading, reads, register_of_1, retires, route, tag, tags_on, tally, unit_1, valve};
+ghost use Rattle.ldar_law.specs.Short.{date, month, valve};
+ghost use Rattle.ldar_law.specs.ShortEvents.{reads, retires, tag};
+ghost use Rattle.ldar_law.specs.ShortLists.{attempt, calibration, known, owes, precision_of_1, reading, register_of_1, route, tags_on, tally, unit_1};
 ghost use Rattle.ldar_law.specs.Shown.{sheet_of};
 ghost use Rattle.ldar_law.specs.Units.{duties_of_unit, routes_of_unit, tally_of_unit};
 

@@ -5,7 +5,9 @@ ghost use Rattle.std.specs.Prelude.{◌≡◌, [], ◌∷◌};
 ghost use Rattle.ldar_facts.specs.declared.class.Designation.TheVariants.{Difficult, Nde, Plain};
 ghost use Rattle.ldar_facts.specs.declared.class.Kind.TheVariants.{Compressor, Pump, Valve};
 ghost use Rattle.ldar_facts.specs.declared.class.Service.TheVariants.{Gas, Heavy, Light};
-ghost use Rattle.ldar_law.specs.Short.{class, date, duties_on, duties_with, entered_on, gear, of_cause, owes, pump, reads, reads_over, retired_gear, retired_valve, second_month, unsafe_by, valve};
+ghost use Rattle.ldar_law.specs.Short.{class, date, entered_on, gear, pump, retired_gear, retired_valve, second_month, unsafe_by, valve};
+ghost use Rattle.ldar_law.specs.ShortEvents.{reads, reads_over};
+ghost use Rattle.ldar_law.specs.ShortLists.{duties_on, duties_with, of_cause, owes};
 
 /// A month is judged by the class into which the component came before it ended.
 pub fn a_month_by_the_class_that_it_ends_with()

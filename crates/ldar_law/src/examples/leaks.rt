@@ -5,7 +5,8 @@ ghost use Rattle.std.specs.Prelude.{◌≡◌, [], ◌∷◌, Some, None, true, 
 ghost use Rattle.ldar_facts.specs.declared.class.Designation.TheVariants.{Plain, Nde};
 ghost use Rattle.ldar_facts.specs.declared.class.Kind.TheVariants.{Valve, Pump, Compressor, Relief};
 ghost use Rattle.ldar_facts.specs.declared.class.Service.TheVariants.{Gas, Heavy, Vacuum};
-ghost use Rattle.ldar_law.specs.Short.{date, key, class, gear, valve, pump, compressor, monomer_pump, found_at, sensed, designated_at, reads, reads_by, dry, designates, attempts, completes, delays, sensor_leak, retires, span};
+ghost use Rattle.ldar_law.specs.Short.{date, key, class, gear, valve, pump, compressor, monomer_pump, found_at, sensed, designated_at};
+ghost use Rattle.ldar_law.specs.ShortEvents.{reads, reads_by, dry, designates, attempts, completes, delays, sensor_leak, retires, span};
 ghost use Rattle.ldar_law.specs.Spans.{spans_of};
 
 /// A reading at the leak definition is a leak, and one below it is not (40 CFR 60.482-2a(b)(1), 60.482-7a(b), 60.482-8a(b)).

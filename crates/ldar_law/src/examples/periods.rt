@@ -7,7 +7,9 @@ ghost use Rattle.ldar_facts.specs.declared.class.Kind.TheVariants.{Compressor, P
 ghost use Rattle.ldar_facts.specs.declared.class.Service.TheVariants.{Gas, Light};
 ghost use Rattle.ldar_law.specs.Duties.{duties_of};
 ghost use Rattle.ldar_law.specs.Months.{is_quarterly, month_in_quarter};
-ghost use Rattle.ldar_law.specs.Short.{class, date, designates, dry, duties_on, duties_with, entered_on, follows_up, gear, has_done, key, month, of_cause, owes, planned_difficult, pump, reads, reads_by, reads_in_vain, releases, relief, retired_gear, retired_valve, second_months, unsafe_by, valve};
+ghost use Rattle.ldar_law.specs.Short.{class, date, entered_on, gear, key, month, planned_difficult, pump, relief, retired_gear, retired_valve, second_months, unsafe_by, valve};
+ghost use Rattle.ldar_law.specs.ShortEvents.{designates, dry, follows_up, reads, reads_by, reads_in_vain, releases};
+ghost use Rattle.ldar_law.specs.ShortLists.{duties_on, duties_with, has_done, of_cause, owes};
 
 /// A first monitoring is judged on its due day, so that a valve that is retired later has missed it.
 pub fn a_valve_retired_after_its_first_due_day_has_missed_it()

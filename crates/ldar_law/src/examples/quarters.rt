@@ -7,7 +7,9 @@ ghost use Rattle.ldar_facts.specs.declared.class.Kind.TheVariants.{Valve};
 ghost use Rattle.ldar_facts.specs.declared.class.Service.TheVariants.{Gas, Heavy};
 ghost use Rattle.ldar_law.specs.Percent.{is_good, tally_of};
 ghost use Rattle.ldar_law.specs.Routes.{routes_of};
-ghost use Rattle.ldar_law.specs.Short.{attempts, bad_quarters, class, clean, date, delays, designates, elects, entered_on, follows_up, found, gear, good_quarters, has_done, known, leaks_in_a_follow_up, mark_on, mark_with, owes, pump, reads, reads_in_vain, replacing_valve, retired_valve, route, uncounted, valve};
+ghost use Rattle.ldar_law.specs.Short.{class, date, entered_on, gear, pump, replacing_valve, retired_valve, valve};
+ghost use Rattle.ldar_law.specs.ShortEvents.{attempts, delays, designates, follows_up, leaks_in_a_follow_up, reads, reads_in_vain};
+ghost use Rattle.ldar_law.specs.ShortLists.{bad_quarters, clean, elects, found, good_quarters, has_done, known, mark_on, mark_with, owes, route, uncounted};
 ghost use Rattle.ldar_law.specs.Skips.{is_skipped, skipped_to};
 ghost use Rattle.ldar_law.specs.Units.{mark_in};
 

@@ -5,7 +5,8 @@ ghost use Rattle.std.specs.Prelude.{◌≡◌, None, Some, [], false, map, true,
 ghost use Rattle.ldar_facts.specs.declared.class.Kind.TheVariants.{Valve};
 ghost use Rattle.ldar_law.specs.declared.delay.Until.TheVariants.{Date, NoDate, Shutdown, WhileIsolated};
 ghost use Rattle.ldar_law.specs.Delays.{attempt_by, counted_place, repair_due};
-ghost use Rattle.ldar_law.specs.Short.{attempts, date, delay, delay_until, delays, line, reads, retires, stop, tag};
+ghost use Rattle.ldar_law.specs.Short.{date};
+ghost use Rattle.ldar_law.specs.ShortEvents.{attempts, delay, delay_until, delays, line, reads, retires, stop, tag};
 ghost use Rattle.ldar_law.specs.Tags.{delay_lines, is_late, is_shown, tags_of};
 
 /// Without a delay a leak is to be repaired within fifteen days (40 CFR 60.482-7a(d)(1)).
@@ -157,6 +158,8 @@ pub fn an_attempt_lies_in_a_shutdown()
 pub fn a_shutdown_counts_from_the_detection()
     ensures first { repair_due (date 2024 2 20) [] (stop (date 2024 2 21) (date 2024 2 28) ∷ []) (delay (date 2024 3 1) 1 ∷ [])
         ≡ Date (date 2024 2 28) }
+    ensures before_the_delay { repair_due (date 2024 2 20) [] (stop (date 2024 2 21) (date 2024 2 28) ∷ stop (date 2024 8 25) (date 2024 9 1)
+        ∷ stop (date 2025 3 1) (date 2025 3 9) ∷ []) (delay (date 2024 3 1) 5 ∷ []) ≡ Date (date 2024 9 1) }
     ensures second { repair_due (date 2024 2 20) [] (stop (date 2024 1 5) (date 2024 1 9) ∷ stop (date 2024 8 1) (date 2024 8 9)
         ∷ stop (date 2025 3 1) (date 2025 3 9) ∷ []) (delay (date 2024 3 1) 5 ∷ []) ≡ Date (date 2025 3 9) }
 {}

@@ -1,7 +1,7 @@
 //! What each named test passes, of one of each.
 #![tactic(auto)]
 
-ghost use Rattle.std.specs.Prelude.{◌≡◌, None, [], false, filter, is_some, map, true, ◌∷◌};
+ghost use Rattle.std.specs.Prelude.{◌≡◌, None, [], false, filter, is_some, length, map, true, ◌∷◌};
 ghost use Rattle.ldar_facts.specs.declared.body.FactBody.TheVariants.{Attempt as AttemptFact, Calibration, Class as ClassFact, Component as ComponentFact, Delay as DelayFact, Drift, Election, Indication, Precision, Reading, Release as ReleaseFact, Retire as RetireFact, Shutdown, Unit as UnitFact, Visual};
 ghost use Rattle.ldar_facts.specs.declared.body.Purpose.TheVariants.{Routine};
 ghost use Rattle.ldar_facts.specs.declared.body.Sort.TheVariants.{Sensor as SensorSort};
@@ -22,10 +22,10 @@ ghost use Rattle.ldar_law.specs.Fitness.{is_calibration, is_calibration_within, 
 ghost use Rattle.ldar_law.specs.Happenings.{delays_with_reading, has_drips, has_evidence, has_undesignated_drips, is_attempt, is_below, is_complete, is_counting, is_designating, is_dry, is_evidence_gone, is_leak, is_look, is_near_background, is_reading_or_drip, is_release, is_retire, is_routine, is_routine_below, is_routine_leak, is_sensor};
 ghost use Rattle.ldar_law.specs.Kinds.{is_compressor, is_pump};
 ghost use Rattle.ldar_law.specs.Reports.{is_date_in};
-ghost use Rattle.ldar_law.specs.Samples.{delay_of_ground, each_designation, each_fact, each_happening, each_kind, each_regime, each_service};
+ghost use Rattle.ldar_law.specs.Samples.{delay_of_ground, each_designation, each_entry, each_fact, each_happening, each_kind, each_regime, each_service};
 ghost use Rattle.ldar_law.specs.Settling.{is_valve_or_pump};
 ghost use Rattle.ldar_law.specs.Short.{class, key};
-ghost use Rattle.ldar_law.specs.Slices.{is_registered};
+ghost use Rattle.ldar_law.specs.Slices.{facts_of_component, facts_of_instrument, facts_of_unit, is_registered, readings_of_instrument, register_facts};
 ghost use Rattle.ldar_law.specs.Spans.{is_valve};
 ghost use Rattle.ldar_law.specs.Standing.{are_compressor_rules, are_heavy_liquid_rules, are_pump_rules, are_relief_rules, are_valve_rules, is_difficult_designated, is_nde_designated, is_none_designated, is_unsafe_designated, leave_out};
 ghost use Rattle.ldar_law.specs.Verdicts.{is_pass};
@@ -58,6 +58,7 @@ pub fn sorts_of_readings()
     ensures routine { filter is_routine each_happening ≡ Read 20 0 true true true false ∷ Read 620 0 true true false true ∷ [] }
     ensures routine_below { filter is_routine_below each_happening ≡ Read 20 0 true true true false ∷ [] }
     ensures routine_leak { filter is_routine_leak each_happening ≡ Read 620 0 true true false true ∷ [] }
+    ensures leak_in_vain { is_routine_leak (Read 620 0 true false false true) ≡ false }
     ensures near_background { filter is_near_background each_happening ≡ Read 20 0 true true true false ∷ Read 20 0 false true true false ∷ [] }
 {}
 
@@ -86,6 +87,25 @@ pub fn sorts_of_facts()
     ensures looked_at { filter (λ body. is_some (component_looked_at body)) each_fact ≡ Reading 1 1 1 Routine 20 0 ∷ Visual 1 Drips ∷ [] }
     ensures unit_asked { filter (λ body. is_some (unit_asked body)) each_fact ≡ ComponentFact 1 1 Valve false false (class Gas Plain)
         ∷ Election 1 1 1 ∷ Shutdown 1 1 ∷ [] }
+{}
+
+/// The facts that name a component, a process unit, or an instrument that is tested or read with.
+pub fn parts_of_facts()
+    ensures component { map (λ e. e.1.body) (facts_of_component 1 each_entry) ≡ ComponentFact 1 1 Valve false false (class Gas Plain)
+        ∷ ClassFact 1 (class Gas Plain) ∷ RetireFact 1
+        ∷ Reading 1 1 1 Routine 20 0 ∷ Visual 1 Drips ∷ AttemptFact 1 false ∷ DelayFact 1 1 9 None ∷ ReleaseFact 1 ∷ Indication 1 SensorSort true
+        ∷ [] }
+    ensures unit { map (λ e. e.1.body) (facts_of_unit 1 each_entry) ≡ UnitFact 1 false [] ∷ ComponentFact 1 1 Valve false false (class Gas Plain)
+        ∷ Election 1 1 1 ∷ Shutdown 1 1 ∷ [] }
+    ensures instrument { map (λ e. e.1.body) (facts_of_instrument 1 each_entry) ≡ Calibration 1 500 ∷ Precision 1 500 (500, 500, 500)
+        ∷ Drift 1 500 (440, 440, 440) ∷ [] }
+    ensures readings { map (λ e. e.1.body) (readings_of_instrument 1 each_entry) ≡ Reading 1 1 1 Routine 20 0 ∷ [] }
+    ensures register { map (λ e. e.1.body) (register_facts each_entry) ≡ UnitFact 1 false [] ∷ ComponentFact 1 1 Valve false false (class Gas Plain)
+        ∷ ClassFact 1 (class Gas Plain)
+        ∷ RetireFact 1 ∷ Election 1 1 1 ∷ Shutdown 1 1 ∷ [] }
+    ensures others { map (λ part. length part) (facts_of_component 2 each_entry ∷ facts_of_unit 2 each_entry ∷ facts_of_instrument 2 each_entry
+        ∷ readings_of_instrument 2 each_entry ∷ [])
+        ≡ 0 ∷ 0 ∷ 0 ∷ 0 ∷ [] }
 {}
 
 /// What rules, designations, services and kinds are.
