@@ -1,11 +1,11 @@
-use Rattle.std.proofs.Common.{◌≡◌, ◌<◌, ◌≤◌, ◌⊎◌, ◌↔◌, ℕ, zero, suc, Bool, true, false, cond, Option, Some, None, List, [], ◌∷◌, ◌++◌, reverse, length, slice_get, take, option_map, option_and_then, refl, sym, ap, ◌∙◌, subst, inl, inr, arith}
+use Rattle.std.proofs.Common.{◌≡◌, ◌<◌, ◌≤◌, ◌⊎◌, ◌↔◌, ℕ, zero, suc, true, false, cond, Option, Some, None, List, [], ◌∷◌, ◌++◌, reverse, length, slice_get, take, option_map, option_and_then, refl, sym, ap, ◌∙◌, subst, inl, inr, arith}
 use Rattle.std.specs.Prelude.{unwrap_or}
 use Rattle.std.proofs.lemmas.Bool.{cases_Bool, false≢true}
 use Rattle.std.proofs.Math.Seq.{take-append_seam}
 use Rattle.std.proofs.lemmas.List.{reverse-append, length-reverse, take-append-le}
 use Rattle.ldar_law.specs.declared.delay.DelayEntry.{DelayEntry}
 use Rattle.ldar_law.specs.declared.delay.Stop.{Stop}
-use Rattle.ldar_law.specs.Delays.{is_past, due_given, last_counted, counted_delay, counted_place, is_ignored, AreIgnored, IsLastCounted, OneMoreDelay, CountedPlaceIsOfDelay, NoneCounted, CountedPlaceIsLast}
+use Rattle.ldar_law.specs.Delays.{is_past, due_given, last_counted, counted_delay, is_ignored, AreIgnored, IsLastCounted, OneMoreDelay, CountedPlaceIsOfDelay, NoneCounted, CountedPlaceIsLast}
 
 pub one_more_delay : OneMoreDelay
 one_more_delay detected attempts stops delays delay =

@@ -1,3 +1,4 @@
+pub mod BatchLaws
 pub mod Delays
 pub mod DenialLaws
 pub mod Denials
@@ -19,6 +20,7 @@ pub mod ReportLaws
 pub mod Reports
 pub mod Routes
 pub mod Settling
+pub mod ShareLaws
 pub mod Short
 pub mod Shown
 pub mod Skips
