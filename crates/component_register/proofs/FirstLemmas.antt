@@ -1,21 +1,17 @@
-use Rattle.std.proofs.Common.{◌≡◌, ℕ, ◌+◌, ◌<◌, ◌≤◌, Bool, true, false, ◌||◌, cond, Option, Some, None, List, [], ◌∷◌, slice_get, count_by, refl, sym, ap, ◌∙◌}
-use Rattle.std.proofs.Common.{subst, inl, inr, ◌⊎◌, arith}
+use Rattle.std.proofs.Common.{◌≡◌, ℕ, ◌+◌, ◌≤◌, Bool, true, false, cond, Option, Some, None, List, [], ◌∷◌, slice_get, count_by, refl, sym, ap, ◌∙◌}
+use Rattle.std.proofs.Common.{inl, inr, ◌⊎◌, arith}
 use Rattle.std.specs.List.{AllByRecursion, list_any, filter_map, cons_option}
-use Rattle.std.specs.Option.{option_or, option_map, is_some}
-use Rattle.std.specs.Ordering.{is_lt, nat_cmp, ordering_then, MatchOrdering}
+use Rattle.std.specs.Option.{option_or, option_map}
 use Rattle.std.specs.Prelude.{find}
-use Rattle.std.specs.declared.cmp.Ordering.{Ordering}
-use Rattle.std.specs.declared.cmp.Ordering.TheVariants.{Less, Equal, Greater}
 use Rattle.std.proofs.lemmas.Bool.{cases_Bool, cases_lt, or_parts, le-leb, lt-leb}
-use Rattle.std.proofs.lemmas.Cmp.{ranked}
 use Rattle.std.proofs.lemmas.List.Sums.{sum_by-cons}
 use Rattle.list_words.specs.Order.{put_in_order, Ascends}
 use Rattle.list_words.proofs.Ascending.{before_all}
 use Rattle.list_words.proofs.Members.{all_weaker}
-use Rattle.ldar_facts.specs.declared.key.Key.{Key}
-use Rattle.ldar_facts.specs.Facts.{Entry, is_earlier, goes_first}
+use Rattle.ldar_facts.specs.Facts.{Entry, goes_first}
 use Rattle.ldar_facts.proofs.Cuts.{earlier_day as day_of_earlier}
 use Rattle.ldar_facts.proofs.KeyOrder.{strict_goes_first}
+use Rattle.ldar_law.proofs.RegisterLemmas.{day_of_later}
 use Rattle.component_register.specs.Slots.{earlier_day}
 
 -- ---- what the first of some facts gives, after one more
@@ -93,15 +89,6 @@ module _ (p : Entry → Bool) where
       ]
 
 -- ---- the first day of facts that pass, after one more
-
-sooner : (x y : ℕ) (o p : Ordering) → MatchOrdering o (x < y) (x ≡ y) (y < x) → is_lt (ordering_then o p) ≡ false → y ≤ x
-sooner x y Less p ranks e = absurd cc
-sooner x y Equal p ranks e = omega arith
-sooner x y Greater p ranks e = omega arith
-
--- a key that is not earlier has no earlier day
-day_of_later : (a b : Key) → is_earlier a b ≡ false → b.day ≤ a.day
-day_of_later a b e = sooner a.day b.day (nat_cmp a.day b.day) _ (ranked a.day b.day (nat_cmp a.day b.day) refl) e
 
 -- the earlier of a day and one that is no earlier
 stays_earlier : (day first : ℕ) → day ≤ first → earlier_day day (Some first) ≡ Some day

@@ -1,12 +1,13 @@
-use Rattle.std.proofs.Common.{◌≡◌, ℕ, ◌+◌, ◌≤◌, ◌<◌, get_or, take, Bool, true, false, cond, Vec, Option, Some, None, List, [], ◌∷◌, ◌++◌, length, drop}
+use Rattle.std.proofs.Common.{◌≡◌, ℕ, ◌+◌, ◌≤◌, ◌<◌, get_or, take, false, Vec, Option, Some, None, List, [], ◌∷◌, ◌++◌, length, drop}
 use Rattle.std.proofs.Common.{slice_get, refl, sym, ap, ◌∙◌, subst, inl, inr, ◌⊎◌, nat_lt, arith}
-use Rattle.std.specs.List.{AllByRecursion, filter_map, cons_option, list_any}
+use Rattle.std.specs.List.{filter_map, cons_option, list_any}
 use Rattle.std.specs.Option.{option_map, option_or, is_some, unwrap_or}
-use Rattle.std.proofs.lemmas.Bool.{cases_eq, eq-eqb, ne_eqb}
-use Rattle.list_words.specs.Order.{put_in_order, in_order, Ascends, AllApart}
-use Rattle.list_words.proofs.Ascending.{ascends_in_order}
+use Rattle.std.proofs.lemmas.Bool.{cases_eq, ne_eqb}
+use Rattle.list_words.specs.Order.{put_in_order, in_order, Ascends}
+use Rattle.std.proofs.lemmas.List.Sorted.{length_permutation}
+use Rattle.list_words.proofs.Ascending.{ascends_in_order, in_order_permutes}
 use Rattle.list_words.proofs.Members.{all_weaker, all_append}
-use Rattle.std.proofs.lemmas.List.{take_more}
+use Rattle.std.proofs.lemmas.List.{take_more, length_push}
 use Rattle.ldar_facts.specs.declared.body.FactBody.{FactBody}
 use Rattle.ldar_facts.specs.declared.body.FactBody.TheVariants.{Unit as UnitFact, Component as ComponentFact}
 use Rattle.ldar_facts.specs.declared.class.Class.{Class}
@@ -23,9 +24,11 @@ use Rattle.fact_store.proofs.CountLemmas.{room_for_others}
 use Rattle.ldar_law.specs.declared.equipment.Equipment.{Equipment}
 use Rattle.ldar_law.specs.declared.unit_entry.UnitEntry.{UnitEntry}
 use Rattle.ldar_law.specs.Equipment.{retires, retired_on, component_entered, equipment_of, class_at, classes_of, unit_entered, unit_entry_of, member_entered}
-use Rattle.ldar_law.specs.Force.{class_on, class_by, class_in_force}
+use Rattle.ldar_law.specs.Equipment.{members_of}
+use Rattle.ldar_law.specs.Force.{class_by, class_in_force}
 use Rattle.ldar_law.specs.Judged.{first_entry}
 use Rattle.ldar_law.specs.RegisterLaws.{enters_component, enters_unit, class_first}
+use Rattle.ldar_law.proofs.BatchLemmas.{with_retired, equipment_is}
 use Rattle.ldar_law.proofs.EnteredLemmas.{component_where_entered, unit_where_entered}
 use Rattle.ldar_law.proofs.ForceLemmas.{class_keyed, given_ascends, given-put_none, given-put_some}
 use Rattle.component_register.specs.declared.slots.Slot.{Slot}
@@ -36,37 +39,6 @@ use Rattle.component_register.specs.Once.{IsFirstOfNumber, AreEnteredOnce}
 use Rattle.component_register.specs.Slots.{row_in, no_slot, slot_with, HasRow, HaveRows, OnlyAdds, TakesEntry, TakesUnit}
 use Rattle.component_register.proofs.FirstLemmas.{first-put, first_day-put, once-put}
 use Rattle.component_register.proofs.MemberLemmas.{members-put}
-
--- ---- a component with its retirement
-
-abbrev pub with_retired : Option ℕ → Equipment → Equipment
-with_retired retired item = record item { retired = retired }
-
-entered_so : (number : ℕ) (retired : Option ℕ) (day : ℕ) (body : FactBody)
-    → component_entered number retired day body ≡ option_map (with_retired retired) (component_entered number None day body)
-entered_so number retired day (ComponentFact other unit kind monomer replaces class) =
-    elim (cases_eq other number) [
-      | inl e ↦ rw (eq-eqb other number e) refl
-      | inr differ ↦ rw (ne_eqb other number differ) refl
-    ]
-entered_so number retired day _ = refl
-
-mapped_first : {X Y : Type 0} (g : X → Y) (f : Entry → Option X) (h : Entry → Option Y) → ((e : Entry) → h e ≡ option_map g (f e))
-    → (es : List Entry) → slice_get (filter_map h es) 0 ≡ option_map g (slice_get (filter_map f es) 0)
-mapped_first g f h same [] = refl
-mapped_first g f h same (e ∷ es) =
-    rw (same e) (elim (f e) as (λ o. slice_get (cons_option (option_map g o) (filter_map h es)) 0 ≡ option_map g
-        (slice_get (cons_option o (filter_map f es)) 0)) [
-      | None ↦ mapped_first g f h same es
-      | Some x ↦ refl
-    ])
-
--- a component is as it was entered first, with the first day of its retirement
-pub equipment_is : (number : ℕ) (facts : List Entry)
-    → equipment_of number facts ≡ option_map (with_retired (retired_on number facts)) (first_entry number facts)
-equipment_is number facts =
-    mapped_first (with_retired (retired_on number facts)) (λ e. component_entered number None e.0.day e.1.body)
-    (λ e. component_entered number (retired_on number facts) e.0.day e.1.body) (λ e. entered_so number (retired_on number facts) e.0.day e.1.body) facts
 
 none_mapped : {X Y : Type 0} (g : X → Y) (o : Option X) → option_map g o ≡ None → o ≡ None
 none_mapped g None e = refl
@@ -144,7 +116,7 @@ classes_of-put : (number : ℕ) (e : Entry) (facts : List Entry) → Ascends goe
     → put_if_any class_first (class_at number e) (classes_of number facts) ≡ classes_of number (put_in_order goes_first e facts)
 classes_of-put number e facts up =
     elim (class_at number e) as (λ o. class_at number e ≡ o → put_if_any class_first o (classes_of number facts) ≡ classes_of number
-        (put_in_order goes_first e facts)) [
+    (put_in_order goes_first e facts)) [
       | None ↦ λ is. sym (given-put_none (class_at number) (class_keyed number) e is facts)
       | Some new ↦ λ is. sym (given-put_some (class_at number) (class_keyed number) e new is facts up)
     ] refl
@@ -179,7 +151,8 @@ have_rows naming facts old new same rows =
 -- ---- inside a register, after one more fact
 
 module _ {Z : Type 0} (kept : Kept) (key : Key) (fact : Stated) (body : FactBody) (stated : body ≡ fact.body)
-    (next : slice_get kept.spare 0 ≡ Some fact) (new_key : is_held key kept.arrived ≡ false) (first : IsFirstOfNumber fact.body (facts_in kept)) where
+    (next : slice_get kept.spare 0 ≡ Some fact) (new_key : is_held key kept.arrived ≡ false) (first : IsFirstOfNumber fact.body (facts_in kept))
+        (few : length kept.arrived < 8_000_000) where
   pub sound_more : (slots new_slots : List Slot) (units new_units : List (Option UnitEntry)) (classes new_classes : List (Vec (Key × Class) Z))
       (rosters new_rosters : List (Vec ℕ Z))
       → IsSound kept slots units classes rosters → TakesEntry key.day body slots new_slots → TakesUnit key.day body units new_units
@@ -188,11 +161,12 @@ module _ {Z : Type 0} (kept : Kept) (key : Key) (fact : Stated) (body : FactBody
   sound_more slots new_slots units new_units classes new_classes rosters new_rosters sound takes takes_unit takes_class takes_member =
       let apart = apart_more kept.arrived key fact sound.apart new_key in
       let grown : in_order goes_first (kept.arrived ++ (key, fact) ∷ []) ≡ put_in_order goes_first (key, fact) (facts_in kept) = in_order_more kept.arrived
-          (key, fact) apart in
+      (key, fact) apart in
       let up = ascends_in_order goes_first strict_goes_first kept.arrived sound.apart in
       let spare = first_of kept.spare fact next in
       record {
         apart = apart;
+        few = omega (arith, few, length_push kept.arrived (key, fact));
         once = rw grown (once_more (key, fact) (facts_in kept) first sound.once);
         holds = rw grown (holds_more (facts_in kept) (key, fact) first up slots new_slots units new_units classes new_classes rosters new_rosters sound.holds
             (subst (λ b. TakesEntry key.day b slots new_slots) stated takes) (subst (λ b. TakesUnit key.day b units new_units) stated takes_unit)
@@ -203,7 +177,7 @@ module _ {Z : Type 0} (kept : Kept) (key : Key) (fact : Stated) (body : FactBody
             ((subst (λ fs. HaveRows unit_of fs units) spare sound.unit_room).1);
         class_room = room_for_others class_named fact (drop 1 kept.spare) classes new_classes
             (subst (λ fs. HasRoomFor class_named fs classes) spare sound.class_room)
-                (subst (λ b. TakesClass key b classes new_classes) stated takes_class).room;
+            (subst (λ b. TakesClass key b classes new_classes) stated takes_class).room;
         member_room = room_for_others unit_joined fact (drop 1 kept.spare) rosters new_rosters
             (subst (λ fs. HasRoomFor unit_joined fs rosters) spare sound.member_room) (subst (λ b. TakesMember b rosters new_rosters) stated takes_member).room;
       }
@@ -232,6 +206,23 @@ module _ {Z : Type 0} (kept : Kept) (slots : List Slot) (units : List (Option Un
   pub no_class_held : (day : ℕ) (slot : Slot) → slot ≡ row_in no_slot slots number → slot.entered ≡ None → class_in_force number (facts_in kept) day ≡ None
   no_class_held day slot is none = rw (component_held slot is, none) refl
 
+  pub retirement_held : (slot : Slot) → slot ≡ row_in no_slot slots number → slot.retired ≡ retired_on number (facts_in kept)
+  retirement_held slot is = ap (λ s. s.retired) (is ∙ sound.holds.slot number)
+
+  filter_map_no_longer : {X Y : Type 0} (f : X → Option Y) (xs : List X) → length (filter_map f xs) ≤ length xs
+  filter_map_no_longer f [] = omega arith
+  filter_map_no_longer f (x ∷ xs) =
+      let rest = filter_map_no_longer f xs in
+      elim (f x) as (λ o. length (cons_option o (filter_map f xs)) ≤ length (x ∷ xs)) [ None ↦ omega arith | Some y ↦ omega arith ]
+
+  -- a process unit has no more members than there are entries
+  pub members_few : length (members_of number (facts_in kept)) ≤ 8_000_000
+  members_few =
+      let given = filter_map (λ e. member_entered number e.1.body) (facts_in kept) in
+      omega (arith, sound.few, filter_map_no_longer (λ e. member_entered number e.1.body) (facts_in kept),
+          length_permutation kept.arrived (facts_in kept) (in_order_permutes goes_first kept.arrived),
+          length_permutation given (members_of number (facts_in kept)) (in_order_permutes nat_lt given))
+
 -- ---- room for other facts
 
 rows_for_one_more : {T : Type 0} (naming : FactBody → Option ℕ) (facts : List Stated) (fact : Stated) (empty : T) (old new : List T) → HaveRows naming facts old
@@ -242,7 +233,7 @@ rows_for_one_more naming facts fact empty old new have adds has =
 -- rows for one fact more of some
 pub have_rows_more : {T : Type 0} (naming : FactBody → Option ℕ) (facts : List Stated) (i : ℕ) (fact : Stated) (empty : T) (old new : List T) → i < length facts
     → fact ≡ get_or facts i fact → HaveRows naming (take i facts) old → OnlyAdds empty old new → HasRow (naming fact.body) new → HaveRows naming
-        (take (i + 1) facts) new
+    (take (i + 1) facts) new
 have_rows_more naming facts i fact empty old new within is have adds has =
     rw (take_more facts i fact within, sym is) (rows_for_one_more naming (take i facts) fact empty old new have adds has)
 
@@ -251,7 +242,7 @@ module _ {Z : Type 0} (kept : Kept) (slots : List Slot) (units : List (Option Un
   pub sound_slots : (new : List Slot) → OnlyAdds no_slot slots new → IsSound kept new units classes rosters
   sound_slots new adds =
       record {
-        apart = sound.apart;
+        apart = sound.apart; few = sound.few;
         once = sound.once;
         holds = record { slot = λ n. adds.rows n ∙ sound.holds.slot n; unit = sound.holds.unit; listed = sound.holds.listed; members = sound.holds.members };
         slot_room = have_rows component_of kept.spare slots new adds.grows sound.slot_room;
@@ -263,7 +254,7 @@ module _ {Z : Type 0} (kept : Kept) (slots : List Slot) (units : List (Option Un
   pub sound_units : (new : List (Option UnitEntry)) → OnlyAdds None units new → IsSound kept slots new classes rosters
   sound_units new adds =
       record {
-        apart = sound.apart;
+        apart = sound.apart; few = sound.few;
         once = sound.once;
         holds = record { slot = sound.holds.slot; unit = λ n. adds.rows n ∙ sound.holds.unit n; listed = sound.holds.listed; members = sound.holds.members };
         slot_room = sound.slot_room;
@@ -275,7 +266,7 @@ module _ {Z : Type 0} (kept : Kept) (slots : List Slot) (units : List (Option Un
   pub sound_classes : (new : List (Vec (Key × Class) Z)) → OnlyGrow classes new → IsSound kept slots units new rosters
   sound_classes new grows =
       record {
-        apart = sound.apart;
+        apart = sound.apart; few = sound.few;
         once = sound.once;
         holds = record { slot = sound.holds.slot; unit = sound.holds.unit; listed = λ n. grows.items n ∙ sound.holds.listed n; members = sound.holds.members };
         slot_room = sound.slot_room;
@@ -287,7 +278,7 @@ module _ {Z : Type 0} (kept : Kept) (slots : List Slot) (units : List (Option Un
   pub sound_rosters : (new : List (Vec ℕ Z)) → OnlyGrow rosters new → IsSound kept slots units classes new
   sound_rosters new grows =
       record {
-        apart = sound.apart;
+        apart = sound.apart; few = sound.few;
         once = sound.once;
         holds = record { slot = sound.holds.slot; unit = sound.holds.unit; listed = sound.holds.listed; members = λ n. grows.items n ∙ sound.holds.members n };
         slot_room = sound.slot_room;
@@ -300,6 +291,11 @@ module _ {Z : Type 0} (kept : Kept) (slots : List Slot) (units : List (Option Un
       → HasRoomFor class_named facts classes → HasRoomFor unit_joined facts rosters → IsSound (record kept { spare = facts }) slots units classes rosters
   sound_spare facts slot_room unit_room class_room member_room =
       record {
-        apart = sound.apart; once = sound.once; holds = sound.holds;
-        slot_room = slot_room; unit_room = unit_room; class_room = class_room; member_room = member_room;
+        apart = sound.apart; few = sound.few;
+        once = sound.once;
+        holds = sound.holds;
+        slot_room = slot_room;
+        unit_room = unit_room;
+        class_room = class_room;
+        member_room = member_room;
       }

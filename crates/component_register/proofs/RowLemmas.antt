@@ -1,7 +1,7 @@
-use Rattle.std.proofs.Common.{◌≡◌, ℕ, ◌+◌, ◌<◌, ◌≤◌, cond, nat_eq, Option, Some, None, List, [], ◌∷◌, ◌++◌, length, set, refl, ◌∙◌, arith}
+use Rattle.std.proofs.Common.{ℕ, ◌<◌, List, [], ◌∷◌, ◌++◌, length, set, refl, ◌∙◌, arith}
 use Rattle.std.proofs.lemmas.List.{length-append, length-set}
 use Rattle.fact_store.proofs.ListLemmas.{value_at-push, value_at-set}
-use Rattle.component_register.specs.Slots.{row_in, OnlyAdds, SetsRow}
+use Rattle.component_register.specs.Slots.{OnlyAdds, SetsRow}
 
 module _ {T : Type 0} where
   pub adds_same : (empty : T) (rows : List T) → OnlyAdds empty rows rows

@@ -8,6 +8,7 @@ mod register;
 mod slots;
 mod units;
 
+pub use entered::{component_entered, is_registered, retires, unit_entered};
 pub use register::Register;
 
 #[cfg(test)]

@@ -1,4 +1,4 @@
-ghost use Rattle.std.specs.Prelude.{◌≡◌, ℕ, ◌<◌, Some, false, [], ◌∷◌, ◌++◌, length, drop, filter, slice_get, option_map, OnOk, OnErr, IfOk};
+ghost use Rattle.std.specs.Prelude.{◌≡◌, ℕ, ◌<◌, ◌≤◌, Some, false, [], ◌∷◌, ◌++◌, length, drop, filter, slice_get, option_map, OnOk, OnErr, IfOk};
 ghost use Rattle.fact_store.specs.Kept.{Kept, facts_in, is_held};
 ghost use Rattle.ldar_law.specs.Equipment as law;
 ghost use Rattle.ldar_law.specs.Force as force;
@@ -109,11 +109,27 @@ impl Register {
         Some(class_or(&entered, item.class))
     }
 
+    /// The last class that was entered for the component by a day, with the key of its fact; `None` where there is no
+    /// such one. Whether the component was entered is not asked.
+    pub fn class_entry(&self, component: u16, day: Day) -> Option<(Key, Class)>
+        ensures value { result ≡ force.class_by day (law.classes_of component (facts_in self.now)) }
+    {
+        class_by(list_of(&self.classes, component), day)
+    }
+
     /// The key of the last class that was entered for the component by a day; `None` where there is no such one.
     pub fn class_key(&self, component: u16, day: Day) -> Option<Key>
         ensures value { result ≡ option_map (λ entered. entered.0) (force.class_by day (law.classes_of component (facts_in self.now))) }
     {
-        class_by(list_of(&self.classes, component), day).map(|entered| entered.0)
+        self.class_entry(component, day).map(|entered| entered.0)
+    }
+
+    /// The first day from which the component is out of service, if one was entered. Whether the component was entered is
+    /// not asked.
+    pub fn retired_on(&self, component: u16) -> Option<Day>
+        ensures value { result ≡ law.retired_on component (facts_in self.now) }
+    {
+        row_of(&self.slots, EMPTY, component).retired
     }
 
     /// The process unit, as it was entered; `None` where it was not.
@@ -128,6 +144,7 @@ impl Register {
     pub fn members(&self, unit: u8) -> &[u16]
         ensures value { result.now ≡ law.members_of unit (facts_in self.now) }
         ensures once { AreEnteredOnce (facts_in self.now) }
+        ensures few { length result.now ≤ 8_000_000 }
     {
         list_of(&self.rosters, u16::from(unit))
     }

@@ -35,6 +35,10 @@ pub fn enter_unit(units: &mut Units, key: &Key, body: &FactBody)
 {
     if let Some(unit) = unit_of(body) {
         let known = row_of(units, None, u16::from(unit));
-        set_row(units, u16::from(unit), unit_entered(unit, key.day, body).or(known));
+        set_row(
+            units,
+            u16::from(unit),
+            unit_entered(unit, key.day, body).or(known),
+        );
     }
 }

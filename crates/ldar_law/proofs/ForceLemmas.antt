@@ -1,47 +1,15 @@
-use Rattle.std.proofs.Common.{◌≡◌, ℕ, ◌≤◌, Bool, true, false, ◌&&◌, nat_le, Option, Some, None, List, [], ◌∷◌, refl, sym, ap, ◌∙◌, inl, inr, arith}
-use Rattle.std.specs.List.{AllByRecursion, list_any, filter_map, cons_option}
+use Rattle.std.proofs.Common.{◌≡◌, ℕ, Bool, true, false, Option, Some, None, List, [], ◌∷◌, refl, sym, ap, inl, inr}
+use Rattle.std.specs.List.{AllByRecursion, filter_map, cons_option}
 use Rattle.std.specs.Prelude.{option_map}
-use Rattle.std.proofs.lemmas.Bool.{cases_Bool, leb-true, le-leb, false≢true}
+use Rattle.std.proofs.lemmas.Bool.{cases_Bool}
 use Rattle.list_words.specs.Order.{put_in_order, Ascends}
 use Rattle.list_words.proofs.Ascending.{before_all}
-use Rattle.list_words.proofs.PutLemmas.{put_in_front, last_such-put}
+use Rattle.list_words.proofs.PutLemmas.{put_in_front}
 use Rattle.ldar_facts.specs.declared.class.Class.{Class}
 use Rattle.ldar_facts.specs.declared.key.Key.{Key}
 use Rattle.ldar_facts.specs.Facts.{Entry, is_earlier, goes_first}
-use Rattle.ldar_facts.proofs.Cuts.{earlier_day}
 use Rattle.ldar_facts.proofs.KeyOrder.{strict_earlier, strict_goes_first}
-use Rattle.ldar_law.specs.Equipment.{retires, class_entered, class_at, classes_of}
-use Rattle.ldar_law.specs.Force.{class_by}
-use Rattle.ldar_law.specs.RegisterLaws.{class_first, with_class, RetiredBySome, OneMoreFactInForce}
-
--- a day that has not come by another has not come by it on a later one
-not_yet : (a b day : ℕ) → a ≤ b → nat_le a day ≡ false → nat_le b day ≡ false
-not_yet a b day no_later out = elim (cases_Bool (nat_le b day)) [
-  | inl e ↦ absurd (false≢true (sym out ∙ le-leb a day (omega (arith, no_later, leb-true b day e))))
-  | inr e ↦ e
-]
-
--- behind a fact whose day has not come, none has a day that has
-none_later : (p : Entry → Bool) (day : ℕ) (e : Entry) (es : List Entry) → nat_le e.0.day day ≡ false → AllByRecursion (λ x. goes_first e x ≡ true) es →
-    list_any (λ x. p x && nat_le x.0.day day) es ≡ false
-none_later p day e [] out later = refl
-none_later p day e (x ∷ xs) out later =
-    let past = not_yet e.0.day x.0.day day (earlier_day e.0 x.0 later.0) out in
-    rw past (elim (cases_Bool (p x)) [
-      | inl t ↦ rw t (none_later p day e xs out later.1)
-      | inr f ↦ rw f (none_later p day e xs out later.1)
-    ])
-
-pub retired_by_some : RetiredBySome
-retired_by_some number day [] up = refl
-retired_by_some number day (e ∷ es) up =
-    elim (cases_Bool (retires number e.1.body)) [
-      | inl out ↦ rw out (elim (cases_Bool (nat_le e.0.day day)) [
-        | inl come ↦ rw come refl
-        | inr later ↦ rw later (sym (none_later (λ x. retires number x.1.body) day e es later up.0))
-      ])
-      | inr stays ↦ rw stays (retired_by_some number day es up.1)
-    ]
+use Rattle.ldar_law.specs.Equipment.{class_entered, class_at}
 
 -- What facts give with their keys stands in key order as they do.
 module _ {C : Type 0} (f : Entry → Option (Key × C)) (keyed : (e : Entry) (y : Key × C) → f e ≡ Some y → y.0 ≡ e.0) where
@@ -99,12 +67,3 @@ class_is_keyed number e (Some class) y is = cc
 -- a class is entered with the key of its fact
 pub class_keyed : (number : ℕ) (e : Entry) (y : Key × Class) → class_at number e ≡ Some y → y.0 ≡ e.0
 class_keyed number e y is = class_is_keyed number e (class_entered number e.1.body) y is
-
-pub one_more_fact_in_force : OneMoreFactInForce
-one_more_fact_in_force number day entry facts up =
-    elim (class_at number entry) as (λ o. class_at number entry ≡ o → class_by day (classes_of number (put_in_order goes_first entry facts)) ≡ with_class day o (class_by day (classes_of number facts))) [
-      | None ↦ λ is. ap (class_by day) (given-put_none (class_at number) (class_keyed number) entry is facts)
-      | Some new ↦ λ is. ap (class_by day) (given-put_some (class_at number) (class_keyed number) entry new is facts up)
-          ∙ last_such-put class_first (strict_earlier (λ z. z.0)) (λ entered. nat_le entered.0.day day) new (classes_of number facts)
-          (given_ascends (class_at number) (class_keyed number) facts up)
-    ] refl

@@ -1,4 +1,5 @@
 pub mod Adjacent
+pub mod BatchLemmas
 pub mod ClassLemmas
 pub mod DelayLemmas
 pub mod DutyLemmas
@@ -13,6 +14,7 @@ pub mod QuarterLemmas
 pub mod RegisterLemmas
 pub mod ReportLemmas
 pub mod RouteLemmas
+pub mod ShareLemmas
 pub mod SliceLemmas
 pub mod SpanLemmas
 pub mod TagLemmas

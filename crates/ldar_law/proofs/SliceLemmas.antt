@@ -25,7 +25,7 @@ pub record IsSilentOnUnit (number : ℕ) (body : FactBody) : Type 0 where
   pub no_election : (key : Key) → election_entered number key body ≡ None
   pub no_stop : (day : ℕ) → stop_entered number day body ≡ None
 
-unnamed_component : (number : ℕ) (body : FactBody) → is_numbered (component_of body) number ≡ false → IsSilentOnComponent number body
+pub unnamed_component : (number : ℕ) (body : FactBody) → is_numbered (component_of body) number ≡ false → IsSilentOnComponent number body
 unnamed_component number (ComponentFact other unit kind monomer replaces class) e =
     record { stays = refl; no_component = λ retired day. rw e refl; no_class = refl }
 unnamed_component number (ClassFact other class) e = record { stays = refl; no_component = λ retired day. refl; no_class = rw e refl }
@@ -43,7 +43,7 @@ unnamed_unit number (Shutdown other days) e =
     record { no_unit = λ day. refl; no_member = refl; no_election = λ key. refl; no_stop = λ day. rw e refl }
 unnamed_unit number _ e = record { no_unit = λ day. refl; no_member = refl; no_election = λ key. refl; no_stop = λ day. refl }
 
-unregistered_component : (number : ℕ) (body : FactBody) → is_registered body ≡ false → IsSilentOnComponent number body
+pub unregistered_component : (number : ℕ) (body : FactBody) → is_registered body ≡ false → IsSilentOnComponent number body
 unregistered_component number (UnitFact other older name) e = cc
 unregistered_component number (ComponentFact other unit kind monomer replaces class) e = cc
 unregistered_component number (ClassFact other class) e = cc

@@ -4,7 +4,8 @@ use Rattle.list_words.specs.Words.{GivesFirst}
 use Rattle.ldar_facts.specs.declared.batch.Batch.{Batch}
 use Rattle.ldar_facts.specs.declared.class.Class.{Class}
 use Rattle.ldar_facts.specs.declared.key.Key.{Key}
-use Rattle.ldar_facts.specs.Facts.{Entry, entries_of, facts_of}
+use Rattle.list_words.specs.Order.{in_order}
+use Rattle.ldar_facts.specs.Facts.{Entry, goes_first, entries_of, facts_of}
 use Rattle.ldar_facts.specs.Identity.{identities_differ}
 use Rattle.ldar_law.specs.declared.verdict.Verdict.TheVariants.{Pass, Denied, Full}
 use Rattle.ldar_law.specs.declared.numbers.TheConstants.{MOST_FACTS}
@@ -79,9 +80,10 @@ abbrev pub later_class : ℕ → ℕ → List Entry → Option (Key × Class) �
 later_class number day [] latest = latest
 later_class number day (entry ∷ entries) latest = later_class number day entries (with_class day (class_at number entry) latest)
 
--- where a batch is judged, the class in force is the later one of the history's and of those that the batch enters
+-- where some facts come to those in order, of which two may have one key, the class in force is the later one of theirs and of those
+-- that come
 abbrev pub ClassAfterFacts : Type 0
 ClassAfterFacts =
-    (number day : ℕ) (history : List Batch) (more : List Entry)
-    → class_by day (classes_of number (register_with (facts_of history) more).in_order)
-    ≡ later_class number day more (class_by day (classes_of number (facts_of history)))
+    (number day : ℕ) (entries more : List Entry)
+    → class_by day (classes_of number (register_with (in_order goes_first entries) more).in_order)
+    ≡ later_class number day more (class_by day (classes_of number (in_order goes_first entries)))

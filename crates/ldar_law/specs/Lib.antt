@@ -1,3 +1,4 @@
+pub mod BatchLaws
 pub mod Delays
 pub mod DenialLaws
 pub mod Denials
@@ -25,6 +26,7 @@ pub mod Reports
 pub mod Routes
 pub mod Samples
 pub mod Settling
+pub mod ShareLaws
 pub mod Short
 pub mod ShortEvents
 pub mod ShortLists

@@ -1,7 +1,7 @@
 -- What is true of the register: the statements of `laws::register`.
-use Rattle.std.specs.Prelude.{◌≡◌, ◌↔◌, ℕ, Bool, false, ◌&&◌, nat_eq, nat_le, is_some, if◌then◌else◌, Option, Some, None, List, Contains}
+use Rattle.std.specs.Prelude.{◌≡◌, ◌↔◌, ℕ, Bool, false, ◌&&◌, nat_eq, nat_le, is_some, if◌then◌else◌, Option, Some, None, List, ◌∷◌, Contains}
 use Rattle.std.specs.List.{list_any}
-use Rattle.list_words.specs.Order.{put_in_order, later_of, Ascends}
+use Rattle.list_words.specs.Order.{in_order, later_of, Ascends}
 use Rattle.ldar_facts.specs.declared.body.FactBody.{FactBody}
 use Rattle.ldar_facts.specs.declared.body.FactBody.TheVariants.{Unit as UnitFact, Component as ComponentFact, Class as ClassFact}
 use Rattle.ldar_facts.specs.declared.class.Class.{Class}
@@ -36,11 +36,12 @@ abbrev pub RegisterFactsSuffice : Type 0
 RegisterFactsSuffice =
     (number : ℕ) (facts : List Entry) → HasComponent number (register_facts facts) facts × HasUnit number (register_facts facts) facts
 
--- a component is retired on a day where some fact of a day up to it takes it out of service
+-- of facts in order, of which two may have one key: a component is retired on a day where some fact of a day up to it takes it out of
+-- service
 abbrev pub RetiredBySome : Type 0
 RetiredBySome =
-    (number day : ℕ) (facts : List Entry) → Ascends goes_first facts
-    → has_come (retired_on number facts) day ≡ list_any (λ e. retires number e.1.body && nat_le e.0.day day) facts
+    (number day : ℕ) (entries : List Entry)
+    → has_come (retired_on number (in_order goes_first entries)) day ≡ list_any (λ e. retires number e.1.body && nat_le e.0.day day) entries
 
 -- a fact that enters the component
 abbrev pub enters_component : ℕ → FactBody → Bool
@@ -97,9 +98,10 @@ abbrev pub with_class : ℕ → Option (Key × Class) → Option (Key × Class) 
 with_class day None old = old
 with_class day (Some new) old = if nat_le new.0.day day then later_of class_first new old else old
 
--- after one more fact the class in force is the one that it enters or the one before, whichever is later
+-- of facts in order, of which two may have one key: after one more the class in force is the one that it enters or the one before,
+-- whichever is later, and the new one where they tie
 abbrev pub OneMoreFactInForce : Type 0
 OneMoreFactInForce =
-    (number day : ℕ) (entry : Entry) (facts : List Entry) → Ascends goes_first facts
-    → class_by day (classes_of number (put_in_order goes_first entry facts))
-    ≡ with_class day (class_at number entry) (class_by day (classes_of number facts))
+    (number day : ℕ) (entry : Entry) (entries : List Entry)
+    → class_by day (classes_of number (in_order goes_first (entry ∷ entries)))
+    ≡ with_class day (class_at number entry) (class_by day (classes_of number (in_order goes_first entries)))

@@ -1,4 +1,4 @@
-use Rattle.std.proofs.Common.{◌≡◌, ℕ, Bool, List, ◌<◌, nat_le, true, false, Some, sym, ◌∙◌, ap, rules, subst, arith}
+use Rattle.std.proofs.Common.{◌≡◌, ℕ, Bool, List, nat_le, true, false, Some, sym, ◌∙◌, ap, rules, subst, arith}
 use Rattle.std.specs.List.Sorted.{IsPartitionPoint, IsPartitionedBy}
 use Rattle.std.proofs.lemmas.Bool.{leb-true, le-leb}
 use Rattle.std.proofs.lemmas.List.Sorted.{IsPartitionPoint-from_clause}
@@ -28,7 +28,7 @@ returns-then-count-eq0 c =
     record {
       value = sym (last_such_nowhere (by_then c.args.day) c.args.classes.now
           (subst (λ n. IsPartitionPoint (λ e. by_then c.args.day e ≡ true)
-              (λ e. by_then c.args.day e ≡ false) c.args.classes.now n) c.if-count-eq0.true parts));
+          (λ e. by_then c.args.day e ≡ false) c.args.classes.now n) c.if-count-eq0.true parts));
     }
 
 pub returns : goal.returns

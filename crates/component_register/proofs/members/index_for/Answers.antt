@@ -14,7 +14,7 @@ returns-clause-value c =
     let parts : IsPartitionPoint (λ y. nat_le y component ≡ true) (λ y. nat_le y component ≡ false) members c.partition_point.result =
     IsPartitionPoint-from_clause (λ y. nat_le y component) members c.partition_point.result c.partition_point.ensures.partitioned
     (front_passes nat_le (λ y. nat_le y component)
-        (λ x y le t. le-leb x component (omega (arith, leb-true x y le, leb-true y component t))) members c.requires)
+    (λ x y le t. le-leb x component (omega (arith, leb-true x y le, leb-true y component t))) members c.requires)
     (search rules) in
     put_is_insert nat_lt component members c.partition_point.result c.partition_point.ensures.bound
     (λ k d low high. le-ltb component _ (leb-true _ component (parts.0 k d low high)))

@@ -1,4 +1,4 @@
-use Rattle.std.proofs.Common.{None, ap, ◌∙◌, subst, arith}
+use Rattle.std.proofs.Common.{ap, ◌∙◌, subst, arith}
 use Rattle.ldar_facts.specs.Named as named
 use Rattle.component_register.specs.Slots.{HasRow, no_slot}
 use Rattle.component_register.proofs.HoldLemmas.{have_rows_more}

@@ -1,4 +1,3 @@
-use Rattle.std.proofs.Common.{◌≡◌, arith}
 use Rattle.component_register.proofs.RowLemmas.{sets_row}
 use Rattle.component_register.proofs.slots.set_row.Goals as goal
 

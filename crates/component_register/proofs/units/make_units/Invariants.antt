@@ -1,6 +1,6 @@
 use Rattle.std.proofs.Common.{None, take}
 use Rattle.ldar_facts.specs.Named as named
-use Rattle.component_register.specs.Slots.{HaveRows, OnlyAdds, no_slot}
+use Rattle.component_register.specs.Slots.{HaveRows, OnlyAdds}
 use Rattle.component_register.proofs.units.make_units.Given as goal
 
 abbrev pub invariant-loop-fact : goal.invariant-loop-fact

@@ -2,7 +2,8 @@ use Rattle.std.proofs.Common.{◌≡◌, None, Some, sym, ap, ◌∙◌, subst}
 use Rattle.std.specs.Option.{option_map}
 use Rattle.fact_store.specs.Kept.{facts_in}
 use Rattle.ldar_law.specs.Equipment as law
-use Rattle.component_register.proofs.HoldLemmas.{component_held, with_retired}
+use Rattle.ldar_law.proofs.BatchLemmas.{with_retired}
+use Rattle.component_register.proofs.HoldLemmas.{component_held}
 use Rattle.component_register.proofs.register.Register.component.Goals as goal
 
 pub returns-in_err-item : goal.returns-in_err-item

@@ -1,7 +1,6 @@
-use Rattle.std.proofs.Common.{◌≡◌, false, nat_le, Some, drop, slice_get, sym, ap, subst}
+use Rattle.std.proofs.Common.{◌<◌, length, ◌≡◌, false, nat_le, Some, drop, slice_get, sym, ap, subst}
 use Rattle.std.specs.List.{filter_map}
 use Rattle.list_words.specs.Order.{Ascends}
-use Rattle.ldar_facts.specs.Named.{is_numbered}
 use Rattle.fact_store.specs.Kept.{facts_in, is_held}
 use Rattle.fact_store.specs.Naming.{HasRoomFor}
 use Rattle.fact_store.proofs.CountLemmas.{room_for_first}
@@ -21,7 +20,7 @@ put_class-requires-clause-roomy c =
     let stated = ap (λ s. s.body) c.fact.view_is in
     λ n named. room_for_first class_named c.args.fact (drop 1 inside.store.spare) inside.classes.items
     (subst (λ fs. HasRoomFor class_named fs inside.classes.items) (first_of inside.store.spare c.args.fact next) c.self.invariant.class_room) n
-        (rw stated at named)
+    (rw stated at named)
 
 pub put_class-requires-clause-ordered : goal.put_class-requires-clause-ordered
 put_class-requires-clause-ordered c =
@@ -35,7 +34,7 @@ put_member-requires-clause-roomy c =
     let stated = ap (λ s. s.body) c.fact.view_is in
     λ n named. room_for_first unit_joined c.args.fact (drop 1 inside.store.spare) inside.rosters.items
     (subst (λ fs. HasRoomFor unit_joined fs inside.rosters.items) (first_of inside.store.spare c.args.fact next) c.self.invariant.member_room) n
-        (rw stated at named)
+    (rw stated at named)
 
 pub put_member-requires-clause-ordered : goal.put_member-requires-clause-ordered
 put_member-requires-clause-ordered c =
@@ -49,7 +48,8 @@ invariant_of-self c =
     let next = subst (λ kept. slice_get kept.spare 0 ≡ Some fact) (sym c.self.view_is) c.requires.roomy in
     let new_key = subst (λ kept. is_held c.args.key kept.arrived ≡ false) (sym c.self.view_is) c.requires.new_key in
     let first = subst (λ kept. IsFirstOfNumber fact.body (facts_in kept)) (sym c.self.view_is) c.requires.first in
+    let few = subst (λ kept. length kept.arrived < 8_000_000) (sym c.self.view_is) c.requires.few in
     rw c.insert.ensures
-    (sound_more inside.store c.args.key fact c.fact.inside.body (ap (λ s. s.body) c.fact.view_is) next new_key first
+    (sound_more inside.store c.args.key fact c.fact.inside.body (ap (λ s. s.body) c.fact.view_is) next new_key first few
     inside.slots.items c.enter.new.slots.items inside.units.items c.enter_unit.new.units.items inside.classes.items c.put_class.new.classes.items
     inside.rosters.items c.put_member.new.rosters.items c.self.invariant c.enter.ensures.value c.enter_unit.ensures.value c.put_class.ensures c.put_member.ensures)

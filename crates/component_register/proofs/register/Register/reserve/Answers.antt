@@ -1,4 +1,4 @@
-use Rattle.std.proofs.Common.{◌≡◌, None, sym, ap, ◌∙◌, subst}
+use Rattle.std.proofs.Common.{ap, ◌∙◌, subst}
 use Rattle.std.specs.List.{filter_map}
 use Rattle.ldar_facts.specs.Named.{component_of, unit_of}
 use Rattle.fact_store.proofs.CountLemmas.{room_for_named}
@@ -81,4 +81,3 @@ invariant_of-self-2 c =
     (subst (λ fs. HaveRows unit_of fs units) c.deref-4.ensures.value c.in_ok-make_units.ensures.roomy)
     (room_for_named class_named entries c.deref-5.result.now classes reclassed c.in_ok-make_rooms.ensures.roomy)
     (room_for_named unit_joined entries c.deref-6.result.now rosters joined c.in_ok-make_rooms-2.ensures.roomy))
-

@@ -2,7 +2,7 @@ use Rattle.std.proofs.Common.{sym, subst}
 use Rattle.list_words.specs.Order.{Ascends}
 use Rattle.ldar_law.specs.RegisterLaws.{class_first}
 use Rattle.component_register.proofs.HoldLemmas.{classes_ascend}
-use Rattle.component_register.proofs.register.Register.class_key.Goals as goal
+use Rattle.component_register.proofs.register.Register.class_entry.Goals as goal
 
 pub class_by-requires : goal.class_by-requires
 class_by-requires c =
