@@ -1,3 +1,5 @@
 pub mod Places
 pub mod FieldLemmas
 pub mod ItemLaws
+pub mod MemberLemmas
+pub mod KindLemmas

@@ -2,10 +2,14 @@
 #![tactic(auto)]
 
 mod answer;
+mod batch_json;
 mod cutting;
+mod fact_json;
+mod field_json;
 mod fields;
 mod heads;
 pub mod laws;
+mod members;
 mod outcome;
 mod paragraph;
 mod reply_line;
