@@ -33,6 +33,18 @@ impl<R: Files<File = File> + AllocGlobal> Disk for FileDisk<'_, R> {
 
     ghost name = { λ d. 0 };
 
+    ghost images = { λ d c. Unit {0} };
+
+    ghost left = { λ d t c. Unit {0} };
+
+    ghost room = { λ d. None };
+
+    ghost counts_now = { λ d t c le image. tt };
+
+    ghost only_now = { λ d c left. tt };
+
+    ghost since_earlier = { λ d s t c le left. tt };
+
     fn read_at(&mut self, at: u64, into: &mut [u8]) -> Result<usize, DiskFault> {
         match self.file.read(at, into) {
             Some(read) => Ok(read),

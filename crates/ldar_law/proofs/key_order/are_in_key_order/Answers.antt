@@ -12,13 +12,13 @@ loop-place-init c = alone goes_first c.args.facts.now (length c.args.facts.now -
 pub loop-place-preserved : goal.loop-place-preserved
 loop-place-preserved c =
     one_in_front goes_first strict_goes_first c.args.facts.now c.loop-place.place c.index-facts-place.result c.index-facts-place-in-loop-place.result
-    c.loop-place-test.true (omega arith) (sym c.precedes.ensures ∙ c.if-not-precedes.false) c.loop-place.invariant
+    c.loop-place-test.true (omega arith) (sym c.precedes.ensures.value ∙ c.if-not-precedes.false) c.loop-place.invariant
 
 pub returns-then-not-precedes : goal.returns-then-not-precedes
 returns-then-not-precedes c = record {
   value = (
     λ no. absurd (false≢true no),
-    λ up. absurd (false≢true (sym c.if-not-precedes.true ∙ c.precedes.ensures
+    λ up. absurd (false≢true (sym c.if-not-precedes.true ∙ c.precedes.ensures.value
         ∙ out_of_order goes_first c.args.facts.now c.loop-place.place c.index-facts-place.result
         c.index-facts-place-in-loop-place.result c.loop-place-test.true (omega arith) up)),
   );
