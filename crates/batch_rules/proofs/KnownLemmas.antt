@@ -1,0 +1,92 @@
+use Rattle.std.proofs.Common.{◌≡◌, ℕ, ◌+◌, ◌<◌, ◌≤◌, Bool, true, ◌&&◌, ◌||◌, nat_le, Option, Some, None, List, [], ◌∷◌, ◌++◌, length, drop, get_or, slice_get}
+use Rattle.std.proofs.Common.{refl, sym, ap, ◌∙◌}
+use Rattle.std.specs.Option.{option_map, option_or, is_some}
+use Rattle.std.proofs.lemmas.List.{drop_more, drop_all}
+use Rattle.std.specs.List.{filter_map, cons_option, list_any}
+use Rattle.ldar_facts.specs.declared.batch.Batch.{Batch}
+use Rattle.list_words.specs.Order.{in_order}
+use Rattle.ldar_facts.specs.Facts.{Entry, goes_first, key_of, entries_from, entries_of}
+use Rattle.ldar_facts.specs.Stated.{Stated}
+use Rattle.ldar_law.specs.BatchLaws.{unretired}
+use Rattle.ldar_law.specs.Equipment.{retires, retired_on, class_at, component_entered, equipment_of, unit_entered, unit_entry_of}
+use Rattle.ldar_law.specs.Force.{has_come}
+use Rattle.ldar_facts.specs.declared.class.Class.{Class}
+use Rattle.ldar_facts.specs.declared.key.Key.{Key}
+use Rattle.ldar_law.specs.DenialLaws.{later_class}
+use Rattle.ldar_law.specs.RegisterLaws.{with_class}
+use Rattle.ldar_law.specs.Judged.{register_with, first_entry}
+use Rattle.ldar_law.proofs.BatchLemmas.{first_entry_of_two, first_unit_of_two, first_entry_is_registered, first_entry_is_equipment}
+use Rattle.ldar_law.proofs.RegisterLemmas.{retired_after_facts}
+use Rattle.ldar_law.proofs.SliceLemmas.{register_facts_suffice}
+use Rattle.batch_rules.specs.Known.{entered_among, unit_among, retired_among}
+
+-- what the facts of a batch give, with their keys and without
+pub given_among : {X : Type 0} (f : Entry → Option X) (g : Stated → Option X) (batch : Batch)
+    → ((index : ℕ) (fact : Stated) → f (key_of batch index fact, fact) ≡ g fact)
+    → (index : ℕ) (facts : List Stated) → filter_map f (entries_from batch index facts) ≡ filter_map g facts
+given_among f g batch same index [] = refl
+given_among f g batch same index (fact ∷ facts) = rw (same index fact, given_among f g batch same (index + 1) facts) refl
+
+pub any_among : (p : Entry → Bool) (q : Stated → Bool) (batch : Batch) → ((index : ℕ) (fact : Stated) → p (key_of batch index fact, fact) ≡ q fact)
+    → (index : ℕ) (facts : List Stated) → list_any p (entries_from batch index facts) ≡ list_any q facts
+any_among p q batch same index [] = refl
+any_among p q batch same index (fact ∷ facts) = rw (same index fact, any_among p q batch same (index + 1) facts) refl
+
+some_first : {X : Type 0} (o : Option X) (xs : List X) → is_some o ≡ true → slice_get (cons_option o xs) 0 ≡ o
+some_first None xs some = absurd cc
+some_first (Some x) xs some = refl
+
+-- what the fact at a place gives, if it gives something, is the first from there on
+pub first_from_here : {X : Type 0} (f : Stated → Option X) (facts : List Stated) (i : ℕ) (fact : Stated) → i < length facts
+    → fact ≡ get_or facts i fact → is_some (f fact) ≡ true → slice_get (filter_map f (drop i facts)) 0 ≡ f fact
+first_from_here f facts i fact within is some =
+    rw (drop_more facts i fact within, sym is) (some_first (f fact) (filter_map f (drop (i + 1) facts)) some)
+
+-- no fact is left
+pub none_from_here : {X : Type 0} (f : Stated → Option X) (facts : List Stated) (i : ℕ) → length facts ≤ i
+    → slice_get (filter_map f (drop i facts)) 0 ≡ None
+none_from_here f facts i past = rw (drop_all i facts past) refl
+
+-- ---- the register with some facts of a batch
+
+module _ (held : List Entry) (batch : Batch) where
+  -- a component is as the register has it, or else as the batch enters it
+  pub known_component : (number : ℕ) → first_entry number (register_with held (entries_of batch)).entered
+      ≡ option_or (option_map unretired (equipment_of number held)) (entered_among number batch.facts)
+  unfolding register_with
+  known_component number =
+      first_entry_is_registered number (held ++ entries_of batch)
+      ∙ first_entry_of_two number held (entries_of batch)
+      ∙ ap (λ o. option_or o (first_entry number (entries_of batch))) (sym (first_entry_is_equipment number held))
+      ∙ ap (λ given. option_or (option_map unretired (equipment_of number held)) (slice_get given 0))
+      (given_among (λ e. component_entered number None e.0.day e.1.body) (λ f. component_entered number None f.day f.body) batch (λ i f. refl) 0 batch.facts)
+
+  pub known_unit : (number : ℕ) → unit_entry_of number (register_with held (entries_of batch)).entered
+      ≡ option_or (unit_entry_of number held) (unit_among number batch.facts)
+  unfolding register_with
+  known_unit number =
+      (register_facts_suffice number (held ++ entries_of batch)).1.entry
+      ∙ first_unit_of_two number held (entries_of batch)
+      ∙ ap (λ given. option_or (unit_entry_of number held) (slice_get given 0))
+      (given_among (λ e. unit_entered number e.0.day e.1.body) (λ f. unit_entered number f.day f.body) batch (λ i f. refl) 0 batch.facts)
+
+-- a component is retired where it was, or where the batch retires it
+pub known_retired : (arrived : List Entry) (batch : Batch) (number day : ℕ)
+    → has_come (retired_on number (register_with (in_order goes_first arrived) (entries_of batch)).in_order) day
+    ≡ (has_come (retired_on number (in_order goes_first arrived)) day || retired_among number day batch.facts)
+known_retired arrived batch number day =
+    retired_after_facts number day arrived (entries_of batch)
+    ∙ ap (λ b. has_come (retired_on number (in_order goes_first arrived)) day || b)
+    (any_among (λ e. retires number e.1.body && nat_le e.0.day day) (λ f. retires number f.body && nat_le f.day day) batch (λ i f. refl) 0 batch.facts)
+
+-- the class after the facts of a batch from a place on, by that at the place and those behind it
+pub later_from : (batch : Batch) (number day i : ℕ) (facts : List Stated) (fact : Stated) (latest : Option (Key × Class)) → i < length facts
+    → fact ≡ get_or facts i fact
+    → later_class number day (entries_from batch i (drop i facts)) latest
+    ≡ later_class number day (entries_from batch (i + 1) (drop (i + 1) facts)) (with_class day (class_at number (key_of batch i fact, fact)) latest)
+later_from batch number day i facts fact latest within is = rw (drop_more facts i fact within, sym is) refl
+
+-- .. and where none is left
+pub later_past : (batch : Batch) (number day i : ℕ) (facts : List Stated) (latest : Option (Key × Class)) → length facts ≤ i
+    → later_class number day (entries_from batch i (drop i facts)) latest ≡ latest
+later_past batch number day i facts latest past = rw (drop_all i facts past) refl

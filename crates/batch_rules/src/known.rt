@@ -1,0 +1,170 @@
+ghost use Rattle.std.specs.Prelude.{◌≡◌, ◌<◌, ◌≤◌, ◌^◌, Some, length};
+ghost use Rattle.list_words.specs.Order as order;
+ghost use Rattle.ldar_law.specs.RegisterLaws.{class_first, with_class};
+ghost use Rattle.ldar_law.specs.Equipment as law;
+ghost use Rattle.ldar_law.specs.Force as force;
+ghost use Rattle.ldar_law.specs.Judged as judged;
+ghost use Rattle.batch_rules.specs.Known.{entered_among, unit_among, retired_among, register_at};
+
+use component_register::{Register, component_entered, retires, unit_entered};
+use ldar_days::Day;
+use ldar_facts::{Class, Fact, FactBody, Key, precedes};
+use ldar_law::{Equipment, UnitEntry};
+
+/// What is known where a fact of a batch is judged: the register, and the facts of the batch that came before.
+#[derive(Clone, Copy)]
+pub struct Known<'a> {
+    pub register: &'a Register,
+    pub handheld: u16,
+    pub number: u32,
+    /// The facts of the batch that came.
+    pub front: &'a [Fact],
+}
+
+/// The component as the first of some facts enters it.
+fn first_component(facts: &[Fact], component: u16) -> Option<Equipment>
+    ensures value { result ≡ entered_among component facts.now }
+{
+    for fact in facts {
+        let item = component_entered(component, &None, fact.day, &fact.body);
+        if item.is_some() {
+            return item;
+        }
+    }
+    None
+}
+
+/// The process unit as the first of some facts enters it.
+fn first_unit(facts: &[Fact], unit: u8) -> Option<UnitEntry>
+    ensures value { result ≡ unit_among unit facts.now }
+{
+    for fact in facts {
+        let entry = unit_entered(unit, fact.day, &fact.body);
+        if entry.is_some() {
+            return entry;
+        }
+    }
+    None
+}
+
+/// Whether one of some facts retires the component by a day.
+fn is_retired_among(facts: &[Fact], component: u16, day: Day) -> bool
+    ensures value { result ≡ retired_among component day facts.now }
+{
+    facts
+        .iter()
+        .any(|fact| retires(component, &fact.body) && fact.day <= day)
+}
+
+/// The key of a fact of a batch, by its place there from 0.
+fn key_at(handheld: u16, number: u32, index: usize, fact: &Fact) -> Key
+    requires { index < 2 ^ 16 }
+    ensures value { result ≡ record { day = fact.now.day; minute = fact.now.minute; handheld = handheld; number = number; index = index } }
+{
+    Key {
+        day: fact.day,
+        minute: fact.minute,
+        handheld,
+        number,
+        index: index as u16,
+    }
+}
+
+/// The class that a fact enters for the component by a day, or the one before, whichever has the later key; the new one
+/// where the keys tie.
+fn later_class(
+    latest: Option<(Key, Class)>,
+    component: u16,
+    day: Day,
+    key: Key,
+    fact: &Fact,
+) -> Option<(Key, Class)>
+    ensures value { result ≡ with_class day (law.class_at component (key, fact.now)) latest }
+{
+    match entered_class(component, &fact.body) {
+        Some(class) if key.day <= day => Some(later_of(latest, key, class)),
+        _ => latest,
+    }
+}
+
+/// The class that a fact enters for the component, if it does.
+fn entered_class(number: u16, body: &FactBody) -> Option<Class>
+    ensures value { result ≡ law.class_entered number body.now }
+{
+    match *body {
+        FactBody::Class { component, class } => {
+            if component == number {
+                Some(class)
+            } else {
+                None
+            }
+        }
+        _ => None,
+    }
+}
+
+/// The later of two classes by their keys, and the second where they tie or there is no first.
+fn later_of(latest: Option<(Key, Class)>, key: Key, class: Class) -> (Key, Class)
+    ensures value { Some result ≡ order.later_of class_first (key, class) latest }
+{
+    match latest {
+        Some(old) if precedes(&key, &old.0) => old,
+        _ => (key, class),
+    }
+}
+
+impl Known<'_> {
+    /// The component as it was entered first, with no retirement.
+    pub fn component(&self, component: u16) -> Option<Equipment>
+        ensures value { result ≡ judged.first_entry component (register_at self.now).entered }
+    {
+        match self.register.component(component) {
+            Some(item) => Some(Equipment {
+                retired: None,
+                ..item
+            }),
+            None => first_component(self.front, component),
+        }
+    }
+
+    /// The process unit as it was entered first.
+    pub fn unit(&self, unit: u8) -> Option<UnitEntry>
+        ensures value { result ≡ law.unit_entry_of unit (register_at self.now).entered }
+    {
+        match self.register.unit(unit) {
+            Some(entry) => Some(entry),
+            None => first_unit(self.front, unit),
+        }
+    }
+
+    /// The last class that was entered for the component by a day, with its key.
+    pub fn class_by(&self, component: u16, day: Day) -> Option<(Key, Class)>
+        requires few { length self.now.front.now ≤ 512 }
+        ensures value { result ≡ force.class_by day (law.classes_of component (register_at self.now).in_order) }
+    {
+        let mut latest = self.register.class_entry(component, day);
+        for (index, fact) in self.front.iter().enumerate() {
+            let key = key_at(self.handheld, self.number, index, fact);
+            latest = later_class(latest, component, day, key, fact);
+        }
+        latest
+    }
+
+    /// Whether the component is out of service on a day.
+    pub fn is_retired(&self, component: u16, day: Day) -> bool
+        ensures value { result ≡ force.has_come (law.retired_on component (register_at self.now).in_order) day }
+    {
+        has_come(self.register.retired_on(component), day)
+            || is_retired_among(self.front, component, day)
+    }
+}
+
+/// Whether a day, if there is one, has come.
+fn has_come(first: Option<Day>, day: Day) -> bool
+    ensures value { result ≡ force.has_come first day }
+{
+    match first {
+        Some(first) => first <= day,
+        None => false,
+    }
+}
