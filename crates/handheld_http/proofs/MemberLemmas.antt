@@ -1,5 +1,5 @@
 -- Keys of an object, and words of a table, as the code has them.
-use Rattle.std.proofs.Common.{◌≡◌, ℕ, ◌+◌, Bool, cond, List, [], ◌∷◌, ◌||◌, map, refl, ap, Option, Some, None, String, string_bytes, not}
+use Rattle.std.proofs.Common.{◌≡◌, ℕ, ◌+◌, Bool, cond, List, [], ◌∷◌, map, refl, ap, String, string_bytes, not}
 use Rattle.std.proofs.lemmas.List.{length-map}
 use Rattle.std.specs.List.{position, prefix_len}
 use Rattle.std.specs.declared.alloc.Global.{Global}

@@ -1,5 +1,5 @@
 -- What a JSON object says of a fact, by the table of keys: a kind's own keys stand with those of every fact, in any order.
-use Rattle.std.specs.Prelude.{ℕ, Bool, ◌==◌, List, [], ◌∷◌, codes, Option, Some, None, option_and_then, option_map, is_none, if◌then◌else◌}
+use Rattle.std.specs.Prelude.{ℕ, ◌==◌, List, [], ◌∷◌, codes, Option, Some, None, option_map, is_none, if◌then◌else◌}
 use Rattle.serde_json.specs.Data.{Data}
 use Rattle.serde_json.specs.Find.{get, at}
 use Rattle.ldar_facts.specs.declared.class.Class.{Class}

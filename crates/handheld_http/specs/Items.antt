@@ -2,7 +2,7 @@
 use Rattle.std.specs.Prelude.{◌≡◌, ℕ, ◌+◌, ◌≤◌, ◌↔◌, Bool, true, List, [], ◌++◌, length, take, IsTrue}
 use Rattle.handheld_http.specs.Cuts.{BeginsRequest, Refuses, IsCut}
 use Rattle.handheld_http.specs.declared.outcome.Cut.{Cut}
-use Rattle.handheld_http.specs.declared.outcome.Cut.TheVariants.{Whole, More, Refused}
+use Rattle.handheld_http.specs.declared.outcome.Cut.TheVariants.{Whole, More}
 
 -- the bytes are one request, behind which the connection is closed or not
 pub record IsWhole (bytes : List ℕ) (closing : Bool) : Type 0 where
