@@ -152,7 +152,7 @@ have_rows naming facts old new same rows =
 
 module _ {Z : Type 0} (kept : Kept) (key : Key) (fact : Stated) (body : FactBody) (stated : body ≡ fact.body)
     (next : slice_get kept.spare 0 ≡ Some fact) (new_key : is_held key kept.arrived ≡ false) (first : IsFirstOfNumber fact.body (facts_in kept))
-        (few : length kept.arrived < 8_000_000) where
+    (few : length kept.arrived < 8_000_000) where
   pub sound_more : (slots new_slots : List Slot) (units new_units : List (Option UnitEntry)) (classes new_classes : List (Vec (Key × Class) Z))
       (rosters new_rosters : List (Vec ℕ Z))
       → IsSound kept slots units classes rosters → TakesEntry key.day body slots new_slots → TakesUnit key.day body units new_units
@@ -219,9 +219,13 @@ module _ {Z : Type 0} (kept : Kept) (slots : List Slot) (units : List (Option Un
   pub members_few : length (members_of number (facts_in kept)) ≤ 8_000_000
   members_few =
       let given = filter_map (λ e. member_entered number e.1.body) (facts_in kept) in
-      omega (arith, sound.few, filter_map_no_longer (λ e. member_entered number e.1.body) (facts_in kept),
-          length_permutation kept.arrived (facts_in kept) (in_order_permutes goes_first kept.arrived),
-          length_permutation given (members_of number (facts_in kept)) (in_order_permutes nat_lt given))
+      omega (
+        arith,
+        sound.few,
+        filter_map_no_longer (λ e. member_entered number e.1.body) (facts_in kept),
+        length_permutation kept.arrived (facts_in kept) (in_order_permutes goes_first kept.arrived),
+        length_permutation given (members_of number (facts_in kept)) (in_order_permutes nat_lt given),
+      )
 
 -- ---- room for other facts
 
@@ -242,7 +246,8 @@ module _ {Z : Type 0} (kept : Kept) (slots : List Slot) (units : List (Option Un
   pub sound_slots : (new : List Slot) → OnlyAdds no_slot slots new → IsSound kept new units classes rosters
   sound_slots new adds =
       record {
-        apart = sound.apart; few = sound.few;
+        apart = sound.apart;
+        few = sound.few;
         once = sound.once;
         holds = record { slot = λ n. adds.rows n ∙ sound.holds.slot n; unit = sound.holds.unit; listed = sound.holds.listed; members = sound.holds.members };
         slot_room = have_rows component_of kept.spare slots new adds.grows sound.slot_room;
@@ -254,7 +259,8 @@ module _ {Z : Type 0} (kept : Kept) (slots : List Slot) (units : List (Option Un
   pub sound_units : (new : List (Option UnitEntry)) → OnlyAdds None units new → IsSound kept slots new classes rosters
   sound_units new adds =
       record {
-        apart = sound.apart; few = sound.few;
+        apart = sound.apart;
+        few = sound.few;
         once = sound.once;
         holds = record { slot = sound.holds.slot; unit = λ n. adds.rows n ∙ sound.holds.unit n; listed = sound.holds.listed; members = sound.holds.members };
         slot_room = sound.slot_room;
@@ -266,7 +272,8 @@ module _ {Z : Type 0} (kept : Kept) (slots : List Slot) (units : List (Option Un
   pub sound_classes : (new : List (Vec (Key × Class) Z)) → OnlyGrow classes new → IsSound kept slots units new rosters
   sound_classes new grows =
       record {
-        apart = sound.apart; few = sound.few;
+        apart = sound.apart;
+        few = sound.few;
         once = sound.once;
         holds = record { slot = sound.holds.slot; unit = sound.holds.unit; listed = λ n. grows.items n ∙ sound.holds.listed n; members = sound.holds.members };
         slot_room = sound.slot_room;
@@ -278,7 +285,8 @@ module _ {Z : Type 0} (kept : Kept) (slots : List Slot) (units : List (Option Un
   pub sound_rosters : (new : List (Vec ℕ Z)) → OnlyGrow rosters new → IsSound kept slots units classes new
   sound_rosters new grows =
       record {
-        apart = sound.apart; few = sound.few;
+        apart = sound.apart;
+        few = sound.few;
         once = sound.once;
         holds = record { slot = sound.holds.slot; unit = sound.holds.unit; listed = sound.holds.listed; members = λ n. grows.items n ∙ sound.holds.members n };
         slot_room = sound.slot_room;
@@ -291,7 +299,8 @@ module _ {Z : Type 0} (kept : Kept) (slots : List Slot) (units : List (Option Un
       → HasRoomFor class_named facts classes → HasRoomFor unit_joined facts rosters → IsSound (record kept { spare = facts }) slots units classes rosters
   sound_spare facts slot_room unit_room class_room member_room =
       record {
-        apart = sound.apart; few = sound.few;
+        apart = sound.apart;
+        few = sound.few;
         once = sound.once;
         holds = sound.holds;
         slot_room = slot_room;

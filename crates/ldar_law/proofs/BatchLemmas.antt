@@ -42,7 +42,7 @@ pub first_entry_is_registered : FirstEntryIsRegistered
 first_entry_is_registered number facts =
     ap (λ given. slice_get given 0)
     (filter_map_narrowed (λ e. component_entered number None e.0.day e.1.body) (λ e. is_registered e.1.body)
-        (λ e out. (unregistered_component number e.1.body out).no_component None e.0.day) facts)
+    (λ e out. (unregistered_component number e.1.body out).no_component None e.0.day) facts)
 
 -- ---- a component with its retirement
 
@@ -64,7 +64,7 @@ mapped_first g f h same [] = refl
 mapped_first g f h same (e ∷ es) =
     rw (same e)
     (elim (f e) as (λ o. slice_get (cons_option (option_map g o) (filter_map h es)) 0
-        ≡ option_map g (slice_get (cons_option o (filter_map f es)) 0)) [
+    ≡ option_map g (slice_get (cons_option o (filter_map f es)) 0)) [
       | None ↦ mapped_first g f h same es
       | Some x ↦ refl
     ])
@@ -85,7 +85,7 @@ first_entry_is_equipment number facts =
     ap (option_map unretired) (equipment_is number facts)
     ∙ taken_off (retired_on number facts) (first_entry number facts)
     ∙ sym (mapped_first unretired (λ e. component_entered number None e.0.day e.1.body) (λ e. component_entered number None e.0.day e.1.body)
-        (λ e. entered_so number None e.0.day e.1.body) facts)
+    (λ e. entered_so number None e.0.day e.1.body) facts)
 
 -- ---- one batch more
 

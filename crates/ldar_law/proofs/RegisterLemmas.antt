@@ -139,7 +139,7 @@ one_more_class : (number day : ℕ) (entry : Entry) (facts : List Entry) → InO
     → class_by day (classes_of number (put_in_order goes_first entry facts)) ≡ with_class day (class_at number entry) (class_by day (classes_of number facts))
 one_more_class number day entry facts o =
     elim (class_at number entry) as (λ g. class_at number entry ≡ g → class_by day (classes_of number (put_in_order goes_first entry facts))
-        ≡ with_class day g (class_by day (classes_of number facts))) [
+    ≡ with_class day g (class_by day (classes_of number facts))) [
       | None ↦ λ is. ap (class_by day) (given-put_none (class_at number) (class_keyed number) entry is facts)
       | Some new ↦ λ is. ap (class_by day) (given-put_some (class_at number) (class_keyed number) entry new is facts o)
           ∙ last_such-put class_first (weak_earlier (λ z. z.0)) (λ entered. nat_le entered.0.day day) new (classes_of number facts)

@@ -40,8 +40,7 @@ no_entry number day _ e = refl
 entry_there : (number day : ℕ) (body : FactBody) → number_entered body ≡ Some number
     → (item : Equipment) × (component_entered number None day body ≡ Some item) × (item.component ≡ number)
 entry_there number day (ComponentFact other unit kind monomer replaces class) e =
-    let same : other ≡ number = cc in
-    (
+    let same : other ≡ number = cc in (
       record { component = number; unit = unit; kind = kind; monomer = monomer; replaces = replaces; begin = day; retired = None; class = class },
       rw (eq-eqb other number same) refl,
       refl,
@@ -141,7 +140,7 @@ find_once number front (e ∷ es) =
             let there = entry_there number e.0.day e.1.body (some.1 ∙ ap Some same) in
             let first : entered_first front e ≡ cond (is_none (first_entry number front)) (Some there.0) None =
             subst (λ m. entered_first front e ≡ cond (is_none (first_entry m front)) (component_entered m None e.0.day e.1.body) None) same
-                (first_some front e some.0 some.1)
+            (first_some front e some.0 some.1)
             ∙ ap (λ o. cond (is_none (first_entry number front)) o None) there.1 in
             elim (cases_Bool (is_none (first_entry number front))) [
               | inl new ↦ rw (first, new, first_entry-cons_some number e es there.0 there.1, eq-eqb there.0.component number there.2) refl
@@ -153,8 +152,8 @@ find_once number front (e ∷ es) =
             let mine = entry_there some.0 e.0.day e.1.body some.1 in
             rw (first_entry-cons_none number e es silent)
             (find_past number (entered_first front e) (once (front ++ e ∷ []) es)
-                (λ item is. entered_other number some.0 mine.0 item (is_none (first_entry some.0 front)) mine.2 other
-                    (sym (first_some front e some.0 some.1 ∙ ap (λ o. cond (is_none (first_entry some.0 front)) o None) mine.1) ∙ is))
+            (λ item is. entered_other number some.0 mine.0 item (is_none (first_entry some.0 front)) mine.2 other
+            (sym (first_some front e some.0 some.1 ∙ ap (λ o. cond (is_none (first_entry some.0 front)) o None) mine.1) ∙ is))
             ∙ rest ∙ rw (pushed, silent, option_or-None) refl)
       ]
     ]
@@ -325,7 +324,7 @@ module _ (held more : List Entry) (e : Entry) where
         retired_registered number (put_each goes_first (more ++ e ∷ []) held)
         ∙ ap (retired_on number) (put_each-push more held e)
         ∙ ap (λ found. option_map (λ x. x.0.day) found)
-            (find-put_none (λ x. retires number x.1.body) e (unnamed_component number e.1.body other).stays (put_each goes_first more held))
+        (find-put_none (λ x. retires number x.1.body) e (unnamed_component number e.1.body other).stays (put_each goes_first more held))
         ∙ sym (retired_registered number (put_each goes_first more held))
 
     classes_same : classes_of number after.in_order ≡ classes_of number before.in_order
@@ -387,12 +386,12 @@ module _ (test : Register → Equipment → Bool) (local : IsLocal test) (held m
             let items = components_once old in
             let found : find_item number items ≡ first_entry number old.entered = find_once number [] old.entered in
             let change = count_change (test old) (test new) number
-                (λ item differ. let other = numbered_other (component_of e.1.body) number item.component named differ in
-                    local old new item (retired_same held more e item.component other) (classes_same held more e item.component other))
-                items (apart_once [] old.entered) in
+            (λ item differ. let other = numbered_other (component_of e.1.body) number item.component named differ in
+            local old new item (retired_same held more e item.component other) (classes_same held more e item.component other))
+            items (apart_once [] old.entered) in
             let counts = count_after entered in
             let adds_new : adds test new number ≡ counted (test new)
-                (option_or (first_entry number old.entered) (component_entered number None e.0.day e.1.body)) =
+            (option_or (first_entry number old.entered) (component_entered number None e.0.day e.1.body)) =
             ap (counted (test new)) (entered_after entered number) in
             elim (cases_Option (first_entry number old.entered)) [
               | inr some ↦
@@ -400,13 +399,13 @@ module _ (test : Register → Equipment → Bool) (local : IsLocal test) (held m
                   let c : count_in test new ≡ count_by (test new) items + 0 = rw known at counts in
                   let a : adds test new number ≡ counted (test new) (Some some.0) = rw some.1 at adds_new in
                   let d : count_by (test new) items + counted (test old) (Some some.0) ≡ count_by (test old) items + counted (test new) (Some some.0) = rw
-                      (found, some.1) at change in
+                  (found, some.1) at change in
                   let b : adds test old number ≡ counted (test old) (Some some.0) = ap (counted (test old)) some.1 in
                   omega (arith, c, a, d, b)
               | inl none ↦
                   let fresh : entered_first old.entered e ≡ component_entered number None e.0.day e.1.body = entered_fresh old.entered e number named none in
                   let c : count_in test new ≡ count_by (test new) items + counted (test new)
-                      (component_entered number None e.0.day e.1.body) = rw fresh at counts in
+                  (component_entered number None e.0.day e.1.body) = rw fresh at counts in
                   let a : adds test new number ≡ counted (test new) (component_entered number None e.0.day e.1.body) = rw none at adds_new in
                   let d : count_by (test new) items + 0 ≡ count_by (test old) items + 0 = rw (found, none) at change in
                   let b : adds test old number ≡ 0 = ap (counted (test old)) none in
@@ -424,9 +423,9 @@ module _ (test : Register → Equipment → Bool) (local : IsLocal test) (held m
             let none : entered_first old.entered e ≡ None = first_none old.entered e (unnamed_enters_none e.1.body unnamed) in
             let c : count_in test new ≡ count_by (test new) (components_once old) + 0 = rw none at (count_after entered) in
             let d = count_agree (test old) (test new)
-                (λ item. let other : is_numbered (component_of e.1.body) item.component ≡ false = rw unnamed refl in
-                    local old new item (retired_same held more e item.component other) (classes_same held more e item.component other))
-                (components_once old) in
+            (λ item. let other : is_numbered (component_of e.1.body) item.component ≡ false = rw unnamed refl in
+            local old new item (retired_same held more e item.component other) (classes_same held more e item.component other))
+            (components_once old) in
             omega (arith, c, d)
       ]
 
@@ -602,8 +601,8 @@ members_add test unit other_unit held few =
     let all = register_facts (held ++ []) in
     let facts : all ≡ register_facts held = ap register_facts (append-nil held) in
     let fewer : (number : ℕ) → count_by (λ e. enters_component number e.1.body) all ≤ 1 = λ number.
-        subst (λ es. count_by (λ e. enters_component number e.1.body) es ≤ 1) (sym facts)
-        (omega (arith, few number, count_filtered (λ e. enters_component number e.1.body) (λ e. is_registered e.1.body) held)) in
+    subst (λ es. count_by (λ e. enters_component number e.1.body) es ≤ 1) (sym facts)
+    (omega (arith, few number, count_filtered (λ e. enters_component number e.1.body) (λ e. is_registered e.1.body) held)) in
     members_from (test register) unit (other_unit register) all fewer [] all refl
     ∙ sym (sum-in_order (adds test register) (filter_map (λ e. member_entered unit e.1.body) all))
     ∙ ap (λ es. sum_by (adds test register) (members_of unit es)) facts

@@ -137,9 +137,10 @@ pub record LeavesState (state : State) (turn : Turn) (next : State) : Type 0 whe
 -- a turn but a fault, from what was found on
 abbrev pub GoesOn : State → Turn → State → Type 0
 GoesOn state turn next = elim turn.reply [
-  Fault ↦ ⊥
+  | Fault ↦ ⊥
   | Memory ↦ IsWanting state turn next
-  | _ ↦ IsAnswered state turn next ]
+  | _ ↦ IsAnswered state turn next
+]
 
 -- a turn but a fault
 pub record Step (state : State) (turn : Turn) (next : State) : Type 0 where
@@ -152,8 +153,9 @@ pub record Step (state : State) (turn : Turn) (next : State) : Type 0 where
 abbrev pub batches_added : List Batch → List Turn → List Batch
 batches_added history [] = []
 batches_added history (turn ∷ turns) = elim (batch_added history turn.request) [
-  None ↦ batches_added history turns
-  | Some batch ↦ batch ∷ batches_added (history ++ batch ∷ []) turns ]
+  | None ↦ batches_added history turns
+  | Some batch ↦ batch ∷ batches_added (history ++ batch ∷ []) turns
+]
 
 -- a fault that leaves in doubt the batches that this turn and those behind it add: they were written as one
 pub record LeavesDoubt (state : State) (turn : Turn) (turns : List Turn) (next : State) : Type 0 where
@@ -174,8 +176,9 @@ pub record BreaksOff (state : State) (turn : Turn) (turns : List Turn) (next : S
 abbrev pub Steps : State → List Turn → State → Type 0
 Steps state [] next = next ≡ state
 Steps state (turn ∷ turns) next = elim turn.reply [
-  Fault ↦ BreaksOff state turn turns next
-  | _ ↦ (between : State) × Step state turn between × Steps between turns next ]
+  | Fault ↦ BreaksOff state turn turns next
+  | _ ↦ (between : State) × Step state turn between × Steps between turns next
+]
 
 -- ---- runs
 

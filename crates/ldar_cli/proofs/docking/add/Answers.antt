@@ -64,7 +64,7 @@ returns-in-Err-clause-after_fault g c =
     let same : batches_of c.append.new.self.frames ≡ c.args.accepted.now = ap batches_of c.in-Err.ensures.not_added ∙ c.requires.same in (
       record { is_new = c.requires.is_new; fits = fits },
       torn (g.D.Disk.content c.args.journal.now.disk) (g.D.Disk.content c.append.new.self.disk) c.append.new.self.frames c.args.accepted.now doubt c.args.batch
-          c.requires.opens c.in-Err.ensures.grows c.in-Err.ensures.opens same 
-              (which c.in-Err.field-0.gate doubt c.in_ok-frame.frame (c.args.batch ∷ []) frame (cases_Bool c.in-Err.field-0.gate)
-              (λ shut. c.in-Err.ensures.gate_shut (ap torn_by shut)) (λ open_gate. c.in-Err.ensures.in_doubt (ap torn_by open_gate))),
+          c.requires.opens c.in-Err.ensures.grows c.in-Err.ensures.opens same
+          (which c.in-Err.field-0.gate doubt c.in_ok-frame.frame (c.args.batch ∷ []) frame (cases_Bool c.in-Err.field-0.gate)
+          (λ shut. c.in-Err.ensures.gate_shut (ap torn_by shut)) (λ open_gate. c.in-Err.ensures.in_doubt (ap torn_by open_gate))),
     )
