@@ -180,32 +180,32 @@ unfolding duties_of
 duties_stand_in_order item classes startup events skipped day begins by_key =
     let in_order : Ascends (λ a b. nat_le a.key.day b.key.day) events =
     ascends_implied (λ a b. is_earlier a.key b.key) (λ a b. nat_le a.key.day b.key.day)
-        (λ a b h. le-leb a.key.day b.key.day (earlier_day a.key b.key h)) events by_key in
+    (λ a b h. le-leb a.key.day b.key.day (earlier_day a.key b.key h)) events by_key in
     let low : 23_640 ≤ month_of item.begin + 1 = omega (arith, month_of-month item.begin begins) in
     let is_day : IsDay (end_by (item.begin + 30)) = (omega (arith, begins), omega arith) in
     let year : 1_970 ≤ month_of (end_by (item.begin + 30)) / 12 = omega (arith, month_of-month (end_by (item.begin + 30)) is_day) in
     (joined 1 _ _ _ (block_one 1 _ _ (first_form item classes startup events skipped day))
     (joined 2 _ _ _
-        (block_until 2 23_640 (monthly item classes startup events skipped day) last_day months_grow
-            (monthly_form item classes startup events skipped day) _ _ low)
+    (block_until 2 23_640 (monthly item classes startup events skipped day) last_day months_grow
+    (monthly_form item classes startup events skipped day) _ _ low)
     (joined 3 _ _ _
-        (block_until 3 23_640 (quarterly item classes startup events skipped day) last_day months_grow
-            (quarterly_form item classes startup events skipped day) _ _ low)
+    (block_until 3 23_640 (quarterly item classes startup events skipped day) last_day months_grow
+    (quarterly_form item classes startup events skipped day) _ _ low)
     (joined 4 _ _ _
-        (block_until 4 1_970 (yearly item classes startup events skipped day) (λ n. last_day (12 * n + 11)) years_grow
-            (yearly_form item classes startup events skipped day) _ _ year)
+    (block_until 4 1_970 (yearly item classes startup events skipped day) (λ n. last_day (12 * n + 11)) years_grow
+    (yearly_form item classes startup events skipped day) _ _ year)
     (joined 5 _ _ _
-        (block_until 5 23_640 (planned item classes startup events skipped day) (λ n. end_by (last_day n)) ends_grow
-            (planned_form item classes startup events skipped day) _ _ low)
+    (block_until 5 23_640 (planned item classes startup events skipped day) (λ n. end_by (last_day n)) ends_grow
+    (planned_form item classes startup events skipped day) _ _ low)
     (joined 6 _ _ _
-        (block_until 6 0 (weekly item classes startup events skipped day) week_last weeks_grow
-            (weekly_form item classes startup events skipped day) _ _ (omega arith))
+    (block_until 6 0 (weekly item classes startup events skipped day) week_last weeks_grow
+    (weekly_form item classes startup events skipped day) _ _ (omega arith))
     (joined 7 _ _ _
-        (block_events 7 (drip item classes startup events skipped day)
-            (drip_form item classes startup events skipped day) [] events 0 in_order (any_day events))
+    (block_events 7 (drip item classes startup events skipped day)
+    (drip_form item classes startup events skipped day) [] events 0 in_order (any_day events))
     (joined 8 _ _ _
-        (block_events 8 (release item classes startup events skipped day)
-            (release_form item classes startup events skipped day) [] events 0 in_order (any_day events))
+    (block_events 8 (release item classes startup events skipped day)
+    (release_form item classes startup events skipped day) [] events 0 in_order (any_day events))
     (last_block 9 _ _
-        (block_events 9 (evidence item classes startup events skipped day)
-            (evidence_form item classes startup events skipped day) [] events 0 in_order (any_day events))))))))))).0
+    (block_events 9 (evidence item classes startup events skipped day)
+    (evidence_form item classes startup events skipped day) [] events 0 in_order (any_day events))))))))))).0

@@ -27,8 +27,8 @@ abbrev pub EventDutiesFollowEvents : Type 0
 EventDutiesFollowEvents =
     (item : Equipment) (classes : List (Key × Class)) (startup : ℕ) (events : List Event) (skipped : List Bool) (day : ℕ)
     → (filter (λ d. nat_eq d.cause 7) (duties_of item classes startup events skipped day)
-        ≡ each_where (drip item classes startup events skipped day) events)
+    ≡ each_where (drip item classes startup events skipped day) events)
     × (filter (λ d. nat_eq d.cause 8) (duties_of item classes startup events skipped day)
-        ≡ each_where (release item classes startup events skipped day) events)
+    ≡ each_where (release item classes startup events skipped day) events)
     × (filter (λ d. nat_eq d.cause 9) (duties_of item classes startup events skipped day)
-        ≡ each_where (evidence item classes startup events skipped day) events)
+    ≡ each_where (evidence item classes startup events skipped day) events)
