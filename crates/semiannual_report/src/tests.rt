@@ -1,3 +1,6 @@
+ghost use Rattle.std.specs.Prelude.{◌≤◌, IfOk};
+ghost use Rattle.ldar_law.specs.declared.numbers.TheConstants.{LAST_FACT_DAY};
+
 use crate::{ReportError, has_half_begun, report_of};
 use ldar_days::Day;
 use ldar_facts::{Key, Kind, Name};
@@ -10,11 +13,13 @@ fn day(text: &str) -> Result<Day, Fail> {
 }
 
 /// A process unit that started up on 2020-01-15: quarter 1 begins in April 2020, half 8 in October 2023.
-fn unit() -> Result<UnitEntry, Fail> {
+fn unit() -> Result<UnitEntry, Fail>
+    ensures startup { IfOk result (λ unit. unit.startup ≤ LAST_FACT_DAY) }
+{
     Ok(UnitEntry {
         unit: 1,
         name: Name::new(b"CRUDE").ok_or("name")?,
-        startup: day("2020-01-15")?,
+        startup: Day::at(18_276),
         older: false,
     })
 }
@@ -95,6 +100,11 @@ fn report(
     }
 }
 
+/// Why a half has no report on a day, where it has none.
+fn refusal(rt: &HostRuntime, half: u16, day: Day) -> Result<Option<ReportError>, Fail> {
+    Ok(report_of(rt.alloc(), &unit()?, half, day, &[], &[]).err())
+}
+
 #[test]
 fn components_are_counted_by_month_and_kind(rt: HostRuntime) -> Result<(), Fail> {
     // A valve with two leaks in February and a tag closed a day late; a pump with a leak in October and an open tag; a
@@ -158,29 +168,36 @@ fn components_are_counted_by_month_and_kind(rt: HostRuntime) -> Result<(), Fail>
 fn a_half_has_begun_on_its_first_day(rt: HostRuntime) -> Result<(), Fail> {
     // A half, a day, and the first day that is told where it has not begun.
     let cases = [
-        (0, "2024-03-31", Some("2020-04-01")),
-        (1, "2020-03-31", Some("2020-04-01")),
-        (1, "2020-04-01", None),
-        (8, "2023-10-01", None),
-        (9, "2024-03-31", Some("2024-04-01")),
-        (9, "2024-04-01", None),
-        (160, "2099-12-31", None),
-        (161, "2099-12-31", Some("2099-12-31")),
-        (65_535, "2099-12-31", Some("2099-12-31")),
+        (0, "2024-03-31", "2020-04-01"),
+        (1, "2020-03-31", "2020-04-01"),
+        (9, "2024-03-31", "2024-04-01"),
+        (161, "2099-12-31", "2099-12-31"),
+        (65_535, "2099-12-31", "2099-12-31"),
     ];
     for (half, text, first) in cases {
-        let begun = has_half_begun(unit()?.startup, half, day(text)?);
-        let why = match report_of(rt.alloc(), &unit()?, half, day(text)?, &[], &[]) {
-            Ok(_) => None,
-            Err(ReportError::NoHalf { first }) => Some(first),
-            Err(ReportError::Memory) => return Err(Fail::from("memory")),
-        };
-        let first = match first {
-            Some(text) => Some(day(text)?),
-            None => None,
-        };
-        assert_eq!(rt; why, first, "half {half}");
-        assert_eq!(rt; begun, first.is_none(), "half {half}");
+        let first = day(first)?;
+        assert_eq!(rt;
+            refusal(&rt, half, day(text)?)?,
+            Some(ReportError::NoHalf { first }),
+            "half {half}"
+        );
+        assert!(rt;
+            !has_half_begun(unit()?.startup, half, day(text)?),
+            "half {half}"
+        );
+    }
+    let begun = [
+        (1, "2020-04-01"),
+        (8, "2023-10-01"),
+        (9, "2024-04-01"),
+        (160, "2099-12-31"),
+    ];
+    for (half, text) in begun {
+        assert_eq!(rt; refusal(&rt, half, day(text)?)?, None, "half {half}");
+        assert!(rt;
+            has_half_begun(unit()?.startup, half, day(text)?),
+            "half {half}"
+        );
     }
     Ok(())
 }
