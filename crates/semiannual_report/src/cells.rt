@@ -1,0 +1,107 @@
+ghost use Rattle.std.specs.Prelude.{◌≡◌, ◌≤◌, ◌<◌, ◌+◌, ◌^◌, ◌++◌, ◌&&◌, nat_eq, length, take, drop};
+ghost use Rattle.std.specs.List.{list_any, flat_map};
+ghost use Rattle.list_words.specs.Ranges.{until};
+ghost use Rattle.ldar_law.specs.Reports as law;
+ghost use Rattle.ldar_law.specs.Tags.{is_late};
+ghost use Rattle.semiannual_report.specs.Columns.{is_counted_as};
+
+use ldar_days::Day;
+use ldar_facts::Kind;
+use ldar_law::{MonthCells, Sheet, is_compressor, is_pump, is_valve};
+
+/// Whether a component of this kind is counted in the columns of that kind.
+fn is_counted_as(columns: Kind, kind: Kind) -> bool
+    ensures value { result ≡ is_counted_as columns kind }
+{
+    match columns {
+        Kind::Valve => is_valve(kind),
+        Kind::Pump => is_pump(kind),
+        Kind::Compressor => is_compressor(kind),
+        Kind::Relief => false,
+    }
+}
+
+/// Whether a component had a leak in the month.
+fn has_leak_in(sheet: &Sheet, month: u32) -> bool
+    ensures value { result ≡ list_any (λ leak. nat_eq leak month) sheet.now.leaks }
+{
+    sheet
+        .leaks
+        .as_slice()
+        .iter()
+        .any(|leak| leak.number() == month)
+}
+
+/// Whether a component has a tag that is late on the day, and was due in the month.
+fn has_late_tag_in(sheet: &Sheet, day: Day, month: u32) -> bool
+    ensures value { result ≡ list_any (λ tag. is_late day tag && law.is_date_in month tag.repair_due) sheet.now.tags }
+{
+    sheet
+        .tags
+        .as_slice()
+        .iter()
+        .any(|tag| tag.is_late(day) && tag.repair_due.is_date_in(month))
+}
+
+/// How many components of a kind had a leak in the month.
+fn leaking_in(kind: Kind, sheets: &[Sheet], month: u32) -> usize
+    ensures value { result ≡ law.leaking_in (is_counted_as kind) sheets.now month }
+{
+    sheets
+        .iter()
+        .filter(|sheet| is_counted_as(kind, sheet.kind) && has_leak_in(sheet, month))
+        .count()
+}
+
+/// How many components of a kind have a late tag that was due in the month.
+fn late_in(kind: Kind, day: Day, sheets: &[Sheet], month: u32) -> usize
+    ensures value { result ≡ law.late_in (is_counted_as kind) day sheets.now month }
+{
+    sheets
+        .iter()
+        .filter(|sheet| is_counted_as(kind, sheet.kind) && has_late_tag_in(sheet, day, month))
+        .count()
+}
+
+/// A count as a number of a report.
+fn number_of(count: usize) -> u32
+    ensures value { count < 2 ^ 32 → result ≡ count }
+{
+    u32::try_from(count).unwrap_or(u32::MAX)
+}
+
+/// The six numbers of a month.
+#[tactic(auto, unfolding(ldar_law::specs::Reports::month_cells), using(crate::proofs::PushedLemmas::few_counted))]
+fn month_cells(day: Day, sheets: &[Sheet], month: u32) -> [u32; 6]
+    ensures value { length sheets.now < 2 ^ 32 → result ≡ law.month_cells day sheets.now month }
+{
+    [
+        number_of(leaking_in(Kind::Valve, sheets, month)),
+        number_of(late_in(Kind::Valve, day, sheets, month)),
+        number_of(leaking_in(Kind::Pump, sheets, month)),
+        number_of(late_in(Kind::Pump, day, sheets, month)),
+        number_of(leaking_in(Kind::Compressor, sheets, month)),
+        number_of(late_in(Kind::Compressor, day, sheets, month)),
+    ]
+}
+
+/// The numbers of the six months from one on.
+pub fn half_cells(day: Day, sheets: &[Sheet], first: u32) -> MonthCells
+    requires in_range { first ≤ 25_199 }
+    ensures value { length sheets.now < 2 ^ 32 → result ≡ flat_map (law.month_cells day sheets.now) (until first (first + 6)) }
+{
+    let mut cells = [0; 36];
+    for month in 0..6 {
+        let six = month_cells(day, sheets, first + month as u32);
+        put_six(&mut cells, 6 * month, &six);
+    }
+    MonthCells::new(cells)
+}
+
+/// Puts six numbers at a place.
+fn put_six(cells: &mut [u32], at: usize, six: &[u32; 6])
+    requires within { at + 6 ≤ length cells.old }
+    ensures value { cells.new ≡ take at cells.old ++ six.now ++ drop (at + 6) cells.old }
+{
+    cells[at..at + 6].copy_from_slice(six);
+}

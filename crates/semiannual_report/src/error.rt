@@ -1,0 +1,21 @@
+use ldar_days::Day;
+use ldar_facts::Memory;
+
+/// Why no report was made.
+#[derive(Clone, Copy, Debug, PartialEq, Eq)]
+pub enum ReportError {
+    /// There is no such half, or it begins after the day of the view. Its first day; for half 0, that of half 1.
+    NoHalf { first: Day },
+    Memory,
+}
+
+impl From<Memory> for ReportError {
+    ghost use Rattle.std.specs.Prelude.{◌≡◌};
+    ghost use Rattle.semiannual_report.specs.declared.error.ReportError.TheVariants.{Memory};
+
+    ghost from_gives = { λ _ e. e ≡ Memory };
+
+    fn from(_e: Memory) -> ReportError {
+        ReportError::Memory
+    }
+}

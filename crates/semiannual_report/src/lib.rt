@@ -1,0 +1,15 @@
+//! The semiannual report of a process unit (40 CFR 60.487a(c)): its numbers, its lines, and whether its half has begun.
+#![tactic(auto)]
+
+mod cells;
+mod error;
+mod half;
+mod lines;
+mod reporting;
+
+pub use error::ReportError;
+pub use half::has_half_begun;
+pub use reporting::report_of;
+
+#[cfg(test)]
+mod tests;
