@@ -1,0 +1,9 @@
+pub mod DripLemmas
+pub mod FollowLemmas
+pub mod Listing
+pub mod PastLemmas
+pub mod PeriodLemmas
+pub mod QuarterlyLemmas
+pub mod Ranges
+pub mod Rising
+pub mod WalkLemmas

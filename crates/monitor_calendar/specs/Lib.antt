@@ -1,0 +1,7 @@
+pub mod Behind
+pub mod Causes
+pub mod Covering
+pub mod Dripping
+pub mod Following
+pub mod InOrder
+pub mod Walks
