@@ -1,17 +1,20 @@
 -- The first later event that meets a duty, and the duty of an event.
-use Rattle.std.proofs.Common.{◌≡◌, ℕ, zero, suc, ◌+◌, ◌-◌, ◌<◌, ◌≤◌, Bool, true, false, not, ◌&&◌, ◌||◌, nat_le, cond, Option, Some, None, List, [], ◌∷◌, ◌++◌, length, take, drop, get_or, slice_get, find, refl, sym, ap, ◌∙◌, subst, inl, inr, arith}
+use Rattle.std.proofs.Common.{◌≡◌, ℕ, zero, suc, ◌+◌, ◌-◌, ◌<◌, ◌≤◌, Bool, true, false, not, ◌&&◌, ◌||◌, nat_le, nat_lt, cond, Option, Some, None, List, [], ◌∷◌, ◌++◌, length, take, drop, get_or, slice_get, find, refl, sym, ap, ◌∙◌, subst, inl, inr, arith}
 use Rattle.std.specs.List.{AllByRecursion, cons_option}
-use Rattle.std.proofs.lemmas.Bool.{cases_Bool, cases_lt, and_left, and_right, leb-false, lt-leb}
-use Rattle.std.proofs.lemmas.List.{drop_more, drop_all}
+use Rattle.std.specs.List.Sorted.{IsPartitionPoint}
+use Rattle.std.specs.Option.{option_to_list}
+use Rattle.std.proofs.lemmas.Bool.{cases_Bool, cases_lt, and_left, and_right, leb-false, lt-leb, ltb-true}
+use Rattle.std.proofs.lemmas.List.{drop_more, drop_all, take_more}
 use Rattle.list_words.specs.Order.{Ascends}
 use Rattle.list_words.specs.Words.{each_from, each_where}
 use Rattle.list_words.proofs.Members.{all_weaker}
-use Rattle.list_words.proofs.WordLemmas.{each_more}
+use Rattle.list_words.proofs.WordLemmas.{each_more, each_pushed}
 use Rattle.ldar_days.specs.Calendar.{end_by}
 use Rattle.ldar_facts.specs.Facts.{is_earlier}
 use Rattle.ldar_facts.proofs.Cuts.{earlier_day}
 use Rattle.ldar_law.specs.declared.duty.Duty.{Duty}
 use Rattle.ldar_law.specs.declared.event.Event.{Event}
+use Rattle.ldar_law.specs.declared.event.Happening.TheVariants.{Retire}
 use Rattle.ldar_law.specs.Duties.{drip, release, evidence, is_repeated}
 use Rattle.ldar_law.specs.Force.{is_in_service}
 use Rattle.ldar_law.specs.Happenings.{is_release, has_evidence}
@@ -23,6 +26,7 @@ use Rattle.monitor_calendar.specs.declared.after_event.After.{After}
 use Rattle.monitor_calendar.specs.declared.after_event.After.TheVariants.{Drips, Release, Evidence}
 use Rattle.monitor_calendar.specs.declared.asked.Asked.{Asked}
 use Rattle.monitor_calendar.specs.declared.drips.PastDrips.{PastDrips}
+use Rattle.monitor_calendar.proofs.Listing.{no_drip, no_release, no_evidence}
 
 -- ---- the first that meets
 
@@ -145,3 +149,55 @@ each_passed_over f xs (suc n) d within none =
     each_passed_over f xs n d (omega (arith, within)) (λ i lt. none i (omega (arith, lt)))
     ∙ each_more f xs n d (omega (arith, within))
     ∙ rw (none n (omega arith), next) refl
+
+-- ---- steps of the walk
+
+-- an event, to stand where there is none
+abbrev blank : Event
+blank = record { key = record { day = 0; minute = 0; handheld = 0; number = 0; index = 0 }; what = Retire }
+
+module _ (asked : Asked) (after : After) where
+  -- what was due so long before gives nothing
+  gives_none : (which : After) (before : List Event) (e : Event) (later : List Event) → e.key.day + 5 + 366 < asked.day → after_event asked which before e later ≡ None
+  gives_none Drips before e later gone =
+      no_drip asked.item.now asked.classes.now asked.startup asked.events.now asked.skipped.now asked.day before e later (omega (arith, gone))
+  gives_none Release before e later gone =
+      no_release asked.item.now asked.classes.now asked.startup asked.events.now asked.skipped.now asked.day before e later (omega (arith, gone))
+  gives_none Evidence before e later gone =
+      no_evidence asked.item.now asked.classes.now asked.startup asked.events.now asked.skipped.now asked.day before e later (omega (arith, gone))
+
+  -- the walk may begin at the first event whose duty the list can hold
+  pub begins_at : (from : ℕ) → from ≤ length asked.events.now →
+      IsPartitionPoint (λ e. nat_lt (e.key.day + 5 + 366) asked.day ≡ true) (λ e. nat_lt (e.key.day + 5 + 366) asked.day ≡ false) asked.events.now from →
+      each_from (after_event asked after) (take from asked.events.now) (drop from asked.events.now) ≡ each_where (after_event asked after) asked.events.now
+  begins_at from within parts =
+      sym (each_passed_over (after_event asked after) asked.events.now from blank within
+      (λ i lt. gives_none after (take i asked.events.now) (get_or asked.events.now i blank) (drop (i + 1) asked.events.now)
+      (ltb-true ((get_or asked.events.now i blank).key.day + 5 + 366) asked.day (parts.0 i blank (omega arith) lt))))
+
+  -- an event more
+  pub one_event_on : (past : PastDrips) (place next : ℕ) (e : Event) (done : List Duty) (given : Option Duty) →
+      Ascends (λ a b. is_earlier a.key b.key) asked.events.now → place < length asked.events.now → get_or asked.events.now place e ≡ e →
+      TellsFor after past (take place asked.events.now) → IsNext after asked.events.now (place + 1) next → given ≡ after_by asked after past.repeat e next →
+      (done ++ option_to_list given) ++ each_from (after_event asked after) (take (place + 1) asked.events.now) (drop (place + 1) asked.events.now)
+      ≡ done ++ each_from (after_event asked after) (take place asked.events.now) (drop place asked.events.now)
+  one_event_on past place next e done given up within stands tells is by =
+      let events = asked.events.now in
+      let f = after_event asked after in
+      let same : given ≡ f (take place events) (get_or events place e) (drop (place + 1) events) =
+      by ∙ after_by_is asked after past place next e up tells is ∙ ap (λ x. f (take place events) x (drop (place + 1) events)) (sym stands) in
+      ap (λ o. (done ++ option_to_list o) ++ each_from f (take (place + 1) events) (drop (place + 1) events)) same
+      ∙ each_pushed f done events place e within
+
+  tells_with : (which : After) (past more : PastDrips) (front : List Event) (e : Event) → TellsFor which past front
+      → (TellsOfDrips past front → TellsOfDrips more (front ++ e ∷ [])) → TellsFor which more (front ++ e ∷ [])
+  tells_with Drips past more front e tells goes = goes tells
+  tells_with Release past more front e tells goes = tt
+  tells_with Evidence past more front e tells goes = tt
+
+  pub tells_on : (past more : PastDrips) (events : List Event) (place : ℕ) (e : Event) → place < length events → get_or events place e ≡ e →
+      TellsFor after past (take place events) → ((front : List Event) → TellsOfDrips past front → TellsOfDrips more (front ++ e ∷ [])) →
+      TellsFor after more (take (place + 1) events)
+  tells_on past more events place e within stands tells goes =
+      subst (TellsFor after more) (sym (take_more events place e within ∙ ap (λ x. take place events ++ x ∷ []) stands))
+      (tells_with after past more (take place events) e tells (goes (take place events)))

@@ -1,5 +1,7 @@
+pub mod Cutting
 pub mod DripLemmas
 pub mod FollowLemmas
+pub mod Judging
 pub mod Listing
 pub mod PastLemmas
 pub mod PeriodLemmas

@@ -25,6 +25,17 @@ module _ (item : Equipment) (classes : List (Key × Class)) (startup : ℕ) (eve
   unlisted cause first due owed met gone =
       cond-false _ _ _ (fails (nat_le first t) (nat_le t due) (is_none met) (nat_le t (due + 366)) owed (lt-leb t due (omega (arith, gone))) (lt-leb t (due + 366) gone))
 
+  -- one that is not owed
+  pub unowed : (cause first due : ℕ) (owed : Bool) (met : Option Event) → owed ≡ false → duty item classes startup events skipped t cause first due owed met ≡ None
+  unowed cause first due owed met none =
+      cond-false _ _ _ (and_right (nat_le first t && (nat_le t due || (is_none met && nat_le t (due + 366)))) owed none)
+
+  -- one that has not begun
+  pub not_begun : (cause first due : ℕ) (owed : Bool) (met : Option Event) → t < first → duty item classes startup events skipped t cause first due owed met ≡ None
+  not_begun cause first due owed met ahead =
+      cond-false _ _ _ (and_left (nat_le first t && (nat_le t due || (is_none met && nat_le t (due + 366)))) owed
+      (and_left (nat_le first t) (nat_le t due || (is_none met && nat_le t (due + 366))) (lt-leb first t ahead)))
+
   pub no_monthly : (month : ℕ) → last_day month + 366 < t → monthly item classes startup events skipped t month ≡ None
   unfolding monthly
   no_monthly month gone = unlisted _ _ _ _ _ gone

@@ -1,9 +1,10 @@
 -- The events of a period, as halving finds them.
-use Rattle.std.proofs.Common.{◌≡◌, ℕ, zero, suc, ◌<◌, ◌≤◌, Bool, true, false, not, ◌&&◌, cond, nat_le, nat_lt, Some, List, [], ◌∷◌, length, take, drop, get_or, filter, find, refl, sym, ap, ◌∙◌, inl, inr, arith}
+use Rattle.std.proofs.Common.{◌≡◌, ℕ, zero, suc, ◌<◌, ◌≤◌, Bool, true, false, not, ◌&&◌, cond, nat_le, nat_lt, ◌-◌, Option, Some, None, option_map, List, [], ◌∷◌, length, take, drop, get_or, filter, find, refl, sym, ap, ◌∙◌, inl, inr, arith}
 use Rattle.std.specs.List.Sorted.{IsPartitionPoint}
 use Rattle.std.proofs.lemmas.Bool.{cases_Bool}
 use Rattle.std.proofs.lemmas.Bool.Decides.{nat_tests}
 use Rattle.std.proofs.lemmas.List.Elements.{filter_agree}
+use Rattle.std.proofs.lemmas.List.{take_all, length-drop}
 use Rattle.ldar_law.specs.declared.event.Event.{Event}
 use Rattle.ldar_law.specs.Happenings.{is_from_to}
 
@@ -52,3 +53,12 @@ find_among p q (x ∷ xs) =
       | inl t ↦ elim (cases_Bool (p x)) [ inl s ↦ rw (t, s) refl | inr f ↦ rw (t, f) (find_among p q xs) ]
       | inr f ↦ elim (cases_Bool (p x)) [ inl s ↦ rw (f, s) (find_among p q xs) | inr g ↦ rw (f, g) (find_among p q xs) ]
     ]
+
+-- what is left as it is
+pub same_mapped : {X : Type 0} (o : Option X) → option_map (λ x. x) o ≡ o
+same_mapped None = refl
+same_mapped (Some x) = refl
+
+-- the part of a list from a place to its end
+pub to_end : {X : Type 0} (xs : List X) (n : ℕ) → take (length xs - n) (drop n xs) ≡ drop n xs
+to_end xs n = take_all (length xs - n) (drop n xs) (omega (arith, length-drop n xs))

@@ -1,6 +1,5 @@
 -- Numbers that give nothing are passed over.
-use Rattle.std.proofs.Common.{◌≡◌, ℕ, zero, suc, ◌+◌, ◌-◌, ◌<◌, ◌≤◌, Option, None, List, [], ◌++◌, refl, sym, ap, ◌∙◌, inl, inr, arith}
-use Rattle.std.specs.Prelude.{max}
+use Rattle.std.proofs.Common.{◌≡◌, ℕ, zero, suc, ◌+◌, ◌-◌, ◌<◌, ◌≤◌, Option, None, List, [], ◌++◌, refl, sym, ap, ◌∙◌, subst, inl, inr, arith}
 use Rattle.std.specs.List.{filter_map}
 use Rattle.std.proofs.lemmas.Bool.{cases_lt}
 use Rattle.list_words.specs.Ranges.{until}
@@ -20,12 +19,8 @@ passed_over f low end (suc count) none =
     ]
 
 -- the numbers from one to another, and from a later one where those before it give nothing
-pub from_later : {B : Type 0} (f : ℕ → Option B) (low cut end : ℕ) → ((n : ℕ) → low ≤ n → n < cut → f n ≡ None) →
-    filter_map f (until low end) ≡ filter_map f (until (max low cut) end)
-from_later f low cut end none =
-    elim (cases_lt low cut) [
-      | inl before ↦
-          let at : low + (cut - low) ≡ max low cut = omega arith in
-          rw (← at) (passed_over f low end (cut - low) (λ n from to. none n from (omega (arith, to))))
-      | inr past ↦ let at : max low cut ≡ low = omega arith in rw at refl
-    ]
+pub from_later : {B : Type 0} (f : ℕ → Option B) (low cut end : ℕ) → low ≤ cut → ((n : ℕ) → low ≤ n → n < cut → f n ≡ None) →
+    filter_map f (until cut end) ≡ filter_map f (until low end)
+from_later f low cut end le none =
+    let at : low + (cut - low) ≡ cut = omega arith in
+    sym (subst (λ from. filter_map f (until low end) ≡ filter_map f (until from end)) at (passed_over f low end (cut - low) (λ n from to. none n from (omega (arith, to)))))

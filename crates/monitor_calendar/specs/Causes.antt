@@ -1,9 +1,10 @@
 -- The duties of a component by their causes, as `ldar_law` has them, of what is asked.
-use Rattle.std.specs.Prelude.{ℕ, ◌-◌, ◌%◌, Bool, ◌&&◌, ◌||◌, nat_lt, nat_eq, if◌then◌else◌, Option, List}
+use Rattle.std.specs.Prelude.{ℕ, ◌-◌, ◌%◌, Bool, not, ◌&&◌, ◌||◌, nat_lt, nat_eq, if◌then◌else◌, Option, List}
 use Rattle.ldar_days.specs.Calendar.{month_of}
 use Rattle.ldar_law.specs.declared.duty.Duty.{Duty}
 use Rattle.ldar_law.specs.declared.event.Event.{Event}
 use Rattle.ldar_law.specs.Duties as law
+use Rattle.ldar_law.specs.Months.{month_in_quarter}
 use Rattle.ldar_law.specs.Standing.{are_valve_rules, are_pump_rules, are_compressor_rules, is_none_designated, is_nde_designated, is_unsafe_designated, is_difficult_designated}
 use Rattle.monitor_calendar.specs.declared.asked.Asked.{Asked}
 use Rattle.monitor_calendar.specs.declared.asked.Judged.{Judged}
@@ -16,6 +17,11 @@ is_yearly_judged judged =
     judged.serves
     && ((are_valve_rules judged.regime && is_difficult_designated judged.class.designation)
     || ((are_valve_rules judged.regime || are_pump_rules judged.regime || are_compressor_rules judged.regime) && is_nde_designated judged.class.designation))
+
+-- it is monitored in a month that is a quarterly one or not: a pump, or a valve in a month that is none
+abbrev pub is_monthly_judged : Judged → Bool → Bool
+is_monthly_judged judged is_quarterly =
+    judged.serves && is_none_designated judged.class.designation && (are_pump_rules judged.regime || (are_valve_rules judged.regime && not is_quarterly))
 
 -- it is a pump that is no designated one
 abbrev pub is_plain_pump : Judged → Bool
@@ -41,6 +47,12 @@ module _ (asked : Asked) where
   abbrev pub is_month_skipped : ℕ → Bool
   is_month_skipped month =
       law.is_month_skipped asked.item.now asked.classes.now asked.startup asked.events.now asked.skipped.now asked.day month
+
+  -- where it is so judged, a month that is a quarterly one or not is its month of a quarter that is not skipped
+  abbrev pub is_quarter_month_judged : Judged → ℕ → Bool → Bool
+  is_quarter_month_judged judged month is_quarterly =
+      judged.serves && is_none_designated judged.class.designation && are_valve_rules judged.regime && is_quarterly
+      && nat_eq judged.class.month (month_in_quarter asked.startup month) && not (is_month_skipped month)
 
   -- 3 quarterly, of a month
   abbrev pub quarterly : ℕ → Option Duty

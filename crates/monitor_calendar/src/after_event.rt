@@ -59,6 +59,19 @@ impl After {
         }
         events.len()
     }
+
+    /// The same behind a place, by that from the place on.
+    fn next_after(self, events: &[Event], place: usize, next: usize) -> usize
+        requires place { place < length events.now }
+        requires next { following.IsNext self events.now place next }
+        ensures value { following.IsNext self events.now (place + 1) result }
+    {
+        if next == place {
+            self.next_place(events, place + 1)
+        } else {
+            next
+        }
+    }
 }
 
 /// The event at a place, if it comes by a day.
@@ -133,7 +146,7 @@ impl Asked<'_> {
     /// The place of the first event whose duty the list can hold.
     fn first_listed(&self) -> usize
         ensures within { result ≤ length self.now.events.now }
-        ensures value { IsPartitionPoint (λ e. nat_lt (e.key.day + 371) self.now.day ≡ true) (λ e. nat_lt (e.key.day + 371) self.now.day ≡ false) self.now.events.now result }
+        ensures value { IsPartitionPoint (λ e. nat_lt (e.key.day + 5 + 366) self.now.day ≡ true) (λ e. nat_lt (e.key.day + 5 + 366) self.now.day ≡ false) self.now.events.now result }
     {
         let day = self.day.number();
         self.events
@@ -163,10 +176,8 @@ impl Asked<'_> {
         let mut next = after.next_place(self.events, from);
         for place in from..self.events.len() {
             let e = &self.events[place];
-            if next == place {
-                next = after.next_place(self.events, place + 1);
-            }
-            put(duties, self.after_event(after, past.repeat, e, next))?;
+            next = after.next_after(self.events, place, next);
+            put(duties, &self.after_event(after, past.repeat, e, next))?;
             past = past.with(e);
         }
         Ok(())

@@ -1,5 +1,6 @@
-ghost use Rattle.std.specs.Prelude.{◌≡◌, ◌≤◌, ◌-◌, max};
+ghost use Rattle.std.specs.Prelude.{◌≡◌, ◌≤◌, ◌-◌, max, min};
 ghost use Rattle.list_words.specs.Order.{Ascends};
+ghost use Rattle.ldar_days.specs.Calendar.{IsDay};
 ghost use Rattle.ldar_facts.specs.Facts.{is_earlier};
 ghost use Rattle.ldar_law.specs.Force as force;
 ghost use Rattle.monitor_calendar.specs.InOrder.{Ascends-prop};
@@ -51,10 +52,18 @@ impl Asked<'_> {
         }
     }
 
+    /// The day on which a period is judged: its last day, or the day of the list where that is earlier.
+    pub fn judging_day(&self, due: Day) -> Day
+        ensures value { result ≡ min due self.now.day }
+    {
+        due.min(self.day)
+    }
+
     /// The first day since the component's beginning on which a duty of the list can be due. What was due before that
     /// is not listed, so that no period of the years before is looked at.
     pub fn earliest(&self) -> Day
         ensures value { result ≡ max self.now.item.now.begin (self.now.day - listed_days) }
+        ensures in_range { IsDay result }
     {
         let (begin, day) = (self.item.begin, self.day.number());
         if day <= begin.number() + LISTED_DAYS {

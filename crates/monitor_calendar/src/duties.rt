@@ -41,7 +41,7 @@ pub fn duties_of(
         day,
     };
     let mut duties = Vec::new(alloc);
-    put(&mut duties, asked.first_monitoring())?;
+    put(&mut duties, &asked.first_monitoring())?;
     let months = asked.listed_months();
     asked.put_monthly(&months, &mut duties)?;
     asked.put_quarterly(&months, &mut duties)?;

@@ -35,11 +35,11 @@ fn key_of(met: &Option<Event>) -> Option<Key>
 }
 
 /// Adds an item, if there is one.
-pub fn put<T: Drop>(items: &mut Vec<T>, item: Option<T>) -> Result<(), Memory>
-    ensures put { OnOk result (items.new.items ≡ items.old.items ++ option_to_list item) }
+pub fn put<T: Copy + Drop>(items: &mut Vec<T>, item: &Option<T>) -> Result<(), Memory>
+    ensures put { OnOk result (items.new.items ≡ items.old.items ++ option_to_list item.now) }
 {
     if let Some(item) = item {
-        items.push(item)?;
+        items.push(*item)?;
     }
     Ok(())
 }

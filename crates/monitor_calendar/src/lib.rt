@@ -7,6 +7,7 @@ mod drips;
 mod duties;
 mod duty;
 mod first;
+mod in_order;
 mod listed_months;
 mod monthly;
 mod past_months;
@@ -17,4 +18,8 @@ mod weekly;
 mod yearly;
 
 pub use duties::duties_of;
+pub use in_order::{are_classes_ordered, are_events_ordered};
 pub use ldar_law::Duty;
+
+#[cfg(test)]
+mod tests;

@@ -1,5 +1,5 @@
 ghost use Rattle.std.specs.Prelude.{◌≡◌};
-ghost use Rattle.monitor_calendar.specs.Covering.{Covers};
+ghost use Rattle.monitor_calendar.specs.Covering.{IsFirstListed, Covers};
 
 use crate::asked::Asked;
 use crate::quarterly_months::{MONTHS_LISTED, quarterly_months};
@@ -15,15 +15,24 @@ pub struct ListedMonths {
 }
 
 impl Asked<'_> {
+    /// The first of the months that the list can hold.
+    fn first_month(&self) -> u32
+        ensures value { IsFirstListed self.now result }
+    {
+        let begin = self.item.begin.month().number();
+        let earliest = self.earliest().month().number();
+        if begin < earliest { earliest } else { begin + 1 }
+    }
+
     /// The months after the beginning whose duties the list can hold.
     pub fn listed_months(&self) -> ListedMonths
         ensures value { Covers self.now result }
     {
-        let begin = self.item.begin.month().number();
-        let low = (begin + 1).max(self.earliest().month().number());
+        let low = self.first_month();
+        let end = self.day.month().number() + 1;
         ListedMonths {
             low,
-            end: self.day.month().number() + 1,
+            end,
             quarterly: quarterly_months(self.startup, self.events, low),
         }
     }

@@ -5,13 +5,22 @@ ghost use Rattle.ldar_law.specs.Months.{is_quarterly as says_quarterly};
 ghost use Rattle.monitor_calendar.specs.Causes as causes;
 ghost use Rattle.monitor_calendar.specs.Covering.{Covers};
 
-use crate::asked::Asked;
+use crate::asked::{Asked, Judged};
 use crate::duty::put;
 use crate::listed_months::ListedMonths;
 use crate::period::routine_in;
 use ldar_days::{Month, quarter_of};
 use ldar_facts::Memory;
 use ldar_law::{Duty, is_none_designated, month_in_quarter};
+
+/// Whether what is so judged is monitored in a month that is a quarterly one or not.
+fn is_monthly(judged: Judged, is_quarterly: bool) -> bool
+    ensures value { result ≡ causes.is_monthly_judged judged is_quarterly }
+{
+    judged.serves
+        && is_none_designated(judged.class.designation)
+        && (judged.regime.are_pump_rules() || (judged.regime.are_valve_rules() && !is_quarterly))
+}
 
 impl Asked<'_> {
     /// Whether the quarter of a month is skipped.
@@ -27,42 +36,47 @@ impl Asked<'_> {
         }
     }
 
-    /// The monthly monitoring of a month that is a quarterly one of a valve or not.
-    #[tactic(auto, unfolding(ldar_law::specs::Duties::monthly))]
-    fn monthly(&self, month: Month, is_quarterly: bool) -> Option<Duty>
-        requires quarterly { is_quarterly ≡ says_quarterly self.now.startup self.now.events.now month }
-        ensures value { result ≡ causes.monthly self.now month }
+    /// Whether what is so judged is monitored in a month that is a quarterly one or not, since it is its month of a
+    /// quarter that is not skipped.
+    fn is_quarter_month(&self, judged: Judged, month: Month, is_quarterly: bool) -> bool
+        ensures value { result ≡ causes.is_quarter_month_judged self.now judged month is_quarterly }
     {
-        let (first, due) = (month.first_day(), month.last_day());
-        let judged = self.judged(due.min(self.day));
-        let is_owed = judged.serves
-            && is_none_designated(judged.class.designation)
-            && (judged.regime.are_pump_rules()
-                || (judged.regime.are_valve_rules() && !is_quarterly));
-        if !is_owed {
-            return None;
-        }
-        self.duty(2, first, due, &routine_in(self.events, first, due))
-    }
-
-    /// The quarterly monitoring of such a month.
-    #[tactic(auto, unfolding(ldar_law::specs::Duties::quarterly))]
-    fn quarterly(&self, month: Month, is_quarterly: bool) -> Option<Duty>
-        requires quarterly { is_quarterly ≡ says_quarterly self.now.startup self.now.events.now month }
-        ensures value { result ≡ causes.quarterly self.now month }
-    {
-        let (first, due) = (month.first_day(), month.last_day());
-        let judged = self.judged(due.min(self.day));
-        let is_owed = judged.serves
+        judged.serves
             && is_none_designated(judged.class.designation)
             && judged.regime.are_valve_rules()
             && is_quarterly
             && u32::from(judged.class.month) == month_in_quarter(self.startup, month.number())
-            && !self.is_month_skipped(month);
-        if !is_owed {
+            && !self.is_month_skipped(month)
+    }
+
+    /// The monthly monitoring of a month that is a quarterly one of a valve or not.
+    fn monthly(&self, month: Month, is_quarterly: bool) -> Option<Duty>
+        requires quarterly { is_quarterly ≡ says_quarterly self.now.startup self.now.events.now month }
+        ensures value { result ≡ causes.monthly self.now month }
+    {
+        let first = month.first_day();
+        let due = month.last_day();
+        let judged = self.judged(self.judging_day(due));
+        if !is_monthly(judged, is_quarterly) {
             return None;
         }
-        self.duty(3, first, due, &routine_in(self.events, first, due))
+        let met = routine_in(self.events, first, due);
+        self.duty(2, first, due, &met)
+    }
+
+    /// The quarterly monitoring of such a month.
+    fn quarterly(&self, month: Month, is_quarterly: bool) -> Option<Duty>
+        requires quarterly { is_quarterly ≡ says_quarterly self.now.startup self.now.events.now month }
+        ensures value { result ≡ causes.quarterly self.now month }
+    {
+        let first = month.first_day();
+        let due = month.last_day();
+        let judged = self.judged(self.judging_day(due));
+        if !self.is_quarter_month(judged, month, is_quarterly) {
+            return None;
+        }
+        let met = routine_in(self.events, first, due);
+        self.duty(3, first, due, &met)
     }
 
     /// Adds the monthly monitorings.
@@ -73,7 +87,7 @@ impl Asked<'_> {
     {
         for number in months.low..months.end {
             let is_quarterly = months.quarterly[(number - months.low) as usize];
-            put(duties, self.monthly(Month::at(number), is_quarterly))?;
+            put(duties, &self.monthly(Month::at(number), is_quarterly))?;
         }
         Ok(())
     }
@@ -86,7 +100,7 @@ impl Asked<'_> {
     {
         for number in months.low..months.end {
             let is_quarterly = months.quarterly[(number - months.low) as usize];
-            put(duties, self.quarterly(Month::at(number), is_quarterly))?;
+            put(duties, &self.quarterly(Month::at(number), is_quarterly))?;
         }
         Ok(())
     }

@@ -1,7 +1,7 @@
 //! The events of a period, and what meets a duty in it. Events in key order stand by their days, so that those of a
 //! period are found by halving.
 
-ghost use Rattle.std.specs.Prelude.{◌≡◌, ◌&&◌, filter, find, nat_le};
+ghost use Rattle.std.specs.Prelude.{◌≡◌, ◌&&◌, filter, find, nat_le, option_map};
 ghost use Rattle.list_words.specs.Order.{Ascends};
 ghost use Rattle.ldar_facts.specs.Facts.{is_earlier};
 ghost use Rattle.ldar_law.specs.Duties as law;
@@ -39,26 +39,26 @@ pub fn events_on(events: &[Event], first: Day, last: Day) -> &[Event]
 
 /// The first counting routine reading.
 fn first_routine(events: &[Event]) -> Option<Event>
-    ensures value { result ≡ find (λ e. is_routine e.what) events.now }
+    ensures value { result ≡ option_map (λ e. e) (find (λ e. is_routine e.what) events.now) }
 {
-    events.iter().find(|e| e.what.is_routine()).copied()
+    events.iter().find(|e| e.what.is_routine()).map(|e| *e)
 }
 
 /// The first counting routine reading that is less than 500 parts per million above the background.
 fn first_near_background(events: &[Event]) -> Option<Event>
-    ensures value { result ≡ find (λ e. is_routine e.what && is_near_background e.what) events.now }
+    ensures value { result ≡ option_map (λ e. e) (find (λ e. is_routine e.what && is_near_background e.what) events.now) }
 {
     events
         .iter()
         .find(|e| e.what.is_routine() && e.what.is_near_background())
-        .copied()
+        .map(|e| *e)
 }
 
 /// The first visual inspection.
 fn first_look(events: &[Event]) -> Option<Event>
-    ensures value { result ≡ find (λ e. is_look e.what) events.now }
+    ensures value { result ≡ option_map (λ e. e) (find (λ e. is_look e.what) events.now) }
 {
-    events.iter().find(|e| e.what.is_look()).copied()
+    events.iter().find(|e| e.what.is_look()).map(|e| *e)
 }
 
 /// The first counting routine reading of a period.

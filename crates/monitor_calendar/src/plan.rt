@@ -1,6 +1,7 @@
 //! Monitoring by a written plan of what is unsafe to monitor (40 CFR 60.482-2a(g)(2), 60.482-7a(g)(2)).
 
 ghost use Rattle.std.specs.Prelude.{◌≡◌, ◌+◌, ◌++◌, ◌<◌, ◌≤◌, OnOk, filter_map};
+ghost use Rattle.list_words.specs.Ranges.{until};
 ghost use Rattle.ldar_days.specs.Calendar.{month_of, end_by, last_day};
 ghost use Rattle.monitor_calendar.specs.Causes as causes;
 
@@ -46,34 +47,45 @@ impl Asked<'_> {
     }
 
     /// The monitoring in the window that ends with a month, by the plan of the day on which it is judged.
-    #[tactic(auto, unfolding(ldar_law::specs::Duties::planned))]
     fn planned(&self, month: u32) -> Option<Duty>
+        requires in_range { 24_096 ≤ month_of self.now.item.now.begin }
         requires after { month_of self.now.item.now.begin < month }
-        requires in_range { month ≤ 25_259 }
+        requires fits { month ≤ 25_259 }
         ensures value { result ≡ causes.planned self.now month }
     {
         let due = last_day_by(month);
-        let judged = self.judged(due.min(self.day));
+        let judged = self.judged(self.judging_day(due));
         if !self.is_planned(judged, month) {
             return None;
         }
         let from = month + 1 - u32::from(judged.class.plan);
-        if from > LAST_MONTH {
+        if self.day.month().number() < from {
             return None;
         }
         let first = Month::at(from).first_day();
-        self.duty(5, first, due, &routine_in(self.events, first, due))
+        let met = routine_in(self.events, first, due);
+        self.duty(5, first, due, &met)
+    }
+
+    /// The first of the months with which a window can end that the list can hold.
+    fn first_window_end(&self) -> u32
+        ensures after { month_of self.now.item.now.begin < result }
+        ensures in_range { 24_096 ≤ month_of self.now.item.now.begin }
+        ensures value { filter_map (causes.planned self.now) (until result (month_of self.now.day + 60))
+            ≡ filter_map (causes.planned self.now) (causes.window_ends self.now) }
+    {
+        let begin = self.item.begin.month().number();
+        let earliest = self.earliest().month().number();
+        if begin < earliest { earliest } else { begin + 1 }
     }
 
     /// Adds the monitorings by a plan.
-    #[tactic(auto, using(list_words::proofs::RangeLemmas::ranges))]
     pub fn put_planned(&self, duties: &mut Vec<Duty>) -> Result<(), Memory>
         ensures put { OnOk result (duties.new.items ≡ duties.old.items ++ filter_map (causes.planned self.now) (causes.window_ends self.now)) }
     {
-        let low = self.item.begin.month().number() + 1;
         let end = self.day.month().number() + PLAN_MONTHS;
-        for month in low.max(self.earliest().month().number())..end {
-            put(duties, self.planned(month))?;
+        for month in self.first_window_end()..end {
+            put(duties, &self.planned(month))?;
         }
         Ok(())
     }

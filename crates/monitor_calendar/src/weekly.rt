@@ -1,7 +1,8 @@
 //! The weekly visual inspection of pumps (40 CFR 60.482-2a(a)(2)).
 
-ghost use Rattle.std.specs.Prelude.{◌≡◌, ◌++◌, ◌<◌, ◌≤◌, OnOk, filter_map};
-ghost use Rattle.ldar_days.specs.Calendar.{week_of};
+ghost use Rattle.std.specs.Prelude.{◌≡◌, ◌+◌, ◌*◌, ◌++◌, ◌≤◌, OnOk, filter_map};
+ghost use Rattle.list_words.specs.Ranges.{until};
+ghost use Rattle.ldar_days.specs.Calendar.{IsDay, week_of as week_number, week_first};
 ghost use Rattle.monitor_calendar.specs.Causes as causes;
 
 use crate::asked::{Asked, Judged};
@@ -20,30 +21,48 @@ pub fn is_plain_pump(judged: Judged) -> bool
         && is_none_designated(judged.class.designation)
 }
 
+/// The week of a day.
+fn week_of(day: Day) -> u32
+    ensures value { result ≡ week_number day }
+    ensures in_range { (1_983 ≤ result) × (result ≤ 6_783) }
+{
+    (day.number() + 3) / 7
+}
+
 impl Asked<'_> {
     /// The visual inspection of a week.
-    #[tactic(auto, unfolding(ldar_law::specs::Duties::weekly))]
     fn weekly(&self, week: u32) -> Option<Duty>
-        requires after { week_of self.now.item.now.begin < week }
-        requires by_then { week ≤ week_of self.now.day }
+        requires in_range { IsDay (week_first week) }
         ensures value { result ≡ causes.weekly self.now week }
     {
         let first = Day::at(7 * week - 3);
         let due = first.plus_days(6);
-        if !is_plain_pump(self.judged(due.min(self.day))) {
+        let judged = self.judged(self.judging_day(due));
+        if !is_plain_pump(judged) {
             return None;
         }
-        self.duty(6, first, due, &look_in(self.events, first, due))
+        let met = look_in(self.events, first, due);
+        self.duty(6, first, due, &met)
+    }
+
+    /// The first of the weeks that the list can hold.
+    fn first_week(&self) -> u32
+        ensures in_range { 1_984 ≤ result }
+        ensures value { filter_map (causes.weekly self.now) (until result (week_number self.now.day + 1))
+            ≡ filter_map (causes.weekly self.now) (causes.weeks_after self.now) }
+    {
+        let begin = week_of(self.item.begin);
+        let earliest = week_of(self.earliest());
+        if begin < earliest { earliest } else { begin + 1 }
     }
 
     /// Adds the weekly inspections.
-    #[tactic(auto, using(list_words::proofs::RangeLemmas::ranges))]
     pub fn put_weekly(&self, duties: &mut Vec<Duty>) -> Result<(), Memory>
         ensures put { OnOk result (duties.new.items ≡ duties.old.items ++ filter_map (causes.weekly self.now) (causes.weeks_after self.now)) }
     {
-        let (low, end) = (self.item.begin.week() + 1, self.day.week() + 1);
-        for week in low.max(self.earliest().week())..end {
-            put(duties, self.weekly(week))?;
+        let end = week_of(self.day) + 1;
+        for week in self.first_week()..end {
+            put(duties, &self.weekly(week))?;
         }
         Ok(())
     }

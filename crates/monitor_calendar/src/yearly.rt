@@ -1,6 +1,8 @@
 //! Yearly monitoring (40 CFR 60.482-2a(e), 60.482-3a(i), 60.482-7a(f), (h)).
 
-ghost use Rattle.std.specs.Prelude.{◌≡◌, ◌++◌, ◌≤◌, OnOk, filter_map};
+ghost use Rattle.std.specs.Prelude.{◌≡◌, ◌+◌, ◌/◌, ◌++◌, ◌≤◌, OnOk, filter_map};
+ghost use Rattle.list_words.specs.Ranges.{until};
+ghost use Rattle.ldar_days.specs.Calendar.{month_of};
 ghost use Rattle.monitor_calendar.specs.Causes as causes;
 
 use crate::asked::{Asked, Judged};
@@ -36,32 +38,39 @@ impl Asked<'_> {
     }
 
     /// The yearly monitoring of a calendar year.
-    #[tactic(auto, unfolding(ldar_law::specs::Duties::yearly))]
     fn yearly(&self, year: u32) -> Option<Duty>
         requires low { 2_008 ≤ year }
         requires high { year ≤ 2_099 }
         ensures value { result ≡ causes.yearly self.now year }
     {
-        let (first, due) = (
-            Month::at(12 * year).first_day(),
-            Month::at(12 * year + 11).last_day(),
-        );
-        let judged = self.judged(due.min(self.day));
+        let first = Month::at(12 * year).first_day();
+        let due = Month::at(12 * year + 11).last_day();
+        let judged = self.judged(self.judging_day(due));
         if !is_yearly(judged) {
             return None;
         }
-        self.duty(4, first, due, &self.yearly_reading(judged, first, due))
+        let met = self.yearly_reading(judged, first, due);
+        self.duty(4, first, due, &met)
+    }
+
+    /// The first of the years that the list can hold.
+    fn first_year(&self) -> u32
+        ensures in_range { 2_008 ≤ result }
+        ensures value { filter_map (causes.yearly self.now) (until result (month_of self.now.day / 12 + 1))
+            ≡ filter_map (causes.yearly self.now) (causes.years_after self.now) }
+    {
+        let first = self.item.first_due().month().year();
+        let earliest = self.earliest().month().year();
+        if first < earliest { earliest } else { first }
     }
 
     /// Adds the yearly monitorings.
-    #[tactic(auto, using(list_words::proofs::RangeLemmas::ranges))]
     pub fn put_yearly(&self, duties: &mut Vec<Duty>) -> Result<(), Memory>
         ensures put { OnOk result (duties.new.items ≡ duties.old.items ++ filter_map (causes.yearly self.now) (causes.years_after self.now)) }
     {
-        let low = self.item.first_due().month().year();
         let end = self.day.month().year() + 1;
-        for year in low.max(self.earliest().month().year())..end {
-            put(duties, self.yearly(year))?;
+        for year in self.first_year()..end {
+            put(duties, &self.yearly(year))?;
         }
         Ok(())
     }
