@@ -1,4 +1,5 @@
 use Rattle.std.proofs.Common.{◌≡◌, ◌+◌, ◌<◌, ◌≢◌, length, arith, ◌∙◌, get_or-set_other, get_or-set_same, below_more}
+use Rattle.std.proofs.Common.{length-set}
 use Rattle.monitor_calendar.proofs.QuarterlyLemmas.{quarterly_at}
 use Rattle.monitor_calendar.proofs.quarterly_months.quarterly_months.Goals as goal
 
@@ -11,7 +12,8 @@ loop-k-preserved c =
     ∙ quarterly_at c.args.startup month c.walked_to-walk.result.past at.on.last c.args.events.now c.walked_to-walk.result.place at.on.front at.rest at.on.tells in
     record {
       walk = (month, omega arith, at);
+      long = length-set l.quarterly l.k c.let_be_quarterly.result ∙ l.invariant.long;
       told = below_more _ _
           (λ j h. let other : j ≢ l.k = omega arith in rw get_or-set_other (l.invariant.told j h))
-          (let within : l.k < length l.quarterly = omega arith in rw get_or-set_same told);
+          (let within : l.k < length l.quarterly = omega (arith, l.invariant.long) in rw get_or-set_same told);
     }

@@ -1,4 +1,4 @@
-use Rattle.std.proofs.Common.{◌≡◌, ◌+◌, ◌-◌, ◌<◌, ◌≤◌, true, false, min, sym, ap, subst, ◌∙◌, arith}
+use Rattle.std.proofs.Common.{◌≡◌, ◌+◌, ◌-◌, ◌<◌, ◌≤◌, true, false, rules, min, sym, ap, subst, ◌∙◌, arith}
 use Rattle.ldar_days.specs.Calendar.{first_day, last_day, month_of, end_by}
 use Rattle.ldar_days.proofs.Months.{first_day-lt, month_length_bounds}
 use Rattle.ldar_law.specs.Duties.{routine_in}
@@ -45,11 +45,11 @@ returns-then-number-from c =
     let first = first_day (month + 1 - judged.class.plan) in
     let met = routine_in asked.events.now first due in
     let form : causes.planned asked month ≡ causes.duty asked 5 first due owed met = planned_by asked judged month due c.last_day_by-due.ensures.value is in
-    let at : c.number.result ≡ month_of asked.day = cc in
-    let late : month_of asked.day < month + 1 - judged.class.plan = omega (arith, at) in
+    let plan : c.from.result ≡ judged.class.plan = search rules in
+    let late : c.month.result < month + 1 - judged.class.plan = omega (arith, plan) in
     record {
       value = sym (form ∙ not_begun asked.item.now asked.classes.now asked.startup asked.events.now asked.skipped.now asked.day 5 first due owed met
-          (omega (arith, ends_before (month_of asked.day) (month + 1 - judged.class.plan) (omega (arith, c.month.ensures.in_range)) late, c.month.ensures.inside)));
+          (omega (arith, ends_before c.month.result (month + 1 - judged.class.plan) (omega (arith, c.month.ensures.in_range)) late, c.month.ensures.inside)));
     }
 
 pub at-requires : goal.at-requires
@@ -71,7 +71,8 @@ returns c =
     let first = first_day (month + 1 - judged.class.plan) in
     let met = routine_in asked.events.now first due in
     let form : causes.planned asked month ≡ causes.duty asked 5 first due owed met = planned_by asked judged month due c.last_day_by-due.ensures.value is in
-    let from : c.first_day-first.result ≡ first = c.first_day-first.ensures.value ∙ ap first_day c.at.ensures.value in
+    let plan : c.from.result ≡ judged.class.plan = search rules in
+    let from : c.first_day-first.result ≡ first = c.first_day-first.ensures.value ∙ ap first_day c.at.ensures.value ∙ ap (λ p. first_day (month + 1 - p)) plan in
     record {
       value = c.duty.ensures.value
           ∙ ap (λ m. causes.duty asked 5 c.first_day-first.result due true m) c.routine_in-met.ensures.value

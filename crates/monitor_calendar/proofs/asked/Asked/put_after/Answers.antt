@@ -1,8 +1,10 @@
-use Rattle.std.proofs.Common.{◌≡◌, ◌+◌, ◌++◌, List, length, take, drop, get_or, sym, ap, ◌∙◌, arith}
+use Rattle.std.proofs.Common.{◌≡◌, ◌+◌, ◌++◌, List, [], ◌∷◌, subst, length, take, drop, get_or, sym, ap, ◌∙◌, arith}
 use Rattle.std.specs.Option.{option_to_list}
 use Rattle.list_words.specs.Words.{each_from}
 use Rattle.list_words.proofs.WordLemmas.{each_done}
-use Rattle.monitor_calendar.specs.Following.{after_event}
+use Rattle.monitor_calendar.specs.Following.{after_event, after_by}
+use Rattle.ldar_law.specs.declared.event.Event.{Event}
+use Rattle.monitor_calendar.specs.Dripping.{TellsOfDrips}
 use Rattle.monitor_calendar.proofs.FollowLemmas.{begins_at, one_event_on, tells_on}
 use Rattle.monitor_calendar.proofs.asked.Asked.put_after.Goals as goal
 
@@ -25,9 +27,11 @@ loop-place-preserved c =
     record {
       done = ap (λ ds. ds ++ each_from (after_event asked c.args.after) (take (l.place + 1) events) (drop (l.place + 1) events)) c.in_ok-put.ensures.put
           ∙ one_event_on asked c.args.after l.past l.place c.next_after-next.result e l.duties.items c.after_event.result asked.events_ordered c.loop-place-test.true
-          (sym c.index-self-place.is) l.invariant.tells c.next_after-next.ensures.value c.after_event.ensures.value
+          (sym c.index-self-place.is) l.invariant.tells c.next_after-next.ensures.value
+          (c.after_event.ensures.value ∙ ap (λ x. after_by asked c.args.after l.past.repeat x c.next_after-next.result) (sym c.index-self-place.is))
           ∙ l.invariant.done;
-      tells = tells_on asked c.args.after l.past c.with-past.result events l.place e c.loop-place-test.true (sym c.index-self-place.is) l.invariant.tells c.with-past.ensures.value;
+      tells = tells_on asked c.args.after l.past c.with-past.result events l.place e c.loop-place-test.true (sym c.index-self-place.is) l.invariant.tells
+          (subst (λ x. (front : List Event) → TellsOfDrips l.past front → TellsOfDrips c.with-past.result (front ++ x ∷ [])) (sym c.index-self-place.is) c.with-past.ensures.value);
       next = c.next_after-next.ensures.value;
     }
 

@@ -13,7 +13,7 @@ loop-month-init c =
     let before = c.args.duties.now.items in
     let at : c.number-end.result ≡ month_of asked.day = cc in
     let end : c.number-end.result + 60 ≡ month_of asked.day + 60 = omega (arith, at) in
-    ap (λ e. before ++ filter_map (causes.planned asked) (until c.first_window_end.result e)) end ∙ ap (λ ds. before ++ ds) c.first_window_end.ensures.value
+    ap (λ e. before ++ filter_map (causes.planned asked) (until c.first_window_end-month.result e)) end ∙ ap (λ ds. before ++ ds) c.first_window_end-month.ensures.value
 
 pub loop-month-preserved : goal.loop-month-preserved
 loop-month-preserved c =

@@ -12,7 +12,7 @@ loop-week-init c =
     let asked = c.args.self.now in
     let before = c.args.duties.now.items in
     let end : c.week_of-end.result + 1 ≡ week_of asked.day + 1 = omega (arith, c.week_of-end.ensures.value) in
-    ap (λ e. before ++ filter_map (causes.weekly asked) (until c.first_week.result e)) end ∙ ap (λ ds. before ++ ds) c.first_week.ensures.value
+    ap (λ e. before ++ filter_map (causes.weekly asked) (until c.first_week-week.result e)) end ∙ ap (λ ds. before ++ ds) c.first_week-week.ensures.value
 
 pub loop-week-preserved : goal.loop-week-preserved
 loop-week-preserved c =

@@ -13,7 +13,7 @@ loop-year-init c =
     let before = c.args.duties.now.items in
     let at : c.year-end.result ≡ month_of asked.day / 12 = cc in
     let end : c.year-end.result + 1 ≡ month_of asked.day / 12 + 1 = omega (arith, at) in
-    ap (λ e. before ++ filter_map (causes.yearly asked) (until c.first_year.result e)) end ∙ ap (λ ds. before ++ ds) c.first_year.ensures.value
+    ap (λ e. before ++ filter_map (causes.yearly asked) (until c.first_year-year.result e)) end ∙ ap (λ ds. before ++ ds) c.first_year-year.ensures.value
 
 pub loop-year-preserved : goal.loop-year-preserved
 loop-year-preserved c =
