@@ -206,9 +206,12 @@ module _ (past : PastMonths) (last : ℕ) (front : List Event) (e : Event) (tell
             let at : month - 1 ≡ past.below = eqb-true (month - 1) past.below next in
             let low : 23_640 ≤ month = month_low e.key.day in
             let since : past.leak < past.below = tells.since (omega (arith, at, low)) in
-            rw next (since, stays past.below (read_last past.below since refl),
-            read_more (past.below + 1) ∙ or_right (reads_in front (past.below + 1)) (is_routine_below e.what && nat_eq month (past.below + 1))
-            (and_from (is_routine_below e.what) (nat_eq month (past.below + 1)) read (eq-eqb month (past.below + 1) (omega (arith, at, low)))))
+            rw next (
+              since,
+              stays past.below (read_last past.below since refl),
+              read_more (past.below + 1) ∙ or_right (reads_in front (past.below + 1)) (is_routine_below e.what && nat_eq month (past.below + 1))
+                  (and_from (is_routine_below e.what) (nat_eq month (past.below + 1)) read (eq-eqb month (past.below + 1) (omega (arith, at, low)))),
+            )
         | inr far ↦ rw far tt
       ]
 

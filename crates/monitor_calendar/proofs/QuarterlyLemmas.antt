@@ -153,10 +153,15 @@ module _ (startup month : ℕ) (past : PastMonths) (last : ℕ) (front rest : Li
       let after : past.leak < p = holds.0 in
       let clean = and_from (is_clean (front ++ rest) p) (is_clean (front ++ rest) (p + 1))
       (clean_after p after (omega (arith, lt, by)) holds.1) (clean_after (p + 1) (omega (arith, after)) (omega (arith, lt, by)) holds.2) in
-      (quarterly_decides startup (front ++ rest) month).1
-      (from, (p, and_from (nat_lt (p + 1) (quarter_start startup month) && is_clean_twice (front ++ rest) p) (not (has_leak_in (front ++ rest) p (month - 1)))
-      (and_from (nat_lt (p + 1) (quarter_start startup month)) (is_clean_twice (front ++ rest) p) (lt-ltb (p + 1) (quarter_start startup month) (omega (arith, lt))) clean)
-      (not_from_false (has_leak_in (front ++ rest) p (month - 1)) (no_leak p (month - 1) after (omega (arith, lt, by))))))
+      (quarterly_decides startup (front ++ rest) month).1 (
+        from,
+        (
+          p,
+          and_from (nat_lt (p + 1) (quarter_start startup month) && is_clean_twice (front ++ rest) p) (not (has_leak_in (front ++ rest) p (month - 1)))
+              (and_from (nat_lt (p + 1) (quarter_start startup month)) (is_clean_twice (front ++ rest) p) (lt-ltb (p + 1) (quarter_start startup month) (omega (arith, lt))) clean)
+              (not_from_false (has_leak_in (front ++ rest) p (month - 1)) (no_leak p (month - 1) after (omega (arith, lt, by)))),
+        ),
+      )
 
   pub quarterly_told : lets_be_quarterly past startup month ≡ is_quarterly startup (front ++ rest) month
   quarterly_told =

@@ -79,13 +79,7 @@ fn event_by(events: &[Event], place: usize, due: Day) -> Option<Event>
     ensures value { result ≡ following.event_by events.now place due }
 {
     match events.get(place) {
-        Some(e) => {
-            if e.key.day <= due {
-                Some(*e)
-            } else {
-                None
-            }
-        }
+        Some(e) => { if e.key.day <= due { Some(*e) } else { None } }
         None => None,
     }
 }
@@ -101,12 +95,8 @@ impl Asked<'_> {
                     && is_plain_pump(self.judged(e.key.day))
                     && !is_repeated
             }
-            After::Release => {
-                e.what.is_release() && self.is_served_relief(e.key.day)
-            }
-            After::Evidence => {
-                e.what.has_evidence() && self.is_served_heavy_liquid(e.key.day)
-            }
+            After::Release => { e.what.is_release() && self.is_served_relief(e.key.day) }
+            After::Evidence => { e.what.has_evidence() && self.is_served_heavy_liquid(e.key.day) }
         }
     }
 
@@ -127,20 +117,19 @@ impl Asked<'_> {
     }
 
     /// The duty after an event, where the first later event that would meet it stands at a place.
-    fn after_event(
-        &self,
-        after: After,
-        is_repeated: bool,
-        e: &Event,
-        next: usize,
-    ) -> Option<Duty>
+    fn after_event(&self, after: After, is_repeated: bool, e: &Event, next: usize) -> Option<Duty>
         ensures value { result ≡ following.after_by self.now after is_repeated e.now next }
     {
         if !self.is_asked_by(after, is_repeated, e) {
             return None;
         }
         let due = e.key.day.plus_days(EVENT_DAYS);
-        self.duty(after.cause(), e.key.day, due, &event_by(self.events, next, due))
+        self.duty(
+            after.cause(),
+            e.key.day,
+            due,
+            &event_by(self.events, next, due),
+        )
     }
 
     /// The place of the first event whose duty the list can hold.

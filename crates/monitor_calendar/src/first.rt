@@ -12,7 +12,10 @@ impl Asked<'_> {
         ensures value { result ≡ causes.first_monitoring self.now }
     {
         let (begin, due) = (self.item.begin, self.item.first_due());
-        if !self.item.is_first_owed(self.classes, self.startup, due.min(self.day)) {
+        if !self
+            .item
+            .is_first_owed(self.classes, self.startup, due.min(self.day))
+        {
             return None;
         }
         self.duty(1, begin, due, &routine_in(self.events, begin, due))

@@ -21,7 +21,11 @@ impl Asked<'_> {
     {
         let begin = self.item.begin.month().number();
         let earliest = self.earliest().month().number();
-        if begin < earliest { earliest } else { begin + 1 }
+        if begin < earliest {
+            earliest
+        } else {
+            begin + 1
+        }
     }
 
     /// The months after the beginning whose duties the list can hold.

@@ -76,7 +76,11 @@ impl Asked<'_> {
     {
         let begin = self.item.begin.month().number();
         let earliest = self.earliest().month().number();
-        if begin < earliest { earliest } else { begin + 1 }
+        if begin < earliest {
+            earliest
+        } else {
+            begin + 1
+        }
     }
 
     /// Adds the monitorings by a plan.

@@ -16,9 +16,7 @@ use ldar_law::{Duty, is_none_designated};
 pub fn is_plain_pump(judged: Judged) -> bool
     ensures value { result ≡ causes.is_plain_pump judged }
 {
-    judged.serves
-        && judged.regime.are_pump_rules()
-        && is_none_designated(judged.class.designation)
+    judged.serves && judged.regime.are_pump_rules() && is_none_designated(judged.class.designation)
 }
 
 /// The week of a day.
@@ -53,7 +51,11 @@ impl Asked<'_> {
     {
         let begin = week_of(self.item.begin);
         let earliest = week_of(self.earliest());
-        if begin < earliest { earliest } else { begin + 1 }
+        if begin < earliest {
+            earliest
+        } else {
+            begin + 1
+        }
     }
 
     /// Adds the weekly inspections.
