@@ -62,7 +62,8 @@ module _ (p : Event → Bool) (due : ℕ) where
       elim (cases_Bool (nat_le e.key.day due)) [
         | inl by ↦ rw (passes, by) refl
         | inr late ↦ rw (passes, late)
-            (none_by events (all_weaker (λ x. e.key.day ≤ x.key.day) (λ x. due < x.key.day) (λ x le. omega (arith, le, leb-false e.key.day due late)) events later))
+            (none_by events (all_weaker (λ x. e.key.day ≤ x.key.day) (λ x. due < x.key.day) (λ x le. omega
+                (arith, le, leb-false e.key.day due late)) events later))
       ]
 
 -- the days of later events are no earlier
@@ -80,6 +81,7 @@ got [] i d within = absurd (omega arith)
 got (e ∷ es) zero d within = refl
 got (e ∷ es) (suc i) d within = got es i d (omega (arith, within))
 
+-- behind the last there is none
 got_none : (events : List Event) (i : ℕ) → length events ≤ i → slice_get events i ≡ None
 got_none [] zero end = refl
 got_none [] (suc i) end = refl
@@ -87,7 +89,8 @@ got_none (e ∷ es) zero end = absurd (omega arith)
 got_none (e ∷ es) (suc i) end = got_none es i (omega (arith, end))
 
 -- at the next place stands the first that meets, if it comes in time
-found_next : (after : After) (events : List Event) (i next due : ℕ) (d : Event) → Ascends (λ a b. is_earlier a.key b.key) events → IsNext after events i next →
+found_next : (after : After) (events : List Event) (i next due : ℕ) (d : Event) → Ascends (λ a b. is_earlier a.key b.key) events →
+    IsNext after events i next →
     find (λ x. meets after x.what && nat_le x.key.day due) (drop i events) ≡ event_by events next due
 found_next after events i next due d up is =
     let on : i + (next - i) ≡ next = omega (arith, is.behind) in
@@ -103,6 +106,7 @@ found_next after events i next due d up is =
 
 -- ---- the duty of an event
 
+-- three tests, joined either way
 and_assoc : (a b c : Bool) → ((a && b) && c) ≡ (a && (b && c))
 and_assoc true b c = refl
 and_assoc false b c = refl
@@ -114,14 +118,18 @@ module _ (asked : Asked) where
       causes.duty asked (cause_of after) e.key.day (end_by (e.key.day + 5)) (is_asked_by asked after (is_repeated before) e)
       (find (λ x. meets after x.what && nat_le x.key.day (end_by (e.key.day + 5))) later)
 
-  in_one_form : (after : After) (before : List Event) (e : Event) (later : List Event) → after_event asked after before e later ≡ one_form after before e later
+  -- each cause is of that form
+  in_one_form : (after : After) (before : List Event) (e : Event) (later : List Event) → after_event asked after before e later
+      ≡ one_form after before e later
   unfolding drip release evidence
   in_one_form Drips before e later = refl
   in_one_form Release before e later =
-      ap (λ owed. causes.duty asked 8 e.key.day (end_by (e.key.day + 5)) owed (find (λ x. meets Release x.what && nat_le x.key.day (end_by (e.key.day + 5))) later))
+      ap (λ owed. causes.duty asked 8 e.key.day (end_by (e.key.day + 5)) owed (find (λ x. meets Release x.what && nat_le x.key.day (end_by
+          (e.key.day + 5))) later))
       (and_assoc (is_release e.what) (is_in_service asked.item.now e.key.day) (is_under_relief_rules asked.item.now asked.classes.now e.key.day))
   in_one_form Evidence before e later =
-      ap (λ owed. causes.duty asked 9 e.key.day (end_by (e.key.day + 5)) owed (find (λ x. meets Evidence x.what && nat_le x.key.day (end_by (e.key.day + 5))) later))
+      ap (λ owed. causes.duty asked 9 e.key.day (end_by (e.key.day + 5)) owed (find (λ x. meets Evidence x.what && nat_le x.key.day (end_by
+          (e.key.day + 5))) later))
       (and_assoc (has_evidence e.what) (is_in_service asked.item.now e.key.day) (is_under_heavy_liquid_rules asked.item.now asked.classes.now e.key.day))
 
   -- what is told of drips suffices
@@ -131,6 +139,7 @@ module _ (asked : Asked) where
   asked_alike Release past before e tells = refl
   asked_alike Evidence past before e tells = refl
 
+  -- the duty that the next place gives is the one of the cause
   pub after_by_is : (after : After) (past : PastDrips) (place next : ℕ) (e : Event) → Ascends (λ a b. is_earlier a.key b.key) asked.events.now →
       TellsFor after past (take place asked.events.now) → IsNext after asked.events.now (place + 1) next →
       after_by asked after past.repeat e next ≡ after_event asked after (take place asked.events.now) e (drop (place + 1) asked.events.now)
@@ -141,6 +150,7 @@ module _ (asked : Asked) where
 
 -- ---- events that give nothing
 
+-- a front that gives nothing is passed over
 pub each_passed_over : {X Y : Type 0} (f : List X → X → List X → Option Y) (xs : List X) (n : ℕ) (d : X) → n ≤ length xs →
     ((i : ℕ) → i < n → f (take i xs) (get_or xs i d) (drop (i + 1) xs) ≡ None) → each_where f xs ≡ each_from f (take n xs) (drop n xs)
 each_passed_over f xs zero d within none = refl
@@ -158,7 +168,8 @@ blank = record { key = record { day = 0; minute = 0; handheld = 0; number = 0; i
 
 module _ (asked : Asked) (after : After) where
   -- what was due so long before gives nothing
-  gives_none : (which : After) (before : List Event) (e : Event) (later : List Event) → e.key.day + 5 + 366 < asked.day → after_event asked which before e later ≡ None
+  gives_none : (which : After) (before : List Event) (e : Event) (later : List Event) → e.key.day + 5 + 366 < asked.day →
+      after_event asked which before e later ≡ None
   gives_none Drips before e later gone =
       no_drip asked.item.now asked.classes.now asked.startup asked.events.now asked.skipped.now asked.day before e later (omega (arith, gone))
   gives_none Release before e later gone =
@@ -189,12 +200,14 @@ module _ (asked : Asked) (after : After) where
       ap (λ o. (done ++ option_to_list o) ++ each_from f (take (place + 1) events) (drop (place + 1) events)) same
       ∙ each_pushed f done events place e within
 
+  -- what is told of drips goes on, where a cause asks for it
   tells_with : (which : After) (past more : PastDrips) (front : List Event) (e : Event) → TellsFor which past front
       → (TellsOfDrips past front → TellsOfDrips more (front ++ e ∷ [])) → TellsFor which more (front ++ e ∷ [])
   tells_with Drips past more front e tells goes = goes tells
   tells_with Release past more front e tells goes = tt
   tells_with Evidence past more front e tells goes = tt
 
+  -- .. at a place of the events
   pub tells_on : (past more : PastDrips) (events : List Event) (place : ℕ) (e : Event) → place < length events → get_or events place e ≡ e →
       TellsFor after past (take place events) → ((front : List Event) → TellsOfDrips past front → TellsOfDrips more (front ++ e ∷ [])) →
       TellsFor after more (take (place + 1) events)

@@ -3,6 +3,7 @@ pub mod DripLemmas
 pub mod FollowLemmas
 pub mod Judging
 pub mod Listing
+pub mod PartLemmas
 pub mod PastLemmas
 pub mod PeriodLemmas
 pub mod QuarterlyLemmas

@@ -15,6 +15,7 @@ use Rattle.monitor_calendar.proofs.Rising.{month_low}
 
 -- ---- tests of events
 
+-- a test or nothing
 or_false : (b : Bool) → (b || false) ≡ b
 or_false true = refl
 or_false false = refl
@@ -42,6 +43,7 @@ read_from events month read =
     events
     read
 
+-- at a number, but not behind it
 exactly : (b : Bool) (m n : ℕ) → (b && nat_le m n) ≡ true → (b && nat_le (m + 1) n) ≡ false → (b && nat_eq n m) ≡ true
 exactly true m n here none = eq-eqb n m (omega (arith, leb-true m n here, leb-false (m + 1) n none))
 exactly false m n here none = here
@@ -57,9 +59,11 @@ read_exactly (e ∷ es) month here none =
       | inr there ↦ or_right (is_routine_below e.what && is_in_month month e) (reads_in es month) (read_exactly es month there parts.1)
     ]
 
+-- up to one of two numbers is up to the larger
 or_le : (a b low : ℕ) → a ≤ b → (nat_le low a || nat_le low b) ≡ nat_le low b
 or_le a b low le = grind (arith, nat_tests)
 
+-- what follows for what there is
 if_some : {X : Type 0} (P Q : X → Type 0) (o : Option X) → ((x : X) → P x → Q x) → IfSome o P → IfSome o Q
 if_some P Q None implies h = h
 if_some P Q (Some x) implies h = implies x h
@@ -80,28 +84,34 @@ told_nothing = record {
 -- ---- one event more
 
 module _ (past : PastMonths) (last : ℕ) (front : List Event) (e : Event) (tells : Tells past last front) (le : last ≤ month_of e.key.day) where
+  -- the month of the new event
   abbrev month : ℕ
   month = month_of e.key.day
 
+  -- the events with it
   abbrev more : List Event
   more = front ++ e ∷ []
 
+  -- none is of a later month
   up_to : AllByRecursion (λ x. month_of x.key.day ≤ month) more
   up_to =
       all_append (λ x. month_of x.key.day ≤ month) front (e ∷ [])
       (all_weaker (λ x. month_of x.key.day ≤ last) (λ x. month_of x.key.day ≤ month) (λ x by. omega (arith, by, le)) front tells.up_to)
       (omega arith, tt)
 
+  -- leaks from a month on, with it
   leaks_more : (low : ℕ) → 0 < low → leaks_from more low ≡ (nat_le low past.leak || (is_leak e.what && nat_le low month))
   leaks_more low pos =
       one_more (λ x. is_leak x.what && nat_le low (month_of x.key.day)) front e
       ∙ ap (λ b. b || (is_leak e.what && nat_le low month)) (tells.leak low pos)
 
+  -- readings below from a month on, with it
   reads_more : (low : ℕ) → past.leak < low → reads_from more low ≡ (nat_le low past.below || (is_routine_below e.what && nat_le low month))
   reads_more low lt =
       one_more (λ x. is_routine_below x.what && nat_le low (month_of x.key.day)) front e
       ∙ ap (λ b. b || (is_routine_below e.what && nat_le low month)) (tells.below low lt)
 
+  -- readings below in a month, with it
   read_more : (k : ℕ) → reads_in more k ≡ (reads_in front k || (is_routine_below e.what && nat_eq month k))
   read_more k = one_more (λ x. is_routine_below x.what && is_in_month k x) front e
 
@@ -117,6 +127,7 @@ module _ (past : PastMonths) (last : ℕ) (front : List Event) (e : Event) (tell
         | inr by ↦ by
       ]
 
+  -- .. nor with it
   by_month : (k : ℕ) → reads_in more k ≡ true → k ≤ month
   by_month k read =
       elim (cases_lt month k) [
@@ -148,13 +159,16 @@ module _ (past : PastMonths) (last : ℕ) (front : List Event) (e : Event) (tell
         ]
       ]
 
-  nothing_below : (low : ℕ) → past.leak < low → (month ≤ past.leak) ⊎ (is_routine_below e.what ≡ false) → (is_routine_below e.what && nat_le low month) ≡ false
+  -- .. and so from a month on
+  nothing_below : (low : ℕ) → past.leak < low → (month ≤ past.leak) ⊎ (is_routine_below e.what ≡ false) →
+      (is_routine_below e.what && nat_le low month) ≡ false
   nothing_below low lt none =
       elim none [
         | inl early ↦ and_right (is_routine_below e.what) (nat_le low month) (lt-leb low month (omega (arith, lt, early)))
         | inr fails ↦ rw fails refl
       ]
 
+  -- such an event changes nothing
   pub told_same : is_leak e.what ≡ false → (month ≤ past.leak) ⊎ (is_routine_below e.what ≡ false) → Tells past month more
   told_same sound none = record {
     up_to = up_to;
@@ -192,10 +206,12 @@ module _ (past : PastMonths) (last : ℕ) (front : List Event) (e : Event) (tell
         | inr other ↦ absurd (old k lt here (read_last (k + 1) (omega (arith, lt)) (omega (arith, low, high, other))))
       ]
 
+  -- two months that are there stay
   old_pair : (o : Option ℕ) (k : ℕ) → IsBy o k → IsBy (pair_from o past.below month) k
   old_pair (Some p) k by = by
   old_pair None k by = absurd by
 
+  -- the first two months hold what they say
   pair_holds : (o : Option ℕ) → past.leak < month → is_routine_below e.what ≡ true
       → IfSome o (λ k. (past.leak < k) × (reads_in front k ≡ true) × (reads_in front (k + 1) ≡ true))
       → IfSome (pair_from o past.below month) (λ k. (past.leak < k) × (reads_in more k ≡ true) × (reads_in more (k + 1) ≡ true))
@@ -215,6 +231,7 @@ module _ (past : PastMonths) (last : ℕ) (front : List Event) (e : Event) (tell
         | inr far ↦ rw far tt
       ]
 
+  -- a reading below in a month after the last leak
   pub told_below : is_leak e.what ≡ false → past.leak < month → is_routine_below e.what ≡ true →
       Tells (record { leak = past.leak; below = month; pair = pair_with past month }) month more
   told_below sound after read = record {

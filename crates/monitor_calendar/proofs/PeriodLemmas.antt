@@ -26,11 +26,13 @@ sides_of_point p (x ∷ xs) (suc n) parts le =
     (omega (arith, le)) in
     (rw passes (ap (λ ys. x ∷ ys) rest.0), rw passes rest.1)
 
+-- what is not before a day is from it on
 not_before : (a b : ℕ) → not (nat_lt a b) ≡ nat_le b a
 not_before a b = grind (arith, nat_tests)
 
 -- behind the events before a day stand those from the day on
-pub from_day : (events : List Event) (first n : ℕ) → IsPartitionPoint (λ e. nat_lt e.key.day first ≡ true) (λ e. nat_lt e.key.day first ≡ false) events n → n ≤ length events →
+pub from_day : (events : List Event) (first n : ℕ) → IsPartitionPoint (λ e. nat_lt e.key.day first ≡ true) (λ e. nat_lt e.key.day first
+    ≡ false) events n → n ≤ length events →
     drop n events ≡ filter (λ e. nat_le first e.key.day) events
 from_day events first n parts le =
     (sides_of_point (λ e. nat_lt e.key.day first) events n parts le).1

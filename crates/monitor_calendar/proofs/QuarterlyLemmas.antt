@@ -26,6 +26,7 @@ fails_with : (a b : Bool) → (a ≡ true → b ≡ true) → b ≡ false → a 
 fails_with true b to fails = sym (to refl) ∙ fails
 fails_with false b to fails = refl
 
+-- a test or all
 or_true : (b : Bool) → (b || true) ≡ true
 or_true true = refl
 or_true false = refl
@@ -48,12 +49,15 @@ module _ (startup month : ℕ) (past : PastMonths) (last : ℕ) (front rest : Li
       (and_right (is_routine_below e.what) (is_in_month k e) (ne_eqb (month_of e.key.day) k (λ at. omega (arith, at, all.0, lt))))
       (none_read es k all.1 lt)
 
-  none_leaks : (events : List Event) (low high : ℕ) → AllByRecursion (λ e. month ≤ month_of e.key.day) events → high < month → has_leak_in events low high ≡ false
+  -- .. nor does a leak of them
+  none_leaks : (events : List Event) (low high : ℕ) → AllByRecursion (λ e. month ≤ month_of e.key.day) events → high < month →
+      has_leak_in events low high ≡ false
   unfolding has_leak_in
   none_leaks [] low high all lt = refl
   none_leaks (e ∷ es) low high all lt =
       or_from (is_leak e.what && nat_le low (month_of e.key.day) && nat_le (month_of e.key.day) high) (has_leak_in es low high)
-      (and_right (is_leak e.what && nat_le low (month_of e.key.day)) (nat_le (month_of e.key.day) high) (lt-leb (month_of e.key.day) high (omega (arith, all.0, lt))))
+      (and_right (is_leak e.what && nat_le low (month_of e.key.day)) (nat_le (month_of e.key.day) high) (lt-leb (month_of e.key.day) high (omega
+          (arith, all.0, lt))))
       (none_leaks es low high all.1 lt)
 
   -- what is read in an earlier month
@@ -64,11 +68,13 @@ module _ (startup month : ℕ) (past : PastMonths) (last : ℕ) (front rest : Li
         | inr later ↦ absurd (false≢true (sym (none_read rest k behind lt) ∙ later))
       ]
 
+  -- .. is read among all
   read_after : (k : ℕ) → reads_in front k ≡ true → reads_in (front ++ rest) k ≡ true
   read_after k read = list_any-append (λ e. is_routine_below e.what && is_in_month k e) front rest ∙ or_left (reads_in front k) (reads_in rest k) read
 
   -- the leaks from a month on, as far as the month before this one
-  leaks_before : (events : List Event) (low : ℕ) → AllByRecursion (λ e. month_of e.key.day < month) events → leaks_from events low ≡ true → has_leak_in events low (month - 1) ≡ true
+  leaks_before : (events : List Event) (low : ℕ) → AllByRecursion (λ e. month_of e.key.day < month) events → leaks_from events low ≡ true →
+      has_leak_in events low (month - 1) ≡ true
   unfolding has_leak_in
   leaks_before [] low all leaks = leaks
   leaks_before (e ∷ es) low all leaks =
@@ -77,7 +83,8 @@ module _ (startup month : ℕ) (past : PastMonths) (last : ℕ) (front rest : Li
             or_left (is_leak e.what && nat_le low (month_of e.key.day) && nat_le (month_of e.key.day) (month - 1)) (has_leak_in es low (month - 1))
             (and_from (is_leak e.what && nat_le low (month_of e.key.day)) (nat_le (month_of e.key.day) (month - 1)) this
             (le-leb (month_of e.key.day) (month - 1) (omega (arith, all.0))))
-        | inr there ↦ rw (leaks_before es low all.1 there) (or_true (is_leak e.what && nat_le low (month_of e.key.day) && nat_le (month_of e.key.day) (month - 1)))
+        | inr there ↦ rw (leaks_before es low all.1 there) (or_true (is_leak e.what && nat_le low (month_of e.key.day) && nat_le (month_of e.key.day)
+            (month - 1)))
       ]
 
   -- after the last leak there is none
@@ -107,11 +114,14 @@ module _ (startup month : ℕ) (past : PastMonths) (last : ℕ) (front rest : Li
             ∙ or_left (has_leak_in front low (month - 1)) (has_leak_in rest low (month - 1)) (leaks_before front low before leaks))))
       ]
 
+  -- a month read below after the last leak is clean
   clean_after : (k : ℕ) → past.leak < k → k < month → reads_in front k ≡ true → is_clean (front ++ rest) k ≡ true
   unfolding is_clean
   clean_after k lt within read =
-      and_from (reads_in (front ++ rest) k) (not (has_leak_in (front ++ rest) k k)) (read_after k read) (not_from_false (has_leak_in (front ++ rest) k k) (no_leak k k lt within))
+      and_from (reads_in (front ++ rest) k) (not (has_leak_in (front ++ rest) k k)) (read_after k read) (not_from_false (has_leak_in
+          (front ++ rest) k k) (no_leak k k lt within))
 
+  -- a clean month is read below
   clean_reads : (k : ℕ) → is_clean (front ++ rest) k ≡ true → reads_in (front ++ rest) k ≡ true
   unfolding is_clean
   clean_reads k clean = (and_parts (reads_in (front ++ rest) k) (not (has_leak_in (front ++ rest) k k)) clean).0
@@ -126,11 +136,13 @@ module _ (startup month : ℕ) (past : PastMonths) (last : ℕ) (front rest : Li
       and_from (nat_le (first_quarter startup) month) (nat_lt p (quarter_start startup month - 1))
       (le-leb (first_quarter startup) month from) (lt-ltb p (quarter_start startup month - 1) (omega (arith, by, lt)))
 
+  -- where the month is quarterly, the first two months let it be
   to_let : is_quarterly startup (front ++ rest) month ≡ true → lets_be_quarterly past startup month ≡ true
   to_let is =
       let there = (quarterly_decides startup (front ++ rest) month).0 is in
       let k = there.1.0 in
-      let parts = and_parts (nat_lt (k + 1) (quarter_start startup month) && is_clean_twice (front ++ rest) k) (not (has_leak_in (front ++ rest) k (month - 1))) there.1.1 in
+      let parts = and_parts (nat_lt (k + 1) (quarter_start startup month) && is_clean_twice (front ++ rest) k) (not (has_leak_in (front ++ rest) k
+          (month - 1))) there.1.1 in
       let begun = and_parts (nat_lt (k + 1) (quarter_start startup month)) (is_clean_twice (front ++ rest) k) parts.0 in
       let clean = and_parts (is_clean (front ++ rest) k) (is_clean (front ++ rest) (k + 1)) begun.1 in
       let lt : k + 1 < quarter_start startup month = ltb-true (k + 1) (quarter_start startup month) begun.0 in
@@ -142,6 +154,7 @@ module _ (startup month : ℕ) (past : PastMonths) (last : ℕ) (front rest : Li
       let after : past.leak < k = after_leak k (omega (arith, pos)) (not-true (has_leak_in (front ++ rest) k (month - 1)) parts.1) in
       lets_by past.pair k (tells.first k after here next) from lt
 
+  -- .. and where they let it be, it is
   from_pair : (o : Option ℕ) → IfSome o (λ k. (past.leak < k) × (reads_in front k ≡ true) × (reads_in front (k + 1) ≡ true))
       → lets_after o startup month ≡ true → is_quarterly startup (front ++ rest) month ≡ true
   from_pair None holds lets = absurd (false≢true lets)
@@ -158,11 +171,13 @@ module _ (startup month : ℕ) (past : PastMonths) (last : ℕ) (front rest : Li
         (
           p,
           and_from (nat_lt (p + 1) (quarter_start startup month) && is_clean_twice (front ++ rest) p) (not (has_leak_in (front ++ rest) p (month - 1)))
-              (and_from (nat_lt (p + 1) (quarter_start startup month)) (is_clean_twice (front ++ rest) p) (lt-ltb (p + 1) (quarter_start startup month) (omega (arith, lt))) clean)
+              (and_from (nat_lt (p + 1) (quarter_start startup month)) (is_clean_twice (front ++ rest) p) (lt-ltb (p + 1)
+                  (quarter_start startup month) (omega (arith, lt))) clean)
               (not_from_false (has_leak_in (front ++ rest) p (month - 1)) (no_leak p (month - 1) after (omega (arith, lt, by)))),
         ),
       )
 
+  -- what is told decides
   pub quarterly_told : lets_be_quarterly past startup month ≡ is_quarterly startup (front ++ rest) month
   quarterly_told =
       same_test (lets_be_quarterly past startup month) (is_quarterly startup (front ++ rest) month) (from_pair past.pair tells.pair) to_let

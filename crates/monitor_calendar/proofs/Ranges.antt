@@ -23,4 +23,5 @@ pub from_later : {B : Type 0} (f : ℕ → Option B) (low cut end : ℕ) → low
     filter_map f (until cut end) ≡ filter_map f (until low end)
 from_later f low cut end le none =
     let at : low + (cut - low) ≡ cut = omega arith in
-    sym (subst (λ from. filter_map f (until low end) ≡ filter_map f (until from end)) at (passed_over f low end (cut - low) (λ n from to. none n from (omega (arith, to)))))
+    sym (subst (λ from. filter_map f (until low end) ≡ filter_map f (until from end)) at (passed_over f low end (cut - low) (λ n from to. none n from
+        (omega (arith, to)))))

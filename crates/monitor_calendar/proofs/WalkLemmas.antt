@@ -12,6 +12,7 @@ use Rattle.monitor_calendar.specs.Walks.{IsOn, IsAt}
 use Rattle.monitor_calendar.specs.declared.past_months.PastMonths.{PastMonths}
 use Rattle.monitor_calendar.proofs.Rising.{months_ahead}
 
+-- each month is from 0 on
 from_zero : (es : List Event) → AllByRecursion (λ e. 0 ≤ month_of e.key.day) es
 from_zero [] = tt
 from_zero (e ∷ es) = (omega arith, from_zero es)
@@ -24,7 +25,8 @@ at_start past events tells = record {
 }
 
 -- a walk that stands where a month begins goes on to a later one
-pub on_from : (past : PastMonths) (events : List Event) (place before month : ℕ) → IsAt past events place before → before ≤ month → IsOn past events place month
+pub on_from : (past : PastMonths) (events : List Event) (place before month : ℕ) → IsAt past events place before → before ≤ month →
+    IsOn past events place month
 on_from past events place before month at le = record {
   within = at.on.within;
   last = at.on.last;
@@ -36,12 +38,15 @@ on_from past events place before month at le = record {
 
 module _ (events : List Event) (place month : ℕ) (e : Event) (up : Ascends (λ a b. is_earlier a.key b.key) events) (within : place < length events)
     (stands : get_or events place e ≡ e) where
+  -- the event stands first behind the place
   split : drop place events ≡ e ∷ drop (place + 1) events
   split = drop_more events place e within ∙ ap (λ x. x ∷ drop (place + 1) events) stands
 
+  -- .. and last in front of the next
   longer : take (place + 1) events ≡ take place events ++ e ∷ []
   longer = take_more events place e within ∙ ap (λ x. take place events ++ x ∷ []) stands
 
+  -- those behind it are of no earlier month
   later : AllByRecursion (λ x. month_of e.key.day ≤ month_of x.key.day) (drop (place + 1) events)
   later =
       subst (λ x. AllByRecursion (λ y. month_of x.key.day ≤ month_of y.key.day) (drop (place + 1) events)) stands (months_ahead events place e up within)
@@ -69,7 +74,8 @@ module _ (events : List Event) (place month : ℕ) (e : Event) (up : Ascends (λ
     on = on;
     rest =
         subst (AllByRecursion (λ x. month ≤ month_of x.key.day)) (sym split)
-        (le, all_weaker (λ x. month_of e.key.day ≤ month_of x.key.day) (λ x. month ≤ month_of x.key.day) (λ x h. omega (arith, h, le)) (drop (place + 1) events) later);
+        (le, all_weaker (λ x. month_of e.key.day ≤ month_of x.key.day) (λ x. month ≤ month_of x.key.day) (λ x h. omega (arith, h, le)) (drop
+            (place + 1) events) later);
   }
 
 -- .. or there is none

@@ -41,6 +41,7 @@ abbrev pub pair_from : Option ℕ → ℕ → ℕ → Option ℕ
 pair_from (Some first) below month = Some first
 pair_from None below month = if nat_eq (month - 1) below then Some below else None
 
+-- .. of past months
 abbrev pub pair_with : PastMonths → ℕ → Option ℕ
 pair_with past month = pair_from past.pair past.below month
 
@@ -49,5 +50,6 @@ abbrev pub lets_after : Option ℕ → ℕ → ℕ → Bool
 lets_after None startup month = false
 lets_after (Some first) startup month = nat_le (first_quarter startup) month && nat_lt first (quarter_start startup month - 1)
 
+-- .. of past months
 abbrev pub lets_be_quarterly : PastMonths → ℕ → ℕ → Bool
 lets_be_quarterly past startup month = lets_after past.pair startup month

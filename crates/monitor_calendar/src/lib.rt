@@ -8,6 +8,7 @@ mod duties;
 mod duty;
 mod first;
 mod in_order;
+pub mod laws;
 mod listed_months;
 mod monthly;
 mod past_months;

@@ -8,7 +8,8 @@ pub returns : goal.returns
 returns c =
     let a = c.args in
     record {
-      value = c.first_near_background.ensures.value ∙ same_mapped (find (λ (e : Event). is_routine e.what && is_near_background e.what) c.events_on.result.now)
+      value = c.first_near_background.ensures.value ∙ same_mapped (find (λ
+          (e : Event). is_routine e.what && is_near_background e.what) c.events_on.result.now)
           ∙ ap (find (λ (e : Event). is_routine e.what && is_near_background e.what)) c.events_on.ensures.value
           ∙ find_among (λ (e : Event). is_routine e.what && is_near_background e.what) (is_from_to a.first a.last) a.events.now;
     }

@@ -13,7 +13,8 @@ pub returns-then-month-number : goal.returns-then-month-number
 returns-then-month-number c =
     let l = c.loop-place in
     record {
-      value = at_event c.args.events.now l.place c.args.month c.index-events-place.result c.requires.ordered c.loop-place-test.true (sym c.index-events-place.is)
+      value = at_event c.args.events.now l.place c.args.month c.index-events-place.result c.requires.ordered c.loop-place-test.true
+          (sym c.index-events-place.is)
           l.past l.invariant (omega arith);
     }
 
@@ -27,4 +28,5 @@ pub returns : goal.returns
 returns c =
     let l = c.loop-place in
     let end : l.place ≡ length c.args.events.now = omega (arith, l.invariant.within) in
-    record { value = subst (λ n. IsAt l.past c.args.events.now n c.args.month) end (at_end l.past c.args.events.now l.place c.args.month c.loop-place-test.false l.invariant) }
+    record { value = subst (λ n. IsAt l.past c.args.events.now n c.args.month) end
+        (at_end l.past c.args.events.now l.place c.args.month c.loop-place-test.false l.invariant) }

@@ -10,4 +10,5 @@ returns-clause-value c =
     let events = c.args.self.now.events.now in
     let day = c.args.self.now.day in
     IsPartitionPoint-from_clause (λ (e : Event). nat_lt (e.key.day + 5 + 366) day) events c.partition_point.result c.partition_point.ensures.partitioned
-    (IsPartitionedBy-ltb (λ (e : Event). e.key.day + 5 + 366) events day (λ i j d le within. omega (arith, days_rise events c.args.self.now.events_ordered i j d le within))) (search rules)
+    (IsPartitionedBy-ltb (λ (e : Event). e.key.day + 5 + 366) events day (λ i j d le within. omega
+        (arith, days_rise events c.args.self.now.events_ordered i j d le within))) (search rules)

@@ -13,7 +13,8 @@ returns-then-begin-earliest c =
     let begin : c.number-begin.result ≡ month_of asked.item.now.begin = cc in
     record {
       value = subst (IsFirstListed asked) (sym at)
-          (listed_from_cut asked cut c.earliest.ensures.value c.earliest.ensures.in_range (month_of-month cut c.earliest.ensures.in_range) (omega (arith, at, begin)));
+          (listed_from_cut asked cut c.earliest.ensures.value c.earliest.ensures.in_range (month_of-month cut c.earliest.ensures.in_range) (omega
+              (arith, at, begin)));
     }
 
 pub returns-else-begin-earliest : goal.returns-else-begin-earliest
@@ -24,5 +25,6 @@ returns-else-begin-earliest c =
     let begin : c.number-begin.result ≡ month_of asked.item.now.begin = cc in
     record {
       value = subst (λ m. IsFirstListed asked (m + 1)) (sym begin)
-          (listed_from_begin asked cut c.earliest.ensures.value c.earliest.ensures.in_range (subst IsMonth begin c.number-begin.ensures.in_range) (omega (arith, at, begin)));
+          (listed_from_begin asked cut c.earliest.ensures.value c.earliest.ensures.in_range (subst IsMonth begin c.number-begin.ensures.in_range)
+              (omega (arith, at, begin)));
     }

@@ -14,7 +14,8 @@ returns-then-begin-earliest c =
     let begin : c.week_of-begin.result ≡ week_of asked.item.now.begin = c.week_of-begin.ensures.value in
     record {
       in_range = omega (arith, c.week_of-begin.ensures.in_range);
-      value = subst (λ w. filter_map (causes.weekly asked) (until w (week_of asked.day + 1)) ≡ filter_map (causes.weekly asked) (causes.weeks_after asked)) (sym at)
+      value = subst (λ w. filter_map (causes.weekly asked) (until w (week_of asked.day + 1))
+          ≡ filter_map (causes.weekly asked) (causes.weeks_after asked)) (sym at)
           (weeks_from_cut asked cut c.earliest.ensures.value c.earliest.ensures.in_range (omega (arith, at, begin)));
     }
 

@@ -15,7 +15,8 @@ returns-then-begin-earliest c =
     record {
       after = omega (arith, at, begin);
       in_range = omega (arith, begin, c.number-begin.ensures.in_range);
-      value = subst (λ m. filter_map (causes.planned asked) (until m (month_of asked.day + 60)) ≡ filter_map (causes.planned asked) (causes.window_ends asked)) (sym at)
+      value = subst (λ m. filter_map (causes.planned asked) (until m (month_of asked.day + 60))
+          ≡ filter_map (causes.planned asked) (causes.window_ends asked)) (sym at)
           (windows_from_cut asked cut c.earliest.ensures.value c.earliest.ensures.in_range (omega (arith, at, begin)));
     }
 
@@ -27,6 +28,7 @@ returns-else-begin-earliest c =
     record {
       after = omega (arith, begin);
       in_range = omega (arith, begin, c.number-begin.ensures.in_range);
-      value = subst (λ m. filter_map (causes.planned asked) (until (m + 1) (month_of asked.day + 60)) ≡ filter_map (causes.planned asked) (causes.window_ends asked)) (sym begin)
+      value = subst (λ m. filter_map (causes.planned asked) (until (m + 1) (month_of asked.day + 60))
+          ≡ filter_map (causes.planned asked) (causes.window_ends asked)) (sym begin)
           (windows_from_begin asked cut c.earliest.ensures.value c.earliest.ensures.in_range);
     }

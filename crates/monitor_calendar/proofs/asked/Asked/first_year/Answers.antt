@@ -15,7 +15,8 @@ returns-then-first-earliest c =
     let first : c.year-first.result ≡ month_of (first_due asked.item.now) / 12 = cc in
     record {
       in_range = omega (arith, c.year-earliest.ensures.in_range);
-      value = subst (λ y. filter_map (causes.yearly asked) (until y (month_of asked.day / 12 + 1)) ≡ filter_map (causes.yearly asked) (causes.years_after asked)) (sym at)
+      value = subst (λ y. filter_map (causes.yearly asked) (until y (month_of asked.day / 12 + 1))
+          ≡ filter_map (causes.yearly asked) (causes.years_after asked)) (sym at)
           (years_from_cut asked cut c.earliest.ensures.value c.earliest.ensures.in_range (omega (arith, at, first)));
     }
 

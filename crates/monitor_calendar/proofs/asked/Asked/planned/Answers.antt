@@ -72,7 +72,8 @@ returns c =
     let met = routine_in asked.events.now first due in
     let form : causes.planned asked month ≡ causes.duty asked 5 first due owed met = planned_by asked judged month due c.last_day_by-due.ensures.value is in
     let plan : c.from.result ≡ judged.class.plan = search rules in
-    let from : c.first_day-first.result ≡ first = c.first_day-first.ensures.value ∙ ap first_day c.at.ensures.value ∙ ap (λ p. first_day (month + 1 - p)) plan in
+    let from : c.first_day-first.result ≡ first = c.first_day-first.ensures.value ∙ ap first_day c.at.ensures.value
+        ∙ ap (λ p. first_day (month + 1 - p)) plan in
     record {
       value = c.duty.ensures.value
           ∙ ap (λ m. causes.duty asked 5 c.first_day-first.result due true m) c.routine_in-met.ensures.value

@@ -31,7 +31,8 @@ loop-place-preserved c =
           (c.after_event.ensures.value ∙ ap (λ x. after_by asked c.args.after l.past.repeat x c.next_after-next.result) (sym c.index-self-place.is))
           ∙ l.invariant.done;
       tells = tells_on asked c.args.after l.past c.with-past.result events l.place e c.loop-place-test.true (sym c.index-self-place.is) l.invariant.tells
-          (subst (λ x. (front : List Event) → TellsOfDrips l.past front → TellsOfDrips c.with-past.result (front ++ x ∷ [])) (sym c.index-self-place.is) c.with-past.ensures.value);
+          (subst (λ x. (front : List Event) → TellsOfDrips l.past front → TellsOfDrips c.with-past.result (front ++ x ∷ []))
+              (sym c.index-self-place.is) c.with-past.ensures.value);
       next = c.next_after-next.ensures.value;
     }
 
@@ -39,4 +40,5 @@ pub returns : goal.returns
 returns c =
     let l = c.loop-place in
     let asked = c.args.self.now in
-    record { put = each_done (after_event asked c.args.after) l.duties.items _ (take l.place asked.events.now) asked.events.now l.place (omega (arith, c.loop-place-test.false)) l.invariant.done }
+    record { put = each_done (after_event asked c.args.after) l.duties.items _ (take l.place asked.events.now) asked.events.now l.place (omega
+        (arith, c.loop-place-test.false)) l.invariant.done }

@@ -18,12 +18,14 @@ pub loop-number-preserved : goal.loop-number-preserved
 loop-number-preserved c =
     let l = c.loop-number in
     let f = causes.quarterly c.args.self.now in
-    ap (λ ds. ds ++ filter_map f (until (l.number + 1) c.args.months.now.end)) (c.in_ok-put.ensures.put ∙ ap (λ o. l.duties.items ++ option_to_list o) (c.quarterly.ensures.value ∙ ap (causes.quarterly c.args.self.now) c.at.ensures.value))
+    ap (λ ds. ds ++ filter_map f (until (l.number + 1) c.args.months.now.end)) (c.in_ok-put.ensures.put
+        ∙ ap (λ o. l.duties.items ++ option_to_list o) (c.quarterly.ensures.value ∙ ap (causes.quarterly c.args.self.now) c.at.ensures.value))
     ∙ filter_map_until f l.duties.items l.number c.args.months.now.end c.loop-number-test.true ∙ l.invariant
 
 pub returns : goal.returns
 returns c =
     let l = c.loop-number in
     record {
-      put = filter_map_done (causes.quarterly c.args.self.now) l.duties.items _ l.number c.args.months.now.end (omega (arith, c.loop-number-test.false)) l.invariant;
+      put = filter_map_done (causes.quarterly c.args.self.now) l.duties.items _ l.number c.args.months.now.end (omega
+          (arith, c.loop-number-test.false)) l.invariant;
     }

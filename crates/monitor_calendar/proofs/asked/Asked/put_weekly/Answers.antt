@@ -18,12 +18,14 @@ pub loop-week-preserved : goal.loop-week-preserved
 loop-week-preserved c =
     let l = c.loop-week in
     let f = causes.weekly c.args.self.now in
-    ap (λ ds. ds ++ filter_map f (until (l.week + 1) (c.week_of-end.result + 1))) (c.in_ok-put.ensures.put ∙ ap (λ o. l.duties.items ++ option_to_list o) (c.weekly.ensures.value))
+    ap (λ ds. ds ++ filter_map f (until (l.week + 1) (c.week_of-end.result + 1))) (c.in_ok-put.ensures.put
+        ∙ ap (λ o. l.duties.items ++ option_to_list o) (c.weekly.ensures.value))
     ∙ filter_map_until f l.duties.items l.week (c.week_of-end.result + 1) c.loop-week-test.true ∙ l.invariant
 
 pub returns : goal.returns
 returns c =
     let l = c.loop-week in
     record {
-      put = filter_map_done (causes.weekly c.args.self.now) l.duties.items _ l.week (c.week_of-end.result + 1) (omega (arith, c.loop-week-test.false)) l.invariant;
+      put = filter_map_done (causes.weekly c.args.self.now) l.duties.items _ l.week (c.week_of-end.result + 1) (omega
+          (arith, c.loop-week-test.false)) l.invariant;
     }

@@ -19,12 +19,14 @@ pub loop-year-preserved : goal.loop-year-preserved
 loop-year-preserved c =
     let l = c.loop-year in
     let f = causes.yearly c.args.self.now in
-    ap (λ ds. ds ++ filter_map f (until (l.year + 1) (c.year-end.result + 1))) (c.in_ok-put.ensures.put ∙ ap (λ o. l.duties.items ++ option_to_list o) (c.yearly.ensures.value))
+    ap (λ ds. ds ++ filter_map f (until (l.year + 1) (c.year-end.result + 1))) (c.in_ok-put.ensures.put
+        ∙ ap (λ o. l.duties.items ++ option_to_list o) (c.yearly.ensures.value))
     ∙ filter_map_until f l.duties.items l.year (c.year-end.result + 1) c.loop-year-test.true ∙ l.invariant
 
 pub returns : goal.returns
 returns c =
     let l = c.loop-year in
     record {
-      put = filter_map_done (causes.yearly c.args.self.now) l.duties.items _ l.year (c.year-end.result + 1) (omega (arith, c.loop-year-test.false)) l.invariant;
+      put = filter_map_done (causes.yearly c.args.self.now) l.duties.items _ l.year (c.year-end.result + 1) (omega
+          (arith, c.loop-year-test.false)) l.invariant;
     }

@@ -17,7 +17,8 @@ returns-then-not-is_quarter_month c =
     subst (IsOf asked judged) day (record { serves = c.judged-judged.ensures.serves; regime = c.judged-judged.ensures.regime; class = c.judged-judged.ensures.class }) in
     let owed = causes.is_quarter_month_judged asked judged c.args.month c.args.is_quarterly in
     let met = routine_in asked.events.now c.first_day-first.result c.last_day-due.result in
-    let form : causes.quarterly asked c.args.month ≡ causes.duty asked 3 c.first_day-first.result c.last_day-due.result owed met = quarterly_by asked judged c.args.month c.first_day-first.result c.last_day-due.result c.args.is_quarterly from to c.requires.quarterly is in
+    let form : causes.quarterly asked c.args.month
+        ≡ causes.duty asked 3 c.first_day-first.result c.last_day-due.result owed met = quarterly_by asked judged c.args.month c.first_day-first.result c.last_day-due.result c.args.is_quarterly from to c.requires.quarterly is in
     record {
       value = sym (form ∙ unowed asked.item.now asked.classes.now asked.startup asked.events.now asked.skipped.now asked.day 3 c.first_day-first.result c.last_day-due.result owed met
           (sym c.is_quarter_month.ensures.value ∙ c.if-not-is_quarter_month.true));
@@ -34,10 +35,12 @@ returns c =
     subst (IsOf asked judged) day (record { serves = c.judged-judged.ensures.serves; regime = c.judged-judged.ensures.regime; class = c.judged-judged.ensures.class }) in
     let owed = causes.is_quarter_month_judged asked judged c.args.month c.args.is_quarterly in
     let met = routine_in asked.events.now c.first_day-first.result c.last_day-due.result in
-    let form : causes.quarterly asked c.args.month ≡ causes.duty asked 3 c.first_day-first.result c.last_day-due.result owed met = quarterly_by asked judged c.args.month c.first_day-first.result c.last_day-due.result c.args.is_quarterly from to c.requires.quarterly is in
+    let form : causes.quarterly asked c.args.month
+        ≡ causes.duty asked 3 c.first_day-first.result c.last_day-due.result owed met = quarterly_by asked judged c.args.month c.first_day-first.result c.last_day-due.result c.args.is_quarterly from to c.requires.quarterly is in
     record {
       value = c.duty.ensures.value
           ∙ ap (λ m. causes.duty asked 3 c.first_day-first.result c.last_day-due.result true m) c.routine_in-met.ensures.value
-          ∙ ap (λ o. causes.duty asked 3 c.first_day-first.result c.last_day-due.result o met) (sym c.if-not-is_quarter_month.false ∙ c.is_quarter_month.ensures.value)
+          ∙ ap (λ o. causes.duty asked 3 c.first_day-first.result c.last_day-due.result o met) (sym c.if-not-is_quarter_month.false
+              ∙ c.is_quarter_month.ensures.value)
           ∙ sym form;
     }

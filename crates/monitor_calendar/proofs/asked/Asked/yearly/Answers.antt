@@ -17,7 +17,8 @@ returns-then-not-is_yearly c =
     subst (IsOf asked judged) day (record { serves = c.judged-judged.ensures.serves; regime = c.judged-judged.ensures.regime; class = c.judged-judged.ensures.class }) in
     let owed = causes.is_yearly_judged judged in
     let met = causes.yearly_reading_judged asked judged c.first_day-first.result c.last_day-due.result in
-    let form : causes.yearly asked c.args.year ≡ causes.duty asked 4 c.first_day-first.result c.last_day-due.result owed met = yearly_by asked judged c.args.year c.first_day-first.result c.last_day-due.result from to is in
+    let form : causes.yearly asked c.args.year
+        ≡ causes.duty asked 4 c.first_day-first.result c.last_day-due.result owed met = yearly_by asked judged c.args.year c.first_day-first.result c.last_day-due.result from to is in
     record {
       value = sym (form ∙ unowed asked.item.now asked.classes.now asked.startup asked.events.now asked.skipped.now asked.day 4 c.first_day-first.result c.last_day-due.result owed met
           (sym c.is_yearly.ensures.value ∙ c.if-not-is_yearly.true));
@@ -34,7 +35,8 @@ returns c =
     subst (IsOf asked judged) day (record { serves = c.judged-judged.ensures.serves; regime = c.judged-judged.ensures.regime; class = c.judged-judged.ensures.class }) in
     let owed = causes.is_yearly_judged judged in
     let met = causes.yearly_reading_judged asked judged c.first_day-first.result c.last_day-due.result in
-    let form : causes.yearly asked c.args.year ≡ causes.duty asked 4 c.first_day-first.result c.last_day-due.result owed met = yearly_by asked judged c.args.year c.first_day-first.result c.last_day-due.result from to is in
+    let form : causes.yearly asked c.args.year
+        ≡ causes.duty asked 4 c.first_day-first.result c.last_day-due.result owed met = yearly_by asked judged c.args.year c.first_day-first.result c.last_day-due.result from to is in
     record {
       value = c.duty.ensures.value
           ∙ ap (λ m. causes.duty asked 4 c.first_day-first.result c.last_day-due.result true m) c.yearly_reading-met.ensures.value

@@ -13,7 +13,8 @@ returns-then-is_leak c =
     let leaks : is_leak e.what ≡ true = cc in
     record {
       value = λ last front tells le.
-          subst (λ m. Tells (record { leak = m; below = 0; pair = None }) (month_of e.key.day) (front ++ e ∷ [])) (sym at) (told_leak c.args.self last front e tells le leaks);
+          subst (λ m. Tells (record { leak = m; below = 0; pair = None }) (month_of e.key.day) (front ++ e ∷ [])) (sym at)
+              (told_leak c.args.self last front e tells le leaks);
     }
 
 pub returns-then-month-self : goal.returns-then-month-self
@@ -40,7 +41,8 @@ returns c =
     let read : is_routine_below e.what ≡ true = cc in
     record {
       value = λ last front tells le.
-          subst (λ p. Tells (record { leak = c.args.self.leak; below = c.number-month.result; pair = p }) (month_of e.key.day) (front ++ e ∷ [])) (sym c.pair_with.ensures.value)
+          subst (λ p. Tells (record { leak = c.args.self.leak; below = c.number-month.result; pair = p }) (month_of e.key.day) (front ++ e ∷ []))
+              (sym c.pair_with.ensures.value)
           (subst (λ m. Tells (record { leak = c.args.self.leak; below = m; pair = pair_with c.args.self m }) (month_of e.key.day) (front ++ e ∷ [])) (sym at)
           (told_below c.args.self last front e tells le sound after read));
     }
