@@ -1,0 +1,73 @@
+-- What is owed, by what the component is on the day on which it is judged.
+use Rattle.std.proofs.Common.{◌≡◌, ℕ, ◌+◌, ◌-◌, ◌*◌, ◌%◌, ◌<◌, ◌≤◌, Bool, true, false, ◌&&◌, ◌||◌, nat_lt, nat_eq, min, Option, None, List, refl, sym, ap, ◌∙◌, subst, inl, inr, mod-eq_of_lt, arith}
+use Rattle.std.proofs.lemmas.Bool.{and_parts, eqb-true, cases_lt}
+use Rattle.ldar_days.specs.Calendar.{first_day, last_day, end_by, month_of, week_first, week_last}
+use Rattle.ldar_law.specs.declared.duty.Duty.{Duty}
+use Rattle.ldar_law.specs.Duties as law
+use Rattle.ldar_law.specs.Force.{class_on, regime_on, is_in_service}
+use Rattle.ldar_law.specs.Months.{is_quarterly}
+use Rattle.ldar_law.specs.Standing.{are_valve_rules, are_pump_rules, is_unsafe_designated}
+use Rattle.monitor_calendar.specs.Causes as causes
+use Rattle.monitor_calendar.specs.declared.asked.Asked.{Asked}
+use Rattle.monitor_calendar.specs.declared.asked.Judged.{Judged}
+
+-- a whole number of windows has one at least
+one_window : (n p : ℕ) → 0 < n → n % p ≡ 0 → p ≤ n
+one_window n p some whole =
+    elim (cases_lt n p) [
+      | inl short ↦ let small : n % p ≡ n = mod-eq_of_lt short in absurd (omega (arith, small))
+      | inr long ↦ long
+    ]
+
+module _ (asked : Asked) where
+  -- the judged component is that of a day
+  pub record IsOf (judged : Judged) (day : ℕ) : Type 0 where
+    pub serves : judged.serves ≡ is_in_service asked.item.now day
+    pub regime : judged.regime ≡ regime_on asked.item.now asked.classes.now day
+    pub class : judged.class ≡ class_on asked.item.now asked.classes.now day
+
+  -- where a window ends, the plan has begun after the beginning
+  pub plan_fits : (judged : Judged) (month : ℕ) → month_of asked.item.now.begin < month → causes.is_planned_judged asked judged month ≡ true →
+      judged.class.plan + month_of asked.item.now.begin ≤ month
+  plan_fits judged month after planned =
+      let whole = (and_parts (judged.serves && is_unsafe_designated judged.class.designation &&
+          (are_valve_rules judged.regime || are_pump_rules judged.regime) && nat_lt 0 judged.class.plan)
+      (nat_eq ((month - month_of asked.item.now.begin) % judged.class.plan) 0) planned).1 in
+      omega (arith, one_window (month - month_of asked.item.now.begin) judged.class.plan (omega (arith, after)) (eqb-true
+          ((month - month_of asked.item.now.begin) % judged.class.plan) 0 whole))
+
+  -- the monthly duty, by what is judged
+  pub monthly_by : (judged : Judged) (month first due : ℕ) (quarterly : Bool) → first ≡ first_day month → due ≡ last_day month → quarterly
+      ≡ is_quarterly asked.startup asked.events.now month →
+      IsOf judged (min due asked.day) →
+      causes.monthly asked month ≡ causes.duty asked 2 first due (causes.is_monthly_judged judged quarterly) (law.routine_in asked.events.now first due)
+  unfolding law.monthly
+  monthly_by judged month first due quarterly from to same is = rw (is.serves, is.regime, is.class, same, from, to) refl
+
+  -- the quarterly one
+  pub quarterly_by : (judged : Judged) (month first due : ℕ) (quarterly : Bool) → first ≡ first_day month → due ≡ last_day month → quarterly
+      ≡ is_quarterly asked.startup asked.events.now month →
+      IsOf judged (min due asked.day) →
+      causes.quarterly asked month ≡ causes.duty asked 3 first due (causes.is_quarter_month_judged asked judged month quarterly)
+          (law.routine_in asked.events.now first due)
+  unfolding law.quarterly
+  quarterly_by judged month first due quarterly from to same is = rw (is.serves, is.regime, is.class, same, from, to) refl
+
+  -- the yearly one
+  pub yearly_by : (judged : Judged) (year first due : ℕ) → first ≡ first_day (12 * year) → due ≡ last_day (12 * year + 11) → IsOf judged (min due asked.day) →
+      causes.yearly asked year ≡ causes.duty asked 4 first due (causes.is_yearly_judged judged) (causes.yearly_reading_judged asked judged first due)
+  unfolding law.yearly
+  yearly_by judged year first due from to is = rw (is.serves, is.regime, is.class, from, to) refl
+
+  -- the one by a plan
+  pub planned_by : (judged : Judged) (month due : ℕ) → due ≡ end_by (last_day month) → IsOf judged (min due asked.day) →
+      causes.planned asked month ≡ causes.duty asked 5 (first_day (month + 1 - judged.class.plan)) due (causes.is_planned_judged asked judged month)
+      (law.routine_in asked.events.now (first_day (month + 1 - judged.class.plan)) due)
+  unfolding law.planned
+  planned_by judged month due to is = rw (is.serves, is.regime, is.class, to) refl
+
+  -- the weekly one
+  pub weekly_by : (judged : Judged) (week first due : ℕ) → first ≡ week_first week → due ≡ week_last week → IsOf judged (min due asked.day) →
+      causes.weekly asked week ≡ causes.duty asked 6 first due (causes.is_plain_pump judged) (law.look_in asked.events.now first due)
+  unfolding law.weekly
+  weekly_by judged week first due from to is = rw (is.serves, is.regime, is.class, from, to) refl

@@ -1,0 +1,12 @@
+pub mod Cutting
+pub mod DripLemmas
+pub mod FollowLemmas
+pub mod Judging
+pub mod Listing
+pub mod PartLemmas
+pub mod PastLemmas
+pub mod PeriodLemmas
+pub mod QuarterlyLemmas
+pub mod Ranges
+pub mod Rising
+pub mod WalkLemmas

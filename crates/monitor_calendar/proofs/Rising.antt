@@ -1,0 +1,58 @@
+-- Events in key order stand by their days, and so by their months.
+use Rattle.std.proofs.Common.{◌≡◌, ℕ, zero, suc, ◌+◌, ◌<◌, ◌≤◌, true, nat_le, List, [], ◌∷◌, length, drop, get_or, arith}
+use Rattle.std.specs.List.{AllByRecursion}
+use Rattle.std.specs.List.Sorted.{IsNonDecreasingBy}
+use Rattle.std.proofs.lemmas.Bool.{cases_lt, leb-true, le-leb}
+use Rattle.std.proofs.lemmas.Bool.Decides.{nat_tests}
+use Rattle.list_words.specs.Order.{Ascends}
+use Rattle.list_words.proofs.Members.{all_weaker}
+use Rattle.ldar_days.specs.Calendar.{near, first_day, month_of}
+use Rattle.ldar_facts.specs.Facts.{is_earlier}
+use Rattle.ldar_facts.proofs.Cuts.{earlier_day}
+use Rattle.ldar_law.specs.declared.event.Event.{Event}
+
+-- what is before all of some is before each
+before_each : (x : Event) (ys : List Event) (j : ℕ) (d : Event) → AllByRecursion (λ y. is_earlier x.key y.key ≡ true) ys → j < length ys →
+    is_earlier x.key (get_or ys j d).key ≡ true
+before_each x [] j d all within = absurd (omega arith)
+before_each x (y ∷ ys) zero d all within = all.0
+before_each x (y ∷ ys) (suc j) d all within = before_each x ys j d all.1 (omega (arith, within))
+
+-- the days of events in key order do not fall
+pub days_rise : (events : List Event) → Ascends (λ a b. is_earlier a.key b.key) events → IsNonDecreasingBy (λ e. e.key.day) events
+days_rise [] up i j d le within = absurd (omega arith)
+days_rise (e ∷ es) up zero zero d le within = omega arith
+days_rise (e ∷ es) up zero (suc j) d le within = earlier_day e.key (get_or es j d).key (before_each e es j d up.0 (omega (arith, within)))
+days_rise (e ∷ es) up (suc i) zero d le within = absurd (omega arith)
+days_rise (e ∷ es) up (suc i) (suc j) d le within = days_rise es up.1 i j d (omega (arith, le)) (omega (arith, within))
+
+-- the month of a later day is no earlier one
+pub month_rises : (a b : ℕ) → a ≤ b → month_of a ≤ month_of b
+unfolding month_of
+month_rises a b le = grind (arith, nat_tests)
+
+-- months begin with January 1970
+pub month_low : (n : ℕ) → 23_640 ≤ month_of n
+unfolding month_of
+month_low n = grind (arith, nat_tests)
+
+-- 366 days lie in fifteen months
+pub months_listed : (a b : ℕ) → b ≤ a + 366 → month_of b ≤ month_of a + 14
+unfolding month_of
+months_listed a b le = grind (arith, nat_tests)
+
+-- of events in key order each later one is of no earlier month
+pub months_ahead : (events : List Event) (i : ℕ) (d : Event) → Ascends (λ a b. is_earlier a.key b.key) events → i < length events →
+    AllByRecursion (λ e. month_of (get_or events i d).key.day ≤ month_of e.key.day) (drop (i + 1) events)
+months_ahead [] i d up within = absurd (omega arith)
+months_ahead (e ∷ es) zero d up within =
+    all_weaker (λ y. is_earlier e.key y.key ≡ true) (λ y. month_of e.key.day ≤ month_of y.key.day)
+    (λ y earlier. month_rises e.key.day y.key.day (earlier_day e.key y.key earlier)) es up.0
+months_ahead (e ∷ es) (suc i) d up within =
+    let next : suc i + 1 ≡ suc (i + 1) = omega arith in rw next (months_ahead es i d up.1 (omega (arith, within)))
+
+-- a part of events in key order is in key order
+pub ascends_drop : (n : ℕ) (events : List Event) → Ascends (λ a b. is_earlier a.key b.key) events → Ascends (λ a b. is_earlier a.key b.key) (drop n events)
+ascends_drop zero events up = up
+ascends_drop (suc n) [] up = up
+ascends_drop (suc n) (e ∷ es) up = ascends_drop n es up.1

@@ -1,0 +1,7 @@
+use Rattle.std.proofs.Common.{◌-◌, drop}
+use Rattle.list_words.specs.Order.{Ascends}
+use Rattle.ldar_facts.specs.Facts.{is_earlier}
+use Rattle.monitor_calendar.proofs.in_order.are_classes_ordered.Given as goal
+
+abbrev pub invariant-loop-place : goal.invariant-loop-place
+invariant-loop-place l = Ascends (λ a b. is_earlier a.0 b.0) (drop (l.place - 1) l.classes)

@@ -1,0 +1,23 @@
+-- The months that a list can hold.
+use Rattle.std.specs.Prelude.{◌≡◌, ℕ, ◌+◌, ◌<◌, ◌≤◌, false, filter_map, slice_index_or}
+use Rattle.list_words.specs.Ranges.{until}
+use Rattle.ldar_days.specs.Calendar.{month_of}
+use Rattle.ldar_law.specs.Months.{is_quarterly}
+use Rattle.monitor_calendar.specs.Causes.{monthly, quarterly, months_after}
+use Rattle.monitor_calendar.specs.declared.asked.Asked.{Asked}
+use Rattle.monitor_calendar.specs.declared.listed_months.ListedMonths.{ListedMonths}
+
+-- from this month after the beginning on the list can hold duties, and none of those before it; up to the month of the list
+-- there are at most fifteen
+pub record IsFirstListed (asked : Asked) (low : ℕ) : Type 0 where
+  pub in_range : (24_096 ≤ low) × (low ≤ 25_200)
+  pub few : month_of asked.day + 1 ≤ low + 15
+  pub monthly : filter_map (monthly asked) (until low (month_of asked.day + 1)) ≡ filter_map (monthly asked) (months_after asked)
+  pub quarterly : filter_map (quarterly asked) (until low (month_of asked.day + 1)) ≡ filter_map (quarterly asked) (months_after asked)
+
+-- these are the months that the list can hold
+pub record Covers (asked : Asked) (months : ListedMonths) : Type 0 where
+  pub first : IsFirstListed asked months.low
+  pub end : months.end ≡ month_of asked.day + 1
+  pub within : months.end ≤ 25_200
+  pub quarterly : (k : ℕ) → k < 15 → slice_index_or months.quarterly k false ≡ is_quarterly asked.startup asked.events.now (months.low + k)

@@ -1,0 +1,78 @@
+-- What follows drips, a pressure release or evidence of a potential leak.
+use Rattle.std.specs.Prelude.{◌≡◌, ℕ, ◌+◌, ◌<◌, ◌≤◌, Bool, true, false, not, ◌&&◌, ◌||◌, nat_le, if◌then◌else◌, Option, Some, None, List, length, slice_get, slice_index_or}
+use Rattle.ldar_days.specs.Calendar.{end_by}
+use Rattle.ldar_law.specs.declared.duty.Duty.{Duty}
+use Rattle.ldar_law.specs.declared.event.Event.{Event}
+use Rattle.ldar_law.specs.declared.event.Happening.{Happening}
+use Rattle.ldar_law.specs.Duties as law
+use Rattle.ldar_law.specs.Force.{is_in_service}
+use Rattle.ldar_law.specs.Happenings as happenings
+use Rattle.ldar_law.specs.Standing as standing
+use Rattle.monitor_calendar.specs.Causes as causes
+use Rattle.monitor_calendar.specs.Dripping.{TellsOfDrips}
+use Rattle.monitor_calendar.specs.declared.after_event.After.{After}
+use Rattle.monitor_calendar.specs.declared.after_event.After.TheVariants.{Drips, Release, Evidence}
+use Rattle.monitor_calendar.specs.declared.asked.Asked.{Asked}
+use Rattle.monitor_calendar.specs.declared.drips.PastDrips.{PastDrips}
+
+-- the cause of the duty
+abbrev pub cause_of : After → ℕ
+cause_of Drips = 7
+cause_of Release = 8
+cause_of Evidence = 9
+
+-- a later event meets it, if it comes in time
+abbrev pub meets : After → Happening → Bool
+meets Drips what = happenings.is_counting what || happenings.is_designating what
+meets Release what = happenings.is_near_background what
+meets Evidence what = happenings.is_counting what || happenings.is_evidence_gone what
+
+-- the place of the first event from one on that would meet it, or the number of events
+pub record IsNext (after : After) (events : List Event) (from next : ℕ) : Type 0 where
+  pub behind : from ≤ next
+  pub within : next ≤ length events
+  pub none : (k : ℕ) (d : Event) → from ≤ k → k < next → meets after (slice_index_or events k d).what ≡ false
+  pub here : (d : Event) → next < length events → meets after (slice_index_or events next d).what ≡ true
+
+-- an event, if there is one, and it comes by a day
+abbrev pub comes_by : Option Event → ℕ → Option Event
+comes_by None due = None
+comes_by (Some e) due = if nat_le e.key.day due then Some e else None
+
+-- the event at a place
+abbrev pub event_by : List Event → ℕ → ℕ → Option Event
+event_by events place due = comes_by (slice_get events place) due
+
+module _ (asked : Asked) where
+  -- it is a relief device in service on the day
+  abbrev pub is_served_relief : ℕ → Bool
+  is_served_relief day = is_in_service asked.item.now day && standing.is_under_relief_rules asked.item.now asked.classes.now day
+
+  -- it is in heavy liquid service, and in service, on the day
+  abbrev pub is_served_heavy_liquid : ℕ → Bool
+  is_served_heavy_liquid day = is_in_service asked.item.now day && standing.is_under_heavy_liquid_rules asked.item.now asked.classes.now day
+
+  -- an event asks for what follows; of drips it is told whether they repeat earlier ones
+  abbrev pub is_asked_by : After → Bool → Event → Bool
+  is_asked_by Drips is_repeated e =
+      happenings.has_undesignated_drips e.what
+      && law.is_weekly asked.item.now asked.classes.now asked.startup asked.events.now asked.skipped.now asked.day e.key.day && not is_repeated
+  is_asked_by Release is_repeated e = happenings.is_release e.what && is_served_relief e.key.day
+  is_asked_by Evidence is_repeated e = happenings.has_evidence e.what && is_served_heavy_liquid e.key.day
+
+  -- the duty, where the first later event that would meet it stands at a place
+  abbrev pub after_by : After → Bool → Event → ℕ → Option Duty
+  after_by after is_repeated e next =
+      causes.duty asked (cause_of after) e.key.day (end_by (e.key.day + 5)) (is_asked_by after is_repeated e)
+      (event_by asked.events.now next (end_by (e.key.day + 5)))
+
+  -- the duty after an event that stands between others
+  abbrev pub after_event : After → List Event → Event → List Event → Option Duty
+  after_event Drips = law.drip asked.item.now asked.classes.now asked.startup asked.events.now asked.skipped.now asked.day
+  after_event Release = law.release asked.item.now asked.classes.now asked.startup asked.events.now asked.skipped.now asked.day
+  after_event Evidence = law.evidence asked.item.now asked.classes.now asked.startup asked.events.now asked.skipped.now asked.day
+
+-- this tells what a duty after drips asks of the events before
+abbrev pub TellsFor : After → PastDrips → List Event → Type 0
+TellsFor Drips past events = TellsOfDrips past events
+TellsFor _ past events = Unit {0}

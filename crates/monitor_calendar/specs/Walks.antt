@@ -1,0 +1,21 @@
+-- A walk over events in key order, month by month.
+use Rattle.std.specs.Prelude.{ℕ, ◌<◌, ◌≤◌, List, length, take, drop}
+use Rattle.std.specs.List.{AllByRecursion}
+use Rattle.ldar_days.specs.Calendar.{month_of}
+use Rattle.ldar_law.specs.declared.event.Event.{Event}
+use Rattle.monitor_calendar.specs.Behind.{Tells}
+use Rattle.monitor_calendar.specs.declared.past_months.PastMonths.{PastMonths}
+
+-- the events in front of a place are of months before one, and this tells of them
+pub record IsOn (past : PastMonths) (events : List Event) (place month : ℕ) : Type 0 where
+  pub within : place ≤ length events
+  pub last : ℕ
+  pub before : last ≤ month
+  pub front : AllByRecursion (λ e. month_of e.key.day < month) (take place events)
+  pub ahead : AllByRecursion (λ e. last ≤ month_of e.key.day) (drop place events)
+  pub tells : Tells past last (take place events)
+
+-- .. and those behind it are not of months before it
+pub record IsAt (past : PastMonths) (events : List Event) (place month : ℕ) : Type 0 where
+  pub on : IsOn past events place month
+  pub rest : AllByRecursion (λ e. month ≤ month_of e.key.day) (drop place events)

@@ -1,0 +1,174 @@
+//! What follows drips, a pressure release or evidence of a potential leak (40 CFR 60.482-2a(b)(2), 60.482-4a(b)(2),
+//! 60.482-8a(a)). One walk over the events for each, with the next event that meets such a duty found once.
+
+ghost use Rattle.std.specs.Prelude.{◌≡◌, ◌+◌, ◌<◌, ◌≤◌, ◌++◌, OnOk, true, false, length, take, nat_lt};
+ghost use Rattle.std.specs.List.Sorted.{IsPartitionPoint};
+ghost use Rattle.list_words.specs.Order.{Ascends};
+ghost use Rattle.list_words.specs.Words.{each_where};
+ghost use Rattle.ldar_facts.specs.Facts.{is_earlier};
+ghost use Rattle.monitor_calendar.specs.Following as following;
+
+use crate::asked::Asked;
+use crate::drips::PastDrips;
+use crate::duty::put;
+use crate::weekly::is_plain_pump;
+use ldar_days::Day;
+use ldar_facts::Memory;
+use ldar_law::{Duty, EVENT_DAYS, Event, Happening, LISTED_DAYS};
+
+/// What a duty follows.
+#[derive(Clone, Copy)]
+pub enum After {
+    Drips,
+    Release,
+    Evidence,
+}
+
+impl After {
+    /// The cause of the duty.
+    fn cause(self) -> u8
+        ensures value { result ≡ following.cause_of self }
+    {
+        match self {
+            After::Drips => 7,
+            After::Release => 8,
+            After::Evidence => 9,
+        }
+    }
+
+    /// Whether a later event meets it, if it comes in time.
+    fn is_met_by(self, what: &Happening) -> bool
+        ensures value { result ≡ following.meets self what.now }
+    {
+        match self {
+            After::Drips => what.is_counting() || what.is_designating(),
+            After::Release => what.is_near_background(),
+            After::Evidence => what.is_counting() || what.is_evidence_gone(),
+        }
+    }
+
+    /// The place of the first event from one on that would meet it, or the number of events where there is none.
+    fn next_place(self, events: &[Event], from: usize) -> usize
+        requires from { from ≤ length events.now }
+        ensures value { following.IsNext self events.now from result }
+    {
+        for place in from..events.len() {
+            if self.is_met_by(&events[place].what) {
+                return place;
+            }
+        }
+        events.len()
+    }
+
+    /// The same behind a place, by that from the place on.
+    fn next_after(self, events: &[Event], place: usize, next: usize) -> usize
+        requires place { place < length events.now }
+        requires next { following.IsNext self events.now place next }
+        ensures value { following.IsNext self events.now (place + 1) result }
+    {
+        if next == place {
+            self.next_place(events, place + 1)
+        } else {
+            next
+        }
+    }
+}
+
+/// The event at a place, if it comes by a day.
+fn event_by(events: &[Event], place: usize, due: Day) -> Option<Event>
+    ensures value { result ≡ following.event_by events.now place due }
+{
+    match events.get(place) {
+        Some(e) => { if e.key.day <= due { Some(*e) } else { None } }
+        None => None,
+    }
+}
+
+impl Asked<'_> {
+    /// Whether an event asks for what follows; `is_repeated` says of drips whether they repeat earlier ones.
+    fn is_asked_by(&self, after: After, is_repeated: bool, e: &Event) -> bool
+        ensures value { result ≡ following.is_asked_by self.now after is_repeated e.now }
+    {
+        match after {
+            After::Drips => {
+                e.what.has_undesignated_drips()
+                    && is_plain_pump(self.judged(e.key.day))
+                    && !is_repeated
+            }
+            After::Release => { e.what.is_release() && self.is_served_relief(e.key.day) }
+            After::Evidence => { e.what.has_evidence() && self.is_served_heavy_liquid(e.key.day) }
+        }
+    }
+
+    /// Whether it is a relief device in service on a day.
+    fn is_served_relief(&self, day: Day) -> bool
+        ensures value { result ≡ following.is_served_relief self.now day }
+    {
+        let judged = self.judged(day);
+        judged.serves && judged.regime.are_relief_rules()
+    }
+
+    /// Whether it is in heavy liquid service, and in service, on a day.
+    fn is_served_heavy_liquid(&self, day: Day) -> bool
+        ensures value { result ≡ following.is_served_heavy_liquid self.now day }
+    {
+        let judged = self.judged(day);
+        judged.serves && judged.regime.are_heavy_liquid_rules()
+    }
+
+    /// The duty after an event, where the first later event that would meet it stands at a place.
+    fn after_event(&self, after: After, is_repeated: bool, e: &Event, next: usize) -> Option<Duty>
+        ensures value { result ≡ following.after_by self.now after is_repeated e.now next }
+    {
+        if !self.is_asked_by(after, is_repeated, e) {
+            return None;
+        }
+        let due = e.key.day.plus_days(EVENT_DAYS);
+        self.duty(
+            after.cause(),
+            e.key.day,
+            due,
+            &event_by(self.events, next, due),
+        )
+    }
+
+    /// The place of the first event whose duty the list can hold.
+    fn first_listed(&self) -> usize
+        ensures within { result ≤ length self.now.events.now }
+        ensures value { IsPartitionPoint (λ e. nat_lt (e.key.day + 5 + 366) self.now.day ≡ true) (λ e. nat_lt (e.key.day + 5 + 366) self.now.day ≡ false) self.now.events.now result }
+    {
+        let day = self.day.number();
+        self.events
+            .partition_point(|e| e.key.day.number() + EVENT_DAYS + LISTED_DAYS < day)
+    }
+
+    /// What the events before a place tell, as far as what follows asks for it.
+    fn drips_before(&self, after: After, place: usize) -> PastDrips
+        requires within { place ≤ length self.now.events.now }
+        ensures value { following.TellsFor after result (take place self.now.events.now) }
+    {
+        let mut past = PastDrips::none();
+        if matches!(after, After::Drips) {
+            for e in &self.events[..place] {
+                past = past.with(e);
+            }
+        }
+        past
+    }
+
+    /// Adds the duties that follow events of a sort.
+    pub fn put_after(&self, after: After, duties: &mut Vec<Duty>) -> Result<(), Memory>
+        ensures put { OnOk result (duties.new.items ≡ duties.old.items ++ each_where (following.after_event self.now after) self.now.events.now) }
+    {
+        let from = self.first_listed();
+        let mut past = self.drips_before(after, from);
+        let mut next = after.next_place(self.events, from);
+        for place in from..self.events.len() {
+            let e = &self.events[place];
+            next = after.next_after(self.events, place, next);
+            put(duties, &self.after_event(after, past.repeat, e, next))?;
+            past = past.with(e);
+        }
+        Ok(())
+    }
+}

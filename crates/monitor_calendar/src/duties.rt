@@ -1,0 +1,55 @@
+ghost use Rattle.std.specs.Prelude.{◌≡◌, ◌≤◌, IfOk};
+ghost use Rattle.list_words.specs.Order.{Ascends};
+ghost use Rattle.ldar_facts.specs.Facts.{is_earlier};
+ghost use Rattle.ldar_law.specs.Duties as law;
+ghost use Rattle.ldar_law.specs.declared.numbers.TheConstants.{LAST_FACT_DAY};
+
+use crate::after_event::After;
+use crate::asked::Asked;
+use crate::duty::put;
+use ldar_days::Day;
+use ldar_facts::{Class, Key, Memory};
+use ldar_law::{Duty, Equipment, Event};
+use std::alloc::Global;
+
+/// What has to be done at a component, as the list of a day has it (40 CFR 60.482-2a, 60.482-3a, 60.482-4a, 60.482-7a,
+/// 60.482-8a): by cause, due day and event. `startup` is that of its process unit, and `skipped` says which of the
+/// unit's quarters are skipped, from the first on; the classes and the events are the component's own, in key order.
+/// An error: no memory for the duties.
+///
+/// What was due more than 366 days before the day is not listed, and is not looked at.
+#[tactic(auto, unfolding(ldar_law::specs::Duties::duties_of))]
+pub fn duties_of(
+    alloc: Global,
+    equipment: &Equipment,
+    classes: &[(Key, Class)],
+    startup: Day,
+    events: &[Event],
+    skipped: &[bool],
+    day: Day,
+) -> Result<Vec<Duty>, Memory>
+    requires startup { startup ≤ LAST_FACT_DAY }
+    requires ordered { Ascends (λ a b. is_earlier a.0 b.0) classes.now × Ascends (λ a b. is_earlier a.key b.key) events.now }
+    ensures value { IfOk result (λ duties. duties.items ≡ law.duties_of equipment.now classes.now startup events.now skipped.now day) }
+{
+    let asked = Asked {
+        item: equipment,
+        classes,
+        startup,
+        events,
+        skipped,
+        day,
+    };
+    let mut duties = Vec::new(alloc);
+    put(&mut duties, &asked.first_monitoring())?;
+    let months = asked.listed_months();
+    asked.put_monthly(&months, &mut duties)?;
+    asked.put_quarterly(&months, &mut duties)?;
+    asked.put_yearly(&mut duties)?;
+    asked.put_planned(&mut duties)?;
+    asked.put_weekly(&mut duties)?;
+    asked.put_after(After::Drips, &mut duties)?;
+    asked.put_after(After::Release, &mut duties)?;
+    asked.put_after(After::Evidence, &mut duties)?;
+    Ok(duties)
+}

@@ -1,0 +1,26 @@
+//! What has to be done at a component: the nine causes of duties, as the list of a day has them.
+#![tactic(auto)]
+
+mod after_event;
+mod asked;
+mod drips;
+mod duties;
+mod duty;
+mod first;
+mod in_order;
+pub mod laws;
+mod listed_months;
+mod monthly;
+mod past_months;
+mod period;
+mod plan;
+mod quarterly_months;
+mod weekly;
+mod yearly;
+
+pub use duties::duties_of;
+pub use in_order::{are_classes_ordered, are_events_ordered};
+pub use ldar_law::Duty;
+
+#[cfg(test)]
+mod tests;

@@ -1,0 +1,43 @@
+ghost use Rattle.std.specs.Prelude.{◌≡◌};
+ghost use Rattle.monitor_calendar.specs.Covering.{IsFirstListed, Covers};
+
+use crate::asked::Asked;
+use crate::quarterly_months::{MONTHS_LISTED, quarterly_months};
+
+/// The months that a list can hold, and which of them are quarterly ones of the component.
+#[derive(Clone, Copy)]
+pub struct ListedMonths {
+    /// The first of them.
+    pub low: u32,
+    /// The month behind the last of them.
+    pub end: u32,
+    pub quarterly: [bool; MONTHS_LISTED],
+}
+
+impl Asked<'_> {
+    /// The first of the months that the list can hold.
+    fn first_month(&self) -> u32
+        ensures value { IsFirstListed self.now result }
+    {
+        let begin = self.item.begin.month().number();
+        let earliest = self.earliest().month().number();
+        if begin < earliest {
+            earliest
+        } else {
+            begin + 1
+        }
+    }
+
+    /// The months after the beginning whose duties the list can hold.
+    pub fn listed_months(&self) -> ListedMonths
+        ensures value { Covers self.now result }
+    {
+        let low = self.first_month();
+        let end = self.day.month().number() + 1;
+        ListedMonths {
+            low,
+            end,
+            quarterly: quarterly_months(self.startup, self.events, low),
+        }
+    }
+}

@@ -1,0 +1,107 @@
+//! Monthly and quarterly monitoring (40 CFR 60.482-2a(a)(1), 60.482-7a(a)(1), (c)(1)).
+
+ghost use Rattle.std.specs.Prelude.{◌≡◌, ◌++◌, OnOk, filter_map};
+ghost use Rattle.ldar_law.specs.Months.{is_quarterly as says_quarterly};
+ghost use Rattle.monitor_calendar.specs.Causes as causes;
+ghost use Rattle.monitor_calendar.specs.Covering.{Covers};
+
+use crate::asked::{Asked, Judged};
+use crate::duty::put;
+use crate::listed_months::ListedMonths;
+use crate::period::routine_in;
+use ldar_days::{Month, quarter_of};
+use ldar_facts::Memory;
+use ldar_law::{Duty, is_none_designated, month_in_quarter};
+
+/// Whether what is so judged is monitored in a month that is a quarterly one or not.
+fn is_monthly(judged: Judged, is_quarterly: bool) -> bool
+    ensures value { result ≡ causes.is_monthly_judged judged is_quarterly }
+{
+    judged.serves
+        && is_none_designated(judged.class.designation)
+        && (judged.regime.are_pump_rules() || (judged.regime.are_valve_rules() && !is_quarterly))
+}
+
+impl Asked<'_> {
+    /// Whether the quarter of a month is skipped.
+    fn is_month_skipped(&self, month: Month) -> bool
+        ensures value { result ≡ causes.is_month_skipped self.now month }
+    {
+        match quarter_of(self.startup, month) {
+            Some(quarter) => match self.skipped.get(usize::from(quarter - 1)) {
+                Some(is_skipped) => *is_skipped,
+                None => false,
+            },
+            None => false,
+        }
+    }
+
+    /// Whether what is so judged is monitored in a month that is a quarterly one or not, since it is its month of a
+    /// quarter that is not skipped.
+    fn is_quarter_month(&self, judged: Judged, month: Month, is_quarterly: bool) -> bool
+        ensures value { result ≡ causes.is_quarter_month_judged self.now judged month is_quarterly }
+    {
+        judged.serves
+            && is_none_designated(judged.class.designation)
+            && judged.regime.are_valve_rules()
+            && is_quarterly
+            && u32::from(judged.class.month) == month_in_quarter(self.startup, month.number())
+            && !self.is_month_skipped(month)
+    }
+
+    /// The monthly monitoring of a month that is a quarterly one of a valve or not.
+    fn monthly(&self, month: Month, is_quarterly: bool) -> Option<Duty>
+        requires quarterly { is_quarterly ≡ says_quarterly self.now.startup self.now.events.now month }
+        ensures value { result ≡ causes.monthly self.now month }
+    {
+        let first = month.first_day();
+        let due = month.last_day();
+        let judged = self.judged(self.judging_day(due));
+        if !is_monthly(judged, is_quarterly) {
+            return None;
+        }
+        let met = routine_in(self.events, first, due);
+        self.duty(2, first, due, &met)
+    }
+
+    /// The quarterly monitoring of such a month.
+    fn quarterly(&self, month: Month, is_quarterly: bool) -> Option<Duty>
+        requires quarterly { is_quarterly ≡ says_quarterly self.now.startup self.now.events.now month }
+        ensures value { result ≡ causes.quarterly self.now month }
+    {
+        let first = month.first_day();
+        let due = month.last_day();
+        let judged = self.judged(self.judging_day(due));
+        if !self.is_quarter_month(judged, month, is_quarterly) {
+            return None;
+        }
+        let met = routine_in(self.events, first, due);
+        self.duty(3, first, due, &met)
+    }
+
+    /// Adds the monthly monitorings.
+    #[tactic(auto, using(list_words::proofs::RangeLemmas::ranges))]
+    pub fn put_monthly(&self, months: &ListedMonths, duties: &mut Vec<Duty>) -> Result<(), Memory>
+        requires covered { Covers self.now months.now }
+        ensures put { OnOk result (duties.new.items ≡ duties.old.items ++ filter_map (causes.monthly self.now) (causes.months_after self.now)) }
+    {
+        for number in months.low..months.end {
+            let is_quarterly = months.quarterly[(number - months.low) as usize];
+            put(duties, &self.monthly(Month::at(number), is_quarterly))?;
+        }
+        Ok(())
+    }
+
+    /// Adds the quarterly monitorings.
+    #[tactic(auto, using(list_words::proofs::RangeLemmas::ranges))]
+    pub fn put_quarterly(&self, months: &ListedMonths, duties: &mut Vec<Duty>) -> Result<(), Memory>
+        requires covered { Covers self.now months.now }
+        ensures put { OnOk result (duties.new.items ≡ duties.old.items ++ filter_map (causes.quarterly self.now) (causes.months_after self.now)) }
+    {
+        for number in months.low..months.end {
+            let is_quarterly = months.quarterly[(number - months.low) as usize];
+            put(duties, &self.quarterly(Month::at(number), is_quarterly))?;
+        }
+        Ok(())
+    }
+}

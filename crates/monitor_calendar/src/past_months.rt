@@ -1,0 +1,90 @@
+ghost use Rattle.std.specs.Prelude.{◌≡◌, ℕ, ◌≤◌, List, [], ◌∷◌, ◌++◌};
+ghost use Rattle.ldar_days.specs.Calendar.{month_of};
+ghost use Rattle.ldar_law.specs.declared.event.Event.{Event as SomeEvent};
+ghost use Rattle.ldar_law.specs.declared.numbers.TheConstants.{LAST_FACT_DAY};
+ghost use Rattle.monitor_calendar.specs.Behind.{Tells, pair_with, lets_be_quarterly};
+
+use ldar_days::{Day, first_quarter};
+use ldar_law::{Event, quarter_start};
+
+/// What the events of the months before one tell of those months, as far as they decide which of the later months are
+/// quarterly ones of a valve (40 CFR 60.482-7a(c)(1)).
+#[derive(Clone, Copy)]
+pub struct PastMonths {
+    /// The month of the last leak, or 0 where there is none.
+    pub leak: u32,
+    /// The last month after it with a counting routine reading below the leak definition, or 0 where there is none.
+    pub below: u32,
+    /// The first month after it that has such a reading, as the next month has.
+    pub pair: Option<u32>,
+}
+
+impl PastMonths {
+    /// What no events tell.
+    pub fn none() -> PastMonths
+        ensures value { Tells result 0 [] }
+    {
+        PastMonths {
+            leak: 0,
+            below: 0,
+            pair: None,
+        }
+    }
+
+    /// What they tell with one event more, of no earlier month.
+    pub fn with(self, e: &Event) -> PastMonths
+        ensures value { (last : ℕ) (front : List SomeEvent) → Tells self last front → last ≤ month_of e.now.key.day
+            → Tells result (month_of e.now.key.day) (front ++ e.now ∷ []) }
+    {
+        let month = e.key.day.month().number();
+        if e.what.is_leak() {
+            return PastMonths {
+                leak: month,
+                below: 0,
+                pair: None,
+            };
+        }
+        if month <= self.leak {
+            return self;
+        }
+        if !e.what.is_routine_below() {
+            return self;
+        }
+        PastMonths {
+            leak: self.leak,
+            below: month,
+            pair: self.pair_with(month),
+        }
+    }
+
+    /// The first two months in a row, where the later of them may be this one.
+    fn pair_with(self, month: u32) -> Option<u32>
+        requires month { 23_640 ≤ month }
+        ensures value { result ≡ pair_with self month }
+    {
+        match self.pair {
+            Some(first) => Some(first),
+            None => {
+                if month - 1 == self.below {
+                    Some(self.below)
+                } else {
+                    None
+                }
+            }
+        }
+    }
+
+    /// Whether they let the next month be a quarterly one.
+    pub fn let_be_quarterly(self, startup: Day, month: u32) -> bool
+        requires startup { startup ≤ LAST_FACT_DAY }
+        ensures value { result ≡ lets_be_quarterly self startup month }
+    {
+        match self.pair {
+            Some(first) => {
+                first_quarter(startup).number() <= month
+                    && first < quarter_start(startup, month).saturating_sub(1)
+            }
+            None => false,
+        }
+    }
+}

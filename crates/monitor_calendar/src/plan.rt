@@ -1,0 +1,96 @@
+//! Monitoring by a written plan of what is unsafe to monitor (40 CFR 60.482-2a(g)(2), 60.482-7a(g)(2)).
+
+ghost use Rattle.std.specs.Prelude.{◌≡◌, ◌+◌, ◌++◌, ◌<◌, ◌≤◌, OnOk, filter_map};
+ghost use Rattle.list_words.specs.Ranges.{until};
+ghost use Rattle.ldar_days.specs.Calendar.{month_of, end_by, last_day};
+ghost use Rattle.monitor_calendar.specs.Causes as causes;
+
+use crate::asked::{Asked, Judged};
+use crate::duty::put;
+use crate::period::routine_in;
+use ldar_days::{Day, Month};
+use ldar_facts::Memory;
+use ldar_law::{Duty, is_unsafe_designated};
+
+/// December 2099, the last month of the calendar.
+const LAST_MONTH: u32 = 25_199;
+
+/// A window that has begun ends at most so many months after the month of the list: a plan has at most sixty months.
+const PLAN_MONTHS: u32 = 60;
+
+/// The last day of a month, or of the calendar where the month lies after it.
+fn last_day_by(month: u32) -> Day
+    requires from { 24_096 ≤ month }
+    ensures value { result ≡ end_by (last_day month) }
+{
+    if month > LAST_MONTH {
+        return Month::at(LAST_MONTH).last_day();
+    }
+    Month::at(month).last_day()
+}
+
+impl Asked<'_> {
+    /// Whether what is so judged has a plan by which a window ends with the month.
+    fn is_planned(&self, judged: Judged, month: u32) -> bool
+        requires after { month_of self.now.item.now.begin < month }
+        ensures value { result ≡ causes.is_planned_judged self.now judged month }
+    {
+        let (plan, begin) = (
+            u32::from(judged.class.plan),
+            self.item.begin.month().number(),
+        );
+        judged.serves
+            && is_unsafe_designated(judged.class.designation)
+            && (judged.regime.are_valve_rules() || judged.regime.are_pump_rules())
+            && plan > 0
+            && (month - begin) % plan == 0
+    }
+
+    /// The monitoring in the window that ends with a month, by the plan of the day on which it is judged.
+    fn planned(&self, month: u32) -> Option<Duty>
+        requires in_range { 24_096 ≤ month_of self.now.item.now.begin }
+        requires after { month_of self.now.item.now.begin < month }
+        requires fits { month ≤ 25_259 }
+        ensures value { result ≡ causes.planned self.now month }
+    {
+        let due = last_day_by(month);
+        let judged = self.judged(self.judging_day(due));
+        if !self.is_planned(judged, month) {
+            return None;
+        }
+        let from = month + 1 - u32::from(judged.class.plan);
+        if self.day.month().number() < from {
+            return None;
+        }
+        let first = Month::at(from).first_day();
+        let met = routine_in(self.events, first, due);
+        self.duty(5, first, due, &met)
+    }
+
+    /// The first of the months with which a window can end that the list can hold.
+    fn first_window_end(&self) -> u32
+        ensures after { month_of self.now.item.now.begin < result }
+        ensures in_range { 24_096 ≤ month_of self.now.item.now.begin }
+        ensures value { filter_map (causes.planned self.now) (until result (month_of self.now.day + 60))
+            ≡ filter_map (causes.planned self.now) (causes.window_ends self.now) }
+    {
+        let begin = self.item.begin.month().number();
+        let earliest = self.earliest().month().number();
+        if begin < earliest {
+            earliest
+        } else {
+            begin + 1
+        }
+    }
+
+    /// Adds the monitorings by a plan.
+    pub fn put_planned(&self, duties: &mut Vec<Duty>) -> Result<(), Memory>
+        ensures put { OnOk result (duties.new.items ≡ duties.old.items ++ filter_map (causes.planned self.now) (causes.window_ends self.now)) }
+    {
+        let end = self.day.month().number() + PLAN_MONTHS;
+        for month in self.first_window_end()..end {
+            put(duties, &self.planned(month))?;
+        }
+        Ok(())
+    }
+}
