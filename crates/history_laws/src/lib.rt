@@ -1,0 +1,4 @@
+//! What is true of whole histories, as the views need it: functions with nothing to do, whose contracts are the laws.
+#![tactic(auto)]
+
+pub mod ruly;
