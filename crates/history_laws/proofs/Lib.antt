@@ -1,2 +1,5 @@
 pub mod Counting
+pub mod DayLemmas
+pub mod KnownLemmas
 pub mod RulyLemmas
+pub mod UpTo

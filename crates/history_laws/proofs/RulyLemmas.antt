@@ -129,7 +129,7 @@ days_are_in_bound history ruly =
     let c = came history ruly entry among in
     in_time entry.0.day (let_pass c.earlier c.batch c.passes c.before entry c.after c.stands late_rule (18, omega arith, refl)))
 
-startup_is : (number day : ℕ) (body : FactBody) (unit : UnitEntry) → unit_entered number day body ≡ Some unit → unit.startup ≡ day
+pub startup_is : (number day : ℕ) (body : FactBody) (unit : UnitEntry) → unit_entered number day body ≡ Some unit → unit.startup ≡ day
 startup_is number day (UnitFact other older name) unit e =
     elim (cases_Bool (nat_eq other number)) [
       | inl t ↦ let is : Some (record { unit = number; name = name; startup = day; older = older }) ≡ Some unit = rw t at e in cc
@@ -143,13 +143,13 @@ startups_are_in_bound facts number last unit all e =
     subst (λ day. day ≤ last) (sym (startup_is number found.0.0.day found.0.1.body unit found.2)) (all_at (λ x. x.0.day ≤ last) facts found.0 all found.1)
 
 -- what a component is by the fact that enters it
-record Begins (number day : ℕ) (body : FactBody) (item : Equipment) : Type 0 where
+pub record Begins (number day : ℕ) (body : FactBody) (item : Equipment) : Type 0 where
   pub component : item.component ≡ number
   pub begin : item.begin ≡ day
   pub joins : member_entered item.unit body ≡ Some number
   pub asks : unit_asked body ≡ Some item.unit
 
-begins : (number : ℕ) (retired : Option ℕ) (day : ℕ) (body : FactBody) (item : Equipment) → component_entered number retired day body ≡ Some item
+pub begins : (number : ℕ) (retired : Option ℕ) (day : ℕ) (body : FactBody) (item : Equipment) → component_entered number retired day body ≡ Some item
     → Begins number day body item
 begins number retired day (ComponentFact other unit kind monomer replaces class) item e =
     elim (cases_Bool (nat_eq other number)) [
@@ -303,7 +303,7 @@ part_has_each_once facts test once = record {
 -- ---- members
 
 -- the component that a fact enters in a process unit, by the fact
-joined_is : (unit number : ℕ) (retired : Option ℕ) (day : ℕ) (body : FactBody) → member_entered unit body ≡ Some number
+pub joined_is : (unit number : ℕ) (retired : Option ℕ) (day : ℕ) (body : FactBody) → member_entered unit body ≡ Some number
     → (item : Equipment) × (component_entered number retired day body ≡ Some item) × (item.component ≡ number) × (item.unit ≡ unit)
 joined_is unit number retired day (ComponentFact other u kind monomer replaces class) e =
     elim (cases_Bool (nat_eq u unit)) [
@@ -320,7 +320,7 @@ joined_is unit number retired day (ComponentFact other u kind monomer replaces c
     ]
 joined_is unit number retired day _ e = absurd cc
 
-member_is_entered : (unit number : ℕ) (body : FactBody) → member_entered unit body ≡ Some number → enters_component number body ≡ true
+pub member_is_entered : (unit number : ℕ) (body : FactBody) → member_entered unit body ≡ Some number → enters_component number body ≡ true
 member_is_entered unit number (ComponentFact other u kind monomer replaces class) e =
     elim (cases_Bool (nat_eq u unit)) [
       | inl t ↦ let is : Some other ≡ Some number = rw t at e in let same : other ≡ number = cc in eq-eqb other number same
@@ -333,7 +333,7 @@ enters_nothing : (number : ℕ) (retired : Option ℕ) (day : ℕ) (body : FactB
 enters_nothing number retired day (ComponentFact other unit kind monomer replaces class) e = rw e refl
 enters_nothing number retired day _ e = refl
 
-apart_numbers : (unit : ℕ) (es : List Entry) → ((number : ℕ) → count_by (λ e. enters_component number e.1.body) es ≤ 1)
+pub apart_numbers : (unit : ℕ) (es : List Entry) → ((number : ℕ) → count_by (λ e. enters_component number e.1.body) es ≤ 1)
     → AllApart nat_lt (filter_map (λ e. member_entered unit e.1.body) es)
 apart_numbers unit [] few = tt
 apart_numbers unit (e ∷ es) few =
@@ -362,7 +362,7 @@ members_are_few facts unit most once all =
     let few = few_from 1 most (members_of unit facts) (members_ascend facts unit once) all (omega arith) in omega (arith, few)
 
 -- of facts of which one enters a component, its entry is the first
-entry_is_first : (number : ℕ) (retired : Option ℕ) (es : List Entry) (e : Entry) (item : Equipment)
+pub entry_is_first : (number : ℕ) (retired : Option ℕ) (es : List Entry) (e : Entry) (item : Equipment)
     → count_by (λ x. enters_component number x.1.body) es ≤ 1 → Among es e → enters_component number e.1.body ≡ true
     → component_entered number retired e.0.day e.1.body ≡ Some item
     → slice_get (filter_map (λ x. component_entered number retired x.0.day x.1.body) es) 0 ≡ Some item

@@ -1,1 +1,3 @@
+pub mod DayLaws
+pub mod KnownLaws
 pub mod RulyLaws

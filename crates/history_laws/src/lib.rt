@@ -1,4 +1,6 @@
 //! What is true of whole histories, as the views need it: functions with nothing to do, whose contracts are the laws.
 #![tactic(auto)]
 
+pub mod days;
+pub mod known;
 pub mod ruly;

@@ -1,0 +1,14 @@
+//! A component is known by its own facts, its instruments' tests and its process unit's shutdowns.
+
+ghost use Rattle.history_laws.specs.KnownLaws.{KnownByItsLists, SameListsKnowAlike};
+
+/// What all facts say of a component, the lists say that a store keeps: the facts that name it, the tests of each
+/// instrument, and the facts that name its process unit.
+pub fn known_by_its_lists()
+    ensures law { KnownByItsLists }
+{}
+
+/// Where these lists are the same in two lists of facts, the two say the same of the component.
+pub fn same_lists_know_alike()
+    ensures law { SameListsKnowAlike }
+{}
