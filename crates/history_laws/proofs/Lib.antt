@@ -2,4 +2,5 @@ pub mod Counting
 pub mod DayLemmas
 pub mod KnownLemmas
 pub mod RulyLemmas
+pub mod SpanLemmas
 pub mod UpTo

@@ -1,3 +1,4 @@
 pub mod DayLaws
 pub mod KnownLaws
 pub mod RulyLaws
+pub mod SpanLaws

@@ -4,3 +4,4 @@
 pub mod days;
 pub mod known;
 pub mod ruly;
+pub mod spans;
