@@ -84,7 +84,7 @@ components_up_to_a_day t number facts order =
 
 -- ---- a process unit
 
-election_is : (number : ℕ) (key : Key) (body : FactBody) (x : ElectionEntry) → election_entered number key body ≡ Some x → x.key ≡ key
+pub election_is : (number : ℕ) (key : Key) (body : FactBody) (x : ElectionEntry) → election_entered number key body ≡ Some x → x.key ≡ key
 election_is number key (Election other mode notified) x e =
     elim (cases_Bool (nat_eq other number)) [
       | inl t ↦ let is : Some (record { key = key; mode = mode }) ≡ Some x = rw t at e in cc

@@ -1,4 +1,5 @@
 pub mod DayLaws
 pub mod KnownLaws
+pub mod MoreLaws
 pub mod RulyLaws
 pub mod SpanLaws

@@ -42,4 +42,4 @@ SpansByFactsUpToADay =
     (t : ℕ) (item : Equipment) (facts : List Entry) → Ascends goes_first facts
     → spans_of item.kind (events_in (item_on t item) (classes_of item.component (up_to t facts)) (up_to t facts))
     ≡ map (span_on t item.kind (events_to t (events_in item (classes_of item.component facts) facts)))
-      (detected_by t (spans_of item.kind (events_in item (classes_of item.component facts) facts)))
+    (detected_by t (spans_of item.kind (events_in item (classes_of item.component facts) facts)))

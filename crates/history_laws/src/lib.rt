@@ -1,6 +1,7 @@
 //! What is true of whole histories, as the views need it: functions with nothing to do, whose contracts are the laws.
 #![tactic(auto)]
 
+pub mod batches;
 pub mod days;
 pub mod known;
 pub mod ruly;
