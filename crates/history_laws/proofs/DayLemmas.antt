@@ -42,6 +42,7 @@ use Rattle.ldar_law.proofs.TestLemmas.{both}
 use Rattle.history_laws.specs.DayLaws.{up_to, AreInOrder, if_come, item_on, if_begun, if_started, ComponentUpTo, ComponentsUpToADay, UnitUpTo, UnitsUpToADay}
 use Rattle.history_laws.specs.DayLaws.{StandsAlike, StandingForgetsLaterDays, has_begun, MembersUpToADay, ComponentsAreOfAllMembers, FitnessForgetsLaterDays}
 use Rattle.history_laws.specs.DayLaws.{events_to, EventsUpToADay, EventsByOwnRegister, IsCutAt, EventsAreCut}
+use Rattle.history_laws.specs.KnownLaws.{known_with, KnownUpToADay}
 use Rattle.history_laws.specs.RulyLaws.{IsEachOnce}
 use Rattle.history_laws.proofs.Counting.{strict_lt}
 use Rattle.history_laws.proofs.KnownLemmas.{all_of_each}
@@ -284,6 +285,14 @@ events_by_own_register t item facts =
     ap (λ classes. events_in (item_on t item) classes (up_to t facts)) (classes_up_to t item.component facts)
     ∙ events_same t item (classes_of item.component facts) facts
     ∙ events_up_to t item (classes_of item.component facts) facts
+
+pub known_up_to_a_day : KnownUpToADay
+known_up_to_a_day t item facts =
+    let stops : stops_of item.unit (up_to t facts) ≡ filter (λ stop. nat_le stop.first t) (stops_of item.unit facts) =
+    given_up_to (λ e. stop_entered item.unit e.0.day e.1.body) (λ x. x.first) (λ e x is. stop_is item.unit e.0.day e.1.body x is) t facts in
+    ap (λ events. known_with (item_on t item) (classes_of item.component (up_to t facts)) events (stops_of item.unit (up_to t facts)))
+    (events_by_own_register t item facts)
+    ∙ rw (classes_up_to t item.component facts, stops) refl
 
 -- ---- the cut
 

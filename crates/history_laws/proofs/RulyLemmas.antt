@@ -35,7 +35,7 @@ use Rattle.ldar_law.proofs.Gifts.{cases_Option, among_given}
 use Rattle.ldar_law.proofs.RegisterLemmas.{list_any-in_order}
 use Rattle.ldar_law.proofs.SliceLemmas.{register_facts_suffice}
 use Rattle.ldar_law.proofs.VerdictLemmas.{no_rule_denies, passes_undenied, ruly_is_each}
-use Rattle.history_laws.specs.RulyLaws.{DaysAreInBound, StartupsAreInBound, BeginningsAreInBound, IsEachOnce, EachIsEnteredOnce, PartHasEachOnce, EntersFirst, PassingBatchEntersFirst, MembersAscend, MembersAreFew}
+use Rattle.history_laws.specs.RulyLaws.{DaysAreInBound, StartupsAreInBound, BeginningsAreInBound, IsEachOnce, EachIsEnteredOnce, PartHasEachOnce, HaveCome, EntersFirst, PassingBatchEntersFirst, StartupIsOfFact, BeginningIsOfFact, MembersAscend, MembersAreFew}
 use Rattle.history_laws.specs.RulyLaws.{MembersStandInUnit, ComponentsAreMembers, HasWhatItAsks, WhatIsAskedWasEntered, UnitOfComponentIsEntered, OneMorePasses}
 use Rattle.history_laws.proofs.Counting.{cut_at, any_among, among_any, list_any-append, first_among, count_cons, count_yes, count_no, count_among, count_filtered, once_behind}
 use Rattle.history_laws.proofs.Counting.{strict_lt, apart_of, few_from}
@@ -137,6 +137,24 @@ startup_is number day (UnitFact other older name) unit e =
     ]
 startup_is number day _ unit e = absurd cc
 
+startup_enters : (number day : ℕ) (body : FactBody) (unit : UnitEntry) → unit_entered number day body ≡ Some unit → enters_unit number body ≡ true
+startup_enters number day (UnitFact other older name) unit e =
+    elim (cases_Bool (nat_eq other number)) [
+      | inl t ↦ t
+      | inr f ↦ let none : None ≡ Some unit = rw f at e in absurd cc
+    ]
+startup_enters number day _ unit e = absurd cc
+
+pub startup_is_of_fact : StartupIsOfFact
+startup_is_of_fact facts number unit e =
+    let f : Entry → Option UnitEntry = λ x. unit_entered number x.0.day x.1.body in
+    let found = among_given f facts unit (first_among (filter_map f facts) unit e) in (
+      found.0,
+      Contains-from_among facts found.0 found.1,
+      startup_enters number found.0.0.day found.0.1.body unit found.2,
+      startup_is number found.0.0.day found.0.1.body unit found.2,
+    )
+
 pub startups_are_in_bound : StartupsAreInBound
 startups_are_in_bound facts number last unit all e =
     let found = among_given (λ x. unit_entered number x.0.day x.1.body) facts unit (first_among (filter_map (λ x. unit_entered number x.0.day x.1.body) facts) unit e) in
@@ -146,6 +164,7 @@ startups_are_in_bound facts number last unit all e =
 pub record Begins (number day : ℕ) (body : FactBody) (item : Equipment) : Type 0 where
   pub component : item.component ≡ number
   pub begin : item.begin ≡ day
+  pub enters : enters_component number body ≡ true
   pub joins : member_entered item.unit body ≡ Some number
   pub asks : unit_asked body ≡ Some item.unit
 
@@ -161,6 +180,7 @@ begins number retired day (ComponentFact other unit kind monomer replaces class)
           record {
             component = cc;
             begin = cc;
+            enters = t;
             joins = rw (eq-eqb unit item.unit stands) (ap Some same);
             asks = ap Some stands;
           }
@@ -184,6 +204,10 @@ pub beginnings_are_in_bound : BeginningsAreInBound
 beginnings_are_in_bound facts number last item all e =
     let o = origin number facts item e in
     subst (λ day. day ≤ last) (sym o.begins.begin) (all_at (λ x. x.0.day ≤ last) facts o.entry all o.held)
+
+pub beginning_is_of_fact : BeginningIsOfFact
+beginning_is_of_fact facts number item e =
+    let o = origin number facts item e in (o.entry, Contains-from_among facts o.entry o.held, o.begins.enters, o.begins.begin)
 
 -- ---- each is entered once
 
@@ -237,16 +261,6 @@ module _ (history : List Batch) (batch : Batch) (passes : verdict_on history bat
       (register_with (facts_of history) (before ++ entry ∷ after))
       (let_pass history batch passes before entry after stands twice_rule (17, omega arith, refl)) enters
 
-pub passing_batch_enters_first : PassingBatchEntersFirst
-passing_batch_enters_first history batch passes = record {
-  component = λ before entry after number stands enters.
-      is_nothing (equipment_of number (facts_of history ++ before))
-      ((component_where_entered number (facts_of history ++ before)).0 ∙ no_component_before history batch passes before entry after stands number enters);
-  unit = λ before entry after number stands enters.
-      is_nothing (unit_entry_of number (facts_of history ++ before))
-      (unit_where_entered number (facts_of history ++ before) ∙ no_unit_before history batch passes before entry after stands number enters);
-}
-
 -- of a ruly history, where what passes passes first
 module _ (p : Entry → Bool) where
   -- facts in order and as they came pass alike
@@ -283,6 +297,31 @@ module _ (p : Entry → Bool) where
       sum_by-IsPermutation (λ x. cond (p x) 1 0) flat (facts_of history) (in_order_permutes goes_first flat) in
       subst (λ n. n ≤ 1) (sym same)
       (once_in [] history (λ before batch after stands b e a here t. sym (as_they_came before b) ∙ first before batch after stands b e a here t) (omega arith))
+
+-- what none that came enters, none of some of them does
+pub nothing_of : (p : Entry → Bool) (history : List Batch) (before facts : List Entry) → list_any p (facts_of history ++ before) ≡ false
+    → HaveCome history before facts → list_any p facts ≡ false
+nothing_of p history before facts none of =
+    let came_none = sym (as_they_came p history before) ∙ none in
+    elim (cases_Bool (list_any p facts)) [
+      | inl some ↦
+          let found = any_among p facts some in
+          let there = among_from_Contains (flat_map entries_of history ++ before) found.0 (of found.0 (Contains-from_among facts found.0 found.1)) in
+          absurd (false≢true (sym came_none ∙ among_any p (flat_map entries_of history ++ before) found.0 there found.2))
+      | inr nowhere ↦ nowhere
+    ]
+
+pub passing_batch_enters_first : PassingBatchEntersFirst
+passing_batch_enters_first history batch passes = record {
+  component = λ before entry after number facts stands enters of.
+      is_nothing (equipment_of number facts)
+      ((component_where_entered number facts).0
+      ∙ nothing_of (λ e. enters_component number e.1.body) history before facts (no_component_before history batch passes before entry after stands number enters) of);
+  unit = λ before entry after number facts stands enters of.
+      is_nothing (unit_entry_of number facts)
+      (unit_where_entered number facts
+      ∙ nothing_of (λ e. enters_unit number e.1.body) history before facts (no_unit_before history batch passes before entry after stands number enters) of);
+}
 
 pub each_is_entered_once : EachIsEnteredOnce
 each_is_entered_once history ruly =

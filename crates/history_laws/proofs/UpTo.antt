@@ -4,7 +4,7 @@ use Rattle.std.specs.List.{AllByRecursion, filter_map, cons_option}
 use Rattle.std.proofs.lemmas.Bool.{cases_Bool, false≢true, leb-true, le-leb}
 use Rattle.list_words.specs.Order.{Ascends}
 use Rattle.list_words.proofs.Ascending.{not_behind}
-use Rattle.list_words.proofs.CutLemmas.{filter_none, filter_all}
+use Rattle.list_words.proofs.CutLemmas.{filter_none, filter_all, take_while-cons}
 use Rattle.list_words.proofs.Members.{all_weaker}
 use Rattle.ldar_facts.specs.declared.batch.Batch.{Batch}
 use Rattle.ldar_facts.specs.Facts.{Entry, goes_first, entries_of, facts_of}
@@ -12,7 +12,7 @@ use Rattle.ldar_facts.proofs.KeyOrder.{strict_goes_first}
 use Rattle.std.specs.List.{flat_map}
 use Rattle.ldar_law.proofs.RegisterLemmas.{day_of_later}
 use Rattle.ldar_law.proofs.WeakOrder.{InOrder, each_in_order, weak_goes_first}
-use Rattle.history_laws.specs.DayLaws.{up_to, AreInOrder, HistoryIsInOrder, AscendingAreInOrder, PartIsInOrder}
+use Rattle.history_laws.specs.DayLaws.{up_to, AreInOrder, HistoryIsInOrder, AscendingAreInOrder, PartIsInOrder, PartUpToADay, FactsAreCut}
 
 -- ---- facts in order
 
@@ -169,3 +169,28 @@ module _ (p : Entry → Bool) (t : ℕ) where
         ]
         | inr out ↦ rw (out, none_up_to t e es out o.0) (sym (none_found (e ∷ es) (out, all_late t e es out o.0)))
       ]
+
+-- ---- the cut of facts
+
+pub part_up_to_a_day : PartUpToADay
+part_up_to_a_day t facts test = filter_swap test (λ e. nat_le e.0.day t) facts
+
+pub facts_are_cut : FactsAreCut
+facts_are_cut t [] o = record { front = refl; whole = refl }
+facts_are_cut t (e ∷ es) o =
+    elim (cases_Bool (nat_le e.0.day t)) [
+      | inl within ↦
+          let rest = facts_are_cut t es o.1 in
+          record {
+            front = rw (take_while-cons (λ x. nat_le x.0.day t) e es, within) (ap (λ ys. e ∷ ys) rest.front);
+            whole = rw within (ap (λ ys. e ∷ ys) rest.whole);
+          }
+      | inr out ↦
+          let late = all_late t e es out o.0 in
+          record {
+            front = rw (take_while-cons (λ x. nat_le x.0.day t) e es, out) (none_up_to t e es out o.0);
+            whole = rw (out, none_up_to t e es out o.0)
+                (ap (λ ys. e ∷ ys) (filter_all (λ x. not (nat_le x.0.day t)) es
+                (all_weaker (λ x. nat_le x.0.day t ≡ false) (λ x. not (nat_le x.0.day t) ≡ true) (λ x f. ap not f) es late)));
+          }
+    ]

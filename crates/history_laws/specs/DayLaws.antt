@@ -39,6 +39,18 @@ AscendingAreInOrder = (facts : List Entry) → Ascends goes_first facts → AreI
 abbrev pub PartIsInOrder : Type 0
 PartIsInOrder = (facts : List Entry) (test : Entry → Bool) → AreInOrder facts → AreInOrder (filter test facts)
 
+-- a part of the facts up to a day is the part up to the day
+abbrev pub PartUpToADay : Type 0
+PartUpToADay = (t : ℕ) (facts : List Entry) (test : Entry → Bool) → filter test (up_to t facts) ≡ up_to t (filter test facts)
+
+-- facts in order are those of days up to one, and then those of later days
+pub record AreCutAt (t : ℕ) (facts : List Entry) : Type 0 where
+  pub front : up_to t facts ≡ take_while (λ e. nat_le e.0.day t) facts
+  pub whole : up_to t facts ++ filter (λ e. not (nat_le e.0.day t)) facts ≡ facts
+
+abbrev pub FactsAreCut : Type 0
+FactsAreCut = (t : ℕ) (facts : List Entry) → AreInOrder facts → AreCutAt t facts
+
 -- ---- the register
 
 -- the day, if it has come by another

@@ -1,5 +1,5 @@
 -- A component is known by its own facts, its instruments' tests and its process unit's shutdowns: the statements of `known`.
-use Rattle.std.specs.Prelude.{◌≡◌, ℕ, Bool, Some, List, [], ◌∷◌, filter_map}
+use Rattle.std.specs.Prelude.{◌≡◌, ℕ, Bool, Some, List, [], ◌∷◌, filter, filter_map, nat_le}
 use Rattle.std.specs.List.{AllByRecursion}
 use Rattle.ldar_facts.specs.declared.body.FactBody.{FactBody}
 use Rattle.ldar_facts.specs.declared.body.FactBody.TheVariants.{Reading}
@@ -13,13 +13,14 @@ use Rattle.ldar_law.specs.declared.event.Event.{Event}
 use Rattle.ldar_law.specs.declared.fitness.Fitness.{Fitness}
 use Rattle.ldar_law.specs.declared.fitness.Fitness.TheVariants.{NoCalibration}
 use Rattle.ldar_law.specs.Equipment.{equipment_of, classes_of, stops_of}
-use Rattle.ldar_law.specs.Events.{event_of}
+use Rattle.ldar_law.specs.Events.{event_of, events_in}
 use Rattle.ldar_law.specs.Fitness.{fitness_of}
 use Rattle.ldar_law.specs.Force.{limit_on}
 use Rattle.ldar_law.specs.Shown.{sheet_of}
 use Rattle.ldar_law.specs.Slices.{facts_of_component, facts_of_unit, facts_of_instrument}
 use Rattle.ldar_law.specs.Tags.{tags_of}
 use Rattle.ldar_law.specs.Units.{Known, known_of, mark_in, due_list}
+use Rattle.history_laws.specs.DayLaws.{up_to, item_on, events_to}
 
 -- ---- of lists of its own
 
@@ -74,3 +75,14 @@ pub record IsKnownAlike (item : Equipment) (facts other : List Entry) : Type 0 w
 abbrev pub SameListsKnowAlike : Type 0
 SameListsKnowAlike =
     (item : Equipment) (facts other : List Entry) → HasSameLists item.component item.unit facts other → IsKnownAlike item facts other
+
+-- ---- on a day
+
+-- what is known of a component on a day, by the facts up to it and the register up to it: its classes, events and shutdowns are those of all
+-- facts that are of days up to the day
+abbrev pub KnownUpToADay : Type 0
+KnownUpToADay =
+    (t : ℕ) (item : Equipment) (facts : List Entry)
+    → known_of (up_to t facts) (item_on t item)
+    ≡ known_with (item_on t item) (filter (λ entered. nat_le entered.0.day t) (classes_of item.component facts))
+    (events_to t (events_in item (classes_of item.component facts) facts)) (filter (λ stop. nat_le stop.first t) (stops_of item.unit facts))

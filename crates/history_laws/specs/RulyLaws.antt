@@ -1,6 +1,6 @@
 -- What a ruly history gives: the statements of `ruly`. In a ruly history each batch passes after those before it.
 use Rattle.std.specs.Prelude.{◌≡◌, ℕ, ◌≤◌, Bool, true, nat_lt, Some, None, is_some, IsTrue, List, [], ◌∷◌, ◌++◌, length, count_by, Contains, filter}
-use Rattle.std.specs.List.{AllByRecursion}
+use Rattle.std.specs.List.{AllByRecursion, flat_map}
 use Rattle.list_words.specs.Order.{Ascends}
 use Rattle.ldar_facts.specs.declared.batch.Batch.{Batch}
 use Rattle.ldar_facts.specs.Facts.{Entry, entries_of, facts_of}
@@ -29,6 +29,18 @@ BeginningsAreInBound =
     (facts : List Entry) (number last : ℕ) (item : Equipment) → AllByRecursion (λ e. e.0.day ≤ last) facts
     → equipment_of number facts ≡ Some item → item.begin ≤ last
 
+-- a process unit starts up on the day of a fact that enters it
+abbrev pub StartupIsOfFact : Type 0
+StartupIsOfFact =
+    (facts : List Entry) (number : ℕ) (unit : UnitEntry) → unit_entry_of number facts ≡ Some unit
+    → (e : Entry) × Contains facts e × IsTrue (enters_unit number e.1.body) × (unit.startup ≡ e.0.day)
+
+-- .. and a component begins on the day of one
+abbrev pub BeginningIsOfFact : Type 0
+BeginningIsOfFact =
+    (facts : List Entry) (number : ℕ) (item : Equipment) → equipment_of number facts ≡ Some item
+    → (e : Entry) × Contains facts e × IsTrue (enters_component number e.1.body) × (item.begin ≡ e.0.day)
+
 -- no component and no process unit is entered twice
 pub record IsEachOnce (facts : List Entry) : Type 0 where
   pub components : (number : ℕ) → count_by (λ e. enters_component number e.1.body) facts ≤ 1
@@ -42,12 +54,18 @@ EachIsEnteredOnce = (history : List Batch) → IsTrue (is_ruly history) → IsEa
 abbrev pub PartHasEachOnce : Type 0
 PartHasEachOnce = (facts : List Entry) (test : Entry → Bool) → IsEachOnce facts → IsEachOnce (filter test facts)
 
--- what a fact of a batch enters, no fact before it does, of the history or of its batch
+-- each of some facts is one of those of a history, or one that stands before another in its batch
+abbrev pub HaveCome : List Batch → List Entry → List Entry → Type 0
+HaveCome history before facts = (e : Entry) → Contains facts e → Contains (flat_map entries_of history ++ before) e
+
+-- what a fact of a batch enters, no fact before it does, of the history or of its batch: not in whatever order, and not the register's alone
 pub record EntersFirst (history : List Batch) (batch : Batch) : Type 0 where
-  pub component : (before : List Entry) (entry : Entry) (after : List Entry) (number : ℕ) → entries_of batch ≡ before ++ entry ∷ after
-      → IsTrue (enters_component number entry.1.body) → equipment_of number (facts_of history ++ before) ≡ None
-  pub unit : (before : List Entry) (entry : Entry) (after : List Entry) (number : ℕ) → entries_of batch ≡ before ++ entry ∷ after
-      → IsTrue (enters_unit number entry.1.body) → unit_entry_of number (facts_of history ++ before) ≡ None
+  pub component : (before : List Entry) (entry : Entry) (after : List Entry) (number : ℕ) (facts : List Entry)
+      → entries_of batch ≡ before ++ entry ∷ after → IsTrue (enters_component number entry.1.body) → HaveCome history before facts
+      → equipment_of number facts ≡ None
+  pub unit : (before : List Entry) (entry : Entry) (after : List Entry) (number : ℕ) (facts : List Entry)
+      → entries_of batch ≡ before ++ entry ∷ after → IsTrue (enters_unit number entry.1.body) → HaveCome history before facts
+      → unit_entry_of number facts ≡ None
 
 -- a batch that passes enters no number again
 abbrev pub PassingBatchEntersFirst : Type 0

@@ -1,12 +1,18 @@
 //! The facts up to a day beside all facts: what the register, readings and events are by each.
 
-ghost use Rattle.history_laws.specs.DayLaws.{HistoryIsInOrder, AscendingAreInOrder, PartIsInOrder, ComponentsUpToADay, UnitsUpToADay, StandingForgetsLaterDays, MembersUpToADay, ComponentsAreOfAllMembers, FitnessForgetsLaterDays, EventsUpToADay, EventsByOwnRegister, EventsAreCut};
+ghost use Rattle.history_laws.specs.DayLaws.{HistoryIsInOrder, AscendingAreInOrder, PartIsInOrder, PartUpToADay, FactsAreCut, ComponentsUpToADay, UnitsUpToADay, StandingForgetsLaterDays, MembersUpToADay, ComponentsAreOfAllMembers, FitnessForgetsLaterDays, EventsUpToADay, EventsByOwnRegister, EventsAreCut};
 
 /// The facts of a history are in order, and so are facts that ascend, and a part of facts in order.
 pub fn facts_in_order()
     ensures history { HistoryIsInOrder }
     ensures ascending { AscendingAreInOrder }
     ensures part { PartIsInOrder }
+{}
+
+/// Facts in order are those of days up to one, and then the others; and so a part of them.
+pub fn facts_are_cut()
+    ensures part { PartUpToADay }
+    ensures law { FactsAreCut }
 {}
 
 /// What the register holds by the facts up to a day, of a component and of a process unit, by what it holds by all.

@@ -1,6 +1,6 @@
 //! A component is known by its own facts, its instruments' tests and its process unit's shutdowns.
 
-ghost use Rattle.history_laws.specs.KnownLaws.{KnownByItsLists, SameListsKnowAlike};
+ghost use Rattle.history_laws.specs.KnownLaws.{KnownByItsLists, SameListsKnowAlike, KnownUpToADay};
 
 /// What all facts say of a component, the lists say that a store keeps: the facts that name it, the tests of each
 /// instrument, and the facts that name its process unit.
@@ -11,4 +11,9 @@ pub fn known_by_its_lists()
 /// Where these lists are the same in two lists of facts, the two say the same of the component.
 pub fn same_lists_know_alike()
     ensures law { SameListsKnowAlike }
+{}
+
+/// What is known of a component on a day is made of its classes, events and shutdowns by all facts, up to the day.
+pub fn known_up_to_a_day()
+    ensures law { KnownUpToADay }
 {}

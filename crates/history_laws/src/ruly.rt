@@ -1,6 +1,6 @@
 //! What a ruly history gives, in which each batch passes after those before it.
 
-ghost use Rattle.history_laws.specs.RulyLaws.{DaysAreInBound, StartupsAreInBound, BeginningsAreInBound, EachIsEnteredOnce, PartHasEachOnce, PassingBatchEntersFirst, MembersAscend, MembersAreFew, MembersStandInUnit, ComponentsAreMembers, WhatIsAskedWasEntered, UnitOfComponentIsEntered, OneMorePasses};
+ghost use Rattle.history_laws.specs.RulyLaws.{DaysAreInBound, StartupsAreInBound, BeginningsAreInBound, StartupIsOfFact, BeginningIsOfFact, EachIsEnteredOnce, PartHasEachOnce, PassingBatchEntersFirst, MembersAscend, MembersAreFew, MembersStandInUnit, ComponentsAreMembers, WhatIsAskedWasEntered, UnitOfComponentIsEntered, OneMorePasses};
 
 /// Each day of a ruly history's facts is at most 2097-12-31 (our own rule).
 pub fn days_in_bound()
@@ -11,6 +11,12 @@ pub fn days_in_bound()
 pub fn startups_in_bound()
     ensures units { StartupsAreInBound }
     ensures components { BeginningsAreInBound }
+{}
+
+/// A startup is the day of a fact that enters the process unit, and a beginning that of one that enters the component.
+pub fn days_are_of_facts()
+    ensures units { StartupIsOfFact }
+    ensures components { BeginningIsOfFact }
 {}
 
 /// In a ruly history each component and each process unit is entered once, and so in a part of its facts.
