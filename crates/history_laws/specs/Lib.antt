@@ -3,3 +3,4 @@ pub mod KnownLaws
 pub mod MoreLaws
 pub mod RulyLaws
 pub mod SpanLaws
+pub mod Witnesses

@@ -3,6 +3,7 @@
 
 pub mod batches;
 pub mod days;
+pub mod examples;
 pub mod known;
 pub mod ruly;
 pub mod spans;
