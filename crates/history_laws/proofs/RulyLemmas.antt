@@ -189,12 +189,12 @@ begins number retired day (ComponentFact other unit kind monomer replaces class)
 begins number retired day _ item e = absurd cc
 
 -- .. of a component of some facts
-record Origin (number : ℕ) (facts : List Entry) (item : Equipment) : Type 0 where
+pub record Origin (number : ℕ) (facts : List Entry) (item : Equipment) : Type 0 where
   pub entry : Entry
   pub held : Among facts entry
   pub begins : Begins number entry.0.day entry.1.body item
 
-origin : (number : ℕ) (facts : List Entry) (item : Equipment) → equipment_of number facts ≡ Some item → Origin number facts item
+pub origin : (number : ℕ) (facts : List Entry) (item : Equipment) → equipment_of number facts ≡ Some item → Origin number facts item
 origin number facts item e =
     let f : Entry → Option Equipment = λ x. component_entered number (retired_on number facts) x.0.day x.1.body in
     let found = among_given f facts item (first_among (filter_map f facts) item e) in

@@ -1,6 +1,7 @@
 pub mod DayLaws
 pub mod KnownLaws
 pub mod MoreLaws
+pub mod RangeLaws
 pub mod RulyLaws
 pub mod SpanLaws
 pub mod Witnesses

@@ -5,5 +5,6 @@ pub mod batches;
 pub mod days;
 pub mod examples;
 pub mod known;
+pub mod ranges;
 pub mod ruly;
 pub mod spans;
