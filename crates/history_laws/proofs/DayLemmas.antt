@@ -239,7 +239,7 @@ pub events_up_to_a_day : EventsUpToADay
 events_up_to_a_day t item classes facts = events_up_to t item classes facts
 
 -- the classes entered up to a day
-abbrev early : ℕ → List (Key × Class) → List (Key × Class)
+abbrev pub early : ℕ → List (Key × Class) → List (Key × Class)
 early t classes = filter (λ entered. nat_le entered.0.day t) classes
 
 -- what happens on a day, by the register up to the view day

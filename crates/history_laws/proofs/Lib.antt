@@ -1,5 +1,6 @@
 pub mod Counting
 pub mod DayLemmas
+pub mod DutyLemmas
 pub mod KnownLemmas
 pub mod MoreLemmas
 pub mod RangeLemmas

@@ -1,4 +1,5 @@
 pub mod DayLaws
+pub mod DutyLaws
 pub mod KnownLaws
 pub mod MoreLaws
 pub mod RangeLaws

@@ -3,6 +3,7 @@
 
 pub mod batches;
 pub mod days;
+pub mod duties;
 pub mod examples;
 pub mod known;
 pub mod ranges;
