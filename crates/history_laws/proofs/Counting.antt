@@ -1,6 +1,6 @@
-use Rattle.std.proofs.Common.{◌≡◌, ℕ, ◌+◌, ◌≤◌, Bool, true, false, ◌||◌, cond, nat_lt, Option, Some, None, List, [], ◌∷◌, ◌++◌, length, filter, count_by, slice_get}
+use Rattle.std.proofs.Common.{◌≡◌, ℕ, ◌+◌, ◌≤◌, Bool, true, false, ◌||◌, cond, nat_lt, Some, List, [], ◌∷◌, ◌++◌, length, filter, count_by, slice_get}
 use Rattle.std.proofs.Common.{refl, sym, ap, ◌∙◌, subst, inl, inr, arith}
-use Rattle.std.specs.List.{AllByRecursion, list_any, filter_map, cons_option}
+use Rattle.std.specs.List.{AllByRecursion, list_any}
 use Rattle.std.proofs.lemmas.Bool.{cases_Bool, cases_lt, false≢true, or_parts, or_left, or_right, lt-ltb, le-ltb}
 use Rattle.std.proofs.lemmas.Bool.Decides.{nat_tests}
 use Rattle.std.proofs.lemmas.List.{append-nil, append_assoc}
@@ -27,6 +27,7 @@ any_among p (x ∷ xs) e = elim (cases_Bool (p x)) [
   | inr f ↦ let rest = any_among p xs (subst (λ b. (b || list_any p xs) ≡ true) f e) in (rest.0, inr rest.1, rest.2)
 ]
 
+-- .. and the other way round
 pub among_any : {X : Type 0} (p : X → Bool) (xs : List X) (x : X) → Among xs x → p x ≡ true → list_any p xs ≡ true
 among_any p [] x h t = absurd h
 among_any p (y ∷ ys) x h t = elim h [
@@ -51,19 +52,24 @@ first_among (y ∷ ys) x e = let same : y ≡ x = cc in inl same
 
 -- ---- how many elements pass
 
+-- one more element
 pub count_cons : {X : Type 0} (p : X → Bool) (x : X) (xs : List X) → count_by p (x ∷ xs) ≡ cond (p x) 1 0 + count_by p xs
 count_cons p x xs = sum_by-cons (λ y. cond (p y) 1 0) x xs
 
+-- .. that passes
 pub count_yes : {X : Type 0} (p : X → Bool) (x : X) (xs : List X) → p x ≡ true → count_by p (x ∷ xs) ≡ 1 + count_by p xs
 count_yes p x xs t = count_cons p x xs ∙ ap (λ b. cond b 1 0 + count_by p xs) t
 
+-- .. that does not
 pub count_no : {X : Type 0} (p : X → Bool) (x : X) (xs : List X) → p x ≡ false → count_by p (x ∷ xs) ≡ count_by p xs
 count_no p x xs f = count_cons p x xs ∙ ap (λ b. cond b 1 0 + count_by p xs) f ∙ omega arith
 
+-- where no element passes, none is counted
 pub count_none : {X : Type 0} (p : X → Bool) (xs : List X) → list_any p xs ≡ false → count_by p xs ≡ 0
 count_none p [] e = refl
 count_none p (x ∷ xs) e = let parts = or_parts (p x) (list_any p xs) e in count_no p x xs parts.0 ∙ count_none p xs parts.1
 
+-- where one passes, one is counted
 pub count_among : {X : Type 0} (p : X → Bool) (xs : List X) (x : X) → Among xs x → p x ≡ true → 1 ≤ count_by p xs
 count_among p [] x h t = absurd h
 count_among p (y ∷ ys) x h t =
@@ -73,12 +79,14 @@ count_among p (y ∷ ys) x h t =
       | inr there ↦ let rest = count_among p ys x there t in omega (arith, here, rest)
     ]
 
+-- one more element at the end
 pub count_push : {X : Type 0} (p : X → Bool) (xs : List X) (x : X) → count_by p (xs ++ x ∷ []) ≡ count_by p xs + cond (p x) 1 0
 count_push p xs x =
     let split = sum_by-append (λ y. cond (p y) 1 0) xs (x ∷ []) in
     let one = count_cons p x [] in
     omega (arith, split, one)
 
+-- a part has no more that pass
 pub count_filtered : {X : Type 0} (p q : X → Bool) (xs : List X) → count_by p (filter q xs) ≤ count_by p xs
 count_filtered p q [] = omega arith
 count_filtered p q (x ∷ xs) =
@@ -94,6 +102,7 @@ bit_yes : (n : ℕ) (b : Bool) → n ≡ cond b 1 0 → b ≡ true → n ≡ 1
 bit_yes n true is t = is
 bit_yes n false is t = absurd (false≢true t)
 
+-- .. and one that fails
 bit_no : (n : ℕ) (b : Bool) → n ≡ cond b 1 0 → b ≡ false → n ≡ 0
 bit_no n true is f = absurd (false≢true (sym f))
 bit_no n false is f = is
@@ -121,6 +130,7 @@ once_behind p front b (x ∷ a) first few =
 
 -- ---- numbers in order
 
+-- numbers are in a strict order
 pub strict_lt : IsStrictOrder nat_lt
 strict_lt = record {
   irreflexive = λ x. le-ltb x x (omega arith);

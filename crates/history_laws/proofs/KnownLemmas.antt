@@ -1,5 +1,6 @@
 use Rattle.std.proofs.Common.{◌≡◌, ℕ, Option, Some, List, [], ◌∷◌, refl, sym, ap, ◌∙◌}
-use Rattle.std.specs.List.{AllByRecursion, filter_map, cons_option}
+use Rattle.std.specs.List.{AllByRecursion, filter_map}
+use Rattle.list_words.proofs.Members.{all_weaker}
 use Rattle.ldar_facts.specs.declared.body.FactBody.{FactBody}
 use Rattle.ldar_facts.specs.declared.body.FactBody.TheVariants.{Reading}
 use Rattle.ldar_facts.specs.declared.class.Class.{Class}
@@ -7,31 +8,26 @@ use Rattle.ldar_facts.specs.declared.key.Key.{Key}
 use Rattle.ldar_facts.specs.Facts.{Entry}
 use Rattle.ldar_facts.specs.Named.{reading_instrument}
 use Rattle.ldar_law.specs.declared.equipment.Equipment.{Equipment}
-use Rattle.ldar_law.specs.declared.event.Event.{Event}
-use Rattle.ldar_law.specs.declared.fitness.Fitness.{Fitness}
-use Rattle.ldar_law.specs.Equipment.{equipment_of, classes_of, stops_of}
+use Rattle.ldar_law.specs.Equipment.{equipment_of, classes_of}
 use Rattle.ldar_law.specs.Events.{event_of, events_in, fitness_at}
 use Rattle.ldar_law.specs.Fitness.{fitness_of}
 use Rattle.ldar_law.specs.Force.{limit_on}
 use Rattle.ldar_law.specs.Shown.{sheet_of}
-use Rattle.ldar_law.specs.Slices.{facts_of_component, facts_of_unit, facts_of_instrument}
-use Rattle.ldar_law.specs.Units.{known_of, known_by, mark_in, due_list}
+use Rattle.ldar_law.specs.Slices.{facts_of_component, facts_of_instrument}
+use Rattle.ldar_law.specs.Units.{known_of, mark_in, due_list}
 use Rattle.ldar_law.proofs.FitnessLemmas.{fitness_is_of_instrument}
 use Rattle.ldar_law.proofs.SliceLemmas.{own_facts_suffice, unit_facts_suffice}
-use Rattle.history_laws.specs.KnownLaws.{fitness_by, events_by, known_with, IsKnownByItsLists, KnownByItsLists, HasSameLists, IsKnownAlike, SameListsKnowAlike}
+use Rattle.history_laws.specs.KnownLaws.{fitness_by, events_by, KnownByItsLists, HasSameLists, SameListsKnowAlike}
 
 -- what agrees on each element gives the same
 pub given_alike : {X Y : Type 0} (f g : X → Option Y) (xs : List X) → AllByRecursion (λ x. f x ≡ g x) xs → filter_map f xs ≡ filter_map g xs
 given_alike f g [] all = refl
 given_alike f g (x ∷ xs) all = rw (all.0, given_alike f g xs all.1) refl
 
+-- what holds of every element holds of each of a list
 pub all_of_each : {X : Type 0} (P : X → Type 0) → ((x : X) → P x) → (xs : List X) → AllByRecursion P xs
 all_of_each P each [] = tt
 all_of_each P each (x ∷ xs) = (each x, all_of_each P each xs)
-
-pub all_follow : {X : Type 0} (P Q : X → Type 0) → ((x : X) → P x → Q x) → (xs : List X) → AllByRecursion P xs → AllByRecursion Q xs
-all_follow P Q follows [] all = tt
-all_follow P Q follows (x ∷ xs) all = (follows x all.0, all_follow P Q follows xs all.1)
 
 module _ (item : Equipment) (classes : List (Key × Class)) where
   -- the tests of its instrument judge a reading as all facts do
@@ -51,6 +47,7 @@ module _ (item : Equipment) (classes : List (Key × Class)) where
       ∙ fitness_is_of_instrument facts (limit_on item classes key.day) key instrument ppm
   fitness_alike facts other key _ same = refl
 
+  -- the events by the tests of each instrument
   events_by_tests : (facts : List Entry)
       → events_by item classes (facts_of_component item.component facts) (λ instrument. facts_of_instrument instrument facts) ≡ events_in item classes facts
   unfolding events_in
@@ -58,12 +55,13 @@ module _ (item : Equipment) (classes : List (Key × Class)) where
       given_alike _ _ (facts_of_component item.component facts)
       (all_of_each _ (λ e. ap (event_of item classes e) (fitness_by_tests facts e.0 e.1.body)) (facts_of_component item.component facts))
 
+  -- .. and of two lists of facts
   events_alike : (facts other : List Entry) → HasSameLists item.component item.unit facts other → events_in item classes other ≡ events_in item classes facts
   unfolding events_in
   events_alike facts other same =
       ap (filter_map (λ e. event_of item classes e (fitness_at item classes other e.0 e.1.body))) same.own
       ∙ given_alike _ _ (facts_of_component item.component facts)
-      (all_follow _ _ (λ e tests. ap (event_of item classes e) (fitness_alike facts other e.0 e.1.body tests)) (facts_of_component item.component facts) same.tests)
+      (all_weaker _ _ (λ e tests. ap (event_of item classes e) (fitness_alike facts other e.0 e.1.body tests)) (facts_of_component item.component facts) same.tests)
 
 pub known_by_its_lists : KnownByItsLists
 known_by_its_lists item facts =

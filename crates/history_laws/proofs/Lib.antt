@@ -1,9 +1,14 @@
+pub mod AskedLemmas
 pub mod Counting
-pub mod DayLemmas
 pub mod DutyLemmas
+pub mod EventsUpTo
 pub mod KnownLemmas
+pub mod MemberLemmas
 pub mod MoreLemmas
+pub mod OnceLemmas
+pub mod Origins
+pub mod Passing
 pub mod RangeLemmas
-pub mod RulyLemmas
+pub mod RegisterUpTo
 pub mod SpanLemmas
 pub mod UpTo

@@ -1,9 +1,9 @@
-use Rattle.std.proofs.Common.{◌≡◌, ◌↔◌, ◌⊎◌, ℕ, ◌+◌, ◌≤◌, Bool, true, false, cond, nat_eq, nat_lt, nat_le, IsTrue, Option, Some, None, List, [], ◌∷◌, ◌++◌, filter}
+use Rattle.std.proofs.Common.{◌≡◌, ◌↔◌, ◌⊎◌, ℕ, ◌≤◌, Bool, true, false, cond, nat_lt, nat_le, IsTrue, Option, Some, None, List, [], ◌∷◌, ◌++◌, filter}
 use Rattle.std.proofs.Common.{count_by, refl, sym, ap, ◌∙◌, subst, inl, inr, arith}
 use Rattle.std.specs.List.{AllByRecursion, list_any, filter_map, flat_map, cons_option}
-use Rattle.std.proofs.lemmas.Bool.{cases_Bool, false≢true, or_parts}
-use Rattle.list_words.specs.Order.{put_in_order, in_order, put_each, AllApart, Ascends}
-use Rattle.list_words.proofs.Ascending.{among_in_order, apart_ascending, put_permutes, in_order_permutes, apart_permutation, put_each_in_order, same_in_order, in_order_forgets}
+use Rattle.std.proofs.lemmas.Bool.{cases_Bool, or_parts}
+use Rattle.list_words.specs.Order.{put_in_order, in_order, put_each, AllApart}
+use Rattle.list_words.proofs.Ascending.{put_permutes, in_order_permutes, apart_permutation, put_each_in_order, same_in_order, in_order_forgets}
 use Rattle.list_words.proofs.Members.{Among, among_permutation, among_left, among_right, among_append, all_weaker}
 use Rattle.list_words.proofs.Narrowing.{filter_map_narrowed}
 use Rattle.ldar_facts.specs.declared.batch.Batch.{Batch}
@@ -14,10 +14,8 @@ use Rattle.ldar_facts.specs.Facts.{Entry, is_earlier, goes_first, entries_of, fa
 use Rattle.ldar_facts.specs.Identity.{identities_differ}
 use Rattle.ldar_facts.specs.Named.{component_of, unit_of, tested_instrument, reading_instrument, is_numbered}
 use Rattle.ldar_facts.proofs.OrderFree.{one_more_batch}
-use Rattle.ldar_law.specs.declared.delay.Stop.{Stop}
-use Rattle.ldar_law.specs.declared.equipment.Equipment.{Equipment}
-use Rattle.ldar_law.specs.Equipment.{class_at, classes_of, elections_of, election_entered, member_entered, members_of, stop_entered, stops_of}
-use Rattle.ldar_law.specs.RegisterLaws.{enters_component, class_first}
+use Rattle.ldar_law.specs.Equipment.{class_at, election_entered, member_entered, members_of, stop_entered, stops_of}
+use Rattle.ldar_law.specs.RegisterLaws.{enters_component}
 use Rattle.std.proofs.lemmas.List.{append-nil}
 use Rattle.std.proofs.lemmas.List.Elements.{filter_map-append}
 use Rattle.std.proofs.lemmas.List.Sums.{sum_by-append}
@@ -26,20 +24,19 @@ use Rattle.std.proofs.lemmas.List.Sorted.{sum_by-IsPermutation, IsPermutation-tr
 use Rattle.ldar_law.specs.Slices.{facts_of_component, facts_of_instrument, is_registered}
 use Rattle.ldar_law.proofs.ForceLemmas.{class_keyed}
 use Rattle.ldar_law.proofs.Gifts.{among_given, given_among}
-use Rattle.ldar_law.proofs.WeakOrder.{InOrder, each_in_order, put_keeps, put_filter, weak_goes_first, before_all}
-use Rattle.history_laws.specs.DayLaws.{up_to}
+use Rattle.ldar_law.proofs.WeakOrder.{InOrder, each_in_order, put_keeps, put_filter, put_front, weak_earlier, weak_goes_first, before_all}
 use Rattle.history_laws.specs.KnownLaws.{HasSameLists}
-use Rattle.history_laws.specs.MoreLaws.{with_batch, PartOfMoreFacts, PartStays, ListsGrow, election_first, RegisterGrows, MembersGrow, is_shutdown, LeavesAlone, LeftAloneIsKnownAlike}
-use Rattle.history_laws.specs.RulyLaws.{IsEachOnce}
+use Rattle.history_laws.specs.MoreLaws.{with_batch, PartOfMoreFacts, PartStays, ListsGrow, RegisterGrows, MembersGrow, is_shutdown, LeavesAlone, LeftAloneIsKnownAlike}
 use Rattle.history_laws.proofs.Counting.{strict_lt, count_cons}
-use Rattle.history_laws.proofs.DayLemmas.{election_is}
+use Rattle.history_laws.proofs.RegisterUpTo.{election_is}
 use Rattle.history_laws.proofs.KnownLemmas.{same_lists_know_alike}
-use Rattle.history_laws.proofs.RulyLemmas.{apart_numbers, members_ascend}
-use Rattle.history_laws.proofs.UpTo.{filter_swap}
+use Rattle.history_laws.proofs.MemberLemmas.{apart_numbers}
+use Rattle.history_laws.proofs.UpTo.{all_of_part, filter_swap}
 
 -- ---- a part of more facts
 
 module _ (test : Entry → Bool) where
+  -- a part of facts with more of them
   part_of_more : (more facts : List Entry) → InOrder goes_first facts
       → filter test (put_each goes_first more facts) ≡ put_each goes_first (filter test more) (filter test facts)
   part_of_more [] facts o = refl
@@ -48,6 +45,7 @@ module _ (test : Entry → Bool) where
       ∙ ap (put_each goes_first (filter test more)) (put_filter goes_first weak_goes_first test e facts o)
       ∙ elim (cases_Bool (test e)) [ inl t ↦ rw t refl | inr f ↦ rw f refl ]
 
+  -- where the batch has nothing of it
   none_of_it : (more : List Entry) → list_any test more ≡ false → filter test more ≡ []
   none_of_it [] none = refl
   none_of_it (e ∷ more) none = let parts = or_parts (test e) (list_any test more) none in rw parts.0 (none_of_it more parts.1)
@@ -73,9 +71,11 @@ lists_grow history batch differ = record {
 -- ---- what facts give with their keys
 
 module _ {X : Type 0} (key : X → Key) (f : Entry → Option X) (keyed : (e : Entry) (y : X) → f e ≡ Some y → key y ≡ e.0) where
+  -- what has the earlier key goes first
   abbrev pub first_given : X → X → Bool
   first_given a b = is_earlier (key a) (key b)
 
+  -- what is given behind a fact has later keys
   given_all : (x : Entry) (y : X) → key y ≡ x.0 → (es : List Entry) → AllByRecursion (λ e. goes_first x e ≡ true) es
       → AllByRecursion (λ z. first_given y z ≡ true) (filter_map f es)
   given_all x y same [] later = tt
@@ -85,6 +85,7 @@ module _ {X : Type 0} (key : X → Key) (f : Entry → Option X) (keyed : (e : E
         | Some z ↦ λ is. (rw (same, keyed e z is) later.0, given_all x y same es later.1)
       ] refl
 
+  -- one more fact that gives nothing
   put_none : (x : Entry) → f x ≡ None → (es : List Entry) → filter_map f (put_in_order goes_first x es) ≡ filter_map f es
   put_none x none [] = rw none refl
   put_none x none (e ∷ es) =
@@ -93,42 +94,44 @@ module _ {X : Type 0} (key : X → Key) (f : Entry → Option X) (keyed : (e : E
         | inr t ↦ rw t (ap (λ ys. cons_option (f e) ys) (put_none x none es))
       ]
 
+  -- what is given is put behind what is not later
   put_behind : (y : X) (o : Option X) (ys : List X) → ((z : X) → o ≡ Some z → first_given y z ≡ false)
       → cons_option o (put_in_order first_given y ys) ≡ put_in_order first_given y (cons_option o ys)
   put_behind y None ys behind = refl
   put_behind y (Some z) ys behind = rw (behind z refl) refl
 
-  front_put : (y : X) (ys : List X) → AllByRecursion (λ z. first_given y z ≡ true) ys → put_in_order first_given y ys ≡ y ∷ ys
-  front_put y [] all = refl
-  front_put y (z ∷ zs) all = rw all.0 refl
-
+  -- one more fact that gives something
   put_some : (x : Entry) (y : X) → f x ≡ Some y → (es : List Entry) → InOrder goes_first es
       → filter_map f (put_in_order goes_first x es) ≡ put_in_order first_given y (filter_map f es)
   put_some x y some [] o = rw some refl
   put_some x y some (e ∷ es) o =
       elim (cases_Bool (goes_first x e)) [
         | inl t ↦ rw (t, some)
-            (sym (front_put y (filter_map f (e ∷ es)) (given_all x y (keyed x y some) (e ∷ es) (before_all goes_first weak_goes_first x e es t o.0))))
+            (sym (put_front first_given (weak_earlier key) (λ z. true) y (filter_map f (e ∷ es)) (given_all x y (keyed x y some) (e ∷ es) (before_all goes_first weak_goes_first x e es t o.0))))
         | inr t ↦ rw (t, put_some x y some es o.1) (put_behind y (f e) (filter_map f es) (λ z is. rw (keyed x y some, keyed e z is) t))
       ]
 
+  -- one more fact
   one_given : (x : Entry) (es : List Entry) (o : Option X) → f x ≡ o → InOrder goes_first es
       → filter_map f (put_in_order goes_first x es) ≡ put_each first_given (cons_option o []) (filter_map f es)
   one_given x es None is o = put_none x is es
   one_given x es (Some y) is o = put_some x y is es o
 
-  put_front : (o : Option X) (xs ys : List X) → put_each first_given xs (put_each first_given (cons_option o []) ys) ≡ put_each first_given (cons_option o xs) ys
-  put_front None xs ys = refl
-  put_front (Some x) xs ys = refl
+  -- what the first gives, and what the others give
+  one_first : (o : Option X) (xs ys : List X) → put_each first_given xs (put_each first_given (cons_option o []) ys) ≡ put_each first_given (cons_option o xs) ys
+  one_first None xs ys = refl
+  one_first (Some x) xs ys = refl
 
+  -- what facts give with more of them
   given_of_more : (more facts : List Entry) → InOrder goes_first facts
       → filter_map f (put_each goes_first more facts) ≡ put_each first_given (filter_map f more) (filter_map f facts)
   given_of_more [] facts o = refl
   given_of_more (e ∷ more) facts o =
       given_of_more more (put_in_order goes_first e facts) (put_keeps goes_first weak_goes_first e facts o)
       ∙ ap (put_each first_given (filter_map f more)) (one_given e facts (f e) refl o)
-      ∙ put_front (f e) (filter_map f more) (filter_map f facts)
+      ∙ one_first (f e) (filter_map f more) (filter_map f facts)
 
+  -- .. with one batch more
   pub given_with_batch : (history : List Batch) (batch : Batch) → IsTrue (identities_differ (with_batch history batch))
       → filter_map f (facts_of (with_batch history batch)) ≡ put_each first_given (filter_map f (entries_of batch)) (filter_map f (facts_of history))
   given_with_batch history batch differ =
@@ -144,6 +147,7 @@ register_grows history batch differ = record {
 
 -- ---- members
 
+-- a fact put among others
 among_put : (x : Entry) (ys : List Entry) (e : Entry) → Among (put_in_order goes_first x ys) e ↔ Among (x ∷ ys) e
 among_put x ys e =
     let moved = put_permutes goes_first x ys in
@@ -168,9 +172,11 @@ among_put_each (x ∷ more) facts e =
 
 -- the members that facts enter, of the facts that are put and the others
 module _ (unit : ℕ) (more facts : List Entry) where
+  -- the numbers that facts enter
   abbrev entered : List Entry → List ℕ
   entered es = filter_map (λ e. member_entered unit e.1.body) es
 
+  -- the numbers that all facts enter
   entered_alike : (number : ℕ) → Among (entered (put_each goes_first more facts)) number ↔ Among (entered facts ++ entered more) number
   entered_alike number = (
     λ h.
@@ -231,6 +237,7 @@ members_grow history batch unit differ once =
 
 -- ---- a component that is left alone
 
+-- what is no shutdown of the unit enters none
 not_shut : (number day : ℕ) (body : FactBody) → is_shutdown number body ≡ false → stop_entered number day body ≡ None
 not_shut number day (Shutdown other days) out = rw out refl
 not_shut number day _ out = refl
@@ -249,10 +256,7 @@ module _ (t : ℕ) (history : List Batch) (batch : Batch) (differ : IsTrue (iden
       ∙ ap (filter q) (part_stays test history batch differ none)
       ∙ sym (filter_swap test q (facts_of history))
 
-  all_of_front : (P : Entry → Type 0) (q : Entry → Bool) (es : List Entry) → AllByRecursion P es → AllByRecursion P (filter q es)
-  all_of_front P q [] all = tt
-  all_of_front P q (e ∷ es) all = elim (cases_Bool (q e)) [ inl u ↦ rw u (all.0, all_of_front P q es all.1) | inr f ↦ rw f (all_of_front P q es all.1) ]
-
+  -- the lists of a component that is left alone
   same_lists : (number unit : ℕ) → LeavesAlone number unit history batch → HasSameLists number unit (facts_to t history) (facts_to t (with_batch history batch))
   same_lists number unit alone =
       let q : Entry → Bool = λ e. nat_le e.0.day t in
@@ -260,7 +264,7 @@ module _ (t : ℕ) (history : List Batch) (batch : Batch) (differ : IsTrue (iden
       → list_any (λ test. is_numbered (tested_instrument test.1.body) instrument) (entries_of batch) ≡ false in
       let own : AllByRecursion untested (facts_of_component number (facts_to t history)) =
       subst (AllByRecursion untested) (sym (filter_swap (λ e. is_numbered (component_of e.1.body) number) q (facts_of history)))
-      (all_of_front untested q (facts_of_component number (facts_of history)) alone.tests) in
+      (all_of_part untested q (facts_of_component number (facts_of history)) alone.tests) in
       record {
         own = part_stays_to (λ e. is_numbered (component_of e.1.body) number) alone.component;
         tests = all_weaker untested (λ e. (instrument : ℕ) → reading_instrument e.1.body ≡ Some instrument

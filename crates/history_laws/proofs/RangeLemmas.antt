@@ -1,4 +1,4 @@
-use Rattle.std.proofs.Common.{◌≡◌, ℕ, ◌+◌, ◌≤◌, Bool, true, false, nat_eq, Option, Some, None, List, [], ◌∷◌, filter, refl, sym, subst, inl, inr, arith}
+use Rattle.std.proofs.Common.{◌≡◌, ℕ, ◌+◌, true, nat_eq, Some, None, List, [], ◌∷◌, refl, sym, subst, inl, inr, arith}
 use Rattle.std.specs.List.{AllByRecursion, flat_map}
 use Rattle.std.proofs.lemmas.Bool.{cases_Bool, false≢true}
 use Rattle.std.proofs.lemmas.Bool.Decides.{nat_tests}
@@ -8,19 +8,23 @@ use Rattle.list_words.proofs.Members.{all_append, all_at, all_from_among, among_
 use Rattle.ldar_facts.specs.declared.batch.Batch.{Batch}
 use Rattle.ldar_facts.specs.declared.body.FactBody.{FactBody}
 use Rattle.ldar_facts.specs.declared.body.FactBody.TheVariants.{Unit as UnitFact, Component as ComponentFact}
-use Rattle.ldar_facts.specs.Facts.{Entry, goes_first, entries_from, entries_of, facts_of}
+use Rattle.ldar_facts.specs.Facts.{Entry, goes_first, entries_from, entries_of}
 use Rattle.ldar_facts.specs.Fields.{IsFilled, IsFact, body_fields}
 use Rattle.ldar_facts.specs.Stated.{Stated}
 use Rattle.ldar_law.specs.Equipment.{member_entered, members_of}
 use Rattle.ldar_law.specs.RegisterLaws.{enters_component, enters_unit}
 use Rattle.ldar_law.proofs.EnteredLemmas.{members_are_entered}
-use Rattle.history_laws.specs.RangeLaws.{IsInRange, FactsAreInRange, PartIsInRange, IsComponentNumber, IsUnitNumber, StartupsAreDays, StandsInRange, ComponentsStandInRange, MembersAreInRange, MembersFit}
-use Rattle.history_laws.proofs.RulyLemmas.{Begins, Origin, origin, startup_is_of_fact, member_is_entered, members_are_few}
+use Rattle.history_laws.specs.RangeLaws.{IsInRange, FactsAreInRange, PartIsInRange, IsComponentNumber, IsUnitNumber, StartupsAreDays, ComponentsStandInRange, MembersAreInRange, MembersFit}
+use Rattle.history_laws.proofs.Origins.{origin, startup_is_of_fact}
+use Rattle.history_laws.proofs.MemberLemmas.{member_is_entered, members_are_few}
+use Rattle.history_laws.proofs.UpTo.{all_of_part}
 
+-- the facts of a batch with their keys
 entries_in_range : (batch : Batch) (index : ℕ) (facts : List Stated) → AllByRecursion IsFact facts → AllByRecursion IsInRange (entries_from batch index facts)
 entries_in_range batch index [] all = tt
 entries_in_range batch index (fact ∷ facts) all = (record { fact = all.0; day = refl }, entries_in_range batch (index + 1) facts all.1)
 
+-- .. of some batches
 batches_in_range : (history : List Batch) → AllByRecursion (λ batch. AllByRecursion IsFact batch.facts) history
     → AllByRecursion IsInRange (flat_map entries_of history)
 batches_in_range [] all = tt
@@ -31,25 +35,26 @@ pub facts_are_in_range : FactsAreInRange
 facts_are_in_range history all = all_in_order IsInRange goes_first (flat_map entries_of history) (batches_in_range history all)
 
 pub part_is_in_range : PartIsInRange
-part_is_in_range [] test all = tt
-part_is_in_range (e ∷ es) test all =
-    elim (cases_Bool (test e)) [ inl t ↦ rw t (all.0, part_is_in_range es test all.1) | inr f ↦ rw f (part_is_in_range es test all.1) ]
+part_is_in_range facts test all = all_of_part IsInRange test facts all
 
 -- the key has a day of the calendar
 keyed_day : (e : Entry) → IsInRange e → IsDay e.0.day
 keyed_day e kept = subst IsDay (sym kept.day) kept.fact.1.0
 
+-- the number of a process unit that a fact enters
 unit_in_range : (number : ℕ) (body : FactBody) → AllByRecursion IsFilled (body_fields body) → enters_unit number body ≡ true → IsUnitNumber number
 unit_in_range number (UnitFact other older name) filled enters =
     let same : other ≡ number = grind (arith, nat_tests) in subst IsUnitNumber same filled.0
 unit_in_range number _ filled enters = absurd (false≢true enters)
 
+-- .. of a component
 component_in_range : (number : ℕ) (body : FactBody) → AllByRecursion IsFilled (body_fields body) → enters_component number body ≡ true
     → IsComponentNumber number
 component_in_range number (ComponentFact other unit kind monomer replaces class) filled enters =
     let same : other ≡ number = grind (arith, nat_tests) in subst IsComponentNumber same filled.0
 component_in_range number _ filled enters = absurd (false≢true enters)
 
+-- .. of the process unit that a component joins
 joined_in_range : (unit number : ℕ) (body : FactBody) → AllByRecursion IsFilled (body_fields body) → member_entered unit body ≡ Some number → IsUnitNumber unit
 joined_in_range unit number (ComponentFact other u kind monomer replaces class) filled joins =
     elim (cases_Bool (nat_eq u unit)) [

@@ -1,5 +1,5 @@
 -- The facts up to a day beside all facts: the register, readings and events, as laws.
-use Rattle.std.specs.Prelude.{◌≡◌, ℕ, ◌≤◌, Bool, true, false, not, nat_le, IsTrue, Option, Some, None, option_map, option_and_then, if◌then◌else◌, List, [], ◌∷◌, ◌++◌, filter, filter_map, take_while}
+use Rattle.std.specs.Prelude.{◌≡◌, ℕ, ◌≤◌, Bool, false, not, nat_le, Option, Some, None, option_map, option_and_then, if◌then◌else◌, List, [], ◌∷◌, ◌++◌, filter, filter_map, take_while}
 use Rattle.std.specs.List.{AllByRecursion}
 use Rattle.list_words.specs.Order.{Ascends}
 use Rattle.ldar_facts.specs.declared.batch.Batch.{Batch}
@@ -13,7 +13,7 @@ use Rattle.ldar_law.specs.Equipment.{retired_on, equipment_of, classes_of, unit_
 use Rattle.ldar_law.specs.Events.{events_in}
 use Rattle.ldar_law.specs.Fitness.{fitness_of}
 use Rattle.ldar_law.specs.Force.{class_on, is_in_service}
-use Rattle.ldar_law.specs.Units.{Known, known_of, components_of}
+use Rattle.ldar_law.specs.Units.{known_of, components_of}
 use Rattle.history_laws.specs.RulyLaws.{IsEachOnce}
 
 -- the facts of days up to one

@@ -7,7 +7,7 @@ use Rattle.ldar_facts.specs.declared.body.FactBody.{FactBody}
 use Rattle.ldar_facts.specs.declared.body.FactBody.TheVariants.{Shutdown}
 use Rattle.ldar_facts.specs.Facts.{Entry, is_earlier, goes_first, entries_of, facts_of, facts_to}
 use Rattle.ldar_facts.specs.Identity.{identities_differ}
-use Rattle.ldar_facts.specs.Named.{component_of, unit_of, tested_instrument, reading_instrument, is_numbered}
+use Rattle.ldar_facts.specs.Named.{component_of, tested_instrument, reading_instrument, is_numbered}
 use Rattle.ldar_law.specs.declared.election.ElectionEntry.{ElectionEntry}
 use Rattle.ldar_law.specs.declared.equipment.Equipment.{Equipment}
 use Rattle.ldar_law.specs.Equipment.{classes_of, elections_of, members_of}

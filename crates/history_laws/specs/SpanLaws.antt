@@ -1,5 +1,5 @@
 -- The tags of a component by the events up to a day beside those of all events: the statements of `spans`.
-use Rattle.std.specs.Prelude.{◌≡◌, ℕ, Bool, nat_le, Option, Some, None, option_and_then, if◌then◌else◌, List, filter, map}
+use Rattle.std.specs.Prelude.{◌≡◌, ℕ, nat_le, Option, Some, None, option_and_then, if◌then◌else◌, List, filter, map}
 use Rattle.list_words.specs.Order.{Ascends}
 use Rattle.ldar_facts.specs.declared.class.Kind.{Kind}
 use Rattle.ldar_facts.specs.declared.key.Key.{Key}

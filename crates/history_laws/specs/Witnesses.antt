@@ -1,8 +1,7 @@
 -- Small histories and lists of facts, for examples of the laws and of what their premises are for.
-use Rattle.std.specs.Prelude.{ℕ, Bool, true, false, Option, Some, None, List, [], ◌∷◌, ◌++◌, map, option_map, codes}
+use Rattle.std.specs.Prelude.{ℕ, Bool, false, Option, Some, List, [], ◌∷◌, map, option_map}
 use Rattle.ldar_facts.specs.declared.batch.Batch.{Batch}
-use Rattle.ldar_facts.specs.declared.body.FactBody.TheVariants.{Unit as UnitFact, Component as ComponentFact, Class as ClassFact, Retire, Shutdown, Reading, Visual, Attempt, Delay}
-use Rattle.ldar_facts.specs.declared.body.Purpose.TheVariants.{Routine}
+use Rattle.ldar_facts.specs.declared.body.FactBody.TheVariants.{Class as ClassFact, Retire, Shutdown, Attempt, Delay}
 use Rattle.ldar_facts.specs.declared.class.Designation.TheVariants.{Plain}
 use Rattle.ldar_facts.specs.declared.class.Kind.TheVariants.{Valve}
 use Rattle.ldar_facts.specs.declared.class.Service.TheVariants.{Gas, Heavy}

@@ -1,4 +1,4 @@
-use Rattle.history_laws.proofs.DayLemmas.{events_are_cut}
+use Rattle.history_laws.proofs.EventsUpTo.{events_are_cut}
 use Rattle.history_laws.proofs.days.events_are_cut.Goals as goal
 
 pub returns : goal.returns

@@ -1,4 +1,4 @@
-use Rattle.history_laws.proofs.DayLemmas.{events_up_to_a_day, events_by_own_register}
+use Rattle.history_laws.proofs.EventsUpTo.{events_up_to_a_day, events_by_own_register}
 use Rattle.history_laws.proofs.days.events_up_to_a_day.Goals as goal
 
 pub returns : goal.returns

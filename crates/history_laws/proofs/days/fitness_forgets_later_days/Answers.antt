@@ -1,4 +1,4 @@
-use Rattle.history_laws.proofs.DayLemmas.{fitness_forgets_later_days}
+use Rattle.history_laws.proofs.EventsUpTo.{fitness_forgets_later_days}
 use Rattle.history_laws.proofs.days.fitness_forgets_later_days.Goals as goal
 
 pub returns : goal.returns

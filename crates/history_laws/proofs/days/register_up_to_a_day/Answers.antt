@@ -1,4 +1,4 @@
-use Rattle.history_laws.proofs.DayLemmas.{components_up_to_a_day, units_up_to_a_day}
+use Rattle.history_laws.proofs.RegisterUpTo.{components_up_to_a_day, units_up_to_a_day}
 use Rattle.history_laws.proofs.days.register_up_to_a_day.Goals as goal
 
 pub returns : goal.returns

@@ -1,4 +1,4 @@
-use Rattle.history_laws.proofs.RulyLemmas.{what_is_asked_was_entered, unit_of_component_is_entered}
+use Rattle.history_laws.proofs.AskedLemmas.{what_is_asked_was_entered, unit_of_component_is_entered}
 use Rattle.history_laws.proofs.ruly.asked_was_entered.Goals as goal
 
 pub returns : goal.returns

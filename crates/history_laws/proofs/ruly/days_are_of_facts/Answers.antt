@@ -1,4 +1,4 @@
-use Rattle.history_laws.proofs.RulyLemmas.{startup_is_of_fact, beginning_is_of_fact}
+use Rattle.history_laws.proofs.Origins.{startup_is_of_fact, beginning_is_of_fact}
 use Rattle.history_laws.proofs.ruly.days_are_of_facts.Goals as goal
 
 pub returns : goal.returns

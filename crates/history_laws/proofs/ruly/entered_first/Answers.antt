@@ -1,4 +1,4 @@
-use Rattle.history_laws.proofs.RulyLemmas.{passing_batch_enters_first}
+use Rattle.history_laws.proofs.OnceLemmas.{passing_batch_enters_first}
 use Rattle.history_laws.proofs.ruly.entered_first.Goals as goal
 
 pub returns : goal.returns

@@ -1,4 +1,4 @@
-use Rattle.history_laws.proofs.RulyLemmas.{members_ascend, members_are_few}
+use Rattle.history_laws.proofs.MemberLemmas.{members_ascend, members_are_few}
 use Rattle.history_laws.proofs.ruly.members_ascend.Goals as goal
 
 pub returns : goal.returns

@@ -1,4 +1,4 @@
-use Rattle.history_laws.proofs.RulyLemmas.{members_stand_in_unit, components_are_members}
+use Rattle.history_laws.proofs.MemberLemmas.{members_stand_in_unit, components_are_members}
 use Rattle.history_laws.proofs.ruly.members_stand_in_unit.Goals as goal
 
 pub returns : goal.returns
