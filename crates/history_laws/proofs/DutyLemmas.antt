@@ -48,7 +48,8 @@ module _ (t : ℕ) (item : Equipment) (classes : List (Key × Class)) (startup :
       first_alike = rw (first_owed_alike (min (first_due item) t) (least_within (first_due item) t)) refl
 
       -- 2 monthly
-      monthly_alike : (month : ℕ) → monthly (item_on t item) (early t classes) startup events skipped t month ≡ monthly item classes startup events skipped t month
+      monthly_alike : (month : ℕ)
+          → monthly (item_on t item) (early t classes) startup events skipped t month ≡ monthly item classes startup events skipped t month
       unfolding monthly
       monthly_alike month = let s = stands (min (last_day month) t) (least_within (last_day month) t) in rw (s.class, s.service) refl
 
@@ -65,7 +66,8 @@ module _ (t : ℕ) (item : Equipment) (classes : List (Key × Class)) (startup :
           let s = stands (min (last_day (12 * year + 11)) t) (least_within (last_day (12 * year + 11)) t) in rw (s.class, s.service) refl
 
       -- 5 plan
-      planned_alike : (month : ℕ) → planned (item_on t item) (early t classes) startup events skipped t month ≡ planned item classes startup events skipped t month
+      planned_alike : (month : ℕ)
+          → planned (item_on t item) (early t classes) startup events skipped t month ≡ planned item classes startup events skipped t month
       unfolding planned
       planned_alike month =
           let s = stands (min (end_by (last_day month)) t) (least_within (end_by (last_day month)) t) in rw (s.class, s.service) refl
@@ -98,7 +100,8 @@ module _ (t : ℕ) (item : Equipment) (classes : List (Key × Class)) (startup :
       periods_alike f g same ns = given_alike f g ns (all_of_each (λ n. f n ≡ g n) same ns)
 
       -- the duties after events
-      after_alike : (f g : List Event → Event → List Event → Option Duty) → ((e : Event) → e.key.day ≤ t → (before after : List Event) → f before e after ≡ g before e after)
+      after_alike : (f g : List Event → Event → List Event → Option Duty)
+          → ((e : Event) → e.key.day ≤ t → (before after : List Event) → f before e after ≡ g before e after)
           → AllByRecursion (λ e. e.key.day ≤ t) events → each_where f events ≡ each_where g events
       after_alike f g same within =
           each_alike f g [] events

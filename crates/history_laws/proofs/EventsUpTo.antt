@@ -74,7 +74,8 @@ module _ (t : ℕ) (facts : List Entry) (key : Key) (instrument : ℕ) (within :
   voids_same limit ppm e = last_asked _ (nat_eq e.0.day key.day) _ _ _ (λ same. ap not (before_same e.0 (of_the_day e.0.day same)))
 
   -- the same drift assessment is found
-  voided_same : (limit ppm : ℕ) → find (is_voided_by (up_to t facts) key instrument limit ppm) (up_to t facts) ≡ find (is_voided_by facts key instrument limit ppm) facts
+  voided_same : (limit ppm : ℕ)
+      → find (is_voided_by (up_to t facts) key instrument limit ppm) (up_to t facts) ≡ find (is_voided_by facts key instrument limit ppm) facts
   voided_same limit ppm =
       find_agree _ _ (voids_same limit ppm) (up_to t facts)
       ∙ find_narrowed (is_voided_by facts key instrument limit ppm) (λ e. nat_le e.0.day t)
@@ -139,7 +140,8 @@ module _ (t : ℕ) (item : Equipment) (classes : List (Key × Class)) where
   judged_same : (facts : List Entry) (key : Key) (body : FactBody) → key.day ≤ t
       → fitness_at (item_on t item) (early t classes) facts key body ≡ fitness_at item classes facts key body
   judged_same facts key (Reading c instrument operator purpose ppm background) within =
-      ap (λ class. fitness_of facts (limit_of item.kind item.monomer class) key instrument ppm) ((standing_forgets_later_days t key.day item classes within).class)
+      ap (λ class. fitness_of facts (limit_of item.kind item.monomer class) key instrument ppm)
+      ((standing_forgets_later_days t key.day item classes within).class)
   judged_same facts key _ within = refl
 
   -- .. and so is the event

@@ -1,4 +1,4 @@
-use Rattle.std.proofs.Common.{◌≡◌, ℕ, Option, Some, List, [], ◌∷◌, refl, sym, ap, ◌∙◌}
+use Rattle.std.proofs.Common.{◌≡◌, ℕ, Option, Some, List, [], ◌∷◌, refl, sym, ap, ◌∙◌, subst}
 use Rattle.std.specs.List.{AllByRecursion, filter_map}
 use Rattle.list_words.proofs.Members.{all_weaker}
 use Rattle.ldar_facts.specs.declared.body.FactBody.{FactBody}
@@ -8,16 +8,19 @@ use Rattle.ldar_facts.specs.declared.key.Key.{Key}
 use Rattle.ldar_facts.specs.Facts.{Entry}
 use Rattle.ldar_facts.specs.Named.{reading_instrument}
 use Rattle.ldar_law.specs.declared.equipment.Equipment.{Equipment}
-use Rattle.ldar_law.specs.Equipment.{equipment_of, classes_of}
+use Rattle.ldar_law.specs.Equipment.{equipment_of, classes_of, members_of}
 use Rattle.ldar_law.specs.Events.{event_of, events_in, fitness_at}
 use Rattle.ldar_law.specs.Fitness.{fitness_of}
 use Rattle.ldar_law.specs.Force.{limit_on}
 use Rattle.ldar_law.specs.Shown.{sheet_of}
 use Rattle.ldar_law.specs.Slices.{facts_of_component, facts_of_instrument}
-use Rattle.ldar_law.specs.Units.{known_of, mark_in, due_list}
+use Rattle.ldar_law.specs.Units.{Known, known_of, mark_in, due_list}
+use Rattle.std.specs.Option.{option_map}
+use Rattle.list_words.proofs.Members.{all_from_among, Contains-from_among}
+use Rattle.history_laws.proofs.MemberLemmas.{members_stand_in_unit}
 use Rattle.ldar_law.proofs.FitnessLemmas.{fitness_is_of_instrument}
 use Rattle.ldar_law.proofs.SliceLemmas.{own_facts_suffice, unit_facts_suffice}
-use Rattle.history_laws.specs.KnownLaws.{fitness_by, events_by, KnownByItsLists, HasSameLists, SameListsKnowAlike}
+use Rattle.history_laws.specs.KnownLaws.{known_in_unit, ComponentsByTheirLists, fitness_by, events_by, KnownByItsLists, HasSameLists, SameListsKnowAlike}
 
 -- what agrees on each element gives the same
 pub given_alike : {X Y : Type 0} (f g : X → Option Y) (xs : List X) → AllByRecursion (λ x. f x ≡ g x) xs → filter_map f xs ≡ filter_map g xs
@@ -61,7 +64,8 @@ module _ (item : Equipment) (classes : List (Key × Class)) where
   events_alike facts other same =
       ap (filter_map (λ e. event_of item classes e (fitness_at item classes other e.0 e.1.body))) same.own
       ∙ given_alike _ _ (facts_of_component item.component facts)
-      (all_weaker _ _ (λ e tests. ap (event_of item classes e) (fitness_alike facts other e.0 e.1.body tests)) (facts_of_component item.component facts) same.tests)
+      (all_weaker _ _ (λ e tests. ap (event_of item classes e) (fitness_alike facts other e.0 e.1.body tests))
+      (facts_of_component item.component facts) same.tests)
 
 pub known_by_its_lists : KnownByItsLists
 known_by_its_lists item facts =
@@ -72,6 +76,25 @@ known_by_its_lists item facts =
       equipment = own.equipment;
       known = rw (own.classes, stops, events_by_tests item classes facts) refl;
     }
+
+-- what is known of a member of a process unit, by the lists
+known_member : (unit : ℕ) (facts : List Entry) (number : ℕ) (item : Equipment) → item.component ≡ number → item.unit ≡ unit
+    → known_of facts item ≡ known_in_unit unit number facts item
+known_member unit facts number item named stands =
+    subst (λ n. known_of facts item ≡ known_in_unit unit n facts item) named
+    (subst (λ u. known_of facts item ≡ known_in_unit u item.component facts item) stands (sym (known_by_its_lists item facts).known))
+
+pub components_by_their_lists : ComponentsByTheirLists
+components_by_their_lists unit facts once =
+    let whole : ℕ → Option Known = λ number. option_map (known_of facts) (equipment_of number facts) in
+    let parts : ℕ → Option Known =
+    λ number. option_map (known_in_unit unit number facts) (equipment_of number (facts_of_component number facts)) in
+    given_alike whole parts (members_of unit facts)
+    (all_from_among (λ number. whole number ≡ parts number) (members_of unit facts) (λ number among.
+    let member = members_stand_in_unit facts unit number once (Contains-from_among (members_of unit facts) number among) in
+    let own = (own_facts_suffice number facts).equipment in
+    rw (own, member.1) (ap Some (known_member unit facts number member.0 member.2 member.3))))
+    ∙ ap (filter_map parts) (sym (unit_facts_suffice unit facts).members)
 
 pub same_lists_know_alike : SameListsKnowAlike
 same_lists_know_alike item facts other same =

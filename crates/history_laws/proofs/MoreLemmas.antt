@@ -26,7 +26,8 @@ use Rattle.ldar_law.proofs.ForceLemmas.{class_keyed}
 use Rattle.ldar_law.proofs.Gifts.{among_given, given_among}
 use Rattle.ldar_law.proofs.WeakOrder.{InOrder, each_in_order, put_keeps, put_filter, put_front, weak_earlier, weak_goes_first, before_all}
 use Rattle.history_laws.specs.KnownLaws.{HasSameLists}
-use Rattle.history_laws.specs.MoreLaws.{with_batch, PartOfMoreFacts, PartStays, ListsGrow, RegisterGrows, MembersGrow, is_shutdown, LeavesAlone, LeftAloneIsKnownAlike}
+use Rattle.history_laws.specs.MoreLaws.{with_batch, PartOfMoreFacts, PartStays, ListsGrow, RegisterGrows, MembersGrow, is_shutdown}
+use Rattle.history_laws.specs.MoreLaws.{LeavesAlone, LeftAloneIsKnownAlike}
 use Rattle.history_laws.proofs.Counting.{strict_lt, count_cons}
 use Rattle.history_laws.proofs.RegisterUpTo.{election_is}
 use Rattle.history_laws.proofs.KnownLemmas.{same_lists_know_alike}
@@ -57,7 +58,8 @@ part_of_more_facts test history batch differ =
 
 pub part_stays : PartStays
 part_stays test history batch differ none =
-    part_of_more_facts test history batch differ ∙ ap (λ more. put_each goes_first more (filter test (facts_of history))) (none_of_it test (entries_of batch) none)
+    part_of_more_facts test history batch differ
+    ∙ ap (λ more. put_each goes_first more (filter test (facts_of history))) (none_of_it test (entries_of batch) none)
 
 pub lists_grow : ListsGrow
 lists_grow history batch differ = record {
@@ -107,7 +109,8 @@ module _ {X : Type 0} (key : X → Key) (f : Entry → Option X) (keyed : (e : E
   put_some x y some (e ∷ es) o =
       elim (cases_Bool (goes_first x e)) [
         | inl t ↦ rw (t, some)
-            (sym (put_front first_given (weak_earlier key) (λ z. true) y (filter_map f (e ∷ es)) (given_all x y (keyed x y some) (e ∷ es) (before_all goes_first weak_goes_first x e es t o.0))))
+            (sym (put_front first_given (weak_earlier key) (λ z. true) y (filter_map f (e ∷ es))
+            (given_all x y (keyed x y some) (e ∷ es) (before_all goes_first weak_goes_first x e es t o.0))))
         | inr t ↦ rw (t, put_some x y some es o.1) (put_behind y (f e) (filter_map f es) (λ z is. rw (keyed x y some, keyed e z is) t))
       ]
 
@@ -118,7 +121,8 @@ module _ {X : Type 0} (key : X → Key) (f : Entry → Option X) (keyed : (e : E
   one_given x es (Some y) is o = put_some x y is es o
 
   -- what the first gives, and what the others give
-  one_first : (o : Option X) (xs ys : List X) → put_each first_given xs (put_each first_given (cons_option o []) ys) ≡ put_each first_given (cons_option o xs) ys
+  one_first : (o : Option X) (xs ys : List X)
+      → put_each first_given xs (put_each first_given (cons_option o []) ys) ≡ put_each first_given (cons_option o xs) ys
   one_first None xs ys = refl
   one_first (Some x) xs ys = refl
 
@@ -249,7 +253,8 @@ stops_by_shutdowns number facts =
 
 module _ (t : ℕ) (history : List Batch) (batch : Batch) (differ : IsTrue (identities_differ (with_batch history batch))) where
   -- a part of the facts up to a day
-  part_stays_to : (test : Entry → Bool) → list_any test (entries_of batch) ≡ false → filter test (facts_to t (with_batch history batch)) ≡ filter test (facts_to t history)
+  part_stays_to : (test : Entry → Bool) → list_any test (entries_of batch) ≡ false
+      → filter test (facts_to t (with_batch history batch)) ≡ filter test (facts_to t history)
   part_stays_to test none =
       let q : Entry → Bool = λ e. nat_le e.0.day t in
       filter_swap test q (facts_of (with_batch history batch))

@@ -36,7 +36,8 @@ use Rattle.history_laws.proofs.Passing.{some_mapped, is_nothing, let_pass}
 -- ---- each is entered once
 
 -- the first entries of the register are there where facts enter them
-pub entered_there : (number : ℕ) (facts : List Entry) → is_some (first_entry number (register_facts facts)) ≡ list_any (λ e. enters_component number e.1.body) facts
+pub entered_there : (number : ℕ) (facts : List Entry)
+    → is_some (first_entry number (register_facts facts)) ≡ list_any (λ e. enters_component number e.1.body) facts
 entered_there number facts =
     ap is_some (first_entry_is_registered number facts)
     ∙ sym (ap is_some (first_entry_is_equipment number facts))
@@ -147,7 +148,8 @@ passing_batch_enters_first history batch passes = record {
   component = λ before entry after number facts stands enters of.
       is_nothing (equipment_of number facts)
       ((component_where_entered number facts).0
-      ∙ nothing_of (λ e. enters_component number e.1.body) history before facts (no_component_before history batch passes before entry after stands number enters) of);
+      ∙ nothing_of (λ e. enters_component number e.1.body) history before facts
+      (no_component_before history batch passes before entry after stands number enters) of);
   unit = λ before entry after number facts stands enters of.
       is_nothing (unit_entry_of number facts)
       (unit_where_entered number facts

@@ -67,7 +67,8 @@ startup_is_of_fact facts number unit e =
 
 pub startups_are_in_bound : StartupsAreInBound
 startups_are_in_bound facts number last unit all e =
-    let found = among_given (λ x. unit_entered number x.0.day x.1.body) facts unit (first_among (filter_map (λ x. unit_entered number x.0.day x.1.body) facts) unit e) in
+    let f : Entry → Option UnitEntry = λ x. unit_entered number x.0.day x.1.body in
+    let found = among_given f facts unit (first_among (filter_map f facts) unit e) in
     subst (λ day. day ≤ last) (sym (startup_is number found.0.0.day found.0.1.body unit found.2)) (all_at (λ x. x.0.day ≤ last) facts found.0 all found.1)
 
 -- what a component is by the fact that enters it
@@ -84,7 +85,17 @@ pub begins : (number : ℕ) (retired : Option ℕ) (day : ℕ) (body : FactBody)
 begins number retired day (ComponentFact other unit kind monomer replaces class) item e =
     elim (cases_Bool (nat_eq other number)) [
       | inl t ↦
-          let is : Some (record { component = number; unit = unit; kind = kind; monomer = monomer; replaces = replaces; begin = day; retired = retired; class = class }) ≡ Some item =
+          let entered : Equipment = record {
+            component = number;
+            unit = unit;
+            kind = kind;
+            monomer = monomer;
+            replaces = replaces;
+            begin = day;
+            retired = retired;
+            class = class;
+          } in
+          let is : Some entered ≡ Some item =
           rw t at e in
           let stands : unit ≡ item.unit = cc in
           let same : other ≡ number = grind (arith, nat_tests) in

@@ -14,7 +14,8 @@ use Rattle.ldar_facts.specs.Stated.{Stated}
 use Rattle.ldar_law.specs.Equipment.{member_entered, members_of}
 use Rattle.ldar_law.specs.RegisterLaws.{enters_component, enters_unit}
 use Rattle.ldar_law.proofs.EnteredLemmas.{members_are_entered}
-use Rattle.history_laws.specs.RangeLaws.{IsInRange, FactsAreInRange, PartIsInRange, IsComponentNumber, IsUnitNumber, StartupsAreDays, ComponentsStandInRange, MembersAreInRange, MembersFit}
+use Rattle.history_laws.specs.RangeLaws.{IsInRange, FactsAreInRange, PartIsInRange, IsComponentNumber, IsUnitNumber}
+use Rattle.history_laws.specs.RangeLaws.{StartupsAreDays, ComponentsStandInRange, MembersAreInRange, MembersFit}
 use Rattle.history_laws.proofs.Origins.{origin, startup_is_of_fact}
 use Rattle.history_laws.proofs.MemberLemmas.{member_is_entered, members_are_few}
 use Rattle.history_laws.proofs.UpTo.{all_of_part}

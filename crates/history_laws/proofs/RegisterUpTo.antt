@@ -46,7 +46,8 @@ begun_up_to t retired None = refl
 begun_up_to t retired (Some item) = elim (cases_Bool (nat_le item.begin t)) [ inl within ↦ rw within refl | inr out ↦ rw out refl ]
 
 -- the classes of facts up to a day
-pub classes_up_to : (t number : ℕ) (facts : List Entry) → classes_of number (up_to t facts) ≡ filter (λ entered. nat_le entered.0.day t) (classes_of number facts)
+pub classes_up_to : (t number : ℕ) (facts : List Entry)
+    → classes_of number (up_to t facts) ≡ filter (λ entered. nat_le entered.0.day t) (classes_of number facts)
 classes_up_to t number facts =
     given_up_to (class_at number) (λ entered. entered.0.day) (λ e y is. ap (λ key. key.day) (class_keyed number e y is)) t facts
 
@@ -145,7 +146,8 @@ pub members_up_to_a_day : MembersUpToADay
 members_up_to_a_day t unit facts once = members_up_to t unit facts once
 
 -- what has not begun is not there
-unbegun : (t : ℕ) (o : Option Equipment) → (elim o as (λ x. Bool) [ None ↦ false | Some item ↦ nat_le item.begin t ]) ≡ false → option_and_then (if_begun t) o ≡ None
+unbegun : (t : ℕ) (o : Option Equipment)
+    → (elim o as (λ x. Bool) [ None ↦ false | Some item ↦ nat_le item.begin t ]) ≡ false → option_and_then (if_begun t) o ≡ None
 unbegun t None out = refl
 unbegun t (Some item) out = rw out refl
 

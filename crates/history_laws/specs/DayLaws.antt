@@ -1,5 +1,7 @@
 -- The facts up to a day beside all facts: the register, readings and events, as laws.
-use Rattle.std.specs.Prelude.{◌≡◌, ℕ, ◌≤◌, Bool, false, not, nat_le, Option, Some, None, option_map, option_and_then, if◌then◌else◌, List, [], ◌∷◌, ◌++◌, filter, filter_map, take_while}
+use Rattle.std.specs.Prelude.{◌≡◌, ℕ, ◌≤◌, Bool, false, not, nat_le, Option, Some, None, option_map, option_and_then, if◌then◌else◌}
+use Rattle.std.specs.Prelude.{List, [], ◌∷◌, ◌++◌, filter, filter_map}
+use Rattle.std.specs.Prelude.{take_while}
 use Rattle.std.specs.List.{AllByRecursion}
 use Rattle.list_words.specs.Order.{Ascends}
 use Rattle.ldar_facts.specs.declared.batch.Batch.{Batch}

@@ -1,5 +1,5 @@
 -- A component is known by its own facts, its instruments' tests and its process unit's shutdowns: the statements of `known`.
-use Rattle.std.specs.Prelude.{◌≡◌, ℕ, Bool, Some, List, [], ◌∷◌, filter, filter_map, nat_le}
+use Rattle.std.specs.Prelude.{◌≡◌, ℕ, Bool, Some, List, [], ◌∷◌, filter, filter_map, nat_le, option_map}
 use Rattle.std.specs.List.{AllByRecursion}
 use Rattle.ldar_facts.specs.declared.body.FactBody.{FactBody}
 use Rattle.ldar_facts.specs.declared.body.FactBody.TheVariants.{Reading}
@@ -12,14 +12,15 @@ use Rattle.ldar_law.specs.declared.equipment.Equipment.{Equipment}
 use Rattle.ldar_law.specs.declared.event.Event.{Event}
 use Rattle.ldar_law.specs.declared.fitness.Fitness.{Fitness}
 use Rattle.ldar_law.specs.declared.fitness.Fitness.TheVariants.{NoCalibration}
-use Rattle.ldar_law.specs.Equipment.{equipment_of, classes_of, stops_of}
+use Rattle.ldar_law.specs.Equipment.{equipment_of, classes_of, members_of, stops_of}
 use Rattle.ldar_law.specs.Events.{event_of, events_in}
 use Rattle.ldar_law.specs.Fitness.{fitness_of}
 use Rattle.ldar_law.specs.Force.{limit_on}
 use Rattle.ldar_law.specs.Shown.{sheet_of}
 use Rattle.ldar_law.specs.Slices.{facts_of_component, facts_of_unit, facts_of_instrument}
 use Rattle.ldar_law.specs.Tags.{tags_of}
-use Rattle.ldar_law.specs.Units.{Known, known_of, mark_in, due_list}
+use Rattle.ldar_law.specs.Units.{Known, known_of, components_of, mark_in, due_list}
+use Rattle.history_laws.specs.RulyLaws.{IsEachOnce}
 use Rattle.history_laws.specs.DayLaws.{up_to, item_on, events_to}
 
 -- ---- of lists of its own
@@ -46,11 +47,26 @@ known_from item own tests stops =
 -- a component is known by the facts that name it, the tests of each instrument, and the facts that name its process unit
 pub record IsKnownByItsLists (item : Equipment) (facts : List Entry) : Type 0 where
   pub equipment : equipment_of item.component (facts_of_component item.component facts) ≡ equipment_of item.component facts
-  pub known : known_from item (facts_of_component item.component facts) (λ instrument. facts_of_instrument instrument facts) (stops_of item.unit (facts_of_unit item.unit facts))
+  pub known : known_from item (facts_of_component item.component facts) (λ instrument. facts_of_instrument instrument facts)
+      (stops_of item.unit (facts_of_unit item.unit facts))
       ≡ known_of facts item
 
 abbrev pub KnownByItsLists : Type 0
 KnownByItsLists = (item : Equipment) (facts : List Entry) → IsKnownByItsLists item facts
+
+-- .. in its process unit
+abbrev pub known_in_unit : ℕ → ℕ → List Entry → Equipment → Known
+known_in_unit unit number facts item =
+    known_from item (facts_of_component number facts) (λ instrument. facts_of_instrument instrument facts) (stops_of unit (facts_of_unit unit facts))
+
+-- where each component is entered once, the components of a process unit are known by these lists, and they are found by the facts that
+-- name the unit
+abbrev pub ComponentsByTheirLists : Type 0
+ComponentsByTheirLists =
+    (unit : ℕ) (facts : List Entry) → IsEachOnce facts
+    → components_of unit facts
+    ≡ filter_map (λ number. option_map (known_in_unit unit number facts) (equipment_of number (facts_of_component number facts)))
+    (members_of unit (facts_of_unit unit facts))
 
 -- ---- of two lists of facts
 

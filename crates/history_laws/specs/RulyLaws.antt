@@ -58,7 +58,8 @@ PartHasEachOnce = (facts : List Entry) (test : Entry → Bool) → IsEachOnce fa
 abbrev pub HaveCome : List Batch → List Entry → List Entry → Type 0
 HaveCome history before facts = (e : Entry) → Contains facts e → Contains (flat_map entries_of history ++ before) e
 
--- what a fact of a batch enters, no fact before it does, of the history or of its batch: not in whatever order, and not the register's alone
+-- what a fact of a batch enters, none of the facts before it does, of the history or of its batch, in whatever order they are listed and
+-- also where only some are, as those of the register
 pub record EntersFirst (history : List Batch) (batch : Batch) : Type 0 where
   pub component : (before : List Entry) (entry : Entry) (after : List Entry) (number : ℕ) (facts : List Entry)
       → entries_of batch ≡ before ++ entry ∷ after → IsTrue (enters_component number entry.1.body) → HaveCome history before facts

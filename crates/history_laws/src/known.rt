@@ -1,11 +1,12 @@
 //! A component is known by its own facts, its instruments' tests and its process unit's shutdowns.
 
-ghost use Rattle.history_laws.specs.KnownLaws.{KnownByItsLists, SameListsKnowAlike, KnownUpToADay};
+ghost use Rattle.history_laws.specs.KnownLaws.{KnownByItsLists, ComponentsByTheirLists, SameListsKnowAlike, KnownUpToADay};
 
 /// What all facts say of a component, the lists say that a store keeps: the facts that name it, the tests of each
-/// instrument, and the facts that name its process unit.
+/// instrument, and the facts that name its process unit; and so of all components of a process unit.
 pub fn known_by_its_lists()
     ensures law { KnownByItsLists }
+    ensures unit { ComponentsByTheirLists }
 {}
 
 /// Where these lists are the same in two lists of facts, the two say the same of the component.
