@@ -1,7 +1,7 @@
 -- Small histories and lists of facts, for examples of the laws and of what their premises are for.
 use Rattle.std.specs.Prelude.{ℕ, Bool, false, Option, Some, List, [], ◌∷◌, map, option_map}
 use Rattle.ldar_facts.specs.declared.batch.Batch.{Batch}
-use Rattle.ldar_facts.specs.declared.body.FactBody.TheVariants.{Class as ClassFact, Retire, Shutdown, Attempt, Delay}
+use Rattle.ldar_facts.specs.declared.body.FactBody.TheVariants.{Component as ComponentFact, Class as ClassFact, Retire, Shutdown, Attempt, Delay}
 use Rattle.ldar_facts.specs.declared.class.Designation.TheVariants.{Plain}
 use Rattle.ldar_facts.specs.declared.class.Kind.TheVariants.{Valve}
 use Rattle.ldar_facts.specs.declared.class.Service.TheVariants.{Gas, Heavy}
@@ -12,7 +12,9 @@ use Rattle.ldar_law.specs.declared.event.Event.{Event}
 use Rattle.ldar_law.specs.Equipment.{equipment_of, classes_of}
 use Rattle.ldar_law.specs.Events.{events_in}
 use Rattle.ldar_law.specs.Happenings.{is_leak}
-use Rattle.ldar_law.specs.Short.{date, class, fact, calibrated, precise, measured, valve}
+use Rattle.ldar_facts.specs.declared.class.Class.{Class}
+use Rattle.ldar_facts.specs.declared.key.Key.{Key}
+use Rattle.ldar_law.specs.Short.{date, class, entered_on, fact, calibrated, precise, measured, valve}
 use Rattle.ldar_law.specs.ShortEvents.{reads, attempts}
 use Rattle.ldar_law.specs.SmallOffice.{on, enters, sends, component, crude}
 use Rattle.ldar_law.specs.Units.{known_of}
@@ -42,6 +44,15 @@ abbrev pub entered_twice : List Batch
 entered_twice =
     enters 1 (on (date 2024 1 15) crude ∷ on (date 2024 1 15) (component 1 Valve false Gas) ∷ on (date 2024 5 1) (component 1 Valve false Gas) ∷ []) ∷ []
 
+-- valve 1 is entered in process unit 1, and then in unit 2
+abbrev pub in_two_units : List Batch
+in_two_units =
+    enters 1 (on (date 2024 1 15) (component 1 Valve false Gas) ∷ on (date 2024 5 1) (ComponentFact 1 2 Valve false false (class Gas Plain)) ∷ []) ∷ []
+
+-- the process unit in which valve 1 stands
+abbrev pub unit_of_1 : List Entry → Option ℕ
+unit_of_1 facts = option_map (λ item. item.unit) (equipment_of 1 facts)
+
 -- valve 1 of a process unit that was not entered
 abbrev pub without_its_unit : List Batch
 without_its_unit = enters 1 (on (date 2024 1 15) (component 1 Valve false Gas) ∷ []) ∷ []
@@ -49,6 +60,10 @@ without_its_unit = enters 1 (on (date 2024 1 15) (component 1 Valve false Gas) �
 -- valve 1 begins before its process unit starts up, which was entered first
 abbrev pub before_its_unit : List Batch
 before_its_unit = enters 1 (on (date 2024 3 1) crude ∷ on (date 2024 1 15) (component 1 Valve false Gas) ∷ []) ∷ []
+
+-- valve 1 again
+abbrev pub entered_again : Batch
+entered_again = enters 2 (on (date 2024 5 1) (component 1 Valve false Gas) ∷ [])
 
 -- a process unit that starts up in 2098
 abbrev pub too_late : List Batch
@@ -75,6 +90,10 @@ leak_without_shutdown =
 -- valve 1 of process unit 1
 abbrev pub valve_1 : Equipment
 valve_1 = valve 1 (date 2020 1 15)
+
+-- valve 1 is in heavy liquid service from a day on
+abbrev pub heavy_from : ℕ → List (Key × Class)
+heavy_from day = entered_on day (class Heavy Plain) ∷ []
 
 -- which events of a component are leaks
 abbrev pub leaks_in : List Event → List Bool

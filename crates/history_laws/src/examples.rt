@@ -1,25 +1,29 @@
 //! The laws at work, and what their premises are for: contracts of functions with nothing to do.
-#![tactic(auto, unfolding(ldar_days::specs::Calendar::first_day, ldar_days::specs::Calendar::month_of, ldar_days::specs::Calendar::month_length, ldar_law::specs::Judged::register_with, ldar_law::specs::Events::events_in, ldar_law::specs::Spans::spans_of, ldar_law::specs::Tags::tag_of, ldar_law::specs::Months::is_clean, ldar_law::specs::Months::has_leak_in, ldar_law::specs::Months::is_clean_twice_from))]
+#![tactic(auto, unfolding(ldar_days::specs::Calendar::first_day, ldar_days::specs::Calendar::month_of, ldar_days::specs::Calendar::month_length, ldar_law::specs::Judged::register_with, ldar_law::specs::Events::events_in, ldar_law::specs::Spans::spans_of, ldar_law::specs::Tags::tag_of, ldar_law::specs::Months::is_clean, ldar_law::specs::Months::has_leak_in, ldar_law::specs::Months::is_clean_twice_from, ldar_law::specs::Months::is_quarterly, ldar_days::specs::Quarters::last_whole, ldar_days::specs::Quarters::first_quarter, list_words::specs::Ranges::until, ldar_law::specs::Duties::duties_of, ldar_law::specs::Duties::first_monitoring, ldar_law::specs::Duties::monthly, ldar_law::specs::Duties::quarterly, ldar_law::specs::Duties::yearly, ldar_law::specs::Duties::planned, ldar_law::specs::Duties::weekly, ldar_law::specs::Duties::drip, ldar_law::specs::Duties::release, ldar_law::specs::Duties::evidence))]
 
-ghost use Rattle.std.specs.Prelude.{◌≡◌, None, Some, [], false, is_none, is_some, length, map, true, ◌++◌, ◌∷◌};
+ghost use Rattle.std.specs.Prelude.{◌≡◌, None, Some, [], false, is_none, is_some, length, map, nat_le, take_while, true, ◌++◌, ◌∷◌};
 ghost use Rattle.list_words.specs.Order.{put_each};
 ghost use Rattle.ldar_facts.specs.Facts.{entries_of, facts_of, facts_to, goes_first};
 ghost use Rattle.ldar_facts.specs.Named.{component_of};
 ghost use Rattle.ldar_facts.specs.declared.class.Kind.TheVariants.{Valve};
 ghost use Rattle.ldar_law.specs.declared.delay.Until.TheVariants.{Date, Shutdown};
 ghost use Rattle.ldar_law.specs.declared.fitness.Fitness.TheVariants.{Fit, NoCalibration};
-ghost use Rattle.ldar_law.specs.Equipment.{classes_of, equipment_of, members_of, unit_entry_of};
+ghost use Rattle.ldar_law.specs.Equipment.{classes_of, members_of, stops_of, unit_entry_of};
 ghost use Rattle.ldar_law.specs.Events.{events_in};
 ghost use Rattle.ldar_law.specs.Fitness.{fitness_of};
-ghost use Rattle.ldar_law.specs.Short.{date, key};
-ghost use Rattle.ldar_law.specs.ShortEvents.{reads, span};
+ghost use Rattle.ldar_law.specs.Short.{date, key, valve};
+ghost use Rattle.ldar_law.specs.ShortEvents.{span, stop};
 ghost use Rattle.ldar_law.specs.Slices.{facts_of_component};
 ghost use Rattle.ldar_law.specs.SmallOffice.{base, leak_found, leaking};
 ghost use Rattle.ldar_law.specs.Spans.{spans_of};
-ghost use Rattle.ldar_law.specs.Verdicts.{is_ruly};
+ghost use Rattle.ldar_law.specs.Verdicts.{is_ruly, verdict_on};
+ghost use Rattle.ldar_law.specs.declared.verdict.Verdict.TheVariants.{Denied};
+ghost use Rattle.ldar_law.specs.Force.{class_on};
+ghost use Rattle.ldar_law.specs.ShortLists.{duties_on, duties_with, owes};
+ghost use Rattle.ldar_facts.specs.declared.class.Service.TheVariants.{Gas, Heavy};
 ghost use Rattle.history_laws.specs.DayLaws.{events_to, has_begun, item_on, up_to};
 ghost use Rattle.history_laws.specs.SpanLaws.{detected_by, span_on};
-ghost use Rattle.history_laws.specs.Witnesses.{before_its_unit, beginning_of_1, changing_valve, delayed_leak, due_days_of_1, entered_twice, first_of_identity, leak_without_shutdown, leak_without_tests, leaks_again, leaks_in, leaks_of_1, one_retires_one_begins, out_of_order, retirement_of_1, second_of_identity, too_late, valve_1, without_its_unit};
+ghost use Rattle.history_laws.specs.Witnesses.{before_its_unit, beginning_of_1, changing_valve, delayed_leak, due_days_of_1, entered_again, entered_twice, first_of_identity, heavy_from, in_two_units, leak_without_shutdown, leak_without_tests, leaks_again, leaks_in, leaks_of_1, one_retires_one_begins, out_of_order, retirement_of_1, second_of_identity, too_late, unit_of_1, valve_1, without_its_unit};
 
 /// Where a component was entered twice, a process unit has it twice; the history is not ruly.
 pub fn entered_twice_is_twice_a_member()
@@ -105,4 +109,49 @@ pub fn batches_of_one_identity()
 pub fn a_calibration_leaves_no_component_alone()
     ensures before { leaks_of_1 (facts_of (base ++ leak_found ∷ [])) ≡ false ∷ [] }
     ensures after { leaks_of_1 (facts_of leaking) ≡ true ∷ [] }
+{}
+
+/// A component that was entered in two process units is a member of both, and stands in the first.
+pub fn a_member_of_two_units()
+    ensures first { members_of 1 (facts_of in_two_units) ≡ 1 ∷ [] }
+    ensures second { members_of 2 (facts_of in_two_units) ≡ 1 ∷ [] }
+    ensures stands { unit_of_1 (facts_of in_two_units) ≡ Some 1 }
+{}
+
+/// A batch after which the history is not ruly: it enters a component again.
+pub fn a_component_again()
+    ensures before { is_ruly before_its_unit ≡ true }
+    ensures after { is_ruly (before_its_unit ++ entered_again ∷ []) ≡ false }
+    ensures verdict { verdict_on before_its_unit entered_again ≡ Denied 1 18 }
+{}
+
+/// Of facts out of order those up to a day are not a front.
+pub fn a_cut_out_of_order()
+    ensures part { length (up_to (date 2024 4 1) out_of_order) ≡ 1 }
+    ensures front { length (take_while (λ e. nat_le e.0.day (date 2024 4 1)) out_of_order) ≡ 0 }
+{}
+
+/// A shutdown that begins after the day is not known on it.
+pub fn a_shutdown_after_the_day()
+    ensures by_all { stops_of 1 delayed_leak ≡ stop (date 2024 6 1) (date 2024 6 14) ∷ [] }
+    ensures day_before { stops_of 1 (up_to (date 2024 5 31) delayed_leak) ≡ [] }
+    ensures first_day { stops_of 1 (up_to (date 2024 6 1) delayed_leak) ≡ stop (date 2024 6 1) (date 2024 6 14) ∷ [] }
+{}
+
+/// A class that is entered after the day is in force on later days by all facts alone.
+pub fn a_class_after_the_day()
+    ensures later { (class_on valve_1 (heavy_from (date 2024 5 2)) (date 2024 5 20)).service ≡ Heavy }
+    ensures not_known { (class_on valve_1 (classes_of 1 (up_to (date 2024 4 1) changing_valve)) (date 2024 5 20)).service ≡ Gas }
+    ensures on_the_day { (class_on valve_1 (heavy_from (date 2024 5 2)) (date 2024 4 1)).service ≡ Gas }
+{}
+
+/// The duties of a day are the same with a class that is entered later, also within the month.
+pub fn duties_before_a_change()
+    ensures changes { duties_with (date 2020 4 20) (valve 1 (date 2020 1 15)) (heavy_from (date 2020 4 25)) []
+        ≡ owes 1 2 (date 2020 2 29) ∷ owes 1 2 (date 2020 3 31) ∷ owes 1 2 (date 2020 4 30) ∷ [] }
+    ensures unchanged { duties_on (date 2020 4 20) (valve 1 (date 2020 1 15)) []
+        ≡ owes 1 2 (date 2020 2 29) ∷ owes 1 2 (date 2020 3 31) ∷ owes 1 2 (date 2020 4 30) ∷ [] }
+    // On the day of the change the month is none of a valve under the rules for valves.
+    ensures changed { duties_with (date 2020 4 25) (valve 1 (date 2020 1 15)) (heavy_from (date 2020 4 25)) []
+        ≡ owes 1 2 (date 2020 2 29) ∷ owes 1 2 (date 2020 3 31) ∷ [] }
 {}
