@@ -9,6 +9,7 @@ pub mod OnceLemmas
 pub mod Origins
 pub mod Passing
 pub mod RangeLemmas
+pub mod RegisterOfRuly
 pub mod RegisterUpTo
 pub mod SpanLemmas
 pub mod UpTo

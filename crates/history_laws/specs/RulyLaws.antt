@@ -3,7 +3,7 @@ use Rattle.std.specs.Prelude.{◌≡◌, ℕ, ◌≤◌, Bool, true, nat_lt, Som
 use Rattle.std.specs.List.{AllByRecursion, flat_map}
 use Rattle.list_words.specs.Order.{Ascends}
 use Rattle.ldar_facts.specs.declared.batch.Batch.{Batch}
-use Rattle.ldar_facts.specs.Facts.{Entry, entries_of, facts_of}
+use Rattle.ldar_facts.specs.Facts.{Entry, entries_of, facts_of, facts_to}
 use Rattle.ldar_law.specs.declared.equipment.Equipment.{Equipment}
 use Rattle.ldar_law.specs.declared.numbers.TheConstants.{LAST_FACT_DAY}
 use Rattle.ldar_law.specs.declared.unit_entry.UnitEntry.{UnitEntry}
@@ -116,3 +116,15 @@ pub record IsRulyByOneMore (history : List Batch) (batch : Batch) : Type 0 where
 
 abbrev pub OneMorePasses : Type 0
 OneMorePasses = (history : List Batch) (batch : Batch) → IsRulyByOneMore history batch
+
+-- what a ruly history gives of its facts, and of those up to a day: startups and beginnings up to 2097-12-31, each number entered once, and
+-- members that ascend, none twice
+pub record GivesRegister (facts : List Entry) : Type 0 where
+  pub startups : (number : ℕ) (unit : UnitEntry) → unit_entry_of number facts ≡ Some unit → unit.startup ≤ LAST_FACT_DAY
+  pub beginnings : (number : ℕ) (item : Equipment) → equipment_of number facts ≡ Some item → item.begin ≤ LAST_FACT_DAY
+  pub once : IsEachOnce facts
+  pub members : (unit : ℕ) → Ascends nat_lt (members_of unit facts)
+
+abbrev pub RulyGivesRegister : Type 0
+RulyGivesRegister =
+    (history : List Batch) → IsTrue (is_ruly history) → GivesRegister (facts_of history) × ((t : ℕ) → GivesRegister (facts_to t history))

@@ -1,6 +1,6 @@
 //! What a ruly history gives, in which each batch passes after those before it.
 
-ghost use Rattle.history_laws.specs.RulyLaws.{DaysAreInBound, StartupsAreInBound, BeginningsAreInBound, StartupIsOfFact, BeginningIsOfFact, EachIsEnteredOnce, PartHasEachOnce, PassingBatchEntersFirst, MembersAscend, MembersAreFew, MembersStandInUnit, ComponentsAreMembers, WhatIsAskedWasEntered, UnitOfComponentIsEntered, OneMorePasses};
+ghost use Rattle.history_laws.specs.RulyLaws.{DaysAreInBound, StartupsAreInBound, BeginningsAreInBound, StartupIsOfFact, BeginningIsOfFact, EachIsEnteredOnce, PartHasEachOnce, PassingBatchEntersFirst, MembersAscend, MembersAreFew, MembersStandInUnit, ComponentsAreMembers, WhatIsAskedWasEntered, UnitOfComponentIsEntered, OneMorePasses, RulyGivesRegister};
 
 /// Each day of a ruly history's facts is at most 2097-12-31 (our own rule).
 pub fn days_in_bound()
@@ -51,4 +51,10 @@ pub fn asked_was_entered()
 /// A history with one batch more is ruly exactly where it was, and the batch passes after it.
 pub fn one_more_passes()
     ensures law { OneMorePasses }
+{}
+
+/// What a ruly history gives, of its facts and of those up to each day: startups in bound, numbers entered once, members that
+/// ascend.
+pub fn register_of_ruly_history()
+    ensures law { RulyGivesRegister }
 {}
