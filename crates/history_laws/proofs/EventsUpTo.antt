@@ -38,7 +38,7 @@ use Rattle.history_laws.proofs.RegisterUpTo.{classes_up_to, stop_is, day_within,
 -- ---- readings
 
 -- two tests of which the last part is asked only where the others pass
-last_asked : (a b c d e : Bool) → (b ≡ true → d ≡ e) → (((a && b) && c) && d) ≡ (((a && b) && c) && e)
+pub last_asked : (a b c d e : Bool) → (b ≡ true → d ≡ e) → (((a && b) && c) && d) ≡ (((a && b) && c) && e)
 last_asked true true true d e same = same refl
 last_asked true true false d e same = refl
 last_asked true false c d e same = refl

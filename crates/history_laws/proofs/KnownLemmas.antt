@@ -1,4 +1,5 @@
-use Rattle.std.proofs.Common.{◌≡◌, ℕ, Option, Some, List, [], ◌∷◌, refl, sym, ap, ◌∙◌, subst}
+use Rattle.std.proofs.Common.{◌≡◌, ℕ, Option, Some, List, [], ◌∷◌, refl, sym, ap, ◌∙◌, subst, filter}
+use Rattle.history_laws.proofs.MatterLemmas.{fitness_is_of_what_matters}
 use Rattle.std.specs.List.{AllByRecursion, filter_map}
 use Rattle.list_words.proofs.Members.{all_weaker}
 use Rattle.ldar_facts.specs.declared.body.FactBody.{FactBody}
@@ -20,7 +21,7 @@ use Rattle.list_words.proofs.Members.{all_from_among, Contains-from_among}
 use Rattle.history_laws.proofs.MemberLemmas.{members_stand_in_unit}
 use Rattle.ldar_law.proofs.FitnessLemmas.{fitness_is_of_instrument}
 use Rattle.ldar_law.proofs.SliceLemmas.{own_facts_suffice, unit_facts_suffice}
-use Rattle.history_laws.specs.KnownLaws.{known_in_unit, ComponentsByTheirLists, fitness_by, events_by, KnownByItsLists, HasSameLists, SameListsKnowAlike}
+use Rattle.history_laws.specs.KnownLaws.{matters, known_in_unit, ComponentsByTheirLists, fitness_by, events_by, KnownByItsLists, HasSameLists, SameListsKnowAlike}
 
 -- what agrees on each element gives the same
 pub given_alike : {X Y : Type 0} (f g : X → Option Y) (xs : List X) → AllByRecursion (λ x. f x ≡ g x) xs → filter_map f xs ≡ filter_map g xs
@@ -40,14 +41,15 @@ module _ (item : Equipment) (classes : List (Key × Class)) where
       fitness_is_of_instrument facts (limit_on item classes key.day) key instrument ppm
   fitness_by_tests facts key _ = refl
 
-  -- two lists of facts with the same tests of its instrument judge a reading alike
+  -- two lists of facts in which the same matter to a reading judge it alike
   fitness_alike : (facts other : List Entry) (key : Key) (body : FactBody)
-      → ((instrument : ℕ) → reading_instrument body ≡ Some instrument → facts_of_instrument instrument other ≡ facts_of_instrument instrument facts)
+      → ((instrument : ℕ) → reading_instrument body ≡ Some instrument
+      → filter (matters instrument key.day) other ≡ filter (matters instrument key.day) facts)
       → fitness_at item classes other key body ≡ fitness_at item classes facts key body
   fitness_alike facts other key (Reading c instrument operator purpose ppm background) same =
-      sym (fitness_is_of_instrument other (limit_on item classes key.day) key instrument ppm)
+      sym (fitness_is_of_what_matters other (limit_on item classes key.day) key instrument ppm)
       ∙ ap (λ tests. fitness_of tests (limit_on item classes key.day) key instrument ppm) (same instrument refl)
-      ∙ fitness_is_of_instrument facts (limit_on item classes key.day) key instrument ppm
+      ∙ fitness_is_of_what_matters facts (limit_on item classes key.day) key instrument ppm
   fitness_alike facts other key _ same = refl
 
   -- the events by the tests of each instrument

@@ -3,6 +3,7 @@ pub mod Counting
 pub mod DutyLemmas
 pub mod EventsUpTo
 pub mod KnownLemmas
+pub mod MatterLemmas
 pub mod MemberLemmas
 pub mod MoreLemmas
 pub mod OnceLemmas

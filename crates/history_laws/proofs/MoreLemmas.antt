@@ -21,11 +21,11 @@ use Rattle.std.proofs.lemmas.List.Elements.{filter_map-append}
 use Rattle.std.proofs.lemmas.List.Sums.{sum_by-append}
 use Rattle.std.specs.List.Sorted.{IsPermutation}
 use Rattle.std.proofs.lemmas.List.Sorted.{sum_by-IsPermutation, IsPermutation-trans, IsPermutation-append_comm, IsPermutation-append_left}
-use Rattle.ldar_law.specs.Slices.{facts_of_component, facts_of_instrument, is_registered}
+use Rattle.ldar_law.specs.Slices.{facts_of_component, is_registered}
 use Rattle.ldar_law.proofs.ForceLemmas.{class_keyed}
 use Rattle.ldar_law.proofs.Gifts.{among_given, given_among}
 use Rattle.ldar_law.proofs.WeakOrder.{InOrder, each_in_order, put_keeps, put_filter, put_front, weak_earlier, weak_goes_first, before_all}
-use Rattle.history_laws.specs.KnownLaws.{HasSameLists}
+use Rattle.history_laws.specs.KnownLaws.{matters, HasSameLists}
 use Rattle.history_laws.specs.MoreLaws.{with_batch, PartOfMoreFacts, PartStays, ListsGrow, RegisterGrows, MembersGrow, is_shutdown}
 use Rattle.history_laws.specs.MoreLaws.{LeavesAlone, LeftAloneIsKnownAlike}
 use Rattle.history_laws.proofs.Counting.{strict_lt, count_cons}
@@ -266,15 +266,15 @@ module _ (t : ℕ) (history : List Batch) (batch : Batch) (differ : IsTrue (iden
   same_lists number unit alone =
       let q : Entry → Bool = λ e. nat_le e.0.day t in
       let untested : Entry → Type 0 = λ e. (instrument : ℕ) → reading_instrument e.1.body ≡ Some instrument
-      → list_any (λ test. is_numbered (tested_instrument test.1.body) instrument) (entries_of batch) ≡ false in
+      → list_any (matters instrument e.0.day) (entries_of batch) ≡ false in
       let own : AllByRecursion untested (facts_of_component number (facts_to t history)) =
       subst (AllByRecursion untested) (sym (filter_swap (λ e. is_numbered (component_of e.1.body) number) q (facts_of history)))
       (all_of_part untested q (facts_of_component number (facts_of history)) alone.tests) in
       record {
         own = part_stays_to (λ e. is_numbered (component_of e.1.body) number) alone.component;
         tests = all_weaker untested (λ e. (instrument : ℕ) → reading_instrument e.1.body ≡ Some instrument
-            → facts_of_instrument instrument (facts_to t (with_batch history batch)) ≡ facts_of_instrument instrument (facts_to t history))
-            (λ e none instrument read. part_stays_to (λ test. is_numbered (tested_instrument test.1.body) instrument) (none instrument read))
+            → filter (matters instrument e.0.day) (facts_to t (with_batch history batch)) ≡ filter (matters instrument e.0.day) (facts_to t history))
+            (λ e none instrument read. part_stays_to (matters instrument e.0.day) (none instrument read))
             (facts_of_component number (facts_to t history)) own;
         stops = sym (stops_by_shutdowns unit (facts_to t (with_batch history batch)))
             ∙ ap (stops_of unit) (part_stays_to (λ e. is_shutdown unit e.1.body) alone.shutdowns)

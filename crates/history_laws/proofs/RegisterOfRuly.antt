@@ -1,6 +1,5 @@
-use Rattle.std.proofs.Common.{◌≡◌, ℕ, ◌≤◌, nat_le, IsTrue, List}
+use Rattle.std.proofs.Common.{◌≤◌, nat_le, List}
 use Rattle.std.specs.List.{AllByRecursion}
-use Rattle.ldar_facts.specs.declared.batch.Batch.{Batch}
 use Rattle.ldar_facts.specs.Facts.{Entry, facts_of}
 use Rattle.history_laws.specs.RulyLaws.{IsEachOnce, GivesRegister, RulyGivesRegister}
 use Rattle.history_laws.proofs.MemberLemmas.{members_ascend}

@@ -1,8 +1,9 @@
 -- A component is known by its own facts, its instruments' tests and its process unit's shutdowns: the statements of `known`.
-use Rattle.std.specs.Prelude.{◌≡◌, ℕ, Bool, Some, List, [], ◌∷◌, filter, filter_map, nat_le, option_map}
+use Rattle.std.specs.Prelude.{◌≡◌, ℕ, Bool, false, ◌&&◌, nat_eq, Some, List, [], ◌∷◌, filter, filter_map, nat_le, option_map}
+use Rattle.ldar_days.specs.Calendar.{later_by}
 use Rattle.std.specs.List.{AllByRecursion}
 use Rattle.ldar_facts.specs.declared.body.FactBody.{FactBody}
-use Rattle.ldar_facts.specs.declared.body.FactBody.TheVariants.{Reading}
+use Rattle.ldar_facts.specs.declared.body.FactBody.TheVariants.{Calibration, Precision, Drift, Reading}
 use Rattle.ldar_facts.specs.declared.class.Class.{Class}
 use Rattle.ldar_facts.specs.declared.key.Key.{Key}
 use Rattle.ldar_facts.specs.Facts.{Entry}
@@ -70,12 +71,35 @@ ComponentsByTheirLists =
 
 -- ---- of two lists of facts
 
--- in both lists of facts the same ones name the component, the instruments that its readings name have the same tests, and its process
--- unit has the same shutdowns
+-- a fact of a day matters to the readings of a day with an instrument: a calibration or a drift assessment of it on that day, or a
+-- precision test of it on that day or at most three months before (40 CFR 60.485a(b); EPA Method 21, section 8.1.2)
+abbrev pub is_of_matter : ℕ → ℕ → ℕ → FactBody → Bool
+is_of_matter instrument day tested (Calibration of gas) = nat_eq of instrument && nat_eq tested day
+is_of_matter instrument day tested (Drift of value readings) = nat_eq of instrument && nat_eq tested day
+is_of_matter instrument day tested (Precision of value readings) = nat_eq of instrument && nat_le tested day && nat_le day (later_by 3 tested)
+is_of_matter instrument day tested _ = false
+
+-- .. with its key
+abbrev pub matters : ℕ → ℕ → Entry → Bool
+matters instrument day e = is_of_matter instrument day e.0.day e.1.body
+
+-- a reading is judged by what matters to it as by all facts
+abbrev pub FitnessIsOfWhatMatters : Type 0
+FitnessIsOfWhatMatters =
+    (facts : List Entry) (limit : ℕ) (key : Key) (instrument ppm : ℕ)
+    → fitness_of (filter (matters instrument key.day) facts) limit key instrument ppm ≡ fitness_of facts limit key instrument ppm
+
+-- where an instrument has the same tests, the same matter
+abbrev pub SameTestsMatter : Type 0
+SameTestsMatter =
+    (facts other : List Entry) (instrument day : ℕ) → facts_of_instrument instrument other ≡ facts_of_instrument instrument facts
+    → filter (matters instrument day) other ≡ filter (matters instrument day) facts
+
+-- in both lists of facts the same ones name the component, the same matter to its readings, and its process unit has the same shutdowns
 pub record HasSameLists (number unit : ℕ) (facts other : List Entry) : Type 0 where
   pub own : facts_of_component number other ≡ facts_of_component number facts
   pub tests : AllByRecursion (λ e. (instrument : ℕ) → reading_instrument e.1.body ≡ Some instrument
-      → facts_of_instrument instrument other ≡ facts_of_instrument instrument facts) (facts_of_component number facts)
+      → filter (matters instrument e.0.day) other ≡ filter (matters instrument e.0.day) facts) (facts_of_component number facts)
   pub stops : stops_of unit other ≡ stops_of unit facts
 
 -- two lists of facts say the same of a component: what the register has, its events and tags, what it adds to a quarter and to a report,

@@ -7,13 +7,13 @@ use Rattle.ldar_facts.specs.declared.body.FactBody.{FactBody}
 use Rattle.ldar_facts.specs.declared.body.FactBody.TheVariants.{Shutdown}
 use Rattle.ldar_facts.specs.Facts.{Entry, is_earlier, goes_first, entries_of, facts_of, facts_to}
 use Rattle.ldar_facts.specs.Identity.{identities_differ}
-use Rattle.ldar_facts.specs.Named.{component_of, tested_instrument, reading_instrument, is_numbered}
+use Rattle.ldar_facts.specs.Named.{component_of, reading_instrument, is_numbered}
 use Rattle.ldar_law.specs.declared.election.ElectionEntry.{ElectionEntry}
 use Rattle.ldar_law.specs.declared.equipment.Equipment.{Equipment}
 use Rattle.ldar_law.specs.Equipment.{classes_of, elections_of, members_of}
 use Rattle.ldar_law.specs.RegisterLaws.{class_first}
 use Rattle.ldar_law.specs.Slices.{facts_of_component, facts_of_unit, facts_of_instrument, readings_of_instrument, register_facts}
-use Rattle.history_laws.specs.KnownLaws.{IsKnownAlike}
+use Rattle.history_laws.specs.KnownLaws.{matters, IsKnownAlike}
 use Rattle.history_laws.specs.RulyLaws.{IsEachOnce}
 
 -- the history with one batch more
@@ -74,12 +74,12 @@ abbrev pub is_shutdown : ℕ → FactBody → Bool
 is_shutdown number (Shutdown other _) = nat_eq other number
 is_shutdown number _ = false
 
--- a batch leaves a component alone: no fact of it names the component, none tests an instrument with which it was read, and none shuts
--- its process unit down
+-- a batch leaves a component alone: no fact of it names the component, none matters to a reading of the component, and none shuts its
+-- process unit down
 pub record LeavesAlone (number unit : ℕ) (history : List Batch) (batch : Batch) : Type 0 where
   pub component : list_any (λ e. is_numbered (component_of e.1.body) number) (entries_of batch) ≡ false
   pub tests : AllByRecursion (λ e. (instrument : ℕ) → reading_instrument e.1.body ≡ Some instrument
-      → list_any (λ test. is_numbered (tested_instrument test.1.body) instrument) (entries_of batch) ≡ false) (facts_of_component number (facts_of history))
+      → list_any (matters instrument e.0.day) (entries_of batch) ≡ false) (facts_of_component number (facts_of history))
   pub shutdowns : list_any (λ e. is_shutdown unit e.1.body) (entries_of batch) ≡ false
 
 -- what is known on a day of a component that a batch leaves alone is known with the batch as without it

@@ -22,6 +22,8 @@ ghost use Rattle.ldar_law.specs.Force.{class_on};
 ghost use Rattle.ldar_law.specs.ShortLists.{duties_on, duties_with, owes};
 ghost use Rattle.ldar_facts.specs.declared.class.Service.TheVariants.{Gas, Heavy};
 ghost use Rattle.history_laws.specs.DayLaws.{events_to, has_begun, item_on, up_to};
+ghost use Rattle.ldar_facts.specs.declared.body.FactBody.TheVariants.{Calibration, Drift, Precision};
+ghost use Rattle.history_laws.specs.KnownLaws.{is_of_matter};
 ghost use Rattle.history_laws.specs.SpanLaws.{detected_by, span_on};
 ghost use Rattle.history_laws.specs.Witnesses.{before_its_unit, beginning_of_1, changing_valve, delayed_leak, due_days_of_1, entered_again, entered_twice, first_of_identity, heavy_from, in_two_units, leak_without_shutdown, leak_without_tests, leaks_again, leaks_in, leaks_of_1, one_retires_one_begins, out_of_order, retirement_of_1, second_of_identity, too_late, unit_of_1, valve_1, without_its_unit};
 
@@ -154,4 +156,16 @@ pub fn duties_before_a_change()
     // On the day of the change the month is none of a valve under the rules for valves.
     ensures changed { duties_with (date 2020 4 25) (valve 1 (date 2020 1 15)) (heavy_from (date 2020 4 25)) []
         ≡ owes 1 2 (date 2020 2 29) ∷ owes 1 2 (date 2020 3 31) ∷ [] }
+{}
+
+/// To a reading of 2024-02-20 matter the calibrations and drift assessments of that day, and the precision tests from
+/// 2023-11-20 to that day.
+pub fn what_matters_to_a_reading()
+    ensures calibration { map (λ day. is_of_matter 1 (date 2024 2 20) day (Calibration 1 500)) (date 2024 2 19 ∷ date 2024 2 20 ∷ date 2024 2 21 ∷ [])
+        ≡ false ∷ true ∷ false ∷ [] }
+    ensures drift { map (λ day. is_of_matter 1 (date 2024 2 20) day (Drift 1 500 (440, 440, 440))) (date 2024 2 19 ∷ date 2024 2 20
+        ∷ date 2024 2 21 ∷ []) ≡ false ∷ true ∷ false ∷ [] }
+    ensures precision { map (λ day. is_of_matter 1 (date 2024 2 20) day (Precision 1 500 (500, 500, 500))) (date 2023 11 19 ∷ date 2023 11 20
+        ∷ date 2024 2 20 ∷ date 2024 2 21 ∷ []) ≡ false ∷ true ∷ true ∷ false ∷ [] }
+    ensures other_instrument { is_of_matter 1 (date 2024 2 20) (date 2024 2 20) (Calibration 2 500) ≡ false }
 {}
