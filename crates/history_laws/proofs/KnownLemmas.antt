@@ -21,7 +21,8 @@ use Rattle.list_words.proofs.Members.{all_from_among, Contains-from_among}
 use Rattle.history_laws.proofs.MemberLemmas.{members_stand_in_unit}
 use Rattle.ldar_law.proofs.FitnessLemmas.{fitness_is_of_instrument}
 use Rattle.ldar_law.proofs.SliceLemmas.{own_facts_suffice, unit_facts_suffice}
-use Rattle.history_laws.specs.KnownLaws.{matters, known_in_unit, ComponentsByTheirLists, fitness_by, events_by, KnownByItsLists, HasSameLists, SameListsKnowAlike}
+use Rattle.history_laws.specs.KnownLaws.{matters, known_in_unit, ComponentsByTheirLists, fitness_by}
+use Rattle.history_laws.specs.KnownLaws.{events_by, KnownByItsLists, HasSameLists, SameListsKnowAlike}
 
 -- what agrees on each element gives the same
 pub given_alike : {X Y : Type 0} (f g : X → Option Y) (xs : List X) → AllByRecursion (λ x. f x ≡ g x) xs → filter_map f xs ≡ filter_map g xs

@@ -75,7 +75,8 @@ module _ (facts : List Entry) (key : Key) (instrument : ℕ) where
       grind (arith, nat_tests)
 
   -- .. so that the same is found
-  before_same : (later : Key) → nat_eq later.day key.day ≡ true → is_calibrated_before of_matter key instrument later ≡ is_calibrated_before facts key instrument later
+  before_same : (later : Key) → nat_eq later.day key.day ≡ true
+      → is_calibrated_before of_matter key instrument later ≡ is_calibrated_before facts key instrument later
   before_same later same = list_any_narrowed _ (matters instrument key.day)
       (λ e passes. let parts = both (both passes).0 in
       calibration_matters instrument key.day e.0.day e.1.body parts.0 (between_is_of_day e.0 later same parts.1 (both passes).1)) facts
