@@ -1,0 +1,217 @@
+use Rattle.std.proofs.Common.{◌≡◌, ℕ, ◌+◌, ◌≤◌, Bool, true, false, ◌&&◌, not, nat_eq, nat_le, Option, Some, None, List, [], ◌∷◌, ◌++◌, filter}
+use Rattle.std.proofs.Common.{refl, ap, ◌∙◌, inl, inr, arith}
+use Rattle.std.specs.Prelude.{find, option_map}
+use Rattle.std.specs.List.{AllByRecursion, filter_map}
+use Rattle.std.proofs.lemmas.Bool.{cases_Bool, leb-true, le-leb}
+use Rattle.std.proofs.lemmas.Bool.Decides.{nat_tests}
+use Rattle.list_words.specs.Order.{Ascends}
+use Rattle.list_words.proofs.CutLemmas.{filter_none, filter_all, front_is_cut}
+use Rattle.list_words.proofs.Members.{all_weaker}
+use Rattle.list_words.proofs.Narrowing.{list_any_narrowed, find_narrowed, find_agree}
+use Rattle.ldar_facts.specs.declared.body.FactBody.{FactBody}
+use Rattle.ldar_facts.specs.declared.body.FactBody.TheVariants.{Reading, Visual, Indication}
+use Rattle.ldar_facts.specs.declared.body.Sort.TheVariants.{Sensor as SensorSort, Evidence as EvidenceSort}
+use Rattle.ldar_facts.specs.declared.class.Class.{Class}
+use Rattle.ldar_facts.specs.declared.key.Key.{Key}
+use Rattle.ldar_facts.specs.Facts.{Entry, is_earlier}
+use Rattle.ldar_facts.specs.Named.{component_of, is_numbered}
+use Rattle.ldar_facts.proofs.Cuts.{earlier_day}
+use Rattle.ldar_law.specs.declared.equipment.Equipment.{Equipment}
+use Rattle.ldar_law.specs.declared.event.Event.{Event}
+use Rattle.ldar_law.specs.declared.event.Happening.{Happening}
+use Rattle.ldar_law.specs.declared.fitness.Fitness.{Fitness}
+use Rattle.ldar_law.specs.Equipment.{classes_of}
+use Rattle.ldar_law.specs.Equipment.{stop_entered, stops_of}
+use Rattle.ldar_law.specs.Events.{happening, event_of, events_in, fitness_at, fitness_among}
+use Rattle.ldar_law.specs.Fitness.{is_calibrated, is_calibrated_within, is_tested, is_calibrated_before, is_voided_by, fitness_of}
+use Rattle.ldar_law.specs.Limits.{limit_of}
+use Rattle.ldar_law.specs.Slices.{facts_of_component}
+use Rattle.ldar_law.proofs.EventLemmas.{events_ascend}
+use Rattle.ldar_law.proofs.TestLemmas.{both}
+use Rattle.history_laws.specs.DayLaws.{up_to, item_on}
+use Rattle.history_laws.specs.DayLaws.{FitnessForgetsLaterDays}
+use Rattle.history_laws.specs.DayLaws.{events_to, EventsUpToADay, EventsByOwnRegister, IsCutAt, EventsAreCut}
+use Rattle.history_laws.specs.KnownLaws.{known_with, KnownUpToADay}
+use Rattle.history_laws.proofs.UpTo.{filter_swap, given_alike_where, past_day, given_up_to}
+use Rattle.history_laws.proofs.RegisterUpTo.{classes_up_to, stop_is, day_within, standing_forgets_later_days}
+
+-- ---- readings
+
+-- two tests of which the last part is asked only where the others pass
+pub last_asked : (a b c d e : Bool) → (b ≡ true → d ≡ e) → (((a && b) && c) && d) ≡ (((a && b) && c) && e)
+last_asked true true true d e same = same refl
+last_asked true true false d e same = refl
+last_asked true false c d e same = refl
+last_asked false b c d e same = refl
+
+module _ (t : ℕ) (facts : List Entry) (key : Key) (instrument : ℕ) (within : key.day ≤ t) where
+  -- what is earlier than a key of the days is of the days
+  earlier_within : (e : Entry) (later : Key) → later.day ≤ t → is_earlier e.0 later ≡ true → nat_le e.0.day t ≡ true
+  earlier_within e later fits first = day_within e.0.day later.day t (earlier_day e.0 later first) fits
+
+  -- the same calibration is found
+  calibrated_same : is_calibrated (up_to t facts) key instrument ≡ is_calibrated facts key instrument
+  calibrated_same = list_any_narrowed _ (λ e. nat_le e.0.day t) (λ e passes. earlier_within e key within (both passes).1) facts
+
+  -- .. within so much gas
+  within_same : (most : ℕ) → is_calibrated_within (up_to t facts) key instrument most ≡ is_calibrated_within facts key instrument most
+  within_same most = list_any_narrowed _ (λ e. nat_le e.0.day t) (λ e passes. earlier_within e key within (both passes).1) facts
+
+  -- the same precision test
+  tested_same : is_tested (up_to t facts) key instrument ≡ is_tested facts key instrument
+  tested_same = list_any_narrowed _ (λ e. nat_le e.0.day t) (λ e passes. earlier_within e key within (both (both passes).0).1) facts
+
+  -- a calibration between the reading and a later fact of the days
+  before_same : (later : Key) → later.day ≤ t → is_calibrated_before (up_to t facts) key instrument later ≡ is_calibrated_before facts key instrument later
+  before_same later fits = list_any_narrowed _ (λ e. nat_le e.0.day t) (λ e passes. earlier_within e later fits (both passes).1) facts
+
+  -- a fact of the reading's day is of the days
+  of_the_day : (day : ℕ) → nat_eq day key.day ≡ true → day ≤ t
+  of_the_day day same = let is : day ≡ key.day = grind (arith, nat_tests) in omega (arith, is, within)
+
+  -- each fact voids the reading or does not, by both
+  voids_same : (limit ppm : ℕ) (e : Entry) → is_voided_by (up_to t facts) key instrument limit ppm e ≡ is_voided_by facts key instrument limit ppm e
+  voids_same limit ppm e = last_asked _ (nat_eq e.0.day key.day) _ _ _ (λ same. ap not (before_same e.0 (of_the_day e.0.day same)))
+
+  -- the same drift assessment is found
+  voided_same : (limit ppm : ℕ)
+      → find (is_voided_by (up_to t facts) key instrument limit ppm) (up_to t facts) ≡ find (is_voided_by facts key instrument limit ppm) facts
+  voided_same limit ppm =
+      find_agree _ _ (voids_same limit ppm) (up_to t facts)
+      ∙ find_narrowed (is_voided_by facts key instrument limit ppm) (λ e. nat_le e.0.day t)
+      (λ e passes. le-leb e.0.day t (of_the_day e.0.day (both (both (both passes).0).0).1)) facts
+
+pub fitness_forgets_later_days : FitnessForgetsLaterDays
+fitness_forgets_later_days t facts limit key instrument ppm within =
+    rw (
+      calibrated_same t facts key instrument within,
+      within_same t facts key instrument within (limit + 2000),
+      tested_same t facts key instrument within,
+      voided_same t facts key instrument within limit ppm,
+    ) refl
+
+-- ---- events
+
+-- an event has the key of its fact
+event_keyed : (key : Key) (o : Option Happening) (x : Event) → option_map (λ what. record { key = key; what = what }) o ≡ Some x → x.key ≡ key
+event_keyed key None x e = absurd cc
+event_keyed key (Some what) x e = let is : Some (record { key = key; what = what }) ≡ Some x = e in cc
+
+module _ (t : ℕ) (item : Equipment) (classes : List (Key × Class)) (facts : List Entry) where
+  -- a reading of the days is judged alike
+  fitness_same : (key : Key) (body : FactBody) → key.day ≤ t → fitness_at item classes (up_to t facts) key body ≡ fitness_at item classes facts key body
+  fitness_same key (Reading c instrument operator purpose ppm background) within = fitness_forgets_later_days t facts _ key instrument ppm within
+  fitness_same key _ within = refl
+
+  -- the events by the facts up to a day
+  pub events_up_to : events_in item classes (up_to t facts) ≡ events_to t (events_in item classes facts)
+  unfolding events_in
+  events_up_to =
+      let own = facts_of_component item.component facts in
+      ap (filter_map (λ e. event_of item classes e (fitness_among item classes (up_to t facts) e)))
+      (filter_swap (λ e. is_numbered (component_of e.1.body) item.component) (λ e. nat_le e.0.day t) facts)
+      ∙ given_alike_where _ (λ e. event_of item classes e (fitness_among item classes facts e)) (λ e. nat_le e.0.day t)
+      (λ e within. ap (event_of item classes e) (fitness_same e.0 e.1.body (leb-true e.0.day t within))) own
+      ∙ given_up_to (λ e. event_of item classes e (fitness_among item classes facts e)) (λ x. x.key.day)
+      (λ e x is. ap (λ key. key.day) (event_keyed e.0 (happening item classes e.0.day (fitness_among item classes facts e) e.1.body) x is)) t own
+
+pub events_up_to_a_day : EventsUpToADay
+events_up_to_a_day t item classes facts = events_up_to t item classes facts
+
+-- the classes entered up to a day
+abbrev pub early : ℕ → List (Key × Class) → List (Key × Class)
+early t classes = filter (λ entered. nat_le entered.0.day t) classes
+
+-- what happens on a day, by the register up to the view day
+module _ (t : ℕ) (item : Equipment) (classes : List (Key × Class)) where
+  -- a fact of the days is judged alike by both registers
+  happening_same : (day : ℕ) (fitness : Fitness) (body : FactBody) → day ≤ t
+      → happening (item_on t item) (early t classes) day fitness body ≡ happening item classes day fitness body
+  happening_same day fitness (Reading c instrument operator purpose ppm background) within =
+      let stands = standing_forgets_later_days t day item classes within in rw (stands.class, stands.service) refl
+  happening_same day fitness (Visual c state) within =
+      let stands = standing_forgets_later_days t day item classes within in rw (stands.class, stands.service) refl
+  happening_same day fitness (Indication c SensorSort present) within =
+      let stands = standing_forgets_later_days t day item classes within in rw (stands.class, stands.service) refl
+  happening_same day fitness (Indication c EvidenceSort present) within = refl
+  happening_same day fitness _ within = refl
+
+  -- .. and the fitness of a reading
+  judged_same : (facts : List Entry) (key : Key) (body : FactBody) → key.day ≤ t
+      → fitness_at (item_on t item) (early t classes) facts key body ≡ fitness_at item classes facts key body
+  judged_same facts key (Reading c instrument operator purpose ppm background) within =
+      ap (λ class. fitness_of facts (limit_of item.kind item.monomer class) key instrument ppm)
+      ((standing_forgets_later_days t key.day item classes within).class)
+  judged_same facts key _ within = refl
+
+  -- .. and so is the event
+  event_same : (facts : List Entry) (e : Entry) → e.0.day ≤ t
+      → event_of (item_on t item) (early t classes) e (fitness_among (item_on t item) (early t classes) facts e)
+      ≡ event_of item classes e (fitness_among item classes facts e)
+  event_same facts e within =
+      ap (λ what. option_map (λ w. record { key = e.0; what = w }) what)
+      (ap (λ fitness. happening (item_on t item) (early t classes) e.0.day fitness e.1.body) (judged_same facts e.0 e.1.body within)
+      ∙ happening_same e.0.day (fitness_among item classes facts e) e.1.body within)
+
+  -- the events up to a day, by the register up to it as by the register of all facts
+  events_same : (facts : List Entry) → events_in (item_on t item) (early t classes) (up_to t facts) ≡ events_in item classes (up_to t facts)
+  unfolding events_in
+  events_same facts =
+      let q : Entry → Bool = λ e. nat_le e.0.day t in
+      let own : Entry → Bool = λ e. is_numbered (component_of e.1.body) item.component in
+      let swapped = filter_swap own q facts in
+      rw swapped
+      (given_alike_where _ (λ e. event_of item classes e (fitness_among item classes (up_to t facts) e)) q
+      (λ e within. event_same (up_to t facts) e (leb-true e.0.day t within)) (filter own facts))
+
+pub events_by_own_register : EventsByOwnRegister
+events_by_own_register t item facts =
+    ap (λ classes. events_in (item_on t item) classes (up_to t facts)) (classes_up_to t item.component facts)
+    ∙ events_same t item (classes_of item.component facts) facts
+    ∙ events_up_to t item (classes_of item.component facts) facts
+
+pub known_up_to_a_day : KnownUpToADay
+known_up_to_a_day t item facts =
+    let stops : stops_of item.unit (up_to t facts) ≡ filter (λ stop. nat_le stop.first t) (stops_of item.unit facts) =
+    given_up_to (λ e. stop_entered item.unit e.0.day e.1.body) (λ x. x.first) (λ e x is. stop_is item.unit e.0.day e.1.body x is) t facts in
+    ap (λ events. known_with (item_on t item) (classes_of item.component (up_to t facts)) events (stops_of item.unit (up_to t facts)))
+    (events_by_own_register t item facts)
+    ∙ rw (classes_up_to t item.component facts, stops) refl
+
+-- ---- the cut
+
+module _ (t : ℕ) where
+  -- the event with the earlier key goes first
+  abbrev is_first : Event → Event → Bool
+  is_first a b = is_earlier a.key b.key
+
+  -- behind an event of a later day all are of later days
+  late_behind : (x : Event) (xs : List Event) → nat_le x.key.day t ≡ false → AllByRecursion (λ y. is_first x y ≡ true) xs
+      → AllByRecursion (λ y. nat_le y.key.day t ≡ false) xs
+  late_behind x xs out all =
+      all_weaker (λ y. is_first x y ≡ true) (λ y. nat_le y.key.day t ≡ false)
+      (λ y first. past_day t x.key.day y.key.day (earlier_day x.key y.key first) out) xs all
+
+  -- the front and the rest are the whole
+  whole_again : (xs : List Event) → Ascends is_first xs → events_to t xs ++ filter (λ e. not (nat_le e.key.day t)) xs ≡ xs
+  whole_again [] up = refl
+  whole_again (x ∷ xs) up =
+      elim (cases_Bool (nat_le x.key.day t)) [
+        | inl within ↦ rw within (ap (λ ys. x ∷ ys) (whole_again xs up.1))
+        | inr out ↦
+            let late = late_behind x xs out up.0 in
+            rw (out, filter_none (λ e. nat_le e.key.day t) xs late)
+            (ap (λ ys. x ∷ ys) (filter_all (λ e. not (nat_le e.key.day t)) xs
+            (all_weaker (λ y. nat_le y.key.day t ≡ false) (λ y. not (nat_le y.key.day t) ≡ true) (λ y f. ap not f) xs late)))
+      ]
+
+  -- the cut of events in key order
+  pub cut_of : (xs : List Event) → Ascends is_first xs → IsCutAt t xs
+  cut_of xs up = record {
+    front = front_is_cut is_first (λ e. nat_le e.key.day t) xs up
+        (λ x y first within. day_within x.key.day y.key.day t (earlier_day x.key y.key first) (leb-true y.key.day t within));
+    whole = whole_again xs up;
+  }
+
+pub events_are_cut : EventsAreCut
+events_are_cut t item classes facts up = cut_of t (events_in item classes facts) (events_ascend item classes facts up)

@@ -1,0 +1,16 @@
+pub mod AskedLemmas
+pub mod Counting
+pub mod DutyLemmas
+pub mod EventsUpTo
+pub mod KnownLemmas
+pub mod MatterLemmas
+pub mod MemberLemmas
+pub mod MoreLemmas
+pub mod OnceLemmas
+pub mod Origins
+pub mod Passing
+pub mod RangeLemmas
+pub mod RegisterOfRuly
+pub mod RegisterUpTo
+pub mod SpanLemmas
+pub mod UpTo

@@ -1,0 +1,156 @@
+use Rattle.std.proofs.Common.{◌≡◌, ℕ, Bool, true, false, cond, nat_le, Option, Some, None, List, [], ◌∷◌, ◌++◌, filter, map, refl, sym, ap, ◌∙◌, inl, inr}
+use Rattle.std.specs.Prelude.{option_and_then, option_map, not}
+use Rattle.std.specs.List.{AllByRecursion}
+use Rattle.std.proofs.lemmas.Bool.{cases_Bool}
+use Rattle.list_words.specs.Words.{first_from, each_from}
+use Rattle.ldar_facts.specs.declared.class.Kind.{Kind}
+use Rattle.ldar_facts.specs.declared.key.Key.{Key}
+use Rattle.ldar_law.specs.declared.event.Event.{Event}
+use Rattle.ldar_law.specs.declared.span.Span.{Span}
+use Rattle.ldar_law.specs.Equipment.{classes_of}
+use Rattle.ldar_law.specs.Events.{events_in}
+use Rattle.ldar_law.specs.Happenings.{is_attempt}
+use Rattle.ldar_law.specs.Spans.{opens, closes, closing_of, attempt_after, is_removable, span_at, spans_of}
+use Rattle.ldar_law.proofs.EventLemmas.{events_ascend}
+use Rattle.history_laws.specs.DayLaws.{if_come, events_to}
+use Rattle.history_laws.specs.SpanLaws.{if_closed, span_on, detected_by, SpansUpToADay, SpansByFactsUpToADay}
+use Rattle.history_laws.proofs.EventsUpTo.{cut_of, events_by_own_register}
+
+-- the events of a front are of days up to one, and those behind it of later days
+module _ (t : ℕ) where
+  -- all are of days up to the day
+  abbrev Within : List Event → Type 0
+  Within xs = AllByRecursion (λ e. nat_le e.key.day t ≡ true) xs
+
+  -- all are of later days
+  abbrev Late : List Event → Type 0
+  Late xs = AllByRecursion (λ e. nat_le e.key.day t ≡ false) xs
+
+  -- the events up to the day
+  front_within : (xs : List Event) → Within (events_to t xs)
+  front_within [] = tt
+  front_within (x ∷ xs) = elim (cases_Bool (nat_le x.key.day t)) [ inl in_time ↦ rw in_time (in_time, front_within xs) | inr out ↦ rw out (front_within xs) ]
+
+  -- .. and the others
+  rest_late : (xs : List Event) → Late (filter (λ e. not (nat_le e.key.day t)) xs)
+  rest_late [] = tt
+  rest_late (x ∷ xs) = elim (cases_Bool (nat_le x.key.day t)) [ inl in_time ↦ rw in_time (rest_late xs) | inr out ↦ rw out (out, rest_late xs) ]
+
+  -- the first that passes, of a front: it, if its day has come
+  module _ {Y : Type 0} (give : Event → Y) (due : Y → Option Y) (yes : (e : Event) → nat_le e.key.day t ≡ true → due (give e) ≡ Some (give e))
+      (no : (e : Event) → nat_le e.key.day t ≡ false → due (give e) ≡ None) (p : List Event → Event → Bool) where
+    -- the first that passes
+    abbrev first_passing : List Event → List Event → Option Event
+    first_passing front xs = first_from (λ f e _. p f e) front xs
+
+    -- what passes of later days has not come
+    none_come : (front late : List Event) → Late late → option_and_then due (option_map give (first_passing front late)) ≡ None
+    none_come front [] all = refl
+    none_come front (x ∷ xs) all =
+        elim (cases_Bool (p front x)) [
+          | inl passes ↦ rw passes (no x all.0)
+          | inr fails ↦ rw fails (none_come (front ++ x ∷ []) xs all.1)
+        ]
+
+    -- the first that passes of all, if its day has come, is the first of the front
+    first_of_front : (front xs late : List Event) → Within xs → Late late
+        → option_and_then due (option_map give (first_passing front (xs ++ late))) ≡ option_map give (first_passing front xs)
+    first_of_front front [] late within all = none_come front late all
+    first_of_front front (x ∷ xs) late within all =
+        elim (cases_Bool (p front x)) [
+          | inl passes ↦ rw passes (yes x within.0)
+          | inr fails ↦ rw fails (first_of_front (front ++ x ∷ []) xs late within.1 all)
+        ]
+
+  -- a day that has come
+  day_yes : (e : Event) → nat_le e.key.day t ≡ true → (cond (nat_le e.key.day t) (Some e.key.day) None) ≡ Some e.key.day
+  day_yes e within = rw within refl
+
+  -- .. and one that has not
+  day_no : (e : Event) → nat_le e.key.day t ≡ false → (cond (nat_le e.key.day t) (Some e.key.day) None) ≡ None
+  day_no e out = rw out refl
+
+  -- a key whose day has come
+  key_yes : (e : Event) → nat_le e.key.day t ≡ true → (cond (nat_le e.key.day t) (Some e.key) None) ≡ Some e.key
+  key_yes e within = rw within refl
+
+  -- .. and one whose day has not
+  key_no : (e : Event) → nat_le e.key.day t ≡ false → (cond (nat_le e.key.day t) (Some e.key) None) ≡ None
+  key_no e out = rw out refl
+
+  -- the closing of a tag, and its first attempt, by the front
+  closing_on : (kind : Kind) (before : List Event) (leak : Event) (xs late : List Event) → Within xs → Late late
+      → if_closed t (closing_of kind before leak (xs ++ late)) ≡ closing_of kind before leak xs
+  closing_on kind before leak xs late within all =
+      first_of_front (λ e. e.key) (λ key. cond (nat_le key.day t) (Some key) None) key_yes key_no (closes kind) (before ++ leak ∷ []) xs late within all
+
+  -- an attempt of a later day is not known
+  none_attempted : (late : List Event) → Late late → if_come t (attempt_after late) ≡ None
+  none_attempted [] all = refl
+  none_attempted (x ∷ xs) all =
+      elim (cases_Bool (is_attempt x.what)) [
+        | inl passes ↦ rw (passes, all.0) refl
+        | inr fails ↦ rw fails (none_attempted xs all.1)
+      ]
+
+  -- the first attempt, if its day has come
+  attempt_on : (xs late : List Event) → Within xs → Late late → if_come t (attempt_after (xs ++ late)) ≡ attempt_after xs
+  attempt_on [] late within all = none_attempted late all
+  attempt_on (x ∷ xs) late within all =
+      elim (cases_Bool (is_attempt x.what)) [
+        | inl passes ↦ rw (passes, within.0) refl
+        | inr fails ↦ rw fails (attempt_on xs late within.1 all)
+      ]
+
+  module _ (kind : Kind) (front whole : List Event) where
+    -- what is detected after the day is not known on it
+    none_detected : (before late : List Event) → Late late → detected_by t (each_from (span_at kind whole) before late) ≡ []
+    none_detected before [] all = refl
+    none_detected before (x ∷ xs) all =
+        elim (cases_Bool (opens kind before x)) [
+          | inl opened ↦ rw (opened, all.0) (none_detected (before ++ x ∷ []) xs all.1)
+          | inr never ↦ rw never (none_detected (before ++ x ∷ []) xs all.1)
+        ]
+
+    -- a tag as it is known, by its parts
+    abbrev tag_with : Key → Option ℕ → Option Key → Span
+    tag_with detected attempted closed =
+        record { detected = detected; attempted = attempted; closed = closed; removable = is_removable kind front closed }
+
+    -- a tag as it is known on the day
+    known_span : (before : List Event) (x : Event) (xs late : List Event) → Within xs → Late late
+        → span_on t kind front (record {
+          detected = x.key;
+          attempted = attempt_after (xs ++ late);
+          closed = closing_of kind before x (xs ++ late);
+          removable = is_removable kind whole (closing_of kind before x (xs ++ late));
+        }) ≡ tag_with x.key (attempt_after xs) (closing_of kind before x xs)
+    known_span before x xs late within all =
+        ap (λ attempted. tag_with x.key attempted (if_closed t (closing_of kind before x (xs ++ late)))) (attempt_on xs late within all)
+        ∙ ap (tag_with x.key (attempt_after xs)) (closing_on kind before x xs late within all)
+
+    -- the tags that open behind a front
+    spans_on : (before xs late : List Event) → Within xs → Late late
+        → each_from (span_at kind front) before xs ≡ map (span_on t kind front) (detected_by t (each_from (span_at kind whole) before (xs ++ late)))
+    spans_on before [] late within all = ap (map (span_on t kind front)) (sym (none_detected before late all))
+    spans_on before (x ∷ xs) late within all =
+        let rest = spans_on (before ++ x ∷ []) xs late within.1 all in
+        elim (cases_Bool (opens kind before x)) [
+          | inl opened ↦ rw (opened, within.0, rest, known_span before x xs late within.1 all) refl
+          | inr never ↦ rw never rest
+        ]
+
+pub spans_up_to_a_day : SpansUpToADay
+unfolding spans_of
+spans_up_to_a_day t kind events up =
+    let front = events_to t events in
+    let late = filter (λ e. not (nat_le e.key.day t)) events in
+    let whole = (cut_of t events up).whole in
+    spans_on t kind front events [] front late (front_within t events) (rest_late t events)
+    ∙ ap (λ all. map (span_on t kind front) (detected_by t (each_from (span_at kind events) [] all))) whole
+
+pub spans_by_facts_up_to_a_day : SpansByFactsUpToADay
+spans_by_facts_up_to_a_day t item facts up =
+    ap (spans_of item.kind) (events_by_own_register t item facts)
+    ∙ spans_up_to_a_day t item.kind (events_in item (classes_of item.component facts) facts)
+    (events_ascend item (classes_of item.component facts) facts up)

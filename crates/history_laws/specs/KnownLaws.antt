@@ -1,0 +1,128 @@
+-- A component is known by its own facts, its instruments' tests and its process unit's shutdowns: the statements of `known`.
+use Rattle.std.specs.Prelude.{◌≡◌, ℕ, Bool, false, ◌&&◌, nat_eq, Some, List, [], ◌∷◌, filter, filter_map, nat_le, option_map}
+use Rattle.ldar_days.specs.Calendar.{later_by}
+use Rattle.std.specs.List.{AllByRecursion}
+use Rattle.ldar_facts.specs.declared.body.FactBody.{FactBody}
+use Rattle.ldar_facts.specs.declared.body.FactBody.TheVariants.{Calibration, Precision, Drift, Reading}
+use Rattle.ldar_facts.specs.declared.class.Class.{Class}
+use Rattle.ldar_facts.specs.declared.key.Key.{Key}
+use Rattle.ldar_facts.specs.Facts.{Entry}
+use Rattle.ldar_facts.specs.Named.{reading_instrument}
+use Rattle.ldar_law.specs.declared.delay.Stop.{Stop}
+use Rattle.ldar_law.specs.declared.equipment.Equipment.{Equipment}
+use Rattle.ldar_law.specs.declared.event.Event.{Event}
+use Rattle.ldar_law.specs.declared.fitness.Fitness.{Fitness}
+use Rattle.ldar_law.specs.declared.fitness.Fitness.TheVariants.{NoCalibration}
+use Rattle.ldar_law.specs.Equipment.{equipment_of, classes_of, members_of, stops_of}
+use Rattle.ldar_law.specs.Events.{event_of, events_in}
+use Rattle.ldar_law.specs.Fitness.{fitness_of}
+use Rattle.ldar_law.specs.Force.{limit_on}
+use Rattle.ldar_law.specs.Shown.{sheet_of}
+use Rattle.ldar_law.specs.Slices.{facts_of_component, facts_of_unit, facts_of_instrument}
+use Rattle.ldar_law.specs.Tags.{tags_of}
+use Rattle.ldar_law.specs.Units.{Known, known_of, components_of, mark_in, due_list}
+use Rattle.history_laws.specs.RulyLaws.{IsEachOnce}
+use Rattle.history_laws.specs.DayLaws.{up_to, item_on, events_to}
+
+-- ---- of lists of its own
+
+-- the fitness of a reading with this key, by the tests of each instrument
+abbrev pub fitness_by : Equipment → List (Key × Class) → (ℕ → List Entry) → Key → FactBody → Fitness
+fitness_by item classes tests key (Reading _ instrument _ _ ppm _) = fitness_of (tests instrument) (limit_on item classes key.day) key instrument ppm
+fitness_by item classes tests key _ = NoCalibration
+
+-- the events of a component, by its own facts and the tests of each instrument
+abbrev pub events_by : Equipment → List (Key × Class) → List Entry → (ℕ → List Entry) → List Event
+events_by item classes own tests = filter_map (λ e. event_of item classes e (fitness_by item classes tests e.0 e.1.body)) own
+
+-- what is known of a component, by these events and the shutdowns of its process unit
+abbrev pub known_with : Equipment → List (Key × Class) → List Event → List Stop → Known
+known_with item classes events stops =
+    record { item = item; classes = classes; events = events; tags = tags_of item.component item.kind events stops }
+
+-- .. by its own facts, the tests of each instrument and the shutdowns
+abbrev pub known_from : Equipment → List Entry → (ℕ → List Entry) → List Stop → Known
+known_from item own tests stops =
+    known_with item (classes_of item.component own) (events_by item (classes_of item.component own) own tests) stops
+
+-- a component is known by the facts that name it, the tests of each instrument, and the facts that name its process unit
+pub record IsKnownByItsLists (item : Equipment) (facts : List Entry) : Type 0 where
+  pub equipment : equipment_of item.component (facts_of_component item.component facts) ≡ equipment_of item.component facts
+  pub known : known_from item (facts_of_component item.component facts) (λ instrument. facts_of_instrument instrument facts)
+      (stops_of item.unit (facts_of_unit item.unit facts))
+      ≡ known_of facts item
+
+abbrev pub KnownByItsLists : Type 0
+KnownByItsLists = (item : Equipment) (facts : List Entry) → IsKnownByItsLists item facts
+
+-- .. in its process unit
+abbrev pub known_in_unit : ℕ → ℕ → List Entry → Equipment → Known
+known_in_unit unit number facts item =
+    known_from item (facts_of_component number facts) (λ instrument. facts_of_instrument instrument facts) (stops_of unit (facts_of_unit unit facts))
+
+-- where each component is entered once, the components of a process unit are known by these lists, and they are found by the facts that
+-- name the unit
+abbrev pub ComponentsByTheirLists : Type 0
+ComponentsByTheirLists =
+    (unit : ℕ) (facts : List Entry) → IsEachOnce facts
+    → components_of unit facts
+    ≡ filter_map (λ number. option_map (known_in_unit unit number facts) (equipment_of number (facts_of_component number facts)))
+    (members_of unit (facts_of_unit unit facts))
+
+-- ---- of two lists of facts
+
+-- a fact of a day matters to the readings of a day with an instrument: a calibration or a drift assessment of it on that day, or a
+-- precision test of it on that day or at most three months before (40 CFR 60.485a(b); EPA Method 21, section 8.1.2)
+abbrev pub is_of_matter : ℕ → ℕ → ℕ → FactBody → Bool
+is_of_matter instrument day tested (Calibration of gas) = nat_eq of instrument && nat_eq tested day
+is_of_matter instrument day tested (Drift of value readings) = nat_eq of instrument && nat_eq tested day
+is_of_matter instrument day tested (Precision of value readings) = nat_eq of instrument && nat_le tested day && nat_le day (later_by 3 tested)
+is_of_matter instrument day tested _ = false
+
+-- .. with its key
+abbrev pub matters : ℕ → ℕ → Entry → Bool
+matters instrument day e = is_of_matter instrument day e.0.day e.1.body
+
+-- a reading is judged by what matters to it as by all facts
+abbrev pub FitnessIsOfWhatMatters : Type 0
+FitnessIsOfWhatMatters =
+    (facts : List Entry) (limit : ℕ) (key : Key) (instrument ppm : ℕ)
+    → fitness_of (filter (matters instrument key.day) facts) limit key instrument ppm ≡ fitness_of facts limit key instrument ppm
+
+-- where an instrument has the same tests, the same matter
+abbrev pub SameTestsMatter : Type 0
+SameTestsMatter =
+    (facts other : List Entry) (instrument day : ℕ) → facts_of_instrument instrument other ≡ facts_of_instrument instrument facts
+    → filter (matters instrument day) other ≡ filter (matters instrument day) facts
+
+-- in both lists of facts the same ones name the component, the same matter to its readings, and its process unit has the same shutdowns
+pub record HasSameLists (number unit : ℕ) (facts other : List Entry) : Type 0 where
+  pub own : facts_of_component number other ≡ facts_of_component number facts
+  pub tests : AllByRecursion (λ e. (instrument : ℕ) → reading_instrument e.1.body ≡ Some instrument
+      → filter (matters instrument e.0.day) other ≡ filter (matters instrument e.0.day) facts) (facts_of_component number facts)
+  pub stops : stops_of unit other ≡ stops_of unit facts
+
+-- two lists of facts say the same of a component: what the register has, its events and tags, what it adds to a quarter and to a report,
+-- and, by the startup of its process unit and the quarters that are skipped, its duties
+pub record IsKnownAlike (item : Equipment) (facts other : List Entry) : Type 0 where
+  pub equipment : equipment_of item.component other ≡ equipment_of item.component facts
+  pub known : known_of other item ≡ known_of facts item
+  pub sheet : sheet_of (known_of other item) ≡ sheet_of (known_of facts item)
+  pub mark : (startup t quarter : ℕ) → mark_in startup t quarter (known_of other item) ≡ mark_in startup t quarter (known_of facts item)
+  pub duties : (startup t : ℕ) (skipped : List Bool)
+      → due_list startup t skipped (known_of other item ∷ []) ≡ due_list startup t skipped (known_of facts item ∷ [])
+
+abbrev pub SameListsKnowAlike : Type 0
+SameListsKnowAlike =
+    (item : Equipment) (facts other : List Entry) → HasSameLists item.component item.unit facts other → IsKnownAlike item facts other
+
+-- ---- on a day
+
+-- what is known of a component on a day, by the facts up to it and the register up to it: its classes, events and shutdowns are those of all
+-- facts that are of days up to the day
+abbrev pub KnownUpToADay : Type 0
+KnownUpToADay =
+    (t : ℕ) (item : Equipment) (facts : List Entry)
+    → known_of (up_to t facts) (item_on t item)
+    ≡ known_with (item_on t item) (filter (λ entered. nat_le entered.0.day t) (classes_of item.component facts))
+    (events_to t (events_in item (classes_of item.component facts) facts)) (filter (λ stop. nat_le stop.first t) (stops_of item.unit facts))

@@ -1,0 +1,89 @@
+-- The facts of a history and of one batch more: the statements of `batches`.
+use Rattle.std.specs.Prelude.{◌≡◌, ℕ, Bool, false, nat_eq, nat_lt, IsTrue, Some, List, [], ◌∷◌, ◌++◌, filter}
+use Rattle.std.specs.List.{AllByRecursion, list_any}
+use Rattle.list_words.specs.Order.{put_each}
+use Rattle.ldar_facts.specs.declared.batch.Batch.{Batch}
+use Rattle.ldar_facts.specs.declared.body.FactBody.{FactBody}
+use Rattle.ldar_facts.specs.declared.body.FactBody.TheVariants.{Shutdown}
+use Rattle.ldar_facts.specs.Facts.{Entry, is_earlier, goes_first, entries_of, facts_of, facts_to}
+use Rattle.ldar_facts.specs.Identity.{identities_differ}
+use Rattle.ldar_facts.specs.Named.{component_of, reading_instrument, is_numbered}
+use Rattle.ldar_law.specs.declared.election.ElectionEntry.{ElectionEntry}
+use Rattle.ldar_law.specs.declared.equipment.Equipment.{Equipment}
+use Rattle.ldar_law.specs.Equipment.{classes_of, elections_of, members_of}
+use Rattle.ldar_law.specs.RegisterLaws.{class_first}
+use Rattle.ldar_law.specs.Slices.{facts_of_component, facts_of_unit, facts_of_instrument, readings_of_instrument, register_facts}
+use Rattle.history_laws.specs.KnownLaws.{matters, IsKnownAlike}
+use Rattle.history_laws.specs.RulyLaws.{IsEachOnce}
+
+-- the history with one batch more
+abbrev pub with_batch : List Batch → Batch → List Batch
+with_batch history batch = history ++ batch ∷ []
+
+-- where some facts are put among others, each in its place, a part of them is that part of these, put in its places
+abbrev pub PartOfMoreFacts : Type 0
+PartOfMoreFacts =
+    (test : Entry → Bool) (history : List Batch) (batch : Batch) → IsTrue (identities_differ (with_batch history batch))
+    → filter test (facts_of (with_batch history batch)) ≡ put_each goes_first (filter test (entries_of batch)) (filter test (facts_of history))
+
+-- .. and stays as it is where the batch has nothing of it
+abbrev pub PartStays : Type 0
+PartStays =
+    (test : Entry → Bool) (history : List Batch) (batch : Batch) → IsTrue (identities_differ (with_batch history batch))
+    → list_any test (entries_of batch) ≡ false → filter test (facts_of (with_batch history batch)) ≡ filter test (facts_of history)
+
+-- each list of a store with one batch more is the list before, with the batch's facts for it put in their places
+pub record ListsWithBatch (history : List Batch) (batch : Batch) : Type 0 where
+  pub component : (number : ℕ) → facts_of_component number (facts_of (with_batch history batch))
+      ≡ put_each goes_first (facts_of_component number (entries_of batch)) (facts_of_component number (facts_of history))
+  pub unit : (number : ℕ) → facts_of_unit number (facts_of (with_batch history batch))
+      ≡ put_each goes_first (facts_of_unit number (entries_of batch)) (facts_of_unit number (facts_of history))
+  pub instrument : (number : ℕ) → facts_of_instrument number (facts_of (with_batch history batch))
+      ≡ put_each goes_first (facts_of_instrument number (entries_of batch)) (facts_of_instrument number (facts_of history))
+  pub readings : (number : ℕ) → readings_of_instrument number (facts_of (with_batch history batch))
+      ≡ put_each goes_first (readings_of_instrument number (entries_of batch)) (readings_of_instrument number (facts_of history))
+  pub register : register_facts (facts_of (with_batch history batch))
+      ≡ put_each goes_first (register_facts (entries_of batch)) (register_facts (facts_of history))
+
+abbrev pub ListsGrow : Type 0
+ListsGrow = (history : List Batch) (batch : Batch) → IsTrue (identities_differ (with_batch history batch)) → ListsWithBatch history batch
+
+-- the earlier election goes first
+abbrev pub election_first : ElectionEntry → ElectionEntry → Bool
+election_first a b = is_earlier a.key b.key
+
+-- .. and so what the register lists by key: a component's classes and a process unit's elections
+pub record RegisterWithBatch (history : List Batch) (batch : Batch) : Type 0 where
+  pub classes : (number : ℕ) → classes_of number (facts_of (with_batch history batch))
+      ≡ put_each class_first (classes_of number (entries_of batch)) (classes_of number (facts_of history))
+  pub elections : (number : ℕ) → elections_of number (facts_of (with_batch history batch))
+      ≡ put_each election_first (elections_of number (entries_of batch)) (elections_of number (facts_of history))
+
+abbrev pub RegisterGrows : Type 0
+RegisterGrows = (history : List Batch) (batch : Batch) → IsTrue (identities_differ (with_batch history batch)) → RegisterWithBatch history batch
+
+-- .. and a process unit's members, where no component is entered twice
+abbrev pub MembersGrow : Type 0
+MembersGrow =
+    (history : List Batch) (batch : Batch) (unit : ℕ) → IsTrue (identities_differ (with_batch history batch))
+    → IsEachOnce (facts_of (with_batch history batch))
+    → members_of unit (facts_of (with_batch history batch)) ≡ put_each nat_lt (members_of unit (entries_of batch)) (members_of unit (facts_of history))
+
+-- the fact is a shutdown of the process unit
+abbrev pub is_shutdown : ℕ → FactBody → Bool
+is_shutdown number (Shutdown other _) = nat_eq other number
+is_shutdown number _ = false
+
+-- a batch leaves a component alone: no fact of it names the component, none matters to a reading of the component, and none shuts its
+-- process unit down
+pub record LeavesAlone (number unit : ℕ) (history : List Batch) (batch : Batch) : Type 0 where
+  pub component : list_any (λ e. is_numbered (component_of e.1.body) number) (entries_of batch) ≡ false
+  pub tests : AllByRecursion (λ e. (instrument : ℕ) → reading_instrument e.1.body ≡ Some instrument
+      → list_any (matters instrument e.0.day) (entries_of batch) ≡ false) (facts_of_component number (facts_of history))
+  pub shutdowns : list_any (λ e. is_shutdown unit e.1.body) (entries_of batch) ≡ false
+
+-- what is known on a day of a component that a batch leaves alone is known with the batch as without it
+abbrev pub LeftAloneIsKnownAlike : Type 0
+LeftAloneIsKnownAlike =
+    (t : ℕ) (item : Equipment) (history : List Batch) (batch : Batch) → IsTrue (identities_differ (with_batch history batch))
+    → LeavesAlone item.component item.unit history batch → IsKnownAlike item (facts_to t history) (facts_to t (with_batch history batch))

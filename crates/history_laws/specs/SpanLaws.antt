@@ -1,0 +1,45 @@
+-- The tags of a component by the events up to a day beside those of all events: the statements of `spans`.
+use Rattle.std.specs.Prelude.{◌≡◌, ℕ, nat_le, Option, Some, None, option_and_then, if◌then◌else◌, List, filter, map}
+use Rattle.list_words.specs.Order.{Ascends}
+use Rattle.ldar_facts.specs.declared.class.Kind.{Kind}
+use Rattle.ldar_facts.specs.declared.key.Key.{Key}
+use Rattle.ldar_facts.specs.Facts.{Entry, is_earlier, goes_first}
+use Rattle.ldar_law.specs.declared.equipment.Equipment.{Equipment}
+use Rattle.ldar_law.specs.declared.event.Event.{Event}
+use Rattle.ldar_law.specs.declared.span.Span.{Span}
+use Rattle.ldar_law.specs.Equipment.{classes_of}
+use Rattle.ldar_law.specs.Events.{events_in}
+use Rattle.ldar_law.specs.Spans.{is_removable, spans_of}
+use Rattle.history_laws.specs.DayLaws.{up_to, if_come, item_on, events_to}
+
+-- the key, if its day has come by another
+abbrev pub if_closed : ℕ → Option Key → Option Key
+if_closed t closed = option_and_then (λ key. if nat_le key.day t then Some key else None) closed
+
+-- a tag as it is known on a day, by the events up to it: detected as it was, attempted and closed if that was by the day, and removable
+-- as these events say
+abbrev pub span_on : ℕ → Kind → List Event → Span → Span
+span_on t kind front span = record {
+  detected = span.detected;
+  attempted = if_come t span.attempted;
+  closed = if_closed t span.closed;
+  removable = is_removable kind front (if_closed t span.closed);
+}
+
+-- the tags that were detected by a day
+abbrev pub detected_by : ℕ → List Span → List Span
+detected_by t spans = filter (λ span. nat_le span.detected.day t) spans
+
+-- the tags by the events up to a day are those that were detected by then, each as it is known on the day
+abbrev pub SpansUpToADay : Type 0
+SpansUpToADay =
+    (t : ℕ) (kind : Kind) (events : List Event) → Ascends (λ a b. is_earlier a.key b.key) events
+    → spans_of kind (events_to t events) ≡ map (span_on t kind (events_to t events)) (detected_by t (spans_of kind events))
+
+-- .. and so the tags of a component by the facts up to a day, by the register up to it
+abbrev pub SpansByFactsUpToADay : Type 0
+SpansByFactsUpToADay =
+    (t : ℕ) (item : Equipment) (facts : List Entry) → Ascends goes_first facts
+    → spans_of item.kind (events_in (item_on t item) (classes_of item.component (up_to t facts)) (up_to t facts))
+    ≡ map (span_on t item.kind (events_to t (events_in item (classes_of item.component facts) facts)))
+    (detected_by t (spans_of item.kind (events_in item (classes_of item.component facts) facts)))

@@ -1,0 +1,28 @@
+//! A component is known by its own facts, its instruments' tests and its process unit's shutdowns.
+
+ghost use Rattle.history_laws.specs.KnownLaws.{KnownByItsLists, ComponentsByTheirLists, FitnessIsOfWhatMatters, SameTestsMatter, SameListsKnowAlike, KnownUpToADay};
+
+/// What all facts say of a component, the lists say that a store keeps: the facts that name it, the tests of each
+/// instrument, and the facts that name its process unit; and so of all components of a process unit.
+pub fn known_by_its_lists()
+    ensures law { KnownByItsLists }
+    ensures unit { ComponentsByTheirLists }
+{}
+
+/// A reading is judged by the calibrations and drift assessments of its day and the precision tests of three months, of its
+/// instrument, as by all facts; an instrument with the same tests has the same ones.
+pub fn fitness_is_of_what_matters()
+    ensures law { FitnessIsOfWhatMatters }
+    ensures same_tests { SameTestsMatter }
+{}
+
+/// Where the facts that name a component, those that matter to its readings and its unit's shutdowns are the same in two
+/// lists of facts, the two say the same of the component.
+pub fn same_lists_know_alike()
+    ensures law { SameListsKnowAlike }
+{}
+
+/// What is known of a component on a day is made of its classes, events and shutdowns by all facts, up to the day.
+pub fn known_up_to_a_day()
+    ensures law { KnownUpToADay }
+{}
