@@ -1,1 +1,7 @@
+pub mod CaseLemmas
+pub mod DenialLemmas
+pub mod EntryLemmas
 pub mod KnownLemmas
+pub mod QuarterLemmas
+pub mod ShareSteps
+pub mod TableLemmas

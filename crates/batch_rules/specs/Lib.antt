@@ -1,1 +1,5 @@
+pub mod Cases
 pub mod Known
+pub mod Shares
+pub mod Standings
+pub mod Table
