@@ -44,6 +44,10 @@ register_stays held more e out =
 
 -- ---- the share with one fact more
 
+pub reach_within : (b : Bool) (index reach : ℕ) → reach ≤ index → cond b (index + 1) reach ≤ index + 1
+reach_within true index reach within = omega arith
+reach_within false index reach within = omega (arith, within)
+
 named_so : (body : FactBody) (number : ℕ) → changed body ≡ Some number → component_of body ≡ Some number
 named_so body number e =
     elim (cases_Bool (is_registered body)) [
@@ -55,6 +59,21 @@ module _ (unit day : ℕ) (known : Known) (index : ℕ) (fact : Stated) (within 
   one_more : register_by known (index + 1)
       ≡ register_with (facts_in known.register.now) (entries_from (batch_of known) 0 (take index known.front.now) ++ (key_of (batch_of known) index fact, fact) ∷ [])
   one_more = ap (register_with (facts_in known.register.now)) (entries-take_more (batch_of known) index known.front.now fact within is)
+
+  -- a fact that is no entry leaves what is known
+  pub known_stays : is_registered fact.body ≡ false → register_by known (index + 1) ≡ register_by known index
+  known_stays out =
+      one_more
+      ∙ register_stays (facts_in known.register.now) (entries_from (batch_of known) 0 (take index known.front.now))
+      (key_of (batch_of known) index fact, fact) out
+
+  -- where the first facts up to the last entry are as good as all before a place, so they are behind it
+  pub reach_stays : (reach : ℕ) → register_by known reach ≡ register_by known index
+      → register_by known (cond (is_registered fact.body) (index + 1) reach) ≡ register_by known (index + 1)
+  reach_stays reach same = elim (cases_Bool (is_registered fact.body)) [
+    | inl entered ↦ rw entered refl
+    | inr out ↦ rw out (same ∙ sym (known_stays out))
+  ]
 
   -- a fact that changes nothing leaves the share
   pub share_same : changed fact.body ≡ None → share_in unit day (register_by known (index + 1)) ≡ share_in unit day (register_by known index)

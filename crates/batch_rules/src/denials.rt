@@ -1,16 +1,28 @@
-ghost use Rattle.std.specs.Prelude.{◌≡◌, ◌≤◌, List, length};
+ghost use Rattle.std.specs.Prelude.{◌≡◌, ◌+◌, ◌<◌, ◌≤◌, ◌^◌, if◌then◌else◌, List, length};
 ghost use Rattle.ldar_facts.specs.declared.batch.Batch.{Batch as FactBatch};
 ghost use Rattle.ldar_facts.specs.Facts.{facts_of};
 ghost use Rattle.fact_store.specs.Kept.{facts_in};
-ghost use Rattle.ldar_law.specs.Slices.{register_facts};
+ghost use Rattle.ldar_law.specs.Slices.{is_registered as says_registered, register_facts};
 ghost use Rattle.ldar_law.specs.Verdicts.{denial_after, verdict_by, verdict_on};
 
 use crate::case::Case;
 use crate::known::Known;
 use crate::rules::least_rule;
 use component_register::Register;
-use ldar_facts::Batch;
-use ldar_law::{MOST_FACTS, Verdict};
+use ldar_facts::{Batch, FactBody};
+use ldar_law::{MOST_FACTS, Verdict, is_registered};
+
+/// How many facts of a batch stand up to its last entry in the register, where the fact at a place has come too.
+fn reach_after(reach: usize, index: usize, body: &FactBody) -> usize
+    requires within { index < 2 ^ 16 }
+    ensures value { result ≡ (if says_registered body.now then index + 1 else reach) }
+{
+    if is_registered(body) {
+        index + 1
+    } else {
+        reach
+    }
+}
 
 /// The first fact of a batch that is denied, from 1, and the least rule that denies it.
 fn first_denial(register: &Register, batch: &Batch) -> Option<(u16, u8)>
@@ -23,11 +35,15 @@ fn first_denial(register: &Register, batch: &Batch) -> Option<(u16, u8)>
         number: batch.number,
         front: facts,
     };
+    // Behind the last entry in the register nothing has to be looked through.
+    let mut reach = 0;
     for index in 0..facts.len() {
-        let case = Case::new(&facts[index], index, whole.up_to(index), whole);
+        let fact = &facts[index];
+        let case = Case::new(fact, index, whole.up_to(reach), whole);
         if let Some(rule) = least_rule(&case) {
             return Some((index as u16 + 1, rule));
         }
+        reach = reach_after(reach, index, &fact.body);
     }
     None
 }
