@@ -10,7 +10,7 @@ use Rattle.ldar_law.specs.Judged.{Case, register_with, case_of}
 use Rattle.ldar_law.specs.Verdicts.{least_rule, denial_at}
 use Rattle.fact_store.specs.Kept.{facts_in}
 use Rattle.batch_rules.specs.declared.known.Known.{Known}
-use Rattle.batch_rules.specs.Cases.{case_at}
+use Rattle.batch_rules.specs.Cases.{case_at, case_in}
 use Rattle.batch_rules.specs.Known.{batch_of, register_at, register_by}
 use Rattle.batch_rules.proofs.EntryLemmas.{entries-take_more, entries-drop_more, entries-split}
 
@@ -18,15 +18,7 @@ use Rattle.batch_rules.proofs.EntryLemmas.{entries-take_more, entries-drop_more,
 abbrev pub denial_from : List Entry → Batch → ℕ → Option (ℕ × ℕ)
 denial_from held batch i = first_given_from (denial_at held) (entries_from batch 0 (take i batch.facts)) (entries_from batch i (drop i batch.facts))
 
--- the case of the fact at a place
-abbrev pub case_in : List Entry → Batch → ℕ → Stated → Case
-case_in held batch i fact = record {
-  entry = (key_of batch i fact, fact);
-  known = register_with held (entries_from batch 0 (take i batch.facts));
-  whole = register_with held (entries_of batch);
-}
-
--- .. as it is made
+-- the case of a fact, as it is made
 pub case_is : (fact : Stated) (i : ℕ) (known whole : Known) → register_at known ≡ register_by whole i
     → case_at fact i known whole ≡ case_in (facts_in whole.register.now) (batch_of whole) i fact
 case_is fact i known whole e = ap (λ k. record { entry = (key_of (batch_of whole) i fact, fact); known = k; whole = register_at whole }) e

@@ -1,4 +1,4 @@
-ghost use Rattle.std.specs.Prelude.{◌≡◌, ◌<◌, ◌≤◌, ◌^◌, length};
+ghost use Rattle.std.specs.Prelude.{◌≡◌, ◌≤◌, false, IsTrue, length};
 
 use crate::asked::Standing;
 use crate::known::Known;
@@ -18,6 +18,8 @@ pub struct Case<'a> {
     whole: Known<'a>,
     /// The kind of the component that it asks for, and its class on the fact's day.
     asked: Standing,
+    /// The process unit of which the rule on difficult valves was asked for its day, and let an earlier fact pass.
+    passed: Option<u8>,
 }
 
 impl<'a> Model for Case<'a> {
@@ -28,17 +30,25 @@ impl<'a> Model for Case<'a> {
 
     ghost view = { λ c. case_at c.fact.now c.index c.known c.whole };
 
-    ghost invariant = { λ c. IsSound c.fact.now c.index c.known c.whole c.asked };
+    ghost invariant = { λ c. IsSound c.fact.now c.index c.known c.whole c.asked c.passed };
 }
 
 impl<'a> Case<'a> {
     ghost use Rattle.batch_rules.specs.Known.{register_at};
     ghost use Rattle.batch_rules.specs.Cases.{case_at, standing_asked};
+    ghost use Rattle.batch_rules.specs.Passed.{is_reached, IsPassed};
 
     /// A fact at a place of its batch.
-    pub fn new(fact: &'a Fact, index: usize, known: Known<'a>, whole: Known<'a>) -> Case<'a>
+    pub fn new(
+        fact: &'a Fact,
+        index: usize,
+        known: Known<'a>,
+        whole: Known<'a>,
+        passed: Option<u8>,
+    ) -> Case<'a>
         requires few { length known.front.now ≤ 512 }
         requires whole_few { length whole.front.now ≤ 512 }
+        requires passed { IsPassed (case_at fact.now index known whole) passed }
         ensures value { result ≡ case_at fact.now index known.entry whole.entry }
     {
         let asked = known.asked(fact);
@@ -48,6 +58,7 @@ impl<'a> Case<'a> {
             known,
             whole,
             asked,
+            passed,
         }
     }
 
@@ -79,6 +90,16 @@ impl<'a> Case<'a> {
         ensures value { result ≡ standing_asked self.now }
     {
         self.asked
+    }
+
+    /// Whether the rule on difficult valves is known to let it pass, if it makes one more in this process unit.
+    pub fn is_passed(&self, unit: u8) -> bool
+        ensures passed { IsTrue result → is_reached self.now unit ≡ false }
+    {
+        match self.passed {
+            Some(passed) => passed == unit,
+            None => false,
+        }
     }
 
     /// What is known by the facts before it.
