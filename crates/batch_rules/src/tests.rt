@@ -1,10 +1,8 @@
-ghost use Rattle.std.specs.Prelude.{◌≡◌, ◌≤◌, ◌⊎◌, IsTrue, OnOk};
+ghost use Rattle.std.specs.Prelude.{◌≡◌, ◌≤◌, IsTrue, OnOk};
 ghost use Rattle.fact_store.specs.Kept.{facts_in, is_held};
 ghost use Rattle.ldar_facts.specs.Fields.{IsFact};
 ghost use Rattle.component_register.specs.Once.{IsFirstOfNumber};
-ghost use Rattle.ldar_facts.specs.declared.body.FactBody.TheVariants.{Class as ClassFact, Component as ComponentFact, Delay, Election, Indication, Reading, Visual};
-ghost use Rattle.ldar_facts.specs.declared.body.Purpose.TheVariants.{Routine};
-ghost use Rattle.ldar_facts.specs.declared.body.VisualState.TheVariants.{Drips};
+ghost use Rattle.ldar_facts.specs.declared.body.FactBody.TheVariants.{Class as ClassFact, Component as ComponentFact};
 ghost use Rattle.ldar_facts.specs.declared.class.Designation.TheVariants.{Plain};
 
 use crate::verdict;
@@ -29,16 +27,14 @@ fn enter(
     ensures { OnOk result (seen.new.items ≡ register.new.arrived) }
 {
     for (index, fact) in facts.iter().enumerate() {
-        if index < 60_000 {
-            let key = Key {
-                day: fact.day,
-                minute: fact.minute,
-                handheld: 0,
-                number,
-                index: index as u16,
-            };
-            add_new(register, seen, (key, *fact))?;
-        }
+        let key = Key {
+            day: fact.day,
+            minute: fact.minute,
+            handheld: 0,
+            number,
+            index: u16::try_from(index).unwrap_or(0),
+        };
+        add_new(register, seen, (key, *fact))?;
     }
     Ok(())
 }
@@ -128,7 +124,7 @@ fn small_office(alloc: Global) -> Result<Vec<Fact>, Fail> {
         older: false,
         name,
     };
-    let facts = vec![in alloc;
+    let facts = [
         on(begin, unit),
         on(begin, component(1, Kind::Valve, false, Service::Gas)),
         on(begin, component(2, Kind::Valve, false, Service::Gas)),
@@ -139,8 +135,8 @@ fn small_office(alloc: Global) -> Result<Vec<Fact>, Fail> {
         on(begin, component(7, Kind::Pump, false, Service::Heavy)),
         on(begin, component(8, Kind::Relief, false, Service::Gas)),
         on(begin, component(9, Kind::Compressor, false, Service::Gas)),
-    ]?;
-    Ok(facts)
+    ];
+    Ok(facts.to_vec(alloc)?)
 }
 
 /// The register into which these facts were entered.
@@ -151,78 +147,134 @@ fn register_of(alloc: Global, facts: &[Fact]) -> Result<Register, Memory> {
     Ok(register)
 }
 
-/// What is said of a batch of these facts; of one that is too large nothing.
-fn said_of(
-    alloc: Global,
-    register: &Register,
-    held: u64,
-    handheld: u16,
-    facts: &[Fact],
-) -> Result<Verdict, Fail> {
-    let batch = Batch::new(handheld, 2, facts.to_vec(alloc)?).ok_or("batch")?;
-    if held > 8_000_000 {
-        return Ok(Verdict::Full { facts: 0 });
-    }
-    Ok(verdict(register, held, &batch))
-}
-
-fn denied(fact: u16, rule: u8) -> Verdict {
-    Verdict::Denied { fact, rule }
-}
-
-/// A reading with instrument 1 by operator 1.
-fn reading(component: u16) -> FactBody
-    ensures { result ≡ Reading component 1 1 Routine 20 0 }
-{
-    FactBody::Reading {
-        component,
-        instrument: 1,
-        operator: 1,
-        purpose: Purpose::Routine,
-        ppm: 20,
-        background: 0,
-    }
-}
-
-/// A delay of repair that is expected to end on a day.
-fn delay(component: u16, ground: u8, signer: u16, expected: Option<Day>) -> FactBody
-    ensures { result ≡ Delay component ground signer expected }
-{
-    FactBody::Delay {
-        component,
-        ground,
-        signer,
-        expected,
-    }
-}
-
-fn indication(component: u16, sort: Sort) -> FactBody
-    ensures { result ≡ Indication component sort true }
-{
-    FactBody::Indication {
-        component,
-        sort,
-        present: true,
-    }
-}
-
-fn visual(component: u16) -> FactBody
-    ensures { result ≡ Visual component Drips }
-{
-    FactBody::Visual {
-        component,
-        state: VisualState::Drips,
-    }
-}
-
 fn class_of(component: u16, class: Class) -> FactBody
     ensures { result ≡ ClassFact component class }
 {
     FactBody::Class { component, class }
 }
 
+/// Up to three facts.
+type Few = [Option<Fact>; 3];
+
+/// What is said of a batch of these facts, which a handheld sends.
+fn said_of(
+    alloc: Global,
+    register: &Register,
+    held: u64,
+    handheld: u16,
+    few: &Few,
+) -> Result<Verdict, Fail>
+    requires { held ≤ 8_000_000 }
+{
+    let mut facts = Vec::new(alloc);
+    for fact in few {
+        if let Some(fact) = fact {
+            facts.push(*fact)?;
+        }
+    }
+    let batch = Batch::new(handheld, 2, facts).ok_or("batch")?;
+    Ok(verdict(register, held, &batch))
+}
+
+fn one(fact: Fact) -> Few {
+    [Some(fact), None, None]
+}
+
+fn two(first: Fact, second: Fact) -> Few {
+    [Some(first), Some(second), None]
+}
+
+fn denied(fact: u16, rule: u8) -> Verdict {
+    Verdict::Denied { fact, rule }
+}
+
+/// A reading at ten o'clock.
+fn reading(day: Day, component: u16, instrument: u16, operator: u16) -> Fact
+    requires { (1 ≤ component) × (component ≤ 60_000) }
+{
+    let body = FactBody::Reading {
+        component,
+        instrument,
+        operator,
+        purpose: Purpose::Routine,
+        ppm: 20,
+        background: 0,
+    };
+    Fact {
+        day,
+        minute: 600,
+        body,
+    }
+}
+
+fn visual(day: Day, component: u16) -> Fact
+    requires { (1 ≤ component) × (component ≤ 60_000) }
+{
+    let state = VisualState::Drips;
+    let body = FactBody::Visual { component, state };
+    Fact {
+        day,
+        minute: 600,
+        body,
+    }
+}
+
+fn indication(day: Day, component: u16, sort: Sort) -> Fact
+    requires { (1 ≤ component) × (component ≤ 60_000) }
+{
+    let body = FactBody::Indication {
+        component,
+        sort,
+        present: true,
+    };
+    Fact {
+        day,
+        minute: 600,
+        body,
+    }
+}
+
+fn release(day: Day, component: u16) -> Fact
+    requires { (1 ≤ component) × (component ≤ 60_000) }
+{
+    let body = FactBody::Release { component };
+    Fact {
+        day,
+        minute: 600,
+        body,
+    }
+}
+
+fn retired(day: Day, component: u16) -> Fact
+    requires { (1 ≤ component) × (component ≤ 60_000) }
+{
+    let body = FactBody::Retire { component };
+    Fact {
+        day,
+        minute: 600,
+        body,
+    }
+}
+
+fn delay(component: u16, ground: u8, signer: u16, day: Day, expected: Option<Day>) -> Fact
+    requires component { (1 ≤ component) × (component ≤ 60_000) }
+    requires ground { ground ≤ 5 }
+{
+    let body = FactBody::Delay {
+        component,
+        ground,
+        signer,
+        expected,
+    };
+    Fact {
+        day,
+        minute: 600,
+        body,
+    }
+}
+
 #[test]
-fn each_rule_on_components_denies_and_lets_pass(rt: HostRuntime) -> Result<(), Fail> {
+fn rules_on_components_deny_and_let_pass(rt: HostRuntime) -> Result<(), Fail> {
     let alloc = rt.alloc();
     let day = Day::of_number(19_773).ok_or("day")?;
     let next = Day::of_number(19_774).ok_or("day")?;
@@ -237,150 +289,94 @@ fn each_rule_on_components_denies_and_lets_pass(rt: HostRuntime) -> Result<(), F
         class_of(5, class(Service::Under300, Designation::Plain)),
     );
     let new = on(day, component(40, Kind::Valve, false, Service::Gas));
-    let unsigned = FactBody::Reading {
-        component: 40,
-        instrument: 1,
-        operator: 0,
-        purpose: Purpose::Routine,
-        ppm: 20,
-        background: 0,
-    };
-    let no_instrument = FactBody::Reading {
-        component: 1,
-        instrument: 0,
-        operator: 1,
-        purpose: Purpose::Routine,
-        ppm: 20,
-        background: 0,
-    };
+    let unsigned = reading(day, 40, 1, 0);
+    let look = reading(day, 1, 1, 1);
+    let pass = Verdict::Pass;
     let cases = [
         (
             "unknown and unsigned, before a release",
             7,
-            vec![in alloc;
-                on(day, unsigned),
-                on(day, FactBody::Release { component: 1 }),
-            ]?,
+            two(unsigned, release(day, 1)),
             denied(1, 1),
         ),
         (
             "entered after it",
             0,
-            vec![in alloc; on(day, reading(40)), new]?,
+            two(reading(day, 40, 1, 1), new),
             denied(1, 1),
         ),
         (
             "entered before it",
             0,
-            vec![in alloc; new, on(day, reading(40))]?,
-            Verdict::Pass,
+            two(new, reading(day, 40, 1, 1)),
+            pass,
         ),
-        (
-            "vacuum",
-            0,
-            vec![in alloc; vacuum, on(day, reading(1))]?,
-            denied(2, 2),
-        ),
+        ("vacuum", 0, two(vacuum, look), denied(2, 2)),
         (
             "vacuum from the day after",
             0,
-            vec![in alloc; vacuum_later, on(day, reading(1))]?,
-            Verdict::Pass,
+            two(vacuum_later, look),
+            pass,
         ),
-        (
-            "vacuum after it in the batch",
-            0,
-            vec![in alloc; on(day, reading(1)), vacuum]?,
-            Verdict::Pass,
-        ),
+        ("vacuum after it in the batch", 0, two(look, vacuum), pass),
         (
             "under 300 hours",
             0,
-            vec![in alloc; under_300, on(day, visual(5))]?,
+            two(under_300, visual(day, 5)),
             denied(2, 3),
         ),
         (
             "another under 300 hours",
             0,
-            vec![in alloc; under_300, on(day, visual(6))]?,
-            Verdict::Pass,
+            two(under_300, visual(day, 6)),
+            pass,
         ),
-        (
-            "no operator",
-            0,
-            vec![in alloc; new, on(day, unsigned)]?,
-            denied(2, 4),
-        ),
-        (
-            "no instrument",
-            7,
-            vec![in alloc; on(day, no_instrument)]?,
-            denied(1, 4),
-        ),
-        (
-            "instrument and operator",
-            7,
-            vec![in alloc; on(day, reading(1))]?,
-            Verdict::Pass,
-        ),
-        (
-            "a valve seen",
-            7,
-            vec![in alloc; on(day, visual(1))]?,
-            denied(1, 5),
-        ),
+        ("no operator", 0, two(new, unsigned), denied(2, 4)),
+        ("no instrument", 7, one(reading(day, 1, 0, 1)), denied(1, 4)),
+        ("instrument and operator", 7, one(look), pass),
+        ("a valve seen", 7, one(visual(day, 1)), denied(1, 5)),
         (
             "a pump in heavy liquid seen",
             7,
-            vec![in alloc; on(day, visual(7))]?,
+            one(visual(day, 7)),
             denied(1, 5),
         ),
-        (
-            "a pump seen",
-            7,
-            vec![in alloc; on(day, visual(5))]?,
-            Verdict::Pass,
-        ),
+        ("a pump seen", 7, one(visual(day, 5)), pass),
         (
             "a sensor at a pump",
             7,
-            vec![in alloc; on(day, indication(5, Sort::Sensor))]?,
+            one(indication(day, 5, Sort::Sensor)),
             denied(1, 6),
         ),
         (
             "a sensor at a compressor",
             7,
-            vec![in alloc; on(day, indication(9, Sort::Sensor))]?,
-            Verdict::Pass,
+            one(indication(day, 9, Sort::Sensor)),
+            pass,
         ),
         (
             "a release of a valve",
             7,
-            vec![in alloc; on(day, FactBody::Release { component: 1 })]?,
+            one(release(day, 1)),
             denied(1, 7),
         ),
-        (
-            "a release",
-            7,
-            vec![in alloc; on(day, FactBody::Release { component: 8 })]?,
-            Verdict::Pass,
-        ),
+        ("a release", 7, one(release(day, 8)), pass),
         (
             "evidence at a compressor",
             7,
-            vec![in alloc; on(day, indication(9, Sort::Evidence))]?,
+            one(indication(day, 9, Sort::Evidence)),
             denied(1, 8),
         ),
         (
             "evidence at a pump in heavy liquid",
             7,
-            vec![in alloc; on(day, indication(7, Sort::Evidence))]?,
-            Verdict::Pass,
+            one(indication(day, 7, Sort::Evidence)),
+            pass,
         ),
     ];
-    for (what, handheld, facts, want) in cases {
+    for (what, handheld, few, want) in cases {
         assert_eq!(rt;
-            said_of(alloc, &register, 20, handheld, &facts)?,
+            said_of(alloc, &register, 20, handheld, &few)?,
             want,
             "{what}"
         );
@@ -389,123 +385,99 @@ fn each_rule_on_components_denies_and_lets_pass(rt: HostRuntime) -> Result<(), F
 }
 
 #[test]
-fn each_rule_on_delays_and_elections_denies_and_lets_pass(rt: HostRuntime) -> Result<(), Fail> {
+fn rules_on_delays_and_elections_deny_and_let_pass(rt: HostRuntime) -> Result<(), Fail> {
     let alloc = rt.alloc();
     let day = Day::of_number(19_773).ok_or("day")?;
-    let repaired = Day::of_number(19_884).ok_or("day")?;
+    let some = Some(Day::of_number(19_884).ok_or("day")?);
+    let early = Day::of_number(18_293).ok_or("day")?;
     let quarter = Day::of_number(19_905).ok_or("day")?;
     let second = Day::of_number(19_906).ok_or("day")?;
     let in_time = Day::of_number(19_815).ok_or("day")?;
     let late = Day::of_number(19_816).ok_or("day")?;
     let register = register_of(alloc, &small_office(alloc)?)?;
-    let some = Some(repaired);
+    let pass = Verdict::Pass;
     let cases = [
         (
             "purge of a pump",
             7,
-            on(day, delay(5, 3, 9, some)),
+            delay(5, 3, 9, day, some),
             denied(1, 9),
         ),
-        (
-            "purge of a valve",
-            7,
-            on(day, delay(1, 3, 9, some)),
-            Verdict::Pass,
-        ),
+        ("purge of a valve", 7, delay(1, 3, 9, day, some), pass),
         (
             "dual seal of a valve",
             7,
-            on(day, delay(1, 4, 9, some)),
+            delay(1, 4, 9, day, some),
             denied(1, 10),
         ),
-        (
-            "dual seal of a pump",
-            7,
-            on(day, delay(5, 4, 9, some)),
-            Verdict::Pass,
-        ),
+        ("dual seal of a pump", 7, delay(5, 4, 9, day, some), pass),
         (
             "stock for a pump",
             7,
-            on(day, delay(5, 5, 9, some)),
+            delay(5, 5, 9, day, some),
             denied(1, 11),
         ),
-        (
-            "stock for a valve",
-            7,
-            on(day, delay(1, 5, 9, some)),
-            Verdict::Pass,
-        ),
+        ("stock for a valve", 7, delay(1, 5, 9, day, some), pass),
         (
             "shutdown without a signer",
             7,
-            on(day, delay(1, 1, 0, some)),
+            delay(1, 1, 0, day, some),
             denied(1, 12),
         ),
-        (
-            "shutdown with a signer",
-            7,
-            on(day, delay(1, 1, 9, some)),
-            Verdict::Pass,
-        ),
+        ("shutdown with a signer", 7, delay(1, 1, 9, day, some), pass),
         (
             "isolated without a signer",
             7,
-            on(day, delay(1, 2, 0, some)),
-            Verdict::Pass,
+            delay(1, 2, 0, day, some),
+            pass,
         ),
         (
             "isolated with no day",
             7,
-            on(day, delay(1, 2, 9, None)),
+            delay(1, 2, 9, day, None),
             denied(1, 13),
         ),
-        (
-            "withdrawn with no day",
-            7,
-            on(day, delay(1, 0, 0, None)),
-            Verdict::Pass,
-        ),
+        ("withdrawn with no day", 7, delay(1, 0, 0, day, None), pass),
         (
             "89 days of notice",
             0,
-            on(quarter, election(1, 1, late)),
+            election(quarter, 1, 1, late),
             denied(1, 14),
         ),
         (
             "90 days of notice",
             0,
-            on(quarter, election(1, 1, in_time)),
-            Verdict::Pass,
+            election(quarter, 1, 1, in_time),
+            pass,
         ),
         (
             "given up without notice",
             0,
-            on(quarter, election(1, 0, quarter)),
-            Verdict::Pass,
+            election(quarter, 1, 0, quarter),
+            pass,
         ),
         (
             "the second day of a quarter",
             0,
-            on(second, election(1, 1, in_time)),
+            election(second, 1, 1, in_time),
             denied(1, 20),
         ),
         (
             "before the first quarter",
             0,
-            on(Day::of_number(18_293).ok_or("day")?, election(1, 0, day)),
+            election(early, 1, 0, day),
             denied(1, 20),
         ),
         (
             "unit not entered",
             0,
-            on(quarter, election(2, 1, in_time)),
+            election(quarter, 2, 1, in_time),
             denied(1, 17),
         ),
     ];
     for (what, handheld, fact, want) in cases {
         assert_eq!(rt;
-            said_of(alloc, &register, 20, handheld, &[fact])?,
+            said_of(alloc, &register, 20, handheld, &one(fact))?,
             want,
             "{what}"
         );
@@ -514,13 +486,34 @@ fn each_rule_on_delays_and_elections_denies_and_lets_pass(rt: HostRuntime) -> Re
 }
 
 /// An election of skip periods.
-fn election(unit: u8, mode: u8, notified: Day) -> FactBody
-    ensures { result ≡ Election unit mode notified }
+fn election(day: Day, unit: u8, mode: u8, notified: Day) -> Fact
+    requires unit { (1 ≤ unit) × (unit ≤ 64) }
+    requires mode { mode ≤ 1 }
 {
-    FactBody::Election {
+    let body = FactBody::Election {
         unit,
         mode,
         notified,
+    };
+    Fact {
+        day,
+        minute: 600,
+        body,
+    }
+}
+
+fn unit(day: Day, unit: u8, name: Name) -> Fact
+    requires { (1 ≤ unit) × (unit ≤ 64) }
+{
+    let body = FactBody::Unit {
+        unit,
+        older: false,
+        name,
+    };
+    Fact {
+        day,
+        minute: 600,
+        body,
     }
 }
 
@@ -531,127 +524,112 @@ fn the_office_s_own_rules_deny_and_let_pass(rt: HostRuntime) -> Result<(), Fail>
     let last = Day::of_number(46_751).ok_or("day")?;
     let past = Day::of_number(46_752).ok_or("day")?;
     let register = register_of(alloc, &small_office(alloc)?)?;
-    let name = Name::new(b"COKER").ok_or("name")?;
-    let unit = |unit: u8| FactBody::Unit {
-        unit,
-        older: true,
-        name,
-    };
-    let compressor = component(20, Kind::Compressor, false, Service::Light);
+    let coker = unit(day, 2, Name::new(b"COKER").ok_or("name")?);
+    let crude = unit(day, 1, Name::new(b"CRUDE").ok_or("name")?);
+    let shutdown = on(day, FactBody::Shutdown { unit: 2, days: 3 });
+    let compressor = on(day, component(20, Kind::Compressor, false, Service::Light));
+    let again = on(day, component(1, Kind::Pump, false, Service::Light));
+    let without = on(day, class_of(5, class(Service::Light, Designation::Nde)));
+    let difficult = on(
+        day,
+        class_of(5, class(Service::Light, Designation::Difficult)),
+    );
+    let look = reading(last, 1, 1, 1);
+    let pass = Verdict::Pass;
     let cases = [
         (
             "retired by a handheld",
             7,
-            vec![in alloc; on(day, FactBody::Retire { component: 1 })]?,
+            20,
+            one(retired(day, 1)),
             denied(1, 16),
         ),
-        (
-            "retired by the office",
-            0,
-            vec![in alloc; on(day, FactBody::Retire { component: 1 })]?,
-            Verdict::Pass,
-        ),
+        ("retired by the office", 0, 20, one(retired(day, 1)), pass),
         (
             "a shutdown of an unknown unit",
             0,
-            vec![in alloc; on(day, FactBody::Shutdown { unit: 2, days: 3 })]?,
+            20,
+            one(shutdown),
             denied(1, 17),
         ),
         (
             "of a unit entered before it",
             0,
-            vec![in alloc;
-                on(day, unit(2)),
-                on(day, FactBody::Shutdown { unit: 2, days: 3 }),
-            ]?,
-            Verdict::Pass,
+            20,
+            two(coker, shutdown),
+            pass,
         ),
-        (
-            "a unit again",
-            0,
-            vec![in alloc; on(day, unit(1))]?,
-            denied(1, 18),
-        ),
+        ("a unit again", 0, 20, one(crude), denied(1, 18)),
         (
             "a unit twice in a batch",
             0,
-            vec![in alloc; on(day, unit(2)), on(day, unit(2))]?,
+            20,
+            two(coker, coker),
             denied(2, 18),
         ),
-        (
-            "a component again",
-            0,
-            vec![in alloc; on(day, component(1, Kind::Pump, false, Service::Light))]?,
-            denied(1, 18),
-        ),
-        (
-            "the last day",
-            7,
-            vec![in alloc; on(last, reading(1))]?,
-            Verdict::Pass,
-        ),
+        ("a component again", 0, 20, one(again), denied(1, 18)),
+        ("the last day", 7, 20, one(look), pass),
         (
             "a day too late",
             7,
-            vec![in alloc; on(last, reading(1)), on(past, reading(1))]?,
+            20,
+            two(look, reading(past, 1, 1, 1)),
             denied(2, 19),
         ),
         (
             "a day too late for an election",
             0,
-            vec![in alloc; on(past, election(1, 0, day))]?,
+            20,
+            one(election(past, 1, 0, day)),
             denied(1, 19),
         ),
         (
             "a compressor in light liquid",
             0,
-            vec![in alloc; on(day, compressor)]?,
+            20,
+            one(compressor),
             denied(1, 21),
         ),
         (
             "the same from a handheld",
             7,
-            vec![in alloc; on(day, compressor)]?,
+            20,
+            one(compressor),
             denied(1, 16),
         ),
-        (
-            "a pump without emissions",
-            0,
-            vec![in alloc; on(day, class_of(5, class(Service::Light, Designation::Nde)))]?,
-            Verdict::Pass,
-        ),
+        ("a pump with no emissions", 0, 20, one(without), pass),
         (
             "a pump difficult to monitor",
             0,
-            vec![in alloc;
-                on(
-                    day,
-                    class_of(5, class(Service::Light, Designation::Difficult))
-                ),
-            ]?,
+            20,
+            one(difficult),
             denied(1, 21),
         ),
+        (
+            "8,000,000 held",
+            7,
+            8_000_000,
+            one(look),
+            Verdict::Full { facts: 8_000_001 },
+        ),
+        ("one less", 7, 7_999_999, one(look), pass),
+        (
+            "8,000,000 held, and denied",
+            7,
+            8_000_000,
+            one(visual(day, 1)),
+            denied(1, 5),
+        ),
     ];
-    for (what, handheld, facts, want) in cases {
-        assert_eq!(rt;
-            said_of(alloc, &register, 20, handheld, &facts)?,
-            want,
-            "{what}"
-        );
+    for (what, handheld, held, few, want) in cases {
+        if held <= 8_000_000 {
+            assert_eq!(rt;
+                said_of(alloc, &register, held, handheld, &few)?,
+                want,
+                "{what}"
+            );
+        }
     }
-    let full = 8_000_000;
-    assert_eq!(rt;
-        said_of(alloc, &register, full, 7, &[on(day, reading(1))])?,
-        Verdict::Full { facts: 8_000_001 }
-    );
-    assert_eq!(rt;
-        said_of(alloc, &register, full - 1, 7, &[on(day, reading(1))])?,
-        Verdict::Pass
-    );
-    assert_eq!(rt;
-        said_of(alloc, &register, full, 7, &[on(day, visual(1))])?,
-        denied(1, 5)
-    );
     Ok(())
 }
 
@@ -660,13 +638,8 @@ fn unit_of_valves(alloc: Global, count: u16) -> Result<Vec<Fact>, Fail>
     requires { count ≤ 400 }
 {
     let begin = Day::of_number(18_276).ok_or("day")?;
-    let name = Name::new(b"CRUDE").ok_or("name")?;
-    let unit = FactBody::Unit {
-        unit: 1,
-        older: false,
-        name,
-    };
-    let mut facts = vec![in alloc; on(begin, unit)]?;
+    let mut facts = Vec::new(alloc);
+    facts.push(unit(begin, 1, Name::new(b"CRUDE").ok_or("name")?))?;
     for number in 0..count {
         facts.push(on(
             begin,
@@ -685,79 +658,61 @@ fn three_valves_in_a_hundred_are_too_many(rt: HostRuntime) -> Result<(), Fail> {
     let hundred = register_of(alloc, &unit_of_valves(alloc, 100)?)?;
     let thirty_three = register_of(alloc, &unit_of_valves(alloc, 33)?)?;
     let difficult = class(Service::Gas, Designation::Difficult);
-    let [one, two, three] = [1, 2, 3].map(|number| on(day, class_of(number, difficult)));
+    let first = on(day, class_of(1, difficult));
+    let second = on(day, class_of(2, difficult));
+    let third = on(day, class_of(3, difficult));
+    let third_later = on(next, class_of(3, difficult));
+    let valve = on(begin, component(40, Kind::Valve, false, Service::Gas));
+    let pump = on(begin, component(40, Kind::Pump, false, Service::Light));
+    let pass = Verdict::Pass;
     let cases = [
-        (
-            "two of a hundred",
-            &hundred,
-            vec![in alloc; one, two]?,
-            Verdict::Pass,
-        ),
+        ("two of a hundred", &hundred, two(first, second), pass),
         (
             "three of a hundred",
             &hundred,
-            vec![in alloc; one, two, three]?,
+            [Some(first), Some(second), Some(third)],
             denied(1, 15),
         ),
         (
             "the third from the day after",
             &hundred,
-            vec![in alloc; one, two, on(next, class_of(3, difficult))]?,
+            [Some(first), Some(second), Some(third_later)],
             denied(3, 15),
         ),
         (
-            "one of 33",
-            &thirty_three,
-            vec![in alloc; one]?,
-            denied(1, 15),
+            "two of 99",
+            &hundred,
+            [Some(first), Some(second), Some(retired(day, 3))],
+            pass,
         ),
+        ("one of 33", &thirty_three, one(first), denied(1, 15)),
         (
-            "one of 34, behind it",
+            "one of 34, the last behind it",
             &thirty_three,
-            vec![in alloc;
-                one,
-                on(begin, component(40, Kind::Valve, false, Service::Gas)),
-            ]?,
-            Verdict::Pass,
+            two(first, valve),
+            pass,
         ),
         (
             "a pump behind it",
             &thirty_three,
-            vec![in alloc;
-                one,
-                on(begin, component(40, Kind::Pump, false, Service::Light)),
-            ]?,
+            two(first, pump),
             denied(1, 15),
         ),
         (
             "a component twice, first a pump",
             &thirty_three,
-            vec![in alloc;
-                one,
-                on(begin, component(40, Kind::Pump, false, Service::Light)),
-                on(begin, component(40, Kind::Valve, false, Service::Gas)),
-            ]?,
+            [Some(first), Some(pump), Some(valve)],
             denied(1, 15),
         ),
         (
-            "first a valve",
+            "a component twice, first a valve",
             &thirty_three,
-            vec![in alloc;
-                one,
-                on(begin, component(40, Kind::Valve, false, Service::Gas)),
-                on(begin, component(40, Kind::Pump, false, Service::Light)),
-            ]?,
+            [Some(first), Some(valve), Some(pump)],
             denied(3, 18),
         ),
-        (
-            "one of 34, one of them retired",
-            &hundred,
-            vec![in alloc; one, two, on(day, FactBody::Retire { component: 3 })]?,
-            Verdict::Pass,
-        ),
     ];
-    for (what, register, facts, want) in cases {
-        assert_eq!(rt; said_of(alloc, register, 200, 0, &facts)?, want, "{what}");
+    for (what, register, few, want) in cases {
+        assert_eq!(rt; said_of(alloc, register, 200, 0, &few)?, want, "{what}");
     }
     Ok(())
 }
