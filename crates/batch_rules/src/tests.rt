@@ -1,4 +1,4 @@
-ghost use Rattle.std.specs.Prelude.{◌≡◌, ◌≤◌, IsTrue, OnOk};
+ghost use Rattle.std.specs.Prelude.{◌≡◌, ◌≤◌, false, IsTrue, OnOk};
 ghost use Rattle.fact_store.specs.Kept.{facts_in, is_held};
 ghost use Rattle.ldar_facts.specs.Fields.{IsFact};
 ghost use Rattle.component_register.specs.Once.{IsFirstOfNumber};

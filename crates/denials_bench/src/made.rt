@@ -1,9 +1,7 @@
 //! The facts that are judged.
 
 use ldar_days::Day;
-use ldar_facts::{
-    Batch, Class, Designation, Fact, FactBody, Kind, Memory, Name, Purpose, Service,
-};
+use ldar_facts::{Batch, Class, Designation, Fact, FactBody, Kind, Memory, Name, Purpose, Service};
 use std::alloc::{AllocError, Global};
 
 /// What the facts are.

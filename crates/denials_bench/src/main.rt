@@ -9,28 +9,13 @@
 mod made;
 mod office;
 
+use batch_rules::verdict;
+use component_register::Register;
+use ldar_facts::Batch;
+use ldar_law::Verdict;
 use made::{Sort, batch_at, first_entries};
-use office::Office;
+use office::enter;
 use std::env;
-
-/// What is done with the batches.
-#[derive(Clone, Copy, PartialEq, Eq)]
-enum Work {
-    None,
-    Insert,
-    Judge,
-}
-
-impl Work {
-    /// The work that a word names: none where it names no other.
-    fn of(word: &str) -> Work {
-        match word {
-            "insert" => Work::Insert,
-            "judge" => Work::Judge,
-            _ => Work::None,
-        }
-    }
-}
 
 fn main(rt: HostRuntime) -> Result<(), anyhow::Error> {
     let words: Vec<String> = env::args(&rt)?.skip(1).collect(rt.alloc())?;
@@ -52,24 +37,31 @@ fn a_little(rt: &HostRuntime) -> Result<(), anyhow::Error> {
 fn measured(rt: &HostRuntime, work: &str, sort: &str, facts: u32) -> Result<(), anyhow::Error> {
     let alloc = rt.alloc();
     let kind = Sort::of(sort);
-    let mut office = Office::new(alloc);
-    office.enter(&first_entries(alloc, kind)?)?;
+    let mut register = Register::new(alloc);
+    let mut entered = enter(&mut register, 0, &first_entries(alloc, kind)?)?;
+    let mut passed = 0u64;
     let mut sum = 0u64;
     for number in 0..facts.div_ceil(512) {
         let Some(batch) = batch_at(alloc, kind, number, facts)? else {
             break;
         };
-        for fact in batch.facts.as_slice() {
-            sum = sum.wrapping_add(u64::from(fact.minute) ^ u64::from(fact.day.number()));
+        sum = sum.wrapping_add(sum_of(&batch));
+        if work == "judge" && verdict(&register, 1_000_000, &batch) == Verdict::Pass {
+            passed = passed.saturating_add(1);
         }
-        let asked = Work::of(work);
-        if asked == Work::Judge {
-            office.judge(&batch);
-        }
-        if asked != Work::None && kind == Sort::Import {
-            office.enter(batch.facts.as_slice())?;
+        if work != "none" && kind == Sort::Import {
+            entered = enter(&mut register, entered, batch.facts.as_slice())?;
         }
     }
-    println!(rt; "{work} {sort}: {facts} facts, {} batches pass, {sum}", office.passed())?;
+    println!(rt; "{work} {sort}: {facts} facts, {passed} batches pass, {sum}")?;
     Ok(())
+}
+
+/// A sum over what the facts of a batch say, so that no making can be left out.
+fn sum_of(batch: &Batch) -> u64 {
+    let mut sum = 0u64;
+    for fact in batch.facts.as_slice() {
+        sum = sum.wrapping_add(u64::from(fact.minute) ^ u64::from(fact.day.number()));
+    }
+    sum
 }

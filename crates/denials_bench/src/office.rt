@@ -1,66 +1,16 @@
-//! A register into which batches are entered, and the verdicts on them.
+//! A register into which the facts of batches are entered.
 
 ghost use Rattle.std.specs.Prelude.{◌≡◌, IfOk, IsTrue};
 ghost use Rattle.fact_store.specs.Kept.{facts_in};
 ghost use Rattle.component_register.specs.Once.{IsFirstOfNumber};
 ghost use Rattle.denials_bench.specs.Numbered.{AreNumbered};
 
-use batch_rules::verdict;
 use component_register::Register;
-use ldar_facts::{Batch, Fact, FactBody, Key, Memory};
-use ldar_law::{Verdict, is_registered};
-use std::alloc::Global;
-use std::marker::Model;
-
-/// The register of an office, and how many batches passed.
-#[derive(Drop)]
-pub struct Office {
-    register: Register,
-    entered: u32,
-    passed: u64,
-}
-
-impl Model for Office {
-    ghost use Rattle.denials_bench.specs.Numbered.{AreNumbered};
-    ghost use Rattle.std.specs.Prelude.{ℕ};
-
-    ghost Value = { ℕ };
-
-    ghost view = { λ o. o.passed };
-
-    ghost invariant = { λ o. AreNumbered o.entered o.register.arrived };
-}
-
-impl Office {
-    pub fn new(alloc: Global) -> Office {
-        Office {
-            register: Register::new(alloc),
-            entered: 0,
-            passed: 0,
-        }
-    }
-
-    /// Enters facts, as far as they are new.
-    pub fn enter(&mut self, facts: &[Fact]) -> Result<(), Memory> {
-        self.entered = enter(&mut self.register, self.entered, facts)?;
-        Ok(())
-    }
-
-    /// Asks for the verdict on a batch, and counts it where it passes.
-    pub fn judge(&mut self, batch: &Batch) {
-        let verdict = verdict(&self.register, 1_000_000, batch);
-        if verdict == Verdict::Pass {
-            self.passed = self.passed.saturating_add(1);
-        }
-    }
-
-    pub fn passed(&self) -> u64 {
-        self.passed
-    }
-}
+use ldar_facts::{Fact, FactBody, Key, Memory};
+use ldar_law::is_registered;
 
 /// Enters facts, each as a batch of its own with the next number. The result is how many there are then.
-fn enter(register: &mut Register, before: u32, facts: &[Fact]) -> Result<u32, Memory>
+pub fn enter(register: &mut Register, before: u32, facts: &[Fact]) -> Result<u32, Memory>
     requires numbered { AreNumbered before register.old.arrived }
     ensures numbered { IfOk result (λ entered. AreNumbered entered register.new.arrived) }
 {
@@ -69,4 +19,41 @@ fn enter(register: &mut Register, before: u32, facts: &[Fact]) -> Result<u32, Me
         entered = enter_one(register, entered, fact)?;
     }
     Ok(entered)
+}
+
+/// Enters a fact, if it is an entry and the first of its number, and there is room.
+fn enter_one(register: &mut Register, before: u32, fact: &Fact) -> Result<u32, Memory>
+    requires numbered { AreNumbered before register.old.arrived }
+    ensures numbered { IfOk result (λ entered. AreNumbered entered register.new.arrived) }
+{
+    if before >= 8_000_000 || !is_registered(&fact.body) || !is_first(register, &fact.body) {
+        return Ok(before);
+    }
+    register.reserve(&[*fact])?;
+    register.insert(key_of(fact, before), *fact);
+    Ok(before + 1)
+}
+
+/// Whether a fact enters no number for the second time.
+fn is_first(register: &Register, body: &FactBody) -> bool
+    ensures { IsTrue result → IsFirstOfNumber body.now (facts_in register.now) }
+{
+    match *body {
+        FactBody::Unit { unit, .. } => register.unit(unit).is_none(),
+        FactBody::Component { component, .. } => register.component(component).is_none(),
+        _ => true,
+    }
+}
+
+/// The key of a fact that is alone in its batch.
+fn key_of(fact: &Fact, number: u32) -> Key
+    ensures number { result.number ≡ number }
+{
+    Key {
+        day: fact.day,
+        minute: fact.minute,
+        handheld: 0,
+        number,
+        index: 0,
+    }
 }
