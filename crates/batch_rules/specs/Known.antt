@@ -1,8 +1,8 @@
 -- What is known where a fact of a batch is judged.
-use Rattle.std.specs.Prelude.{ℕ, Bool, ◌&&◌, nat_le, Option, None, List, slice_get}
+use Rattle.std.specs.Prelude.{ℕ, Bool, ◌&&◌, nat_le, Option, None, List, slice_get, take}
 use Rattle.std.specs.List.{filter_map, list_any}
 use Rattle.ldar_facts.specs.declared.batch.Batch.{Batch}
-use Rattle.ldar_facts.specs.Facts.{Entry, entries_of}
+use Rattle.ldar_facts.specs.Facts.{Entry, entries_from, entries_of}
 use Rattle.ldar_facts.specs.Stated.{Stated}
 use Rattle.fact_store.specs.Kept.{facts_in}
 use Rattle.ldar_law.specs.declared.equipment.Equipment.{Equipment}
@@ -34,3 +34,7 @@ front_of known = entries_of (batch_of known)
 -- the register where they have come
 abbrev pub register_at : Known → Register
 register_at known = register_with (facts_in known.register.now) (front_of known)
+
+-- the register where the first facts have come
+abbrev pub register_by : Known → ℕ → Register
+register_by known count = register_with (facts_in known.register.now) (entries_from (batch_of known) 0 (take count known.front.now))

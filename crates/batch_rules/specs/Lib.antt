@@ -1,1 +1,6 @@
+pub mod Cases
 pub mod Known
+pub mod Passed
+pub mod Shares
+pub mod Standings
+pub mod Table

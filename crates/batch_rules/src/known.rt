@@ -4,12 +4,14 @@ ghost use Rattle.ldar_law.specs.RegisterLaws.{class_first, with_class};
 ghost use Rattle.ldar_law.specs.Equipment as law;
 ghost use Rattle.ldar_law.specs.Force as force;
 ghost use Rattle.ldar_law.specs.Judged as judged;
-ghost use Rattle.batch_rules.specs.Known.{entered_among, unit_among, retired_among, register_at};
+ghost use Rattle.batch_rules.specs.Known.{entered_among, unit_among, retired_among, register_at, register_by};
+ghost use Rattle.batch_rules.specs.Standings.{standing_of, standing_by};
 
+use crate::asked::Standing;
 use component_register::{Register, component_entered, retires, unit_entered};
 use ldar_days::Day;
 use ldar_facts::{Class, Fact, FactBody, Key, precedes};
-use ldar_law::{Equipment, UnitEntry};
+use ldar_law::{Equipment, UnitEntry, component_asked};
 
 /// What is known where a fact of a batch is judged: the register, and the facts of the batch that came before.
 #[derive(Clone, Copy)]
@@ -113,7 +115,19 @@ fn later_of(latest: Option<(Key, Class)>, key: Key, class: Class) -> (Key, Class
     }
 }
 
-impl Known<'_> {
+impl<'a> Known<'a> {
+    /// What is known by the first facts alone.
+    pub fn up_to(&self, count: usize) -> Known<'a>
+        requires within { count ≤ length self.now.front.now }
+        ensures value { register_at result ≡ register_by self.now count }
+        ensures few { length result.front.now ≤ count }
+    {
+        Known {
+            front: &self.front[..count],
+            ..*self
+        }
+    }
+
     /// The component as it was entered first, with no retirement.
     pub fn component(&self, component: u16) -> Option<Equipment>
         ensures value { result ≡ judged.first_entry component (register_at self.now).entered }
@@ -148,6 +162,39 @@ impl Known<'_> {
             latest = later_class(latest, component, day, key, fact);
         }
         latest
+    }
+
+    /// The class of a component on a day.
+    pub fn class_of(&self, item: &Equipment, day: Day) -> Class
+        requires few { length self.now.front.now ≤ 512 }
+        ensures value { result ≡ judged.class_held (register_at self.now) item.now day }
+    {
+        match self.class_by(item.component, day) {
+            Some((_, class)) => class,
+            None => item.class,
+        }
+    }
+
+    /// The kind of a component that was entered, and its class on a day.
+    fn standing(&self, component: u16, day: Day) -> Standing
+        requires few { length self.now.front.now ≤ 512 }
+        ensures value { result ≡ standing_of (register_at self.now) component day }
+    {
+        match self.component(component) {
+            Some(item) => Some((item.kind, self.class_of(&item, day))),
+            None => None,
+        }
+    }
+
+    /// The kind of the component that a fact asks for, and its class on the fact's day.
+    pub fn asked(&self, fact: &Fact) -> Standing
+        requires few { length self.now.front.now ≤ 512 }
+        ensures value { result ≡ standing_by (register_at self.now) fact.now.day fact.now.body }
+    {
+        match component_asked(&fact.body) {
+            Some(component) => self.standing(component, fact.day),
+            None => None,
+        }
     }
 
     /// Whether the component is out of service on a day.

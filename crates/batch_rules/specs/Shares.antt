@@ -1,0 +1,36 @@
+-- How many valves of a process unit are in service on a day, and how many of them are difficult to monitor (40 CFR 60.482-7a(h)(2)(ii)).
+use Rattle.std.specs.Prelude.{ℕ, Bool, if◌then◌else◌, Option, None}
+use Rattle.ldar_facts.specs.declared.body.FactBody.{FactBody}
+use Rattle.ldar_facts.specs.Named.{component_of}
+use Rattle.ldar_law.specs.Judged.{Register, Case, class_held}
+use Rattle.ldar_law.specs.declared.equipment.Equipment.{Equipment}
+use Rattle.ldar_law.specs.ShareLaws.{counts_as_valve, counts_as_difficult, adds, count_in}
+use Rattle.ldar_law.specs.Slices.{is_registered}
+use Rattle.ldar_law.specs.Standing.{is_difficult_designated}
+use Rattle.batch_rules.specs.declared.share.Share.{Share}
+
+-- the component is difficult to monitor on the day
+abbrev pub is_difficult_on : Register → ℕ → Equipment → Bool
+is_difficult_on register day item = is_difficult_designated (class_held register item day).designation
+
+-- what a component adds to the share of a process unit on a day
+abbrev pub added : ℕ → ℕ → Register → ℕ → Share
+added unit day register number =
+    record { valves = adds (counts_as_valve unit day) register number; difficult = adds (counts_as_difficult unit day) register number }
+
+-- the share of a process unit on a day
+abbrev pub share_in : ℕ → ℕ → Register → Share
+share_in unit day register =
+    record { valves = count_in (counts_as_valve unit day) register; difficult = count_in (counts_as_difficult unit day) register }
+
+-- a fact with its day, judged by a register
+abbrev pub judged_by : Register → ℕ → FactBody → Case
+judged_by whole day body = record {
+  entry = (record { day = day; minute = 0; handheld = 0; number = 0; index = 0 }, record { day = day; minute = 0; body = body });
+  known = whole;
+  whole = whole;
+}
+
+-- the component of which a fact changes what the register holds
+abbrev pub changed : FactBody → Option ℕ
+changed body = if is_registered body then component_of body else None

@@ -1,0 +1,100 @@
+ghost use Rattle.std.specs.Prelude.{◌≡◌, ◌+◌, ◌<◌, ◌≤◌, ◌^◌, if◌then◌else◌, None, List, length};
+ghost use Rattle.ldar_facts.specs.declared.batch.Batch.{Batch as FactBatch};
+ghost use Rattle.ldar_facts.specs.Facts.{facts_of};
+ghost use Rattle.fact_store.specs.Kept.{facts_in};
+ghost use Rattle.ldar_law.specs.Slices.{is_registered as says_registered, register_facts};
+ghost use Rattle.ldar_law.specs.Verdicts.{denial_after, least_rule as least, verdict_by, verdict_on};
+ghost use Rattle.batch_rules.specs.Cases.{case_in};
+ghost use Rattle.batch_rules.specs.Known.{batch_of, register_at, register_by};
+ghost use Rattle.batch_rules.specs.Passed.{ArePassed};
+
+use crate::case::Case;
+use crate::difficult::{Passed, passed_after, passed_on};
+use crate::known::Known;
+use crate::rules::least_rule;
+use component_register::Register;
+use ldar_facts::{Batch, Fact, FactBody};
+use ldar_law::{MOST_FACTS, Verdict, is_registered};
+
+/// How many facts of a batch stand up to its last entry in the register, where the fact at a place has come too.
+fn reach_after(reach: usize, index: usize, body: &FactBody) -> usize
+    requires within { index < 2 ^ 16 }
+    ensures value { result ≡ (if says_registered body.now then index + 1 else reach) }
+{
+    if is_registered(body) {
+        index + 1
+    } else {
+        reach
+    }
+}
+
+/// The least rule that denies a fact, and what the rule on difficult valves was asked last, where the fact passes.
+fn judged<'a>(
+    whole: &Known<'a>,
+    fact: &'a Fact,
+    index: usize,
+    reach: usize,
+    passed: &Passed,
+) -> (Option<u8>, Passed)
+    requires few { length whole.now.front.now ≤ 512 }
+    requires within { reach ≤ length whole.now.front.now }
+    requires known { register_by whole.now reach ≡ register_by whole.now index }
+    requires passed { ArePassed (register_at whole.now) passed.now }
+    ensures rule { result.0 ≡ least (case_in (facts_in whole.now.register.now) (batch_of whole.now) index fact.now) }
+    ensures passed { result.0 ≡ None → ArePassed (register_at whole.now) result.1 }
+{
+    let unit = passed_on(passed, fact.day);
+    let case = Case::new(fact, index, whole.up_to(reach), *whole, unit);
+    match least_rule(&case) {
+        Some(rule) => (Some(rule), None),
+        None => (None, passed_after(&case, passed)),
+    }
+}
+
+/// The first fact of a batch that is denied, from 1, and the least rule that denies it.
+fn first_denial(register: &Register, batch: &Batch) -> Option<(u16, u8)>
+    ensures value { result ≡ denial_after (facts_in register.now) batch.now }
+{
+    let facts = batch.facts.as_slice();
+    let whole = Known {
+        register,
+        handheld: batch.handheld,
+        number: batch.number,
+        front: facts,
+    };
+    // Behind the last entry in the register nothing has to be looked through.
+    let mut reach = 0;
+    let mut passed = None;
+    for index in 0..facts.len() {
+        let fact = &facts[index];
+        let (rule, asked) = judged(&whole, fact, index, reach, &passed);
+        if let Some(rule) = rule {
+            return Some((index as u16 + 1, rule));
+        }
+        passed = asked;
+        reach = reach_after(reach, index, &fact.body);
+    }
+    None
+}
+
+/// The verdict on what was found first, where there would be so many facts.
+fn verdict_found(denial: Option<(u16, u8)>, facts: u64) -> Verdict
+    ensures value { result ≡ verdict_by denial facts }
+{
+    match denial {
+        Some((fact, rule)) => Verdict::Denied { fact, rule },
+        None if facts > MOST_FACTS => Verdict::Full { facts },
+        None => Verdict::Pass,
+    }
+}
+
+/// The verdict on a batch, by the register of the office and the number of facts that it holds. The first fact that
+/// fails a rule is told, with the least rule that it fails. It takes no memory.
+pub fn verdict(register: &Register, held: u64, batch: &Batch) -> Verdict
+    requires held { held ≤ 8_000_000 }
+    ensures value { (history : List FactBatch) → facts_in register.now ≡ register_facts (facts_of history)
+        → held ≡ length (facts_of history) → result ≡ verdict_on history batch.now }
+{
+    let denial = first_denial(register, batch);
+    verdict_found(denial, held + batch.facts.as_slice().len() as u64)
+}
