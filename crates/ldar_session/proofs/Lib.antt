@@ -1,0 +1,4 @@
+pub mod BatchLemmas
+pub mod DockLemmas
+pub mod StampLemmas
+pub mod Stretches
