@@ -1,5 +1,5 @@
 -- Batches that stand in front of some bytes, and what was served of them.
-use Rattle.std.proofs.Common.{◌≡◌, ℕ, ◌+◌, ◌-◌, ◌<◌, ◌≤◌, List, [], ◌∷◌, ◌++◌, length, map, take, drop, Option, Some, All, refl, sym, ap, subst, ◌∙◌, append_assoc, length-append, arith}
+use Rattle.std.proofs.Common.{◌≡◌, ℕ, ◌+◌, ◌-◌, ◌<◌, ◌≤◌, List, [], ◌∷◌, ◌++◌, length, map, take, drop, Option, Some, All, inl, inr, refl, sym, ap, subst, ◌∙◌, append_assoc, length-append, arith}
 use Rattle.std.specs.List.{flat_map, AllByRecursion}
 use Rattle.std.proofs.lemmas.List.{append-nil, take-append-drop, drop-drop, length-drop, length-map}
 use Rattle.std.proofs.lemmas.Grind.{flat_map-append}
@@ -13,7 +13,7 @@ use Rattle.ldar_law.specs.Replies.{reply_text}
 use Rattle.ldar_ports.specs.Sink.{Piece, Puts, IsStamped, bytes_of}
 use Rattle.office_book.specs.Asking.{requests_of, replies_of}
 use Rattle.ldar_session.specs.Served.{Served, Stretch, items_of, turns_of}
-use Rattle.ldar_session.specs.Batches.{Asks, AsksEach, IsBatch, StandInFront, line_of}
+use Rattle.ldar_session.specs.Batches.{Asks, AsksEach, IsBatch, IsGroup, StandInFront, line_of}
 use Rattle.ldar_session.proofs.Stretches.{stretch_call}
 
 -- ---- what was served of items that were asked
@@ -103,6 +103,17 @@ stand_more bytes requests used n batch stand within spells =
           ∙ ap (λ l. l ++ drop (used + n) bytes)
               (ap (λ l. flat_map (λ (i : List ℕ). i) stand.items ++ l) (sym (append-nil item)) ∙ sym (flat_map-append (λ (i : List ℕ). i) stand.items (item ∷ [])));
     }
+
+-- a batch of handheld 0 is asked alone
+pub group_alone : (bytes : List ℕ) (most : ℕ) (batch : Batch) (used : ℕ) → 0 < most → used ≤ length bytes → Spells (take used bytes) batch
+    → batch.handheld ≡ 0 → IsGroup bytes most (Sync batch ∷ []) used
+group_alone bytes most batch used some within spells zero = record {
+  stand = stand_first bytes batch used within spells;
+  some = omega arith;
+  fits = omega arith;
+  alike = λ several. absurd (omega (arith, several));
+  full = inr (inl (λ all. all.0 zero));
+}
 
 -- the batches in front have as many bytes as are used
 pub length-stand : (bytes : List ℕ) (requests : List Request) (used : ℕ) (stand : StandInFront bytes requests used)

@@ -74,3 +74,8 @@ part_served window requests used stand more (inl are) =
     let all = group_served window requests used stand more are in (drop used window, all.0, omega (arith, all.1))
 part_served window requests used stand more (inr none) =
     (window, ap (λ (l : List Served). items_of l ++ window) (sym none), omega (arith, ap length none))
+
+-- a list without elements is empty
+pub is_nil : (l : List ℕ) → length l ≡ 0 → l ≡ []
+is_nil [] none = refl
+is_nil (x ∷ l) none = absurd (omega (arith, none))

@@ -45,8 +45,9 @@ pub fn dock<O: Office, S: Source, K: Sink>(
             Ok(group) => group,
             Err(ended) => return ended,
         };
-        if let Err(ended) = serve(alloc, office, sink, &group.requests) {
-            return ended;
+        match serve(alloc, office, sink, &group.requests) {
+            Ok(()) => {}
+            Err(ended) => return ended,
         }
         window.drop_front(group.used);
         before += group.used as u64;
