@@ -5,7 +5,7 @@ use Rattle.std.proofs.Math.Seq.{take-append_seam}
 use Rattle.std.proofs.lemmas.List.{reverse-append, length-reverse, take-append-le}
 use Rattle.ldar_law.specs.declared.delay.DelayEntry.{DelayEntry}
 use Rattle.ldar_law.specs.declared.delay.Stop.{Stop}
-use Rattle.ldar_law.specs.Delays.{is_past, due_given, last_counted, counted_delay, counted_place, is_ignored, AreIgnored, IsLastCounted}
+use Rattle.ldar_law.specs.Delays.{is_past, due_given, last_counted, counted_delay, is_ignored, AreIgnored, IsLastCounted}
 use Rattle.ldar_law.specs.RepairLaws.{OneMoreDelay, CountedPlaceIsOfDelay, NoneCounted, CountedPlaceIsLast}
 
 pub one_more_delay : OneMoreDelay

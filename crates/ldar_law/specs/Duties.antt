@@ -1,5 +1,5 @@
 -- What has to be done at a component: nine causes, and the rule for lists (40 CFR 60.482-2a, 60.482-3a, 60.482-4a, 60.482-7a, 60.482-8a).
-use Rattle.std.specs.Prelude.{ℕ, ◌+◌, ◌-◌, ◌*◌, ◌/◌, ◌%◌, Bool, false, not, ◌&&◌, ◌||◌, nat_eq, nat_lt, nat_le, min, if◌then◌else◌, Option, Some, None, option_map, is_none, option_to_list, unwrap_or, slice_get, List, ◌++◌, ◌≡◌, filter, find, filter_map}
+use Rattle.std.specs.Prelude.{ℕ, ◌+◌, ◌-◌, ◌*◌, ◌/◌, ◌%◌, Bool, false, not, ◌&&◌, ◌||◌, nat_eq, nat_lt, nat_le, min, if◌then◌else◌, Option, Some, None, option_map, is_none, option_to_list, unwrap_or, slice_get, List, ◌++◌, find, filter_map}
 use Rattle.std.specs.List.{list_any}
 use Rattle.std.specs.Option.{option_map_or}
 use Rattle.list_words.specs.Ranges.{from_to}

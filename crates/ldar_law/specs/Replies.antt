@@ -1,5 +1,5 @@
--- The line of each reply.
-use Rattle.std.specs.Prelude.{ℕ, List, ◌++◌, codes}
+-- The line of each reply, and which replies have one.
+use Rattle.std.specs.Prelude.{ℕ, ◌≤◌, List, ◌++◌, codes}
 use Rattle.std.specs.Fmt.{decimal}
 use Rattle.ldar_law.specs.declared.reply.Reply.{Reply}
 use Rattle.ldar_law.specs.declared.reply.Reply.TheVariants.{Receipt, Conflict, Denied, Full, Shown, NoSuch, Fault, Memory}
@@ -27,3 +27,14 @@ reply_text (Shown text) = text
 reply_text (NoSuch what) = codes "no such " ++ what_text what ++ end_of_line
 reply_text Fault = codes "disk fault" ++ end_of_line
 reply_text Memory = codes "memory" ++ end_of_line
+
+-- a denial names one of the 21 rules
+abbrev pub HasRule : Reply → Type 0
+HasRule (Receipt handheld number position) = Unit {0}
+HasRule (Conflict position) = Unit {0}
+HasRule (Denied fact rule) = (1 ≤ rule) × (rule ≤ 21)
+HasRule (Full facts) = Unit {0}
+HasRule (Shown text) = Unit {0}
+HasRule (NoSuch what) = Unit {0}
+HasRule Fault = Unit {0}
+HasRule Memory = Unit {0}

@@ -17,6 +17,7 @@ pub mod laws;
 mod leak_definition;
 mod months;
 mod numbers;
+mod paragraphs;
 mod quarter;
 mod regime;
 mod reply;
@@ -50,6 +51,7 @@ pub use numbers::{
     ATTEMPT_DAYS, EVENT_DAYS, FIRST_DAYS, GAS_MARGIN, LAST_FACT_DAY, LISTED_DAYS, MOST_COMPONENTS,
     MOST_FACTS, NOTICE_DAYS, REPAIR_DAYS, VERIFICATION_DAYS,
 };
+pub use paragraphs::paragraph;
 pub use quarter::{is_in_quarter, judging_day, month_in_quarter, quarter_start};
 pub use regime::Regime;
 pub use reply::Reply;

@@ -1,3 +1,6 @@
+ghost use Rattle.std.specs.Prelude.{◌≡◌};
+ghost use Rattle.ldar_law.specs.Replies.{what_text};
+
 use ldar_days::Day;
 use ldar_facts::Batch;
 
@@ -44,4 +47,19 @@ pub enum What {
     Half,
     Day,
     Stops,
+}
+
+impl What {
+    /// The word for it in the line of a reply.
+    pub fn word(self) -> &'static str
+        ensures value { result.now ≡ what_text self }
+    {
+        match self {
+            What::Unit => "unit",
+            What::Quarter => "quarter",
+            What::Half => "half",
+            What::Day => "day",
+            What::Stops => "stops",
+        }
+    }
 }
