@@ -9,9 +9,11 @@ use Rattle.ldar_facts.proofs.GrammarLaws.{spelling_length}
 use Rattle.ldar_law.specs.declared.request.Request.{Request}
 use Rattle.ldar_law.specs.declared.request.Request.TheVariants.{Sync}
 use Rattle.ldar_law.specs.Machine.{Call, Turn}
-use Rattle.ldar_law.specs.Replies.{reply_text}
+use Rattle.ldar_law.specs.declared.reply.Reply.{Reply}
+use Rattle.ldar_law.specs.declared.reply.Reply.TheVariants.{Receipt, Conflict, Denied, Full, Shown, NoSuch, Fault, Memory}
+use Rattle.ldar_law.specs.Replies.{reply_text, HasRule as HasLine}
 use Rattle.ldar_ports.specs.Sink.{Piece, Puts, IsStamped, bytes_of}
-use Rattle.office_book.specs.Asking.{requests_of, replies_of}
+use Rattle.office_book.specs.Asking.{requests_of, replies_of, HasRule}
 use Rattle.ldar_session.specs.Served.{Served, Stretch, items_of, turns_of}
 use Rattle.ldar_session.specs.Batches.{Asks, AsksEach, IsBatch, IsGroup, StandInFront, line_of}
 use Rattle.ldar_session.proofs.Stretches.{stretch_call}
@@ -101,7 +103,7 @@ stand_more bytes requests used n batch stand within spells =
           ∙ ap (λ l. flat_map (λ (i : List ℕ). i) stand.items ++ l) (sym (take-append-drop n (drop used bytes)) ∙ ap (λ l. item ++ l) (drop-drop n used bytes))
           ∙ sym (append_assoc (flat_map (λ (i : List ℕ). i) stand.items) item (drop (used + n) bytes))
           ∙ ap (λ l. l ++ drop (used + n) bytes)
-              (ap (λ l. flat_map (λ (i : List ℕ). i) stand.items ++ l) (sym (append-nil item)) ∙ sym (flat_map-append (λ (i : List ℕ). i) stand.items (item ∷ [])));
+          (ap (λ l. flat_map (λ (i : List ℕ). i) stand.items ++ l) (sym (append-nil item)) ∙ sym (flat_map-append (λ (i : List ℕ). i) stand.items (item ∷ [])));
     }
 
 -- a batch of handheld 0 is asked alone
@@ -139,3 +141,14 @@ pub stretch_group : {O : Type 0} (led : O → List Call → O → Type 0) (old n
 stretch_group led old new call items pieces pieces' put unsaid clock asked run puts said stamped late =
     stretch_call IsBatch line_of led old new call pieces pieces' put (served_in items call.turns) unsaid clock run (turns_of-served_in items call.turns asked)
     (are_batches items call.turns asked) puts (lines_of-served_in items call.turns asked ∙ said) stamped late
+
+-- a reply of an office has a line
+pub has_rule : (reply : Reply) → HasRule reply → HasLine reply
+has_rule (Receipt handheld number position) is = tt
+has_rule (Conflict position) is = tt
+has_rule (Denied fact rule) is = is
+has_rule (Full facts) is = tt
+has_rule (Shown text) is = tt
+has_rule (NoSuch what) is = tt
+has_rule Fault is = tt
+has_rule Memory is = tt

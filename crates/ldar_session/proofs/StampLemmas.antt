@@ -36,8 +36,13 @@ all_parts P (x ∷ xs) ys all = let parts = all_parts P xs ys all.1 in ((all.0, 
 pub length-stamps_of : (put : List Piece) → length (stamps_of put) ≡ length (bytes_of put)
 length-stamps_of [] = refl
 length-stamps_of (piece ∷ put) =
-    omega (arith, length-append (replicate (length piece.bytes) piece.stamp) (stamps_of put), length-append piece.bytes (bytes_of put),
-        length-replicate {A = ℕ} (length piece.bytes) piece.stamp, length-stamps_of put)
+    omega (
+      arith,
+      length-append (replicate (length piece.bytes) piece.stamp) (stamps_of put),
+      length-append piece.bytes (bytes_of put),
+      length-replicate {A = ℕ} (length piece.bytes) piece.stamp,
+      length-stamps_of put,
+    )
 
 -- items whose bytes were all put, and others behind them
 pub stamped_more : (text : Served → List ℕ) (first second : List Served) (stamps stamps' : List ℕ) → length (flat_map text first) ≡ length stamps
@@ -101,4 +106,4 @@ stamped_behind text served turns end clock put are le each own =
     let since = since_turns served clock (subst (λ l. AllByRecursion P l) (sym are) (not_later turns end clock le own)) in
     subst (λ l. Stamped text served l) (sym (stamps_of-stamped clock put each))
     (stamped_late text served clock (replicate (length (bytes_of put)) clock) since
-        (all_replicate (λ stamp. clock ≤ stamp) (length (bytes_of put)) clock (omega arith)))
+    (all_replicate (λ stamp. clock ≤ stamp) (length (bytes_of put)) clock (omega arith)))

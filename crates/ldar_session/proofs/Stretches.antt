@@ -16,7 +16,14 @@ module _ {O : Type 0} (IsItem : Served → Type 0) (text : Served → List ℕ) 
   -- nothing was served
   pub stretch_none : ((office : O) → led office [] office) → (office : O) (pieces : Option (List Piece)) → Stretch IsItem text led office office pieces pieces [] []
   stretch_none stays office pieces = record {
-    calls = []; put = []; run = stays office; turns = refl; each = tt; puts = puts_none pieces; said = refl; stamped = λ own. tt
+    calls = [];
+    put = [];
+    run = stays office;
+    turns = refl;
+    each = tt;
+    puts = puts_none pieces;
+    said = refl;
+    stamped = λ own. tt;
   }
 
   -- one call, and behind it pieces that say what its turns were answered

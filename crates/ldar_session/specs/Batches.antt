@@ -24,6 +24,10 @@ Asks item (ReportView unit half day) = ⊥
 abbrev pub IsBatch : Served → Type 0
 IsBatch s = MatchOption s.turn ⊥ (λ turn. Asks s.item turn.request)
 
+-- the bytes spell a batch
+abbrev pub IsSpelling : List ℕ → Type 0
+IsSpelling bytes = (batch : Batch) × Spells bytes batch
+
 -- what is said to an item: the line of its reply
 abbrev pub line_of : Served → List ℕ
 line_of s = elim s.turn [ None ↦ [] | Some turn ↦ reply_text turn.reply ]

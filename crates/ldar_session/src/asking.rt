@@ -2,14 +2,14 @@ ghost use Rattle.std.specs.Prelude.{◌≡◌, ◌<◌, ◌≤◌, ◌↔◌, �
 ghost use Rattle.std.specs.List.{flat_map, AllByRecursion};
 ghost use Rattle.disk_model.specs.Faults.{Rose};
 ghost use Rattle.ldar_law.specs.Machine.{Call};
+ghost use Rattle.ldar_law.specs.Replies.{reply_text};
 ghost use Rattle.office_book.specs.Asking.{requests_of, replies_of, MayShareFrame, IsFromHandheld, HasRule};
 ghost use Rattle.ldar_session.specs.Batches.{AsksEach, IsBatch, Serves, line_of};
 ghost use Rattle.ldar_session.specs.Served.{Served, Stretch, items_of};
 
+use crate::Memory;
 use crate::ended::Ended;
 use crate::group::MOST_AT_ONCE;
-use crate::reply_line::lines_of;
-use crate::Memory;
 use ldar_law::{Reply, Request};
 use ldar_ports::{Sink, put_all};
 use office_book::Office;
@@ -64,6 +64,18 @@ fn ask<O: Office>(alloc: Global, office: &mut O, requests: &[Request]) -> Result
         office.ask_group(alloc, requests, &mut replies)?;
     }
     Ok(replies)
+}
+
+/// The lines of replies, one after the other.
+fn lines_of(alloc: Global, replies: &[Reply]) -> Result<Vec<u8>, Memory>
+    requires { AllByRecursion HasRule replies.now }
+    ensures value { IfOk result (λ lines. lines.items ≡ flat_map reply_text replies.now) }
+{
+    let mut lines = Vec::new(alloc);
+    for reply in replies {
+        reply.put_line(alloc, &mut lines)?;
+    }
+    Ok(lines)
 }
 
 /// Whether a request never shares a frame of the journal: it is no batch, or one of handheld 0.

@@ -81,7 +81,9 @@ fn next_group<S: Source>(
         match front_of(alloc, window.bytes(), most) {
             Ok(Front::Together(group)) => return Ok(group),
             Ok(Front::Unfinished) => {}
-            Ok(Front::Wrong { at }) => return Err(Ended::Refused { at: before + at as u64 }),
+            Ok(Front::Wrong { at }) => return Err(Ended::Refused {
+                at: before + at as u64,
+            }),
             Err(_) => return Err(Ended::Memory),
         }
         match window.take_from(source) {
@@ -101,5 +103,7 @@ fn ended_within(bytes: &[u8]) -> Ended
     if bytes.is_empty() {
         return Ended::Done;
     }
-    Ended::CutShort { got: bytes.len() as u64 }
+    Ended::CutShort {
+        got: bytes.len() as u64,
+    }
 }

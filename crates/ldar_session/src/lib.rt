@@ -5,9 +5,12 @@ mod asking;
 mod docking;
 mod ended;
 mod group;
-mod reply_line;
+pub mod laws;
 
 pub use docking::dock;
 pub use ended::{Ended, MOST_ANSWERS};
 /// Memory ran out.
 pub use std::alloc::AllocError as Memory;
+
+#[cfg(test)]
+mod tests;

@@ -109,7 +109,7 @@ loop-answers-preserved g c =
     let rest : c.drop_front.new.self.bytes ≡ drop used window = ap (λ w. w.bytes) c.drop_front.ensures.value in
     let behind = subst (λ (l : List ℕ). Takes old l left) (items_before served more window (drop used window) all.0) takes in
     let said = subst (λ (l : List ℕ). Stretch IsBatch line_of g.O.Office.led c.loop-answers.office c.serve.new.office
-        (g.K.Sink.pieces c.loop-answers.sink) (g.K.Sink.pieces c.serve.new.sink) more l) talk.3.1 talk.2 in
+    (g.K.Sink.pieces c.loop-answers.sink) (g.K.Sink.pieces c.serve.new.sink) more l) talk.3.1 talk.2 in
     let asked : c.len-answers.result ≡ length more =
     omega (arith, c.len-answers.ensures, c.deref.ensures.len, ap length c.deref.ensures.value, all.1) in
     let bytes : length (items_of more) ≡ used =

@@ -8,10 +8,10 @@ use Rattle.ldar_session.proofs.docking.dock.Given as goal
 abbrev pub invariant-loop-answers : goal.invariant-loop-answers
 invariant-loop-answers g l =
     ((served : List Served)
-        × Takes (g.S.Source.left l.fn.source) (items_of served ++ l.window.bytes) (g.S.Source.left l.source)
-        × Stretch IsBatch line_of g.O.Office.led l.fn.office l.office (g.K.Sink.pieces l.fn.sink) (g.K.Sink.pieces l.sink) served []
-        × (length served ≡ l.answers)
-        × (length (items_of served) ≡ l.before))
+    × Takes (g.S.Source.left l.fn.source) (items_of served ++ l.window.bytes) (g.S.Source.left l.source)
+    × Stretch IsBatch line_of g.O.Office.led l.fn.office l.office (g.K.Sink.pieces l.fn.sink) (g.K.Sink.pieces l.sink) served []
+    × (length served ≡ l.answers)
+    × (length (items_of served) ≡ l.before))
     × (l.answers ≤ 1_000_000)
     × (l.before ≤ l.answers * 16_384)
     × (l.window.size ≡ 16_384)
