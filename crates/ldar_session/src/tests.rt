@@ -1,4 +1,4 @@
-ghost use Rattle.std.specs.Prelude.{◌≡◌, ◌≤◌};
+ghost use Rattle.std.specs.Prelude.{◌≡◌, ◌<◌, ◌≤◌};
 ghost use Rattle.office_book.specs.Asking.{HasRule};
 
 use crate::{Ended, dock};
@@ -75,9 +75,12 @@ impl Office for Notebook {
     ) -> Result<(), AllocError> {
         let before = replies.len();
         for request in requests {
-            if replies.push(reply_to(request)).is_err() {
-                replies.truncate(before);
-                return Err(AllocError);
+            match replies.push(reply_to(request)) {
+                Ok(()) => {}
+                Err(_) => {
+                    replies.truncate(before);
+                    return Err(AllocError);
+                }
             }
         }
         self.note(requests.len());
@@ -116,14 +119,13 @@ fn pieces(
     bytes: &[u8],
     size: usize,
     failing: &[u64],
-) -> Result<ListSource, AllocError> {
+) -> Result<ListSource, AllocError>
+    requires { 0 < size }
+{
     let mut pieces = Vec::new(alloc);
-    let mut rest = bytes;
-    while rest.len() > size {
-        pieces.push(Vec::from_slice(alloc, &rest[..size])?)?;
-        rest = &rest[size..];
+    for piece in bytes.chunks(size) {
+        pieces.push(Vec::from_slice(alloc, piece)?)?;
     }
-    pieces.push(Vec::from_slice(alloc, rest)?)?;
     ListSource::new(alloc, &pieces, failing)
 }
 
@@ -230,19 +232,20 @@ fn docked(
 fn a_fault_of_the_streams_ends_it(rt: HostRuntime) -> Result<(), Fail> {
     let alloc = rt.alloc();
     let bytes = input(alloc, &[(7, 12), (7, 0), (7, 13)])?;
+    let first = "receipt 7 12 12\n";
     let all = "receipt 7 12 12\ndisk fault\nreceipt 7 13 13\n";
     let cases = [
-        (&[0], &[9], Ended::ReadFault, 0),
-        (&[1], &[9], Ended::ReadFault, 16),
-        (&[3], &[9], Ended::ReadFault, 43),
-        (&[9], &[0], Ended::WriteFault, 0),
-        (&[9], &[1], Ended::WriteFault, 16),
-        (&[9], &[3], Ended::Done, 43),
+        ([0], [9], Ended::ReadFault, ""),
+        ([1], [9], Ended::ReadFault, first),
+        ([3], [9], Ended::ReadFault, all),
+        ([9], [0], Ended::WriteFault, ""),
+        ([9], [1], Ended::WriteFault, first),
+        ([9], [3], Ended::Done, all),
     ];
     for (reads, writes, want, said) in cases {
-        let (ended, lines) = docked(alloc, &bytes, reads, writes)?;
+        let (ended, lines) = docked(alloc, &bytes, &reads, &writes)?;
         assert_eq!(rt; ended, want);
-        assert_eq!(rt; lines.as_slice(), &all.as_bytes()[..said]);
+        assert_eq!(rt; lines.as_slice(), said.as_bytes());
     }
     Ok(())
 }
