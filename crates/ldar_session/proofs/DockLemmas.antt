@@ -1,17 +1,16 @@
 -- What a connection of batches keeps as it goes on, and at its ends.
-use Rattle.std.proofs.Common.{◌≡◌, ◌⊎◌, inl, inr, ℕ, ◌+◌, ◌-◌, ◌*◌, ◌<◌, ◌≤◌, List, [], ◌∷◌, ◌++◌, length, map, take, drop, Option, Result, Ok, Err, refl, sym, ap, subst, ◌∙◌, append_assoc, length-append, arith}
-use Rattle.std.specs.List.{flat_map}
-use Rattle.std.proofs.lemmas.List.{append-nil, length-map}
+use Rattle.std.proofs.Common.{◌≡◌, ◌⊎◌, inl, inr, ℕ, ◌<◌, ◌≤◌, List, [], ◌∷◌, ◌++◌, length, map, drop, Option, refl, sym, ap, subst, ◌∙◌, append_assoc, arith}
+use Rattle.std.proofs.lemmas.List.{length-map}
 use Rattle.std.proofs.lemmas.Grind.{flat_map-append}
-use Rattle.ldar_ports.specs.Source.{Takes, HasEnded}
+use Rattle.ldar_ports.specs.Source.{Takes}
 use Rattle.ldar_ports.proofs.TakesLemmas.{takes_more}
 use Rattle.ldar_law.specs.declared.request.Request.{Request}
 use Rattle.ldar_session.specs.declared.ended.TheConstants.{MOST_ANSWERS}
 use Rattle.ldar_session.specs.declared.ended.Ended.{Ended}
 use Rattle.ldar_session.specs.declared.ended.Ended.TheVariants.{Done, Stopped, CutShort, Refused, ReadFault, WriteFault, Memory}
 use Rattle.ldar_session.specs.Served.{Served, items_of}
-use Rattle.ldar_session.specs.Batches.{AsksEach, StandInFront}
-use Rattle.ldar_session.specs.Dock.{Ends, EndsInput, IsUnfinished}
+use Rattle.ldar_session.specs.Batches.{StandInFront}
+use Rattle.ldar_session.specs.Dock.{Ends, EndsInput}
 use Rattle.ldar_session.proofs.BatchLemmas.{length-asked, items_of-map}
 
 -- an input that gives no batch more ends the connection so

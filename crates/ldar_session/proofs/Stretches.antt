@@ -6,10 +6,10 @@ use Rattle.std.proofs.lemmas.List.{append-nil}
 use Rattle.std.proofs.lemmas.List.Elements.{All-nil}
 use Rattle.std.proofs.lemmas.Grind.{flat_map-append}
 use Rattle.list_words.proofs.Members.{all_append}
-use Rattle.ldar_law.specs.Machine.{Call, Turn}
+use Rattle.ldar_law.specs.Machine.{Call}
 use Rattle.ldar_ports.specs.Sink.{Piece, Puts, IsStamped, bytes_of, stamps_of}
 use Rattle.ldar_ports.proofs.PutsLemmas.{puts_none, puts_more}
-use Rattle.ldar_session.specs.Served.{Served, Stretch, HasItsClock, Stamped, turns_of, turns_in}
+use Rattle.ldar_session.specs.Served.{Served, Stretch, HasItsClock, Stamped, turns_of}
 use Rattle.ldar_session.proofs.StampLemmas.{all_parts, length-stamps_of, stamped_more, stamped_behind}
 
 module _ {O : Type 0} (IsItem : Served → Type 0) (text : Served → List ℕ) (led : O → List Call → O → Type 0) where

@@ -1,10 +1,9 @@
-use Rattle.std.proofs.Common.{◌≡◌, ◌<◌, ◌≤◌, ◌+◌, ◌++◌, [], ℕ, List, length, drop, inl, refl, sym, ap, subst, ◌∙◌, length-append, length-drop, arith}
+use Rattle.std.proofs.Common.{◌≡◌, ◌<◌, ◌≤◌, ◌++◌, [], ℕ, List, length, drop, refl, sym, ap, subst, length-append, length-drop, arith}
 use Rattle.ldar_ports.specs.Source.{Takes}
 use Rattle.ldar_ports.proofs.TakesLemmas.{takes_none}
 use Rattle.std.proofs.lemmas.Grind.{flat_map-append}
 use Rattle.ldar_session.specs.Served.{Served, Stretch, items_of}
 use Rattle.ldar_session.specs.Batches.{AsksEach, IsBatch, line_of}
-use Rattle.ldar_session.proofs.BatchLemmas.{length-stand}
 use Rattle.ldar_session.proofs.Stretches.{stretch_none, stretch_more}
 use Rattle.ldar_session.proofs.DockLemmas.{takes_behind, items_before, group_served, part_served, ends_input, ends_unsaid}
 use Rattle.ldar_session.proofs.docking.dock.Goals as goal

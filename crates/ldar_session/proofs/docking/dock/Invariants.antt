@@ -1,4 +1,4 @@
-use Rattle.std.proofs.Common.{◌≡◌, ◌≤◌, ◌-◌, ◌*◌, ◌++◌, ℕ, List, [], length}
+use Rattle.std.proofs.Common.{◌≡◌, ◌≤◌, ◌-◌, ◌*◌, ◌++◌, List, [], length}
 use Rattle.ldar_ports.specs.Source.{Takes}
 use Rattle.ldar_session.specs.Batches.{IsBatch, line_of}
 use Rattle.ldar_session.specs.Served.{Served, Stretch, items_of}
