@@ -1,5 +1,6 @@
 -- Batches that stand in front of some bytes, and what was served of them.
-use Rattle.std.proofs.Common.{◌≡◌, ℕ, ◌+◌, ◌<◌, ◌≤◌, List, [], ◌∷◌, ◌++◌, length, map, take, drop, Option, Some, All, inl, inr, refl, sym, ap, subst, ◌∙◌, append_assoc, length-append, arith}
+use Rattle.std.proofs.Common.{◌≡◌, ℕ, ◌+◌, ◌<◌, ◌≤◌, List, [], ◌∷◌, ◌++◌, length, map, take, drop, Option, Some, All, inl, inr}
+use Rattle.std.proofs.Common.{refl, sym, ap, subst, ◌∙◌, append_assoc, length-append, arith}
 use Rattle.std.specs.List.{flat_map, AllByRecursion}
 use Rattle.std.proofs.lemmas.List.{append-nil, take-append-drop, drop-drop, length-drop}
 use Rattle.std.proofs.lemmas.Grind.{flat_map-append}
@@ -30,12 +31,14 @@ served_in (item ∷ items) (turn ∷ turns) = record { item = item; turn = Some 
 abbrev pub AskedEach : List (List ℕ) → List Turn → Type 0
 AskedEach items turns = AsksEach items (map (λ (turn : Turn). turn.request) turns)
 
+-- its items are those that were asked
 pub map-item-served_in : (items : List (List ℕ)) (turns : List Turn) → AskedEach items turns → map (λ (s : Served). s.item) (served_in items turns) ≡ items
 unfolding served_in
 map-item-served_in [] turns asked = refl
 map-item-served_in (item ∷ items) [] asked = absurd asked
 map-item-served_in (item ∷ items) (turn ∷ turns) asked = ap (λ l. item ∷ l) (map-item-served_in items turns asked.1)
 
+-- its turns are those in which they were asked
 pub turns_of-served_in : (items : List (List ℕ)) (turns : List Turn) → AskedEach items turns → turns_of (served_in items turns) ≡ turns
 unfolding served_in
 turns_of-served_in [] [] asked = refl
@@ -43,12 +46,14 @@ turns_of-served_in [] (turn ∷ turns) asked = absurd asked
 turns_of-served_in (item ∷ items) [] asked = absurd asked
 turns_of-served_in (item ∷ items) (turn ∷ turns) asked = ap (λ l. turn ∷ l) (turns_of-served_in items turns asked.1)
 
+-- each is a batch that its turn asked to keep
 pub are_batches : (items : List (List ℕ)) (turns : List Turn) → AskedEach items turns → AllByRecursion IsBatch (served_in items turns)
 unfolding served_in
 are_batches [] turns asked = tt
 are_batches (item ∷ items) [] asked = absurd asked
 are_batches (item ∷ items) (turn ∷ turns) asked = (asked.0, are_batches items turns asked.1)
 
+-- what is said to it are the lines of the replies
 pub lines_of-served_in : (items : List (List ℕ)) (turns : List Turn) → AskedEach items turns
     → flat_map line_of (served_in items turns) ≡ flat_map reply_text (map (λ (turn : Turn). turn.reply) turns)
 unfolding served_in
@@ -65,7 +70,8 @@ length-asked (item ∷ items) [] asked = absurd asked
 length-asked (item ∷ items) (request ∷ requests) asked = omega (arith, length-asked items requests asked.1)
 
 -- the bytes of what was served are those of its items
-pub items_of-map : (served : List Served) (items : List (List ℕ)) → map (λ (s : Served). s.item) served ≡ items → items_of served ≡ flat_map (λ item. item) items
+pub items_of-map : (served : List Served) (items : List (List ℕ)) → map (λ (s : Served). s.item) served ≡ items
+    → items_of served ≡ flat_map (λ item. item) items
 items_of-map [] [] same = refl
 items_of-map [] (item ∷ items) same = absurd cc
 items_of-map (s ∷ served) [] same = absurd cc
@@ -130,7 +136,8 @@ begun_fits bytes begins = omega (arith, spelling_length (bytes ++ begins.1) begi
 -- ---- a group that was asked
 
 -- the items that a call was asked for
-pub asked_in : (items : List (List ℕ)) (requests : List Request) (call : Call) → AsksEach items requests → requests_of call ≡ requests → AskedEach items call.turns
+pub asked_in : (items : List (List ℕ)) (requests : List Request) (call : Call) → AsksEach items requests → requests_of call ≡ requests
+    → AskedEach items call.turns
 asked_in items requests call asks are = subst (λ l. AsksEach items l) (sym are) asks
 
 -- a group that was asked in one call, and pieces that say a front of its lines

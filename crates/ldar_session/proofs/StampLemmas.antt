@@ -11,16 +11,19 @@ use Rattle.ldar_session.specs.Served.{Served, turns_of, IsSince, Stamped}
 
 -- ---- facts of each element
 
+-- what holds of each element of a list holds of each of a front
 pub all_take : {X : Type 0} (P : X → Type 0) (n : ℕ) (xs : List X) → AllByRecursion P xs → AllByRecursion P (take n xs)
 all_take P zero xs all = tt
 all_take P (suc n) [] all = tt
 all_take P (suc n) (x ∷ xs) all = (all.0, all_take P n xs all.1)
 
+-- .. and of each of what stands behind it
 pub all_drop : {X : Type 0} (P : X → Type 0) (n : ℕ) (xs : List X) → AllByRecursion P xs → AllByRecursion P (drop n xs)
 all_drop P zero xs all = all
 all_drop P (suc n) [] all = tt
 all_drop P (suc n) (x ∷ xs) all = all_drop P n xs all.1
 
+-- .. and of each of some copies of an element of which it holds
 all_replicate : {X : Type 0} (P : X → Type 0) (n : ℕ) (x : X) → P x → AllByRecursion P (replicate n x)
 all_replicate P zero x is = tt
 all_replicate P (suc n) x is = (is, all_replicate P n x is)
@@ -67,6 +70,7 @@ since_later : (turn : Option Turn) (clock stamp : ℕ) → MatchOption turn (Uni
 since_later None clock stamp is le = tt
 since_later (Some turn) clock stamp is le = omega (arith, is, le)
 
+-- stamps that are no earlier than a clock are no earlier than a turn that is not later
 all_since : (s : Served) (clock : ℕ) (stamps : List ℕ) → IsSince s clock → AllByRecursion (λ stamp. clock ≤ stamp) stamps → AllByRecursion (IsSince s) stamps
 all_since s clock [] is all = tt
 all_since s clock (stamp ∷ stamps) is all = (since_later s.turn clock stamp is all.0, all_since s clock stamps is all.1)
@@ -88,11 +92,13 @@ turn_parts : (P : Turn → Type 0) (turn : Option Turn) (turns : List Turn) → 
 turn_parts P None turns all = (tt, all)
 turn_parts P (Some turn) turns all = all
 
+-- .. so no item is of a turn that is later
 since_turns : (served : List Served) (clock : ℕ) → AllByRecursion (λ turn. turn.clock ≤ clock) (turns_of served) → AllByRecursion (λ s. IsSince s clock) served
 since_turns [] clock all = tt
 since_turns (s ∷ served) clock all =
     let parts = turn_parts (λ turn. turn.clock ≤ clock) s.turn (turns_of served) all in (parts.0, since_turns served clock parts.1)
 
+-- turns of a call with one clock are not later than a clock behind it
 not_later : (turns : List Turn) (end clock : ℕ) → end ≤ clock → AllByRecursion (λ turn. turn.clock ≡ end) turns
     → AllByRecursion (λ turn. turn.clock ≤ clock) turns
 not_later [] end clock le all = tt

@@ -26,6 +26,7 @@ asks_spelling item (Route unit day stops) asks = absurd asks
 asks_spelling item (Percent unit quarter day) asks = absurd asks
 asks_spelling item (ReportView unit half day) asks = absurd asks
 
+-- .. also where it is the item of a turn
 asked_spelling : (item : List ℕ) (turn : Option Turn) → MatchOption turn ⊥ (λ t. Asks item t.request) → IsSpelling item
 asked_spelling item None is = absurd is
 asked_spelling item (Some turn) is = asks_spelling item turn.request is
@@ -46,6 +47,7 @@ same_shorter a b more more' is_a is_b same le =
     let none : drop (length a) b ≡ [] = no_proper_front a (drop (length a) b) is_a.0 is_b.0 is_a.1 (subst (λ l. Spells l is_b.0) whole is_b.1) in
     sym (whole ∙ ap (λ l. a ++ l) none ∙ append-nil a)
 
+-- two spellings in front of the same bytes are one
 same_front : (a b more more' : List ℕ) → IsSpelling a → IsSpelling b → a ++ more ≡ b ++ more' → a ≡ b
 same_front a b more more' is_a is_b same =
     elim (cases_lt (length a) (length b)) [
@@ -65,7 +67,8 @@ pub cut_in_order : (items : List (List ℕ)) (rest : List ℕ) (batches : List (
 cut_in_order items rest [] more are none all same = refl
 cut_in_order [] rest (batch ∷ batches) more are none all same =
     let whole : rest ≡ batch ++ (flat_map (λ (l : List ℕ). l) batches ++ more) = same ∙ append_assoc batch (flat_map (λ (l : List ℕ). l) batches) more in
-    let front : batch ≡ take (length batch) rest = sym (take-append_seam batch (flat_map (λ (l : List ℕ). l) batches ++ more)) ∙ ap (take (length batch)) (sym whole) in
+    let front : batch ≡ take (length batch) rest =
+    sym (take-append_seam batch (flat_map (λ (l : List ℕ). l) batches ++ more)) ∙ ap (take (length batch)) (sym whole) in
     absurd (none (length batch) all.0.0 (subst (λ l. Spells l all.0.0) front all.0.1))
 cut_in_order (item ∷ items) rest (batch ∷ batches) more are none all same =
     let one = sym (append_assoc item (flat_map (λ (l : List ℕ). l) items) rest) in
@@ -77,9 +80,11 @@ cut_in_order (item ∷ items) rest (batch ∷ batches) more are none all same =
 
 -- ---- the laws
 
+-- the bytes of what was served, as those of a list of items
 items_of-items : (served : List Served) → items_of served ≡ flat_map (λ bytes. bytes) (map (λ (s : Served). s.item) served)
 items_of-items served = items_of-map served (map (λ (s : Served). s.item) served) refl
 
+-- each whole batch that the bytes begin with was served
 pub every_batch : (served : List Served) (rest : List ℕ) (batches : List (List ℕ)) (more : List ℕ) → AllByRecursion IsBatch served → HasNoBatch rest
     → AllByRecursion IsSpelling batches → items_of served ++ rest ≡ flat_map (λ bytes. bytes) batches ++ more
     → take (length batches) (map (λ s. s.item) served) ≡ batches
@@ -87,6 +92,7 @@ every_batch served rest batches more each none all same =
     cut_in_order (map (λ (s : Served). s.item) served) rest batches more (are_spellings served each) none all
     (ap (λ l. l ++ rest) (sym (items_of-items served)) ∙ same)
 
+-- the bytes alone say what was served
 pub one_cut : (served other : List Served) (rest left : List ℕ) → AllByRecursion IsBatch served → AllByRecursion IsBatch other → HasNoBatch rest
     → HasNoBatch left → items_of served ++ rest ≡ items_of other ++ left
     → (map (λ s. s.item) served ≡ map (λ s. s.item) other) × (rest ≡ left)

@@ -14,7 +14,8 @@ use Rattle.ldar_session.proofs.StampLemmas.{all_parts, length-stamps_of, stamped
 
 module _ {O : Type 0} (IsItem : Served → Type 0) (text : Served → List ℕ) (led : O → List Call → O → Type 0) where
   -- nothing was served
-  pub stretch_none : ((office : O) → led office [] office) → (office : O) (pieces : Option (List Piece)) → Stretch IsItem text led office office pieces pieces [] []
+  pub stretch_none : ((office : O) → led office [] office) → (office : O) (pieces : Option (List Piece))
+      → Stretch IsItem text led office office pieces pieces [] []
   stretch_none stays office pieces = record {
     calls = [];
     put = [];
@@ -67,7 +68,8 @@ module _ {O : Type 0} (IsItem : Served → Type 0) (text : Served → List ℕ) 
         each = all_append IsItem first second one.each two.each;
         puts = puts_more pieces pieces' pieces'' one.put two.put one.puts two.puts;
         said = flat_map-append text first second
-            ∙ rw (whole, two.said, flat_map-append (λ (piece : Piece). piece.bytes) one.put two.put) (sym (append_assoc (bytes_of one.put) (bytes_of two.put) unsaid));
+            ∙ rw (whole, two.said, flat_map-append (λ (piece : Piece). piece.bytes) one.put two.put)
+            (sym (append_assoc (bytes_of one.put) (bytes_of two.put) unsaid));
         stamped = λ own. let parts = all_parts HasItsClock one.calls two.calls own in
             subst (λ l. Stamped text (first ++ second) l) (sym (flat_map-append _ one.put two.put))
             (stamped_more text first second (stamps_of one.put) (stamps_of two.put) same (one.stamped parts.0) (two.stamped parts.1));

@@ -19,5 +19,6 @@ invariant-loop-answers g l =
     × (g.S.Source.faults l.fn.source ≤ g.S.Source.faults l.source)
     × (g.K.Sink.faults l.fn.sink ≤ g.K.Sink.faults l.sink)
 
+-- how many answers may still be given
 abbrev pub decreases-loop-answers : goal.decreases-loop-answers
 decreases-loop-answers g l = 1_000_000 - l.answers

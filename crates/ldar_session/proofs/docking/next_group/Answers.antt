@@ -5,6 +5,7 @@ use Rattle.ldar_session.proofs.BatchLemmas.{begun_fits}
 use Rattle.ldar_session.proofs.DockLemmas.{is_nil}
 use Rattle.ldar_session.proofs.docking.next_group.Goals as goal
 
+-- no byte came, where there was room for some: the input has ended
 pub returns-in-Ok-eq0-clause-ended : goal.returns-in-Ok-eq0-clause-ended
 returns-in-Ok-eq0-clause-ended g c =
     let call = c.in-Ok-eq0.ensures in

@@ -10,5 +10,6 @@ invariant-coming g l =
     × (length l.window.bytes ≤ l.window.size)
     × (g.S.Source.faults l.fn.source ≤ g.S.Source.faults l.source)
 
+-- how many bytes have room
 abbrev pub decreases-coming : goal.decreases-coming
 decreases-coming g l = l.window.size - length l.window.bytes

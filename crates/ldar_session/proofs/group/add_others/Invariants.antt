@@ -12,5 +12,6 @@ invariant-others l =
     × AllByRecursion IsFromHandheld l.group.requests.items
     × (length l.fn.group.requests.items ≤ length l.group.requests.items)
 
+-- how many batches may still be added
 abbrev pub decreases-others : goal.decreases-others
 decreases-others l = l.most - length l.group.requests.items
