@@ -1,10 +1,10 @@
 -- The bytes of each answer: a status line, the fields, an empty line and the body.
-use Rattle.std.specs.Prelude.{◌≡◌, ℕ, ◌≤◌, ◌⊎◌, Bool, true, ◌==◌, List, [], ◌∷◌, ◌++◌, length, codes, if◌then◌else◌, unwrap_or, ⊤}
+use Rattle.std.specs.Prelude.{◌≡◌, ℕ, ◌⊎◌, Bool, true, ◌==◌, List, [], ◌∷◌, ◌++◌, length, codes, if◌then◌else◌, unwrap_or, ⊤}
 use Rattle.std.specs.Fmt.{decimal}
 use Rattle.http.specs.StatusCode.{reason_phrase}
 use Rattle.ldar_law.specs.declared.reply.Reply.{Reply}
 use Rattle.ldar_law.specs.declared.reply.Reply.TheVariants.{Receipt, Conflict, Denied, Full, Shown, NoSuch, Fault, Memory}
-use Rattle.ldar_law.specs.Replies.{reply_text, what_text}
+use Rattle.ldar_law.specs.Replies.{reply_text, what_text, HasRule}
 use Rattle.ldar_law.specs.Texts.{end_of_line}
 use Rattle.handheld_http.specs.declared.answer.Refusal.{Refusal}
 use Rattle.handheld_http.specs.declared.answer.Refusal.TheVariants.{BadBatch, NoPath, NoMethod, NoSuch as NoneSuch}
@@ -110,29 +110,8 @@ answer_bytes answer closing = response (status_of answer) (allow_of answer) (is_
 abbrev pub IsRefusalStatus : ℕ → Type 0
 IsRefusalStatus status = (status ≡ 400) ⊎ ((status ≡ 411) ⊎ ((status ≡ 413) ⊎ ((status ≡ 431) ⊎ (status ≡ 501))))
 
--- a denial is by one of the rules 1 to 21
-abbrev pub IsSentReply : Reply → Type 0
-IsSentReply (Receipt handheld number position) = ⊤
-IsSentReply (Conflict position) = ⊤
-IsSentReply (Denied fact rule) = (1 ≤ rule) × (rule ≤ 21)
-IsSentReply (Full facts) = ⊤
-IsSentReply (Shown text) = ⊤
-IsSentReply (NoSuch what) = ⊤
-IsSentReply Fault = ⊤
-IsSentReply Memory = ⊤
-
+-- a denial is by one of the rules 1 to 21; a status is one with which bytes are refused
 abbrev pub IsSent : Answer → Type 0
-IsSent (ToRequest reply) = IsSentReply reply
+IsSent (ToRequest reply) = HasRule reply
 IsSent (Not refusal) = ⊤
 IsSent (Status status) = IsRefusalStatus status
-
--- the reply is one line, and no view's text
-abbrev pub IsLine : Reply → Type 0
-IsLine (Receipt handheld number position) = ⊤
-IsLine (Conflict position) = ⊤
-IsLine (Denied fact rule) = ⊤
-IsLine (Full facts) = ⊤
-IsLine (Shown text) = ⊥
-IsLine (NoSuch what) = ⊤
-IsLine Fault = ⊤
-IsLine Memory = ⊤

@@ -11,8 +11,6 @@ mod heads;
 pub mod laws;
 mod members;
 mod outcome;
-mod paragraph;
-mod reply_line;
 mod response;
 
 pub use answer::{Answer, Asked, Refusal};

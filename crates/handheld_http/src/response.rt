@@ -1,11 +1,10 @@
 ghost use Rattle.std.specs.Prelude.{◌≡◌, true, [], ◌++◌, ◌≤◌, ◌<◌, IfOk, OnOk, OnErr, length, string_bytes, codes};
 ghost use Rattle.std.specs.Fmt.{decimal};
 ghost use Rattle.handheld_http.specs.Answers as spec;
-ghost use Rattle.handheld_http.specs.Answers.{response, connection_of, allow_post, answer_bytes, IsSent, IsSentReply, IsRefusalStatus};
-ghost use Rattle.ldar_law.specs.Replies.{reply_text};
+ghost use Rattle.handheld_http.specs.Answers.{response, connection_of, allow_post, answer_bytes, IsSent, IsRefusalStatus};
+ghost use Rattle.ldar_law.specs.Replies.{reply_text, HasRule};
 
 use crate::answer::{Answer, Refusal};
-use crate::reply_line::{reply_line, reply_status, such_line};
 use http::StatusCode;
 use ldar_facts::Memory;
 use ldar_law::Reply;
@@ -99,22 +98,37 @@ fn put(
     put_both(head.as_str(), body, out)
 }
 
+/// The status of a reply.
+fn reply_status(reply: &Reply) -> StatusCode
+    ensures { result ≡ spec.reply_status reply.now }
+{
+    match reply {
+        Reply::Receipt { .. } | Reply::Shown(_) => StatusCode::OK,
+        Reply::Conflict { .. } => StatusCode::CONFLICT,
+        Reply::Denied { .. } | Reply::Full { .. } => StatusCode::UNPROCESSABLE_ENTITY,
+        Reply::NoSuch(_) => StatusCode::NOT_FOUND,
+        Reply::Fault => StatusCode::SERVICE_UNAVAILABLE,
+        Reply::Memory => StatusCode::INSUFFICIENT_STORAGE,
+    }
+}
+
 /// Appends the response to a request: the line of the reply, or the text of a view.
 fn put_reply(alloc: Global, reply: &Reply, closing: bool, out: &mut Vec<u8>) -> Result<(), Memory>
-    requires { IsSentReply reply.now }
+    requires { HasRule reply.now }
     ensures value { OnOk result (out.new.items ≡ out.old.items ++ response (spec.reply_status reply.now) [] closing (reply_text reply.now)) }
     ensures unchanged { OnErr result (out.new.items ≡ out.old.items) }
 {
     if let Reply::Shown(text) = reply {
         return put(alloc, StatusCode::OK, "", closing, text.as_bytes(), out);
     }
-    let line = reply_line(alloc, reply)?;
+    let mut line = Vec::new(alloc);
+    reply.put_line(alloc, &mut line)?;
     put(
         alloc,
         reply_status(reply),
         "",
         closing,
-        line.as_bytes(),
+        line.as_slice(),
         out,
     )
 }
@@ -168,13 +182,14 @@ fn put_refusal(
             )
         }
         Refusal::NoSuch(what) => {
-            let line = such_line(alloc, what)?;
+            let mut line = Vec::new(alloc);
+            Reply::NoSuch(what).put_line(alloc, &mut line)?;
             put(
                 alloc,
                 StatusCode::NOT_FOUND,
                 "",
                 closing,
-                line.as_bytes(),
+                line.as_slice(),
                 out,
             )
         }

@@ -122,43 +122,43 @@ given : (b : Bool) (d : Duty) (P : Duty → Type 0) → P d → IfSome (if b the
 given true d P h = h
 given false d P h = tt
 
-module _ (item : Equipment) (classes : List (Key × Class)) (startup : ℕ) (events : List Event) (skipped : List Bool) (t : ℕ) where
-  pub first_form : IfSome (first_monitoring item classes startup events skipped t) (IsOf 1 (first_due item))
+module _ (item : Equipment) (classes : List (Key × Class)) (startup : ℕ) (events : List Event) (skipped : List Bool) (day : ℕ) where
+  pub first_form : IfSome (first_monitoring item classes startup events skipped day) (IsOf 1 (first_due item))
   unfolding first_monitoring
   first_form = given _ _ (IsOf 1 (first_due item)) (refl, refl)
 
-  pub monthly_form : (month : ℕ) → IfSome (monthly item classes startup events skipped t month) (IsOf 2 (last_day month))
+  pub monthly_form : (month : ℕ) → IfSome (monthly item classes startup events skipped day month) (IsOf 2 (last_day month))
   unfolding monthly
   monthly_form month = given _ _ (IsOf 2 (last_day month)) (refl, refl)
 
-  pub quarterly_form : (month : ℕ) → IfSome (quarterly item classes startup events skipped t month) (IsOf 3 (last_day month))
+  pub quarterly_form : (month : ℕ) → IfSome (quarterly item classes startup events skipped day month) (IsOf 3 (last_day month))
   unfolding quarterly
   quarterly_form month = given _ _ (IsOf 3 (last_day month)) (refl, refl)
 
-  pub yearly_form : (year : ℕ) → IfSome (yearly item classes startup events skipped t year) (IsOf 4 (last_day (12 * year + 11)))
+  pub yearly_form : (year : ℕ) → IfSome (yearly item classes startup events skipped day year) (IsOf 4 (last_day (12 * year + 11)))
   unfolding yearly
   yearly_form year = given _ _ (IsOf 4 (last_day (12 * year + 11))) (refl, refl)
 
-  pub planned_form : (month : ℕ) → IfSome (planned item classes startup events skipped t month) (IsOf 5 (end_by (last_day month)))
+  pub planned_form : (month : ℕ) → IfSome (planned item classes startup events skipped day month) (IsOf 5 (end_by (last_day month)))
   unfolding planned
   planned_form month = given _ _ (IsOf 5 (end_by (last_day month))) (refl, refl)
 
-  pub weekly_form : (week : ℕ) → IfSome (weekly item classes startup events skipped t week) (IsOf 6 (week_last week))
+  pub weekly_form : (week : ℕ) → IfSome (weekly item classes startup events skipped day week) (IsOf 6 (week_last week))
   unfolding weekly
   weekly_form week = given _ _ (IsOf 6 (week_last week)) (refl, refl)
 
   pub drip_form : (before : List Event) (e : Event) (after : List Event) →
-      IfSome (drip item classes startup events skipped t before e after) (IsOf 7 (five_after e.key.day))
+      IfSome (drip item classes startup events skipped day before e after) (IsOf 7 (five_after e.key.day))
   unfolding drip
   drip_form before e after = given _ _ (IsOf 7 (five_after e.key.day)) (refl, refl)
 
   pub release_form : (before : List Event) (e : Event) (after : List Event) →
-      IfSome (release item classes startup events skipped t before e after) (IsOf 8 (five_after e.key.day))
+      IfSome (release item classes startup events skipped day before e after) (IsOf 8 (five_after e.key.day))
   unfolding release
   release_form before e after = given _ _ (IsOf 8 (five_after e.key.day)) (refl, refl)
 
   pub evidence_form : (before : List Event) (e : Event) (after : List Event) →
-      IfSome (evidence item classes startup events skipped t before e after) (IsOf 9 (five_after e.key.day))
+      IfSome (evidence item classes startup events skipped day before e after) (IsOf 9 (five_after e.key.day))
   unfolding evidence
   evidence_form before e after = given _ _ (IsOf 9 (five_after e.key.day)) (refl, refl)
 
@@ -177,18 +177,35 @@ weeks_grow n h = omega arith
 
 pub duties_stand_in_order : DutiesStandInOrder
 unfolding duties_of
-duties_stand_in_order item classes startup events skipped t begins by_key =
+duties_stand_in_order item classes startup events skipped day begins by_key =
     let in_order : Ascends (λ a b. nat_le a.key.day b.key.day) events =
-    ascends_implied (λ a b. is_earlier a.key b.key) (λ a b. nat_le a.key.day b.key.day) (λ a b h. le-leb a.key.day b.key.day (earlier_day a.key b.key h)) events by_key in
+    ascends_implied (λ a b. is_earlier a.key b.key) (λ a b. nat_le a.key.day b.key.day)
+    (λ a b h. le-leb a.key.day b.key.day (earlier_day a.key b.key h)) events by_key in
     let low : 23_640 ≤ month_of item.begin + 1 = omega (arith, month_of-month item.begin begins) in
-    let day : IsDay (end_by (item.begin + 30)) = (omega (arith, begins), omega arith) in
-    let year : 1_970 ≤ month_of (end_by (item.begin + 30)) / 12 = omega (arith, month_of-month (end_by (item.begin + 30)) day) in
-    (joined 1 _ _ _ (block_one 1 _ _ (first_form item classes startup events skipped t))
-    (joined 2 _ _ _ (block_until 2 23_640 (monthly item classes startup events skipped t) last_day months_grow (monthly_form item classes startup events skipped t) _ _ low)
-    (joined 3 _ _ _ (block_until 3 23_640 (quarterly item classes startup events skipped t) last_day months_grow (quarterly_form item classes startup events skipped t) _ _ low)
-    (joined 4 _ _ _ (block_until 4 1_970 (yearly item classes startup events skipped t) (λ n. last_day (12 * n + 11)) years_grow (yearly_form item classes startup events skipped t) _ _ year)
-    (joined 5 _ _ _ (block_until 5 23_640 (planned item classes startup events skipped t) (λ n. end_by (last_day n)) ends_grow (planned_form item classes startup events skipped t) _ _ low)
-    (joined 6 _ _ _ (block_until 6 0 (weekly item classes startup events skipped t) week_last weeks_grow (weekly_form item classes startup events skipped t) _ _ (omega arith))
-    (joined 7 _ _ _ (block_events 7 (drip item classes startup events skipped t) (drip_form item classes startup events skipped t) [] events 0 in_order (any_day events))
-    (joined 8 _ _ _ (block_events 8 (release item classes startup events skipped t) (release_form item classes startup events skipped t) [] events 0 in_order (any_day events))
-    (last_block 9 _ _ (block_events 9 (evidence item classes startup events skipped t) (evidence_form item classes startup events skipped t) [] events 0 in_order (any_day events))))))))))).0
+    let is_day : IsDay (end_by (item.begin + 30)) = (omega (arith, begins), omega arith) in
+    let year : 1_970 ≤ month_of (end_by (item.begin + 30)) / 12 = omega (arith, month_of-month (end_by (item.begin + 30)) is_day) in
+    (joined 1 _ _ _ (block_one 1 _ _ (first_form item classes startup events skipped day))
+    (joined 2 _ _ _
+    (block_until 2 23_640 (monthly item classes startup events skipped day) last_day months_grow
+    (monthly_form item classes startup events skipped day) _ _ low)
+    (joined 3 _ _ _
+    (block_until 3 23_640 (quarterly item classes startup events skipped day) last_day months_grow
+    (quarterly_form item classes startup events skipped day) _ _ low)
+    (joined 4 _ _ _
+    (block_until 4 1_970 (yearly item classes startup events skipped day) (λ n. last_day (12 * n + 11)) years_grow
+    (yearly_form item classes startup events skipped day) _ _ year)
+    (joined 5 _ _ _
+    (block_until 5 23_640 (planned item classes startup events skipped day) (λ n. end_by (last_day n)) ends_grow
+    (planned_form item classes startup events skipped day) _ _ low)
+    (joined 6 _ _ _
+    (block_until 6 0 (weekly item classes startup events skipped day) week_last weeks_grow
+    (weekly_form item classes startup events skipped day) _ _ (omega arith))
+    (joined 7 _ _ _
+    (block_events 7 (drip item classes startup events skipped day)
+    (drip_form item classes startup events skipped day) [] events 0 in_order (any_day events))
+    (joined 8 _ _ _
+    (block_events 8 (release item classes startup events skipped day)
+    (release_form item classes startup events skipped day) [] events 0 in_order (any_day events))
+    (last_block 9 _ _
+    (block_events 9 (evidence item classes startup events skipped day)
+    (evidence_form item classes startup events skipped day) [] events 0 in_order (any_day events))))))))))).0

@@ -61,85 +61,85 @@ taken : (cause : ℕ) (xs ys : List Duty) → AllByRecursion (Has cause) xs → 
     filter (λ d. nat_eq d.cause cause) (xs ++ ys) ≡ xs
 taken cause xs ys all none = rw (filter-append (λ d. nat_eq d.cause cause) xs ys, all_kept cause xs all, none) (append-nil xs)
 
-module _ (item : Equipment) (classes : List (Key × Class)) (startup : ℕ) (events : List Event) (skipped : List Bool) (t : ℕ) where
-  firsts : AllByRecursion (Has 1) (option_to_list (first_monitoring item classes startup events skipped t))
+module _ (item : Equipment) (classes : List (Key × Class)) (startup : ℕ) (events : List Event) (skipped : List Bool) (day : ℕ) where
+  firsts : AllByRecursion (Has 1) (option_to_list (first_monitoring item classes startup events skipped day))
   firsts =
-      alone 1 (first_monitoring item classes startup events skipped t)
-      (has_cause 1 _ (first_monitoring item classes startup events skipped t) (first_form item classes startup events skipped t))
+      alone 1 (first_monitoring item classes startup events skipped day)
+      (has_cause 1 _ (first_monitoring item classes startup events skipped day) (first_form item classes startup events skipped day))
 
-  months : (ns : List ℕ) → AllByRecursion (Has 2) (filter_map (monthly item classes startup events skipped t) ns)
+  months : (ns : List ℕ) → AllByRecursion (Has 2) (filter_map (monthly item classes startup events skipped day) ns)
   months =
-      of_numbers 2 (monthly item classes startup events skipped t)
-      (λ n. has_cause 2 _ (monthly item classes startup events skipped t n) (monthly_form item classes startup events skipped t n))
+      of_numbers 2 (monthly item classes startup events skipped day)
+      (λ n. has_cause 2 _ (monthly item classes startup events skipped day n) (monthly_form item classes startup events skipped day n))
 
-  quarters : (ns : List ℕ) → AllByRecursion (Has 3) (filter_map (quarterly item classes startup events skipped t) ns)
+  quarters : (ns : List ℕ) → AllByRecursion (Has 3) (filter_map (quarterly item classes startup events skipped day) ns)
   quarters =
-      of_numbers 3 (quarterly item classes startup events skipped t)
-      (λ n. has_cause 3 _ (quarterly item classes startup events skipped t n) (quarterly_form item classes startup events skipped t n))
+      of_numbers 3 (quarterly item classes startup events skipped day)
+      (λ n. has_cause 3 _ (quarterly item classes startup events skipped day n) (quarterly_form item classes startup events skipped day n))
 
-  years : (ns : List ℕ) → AllByRecursion (Has 4) (filter_map (yearly item classes startup events skipped t) ns)
+  years : (ns : List ℕ) → AllByRecursion (Has 4) (filter_map (yearly item classes startup events skipped day) ns)
   years =
-      of_numbers 4 (yearly item classes startup events skipped t)
-      (λ n. has_cause 4 _ (yearly item classes startup events skipped t n) (yearly_form item classes startup events skipped t n))
+      of_numbers 4 (yearly item classes startup events skipped day)
+      (λ n. has_cause 4 _ (yearly item classes startup events skipped day n) (yearly_form item classes startup events skipped day n))
 
-  windows : (ns : List ℕ) → AllByRecursion (Has 5) (filter_map (planned item classes startup events skipped t) ns)
+  windows : (ns : List ℕ) → AllByRecursion (Has 5) (filter_map (planned item classes startup events skipped day) ns)
   windows =
-      of_numbers 5 (planned item classes startup events skipped t)
-      (λ n. has_cause 5 _ (planned item classes startup events skipped t n) (planned_form item classes startup events skipped t n))
+      of_numbers 5 (planned item classes startup events skipped day)
+      (λ n. has_cause 5 _ (planned item classes startup events skipped day n) (planned_form item classes startup events skipped day n))
 
-  weeks : (ns : List ℕ) → AllByRecursion (Has 6) (filter_map (weekly item classes startup events skipped t) ns)
+  weeks : (ns : List ℕ) → AllByRecursion (Has 6) (filter_map (weekly item classes startup events skipped day) ns)
   weeks =
-      of_numbers 6 (weekly item classes startup events skipped t)
-      (λ n. has_cause 6 _ (weekly item classes startup events skipped t n) (weekly_form item classes startup events skipped t n))
+      of_numbers 6 (weekly item classes startup events skipped day)
+      (λ n. has_cause 6 _ (weekly item classes startup events skipped day n) (weekly_form item classes startup events skipped day n))
 
-  drips : AllByRecursion (Has 7) (each_where (drip item classes startup events skipped t) events)
+  drips : AllByRecursion (Has 7) (each_where (drip item classes startup events skipped day) events)
   drips =
-      of_events 7 (drip item classes startup events skipped t)
-      (λ before e after. has_cause 7 _ (drip item classes startup events skipped t before e after)
-      (drip_form item classes startup events skipped t before e after)) [] events
+      of_events 7 (drip item classes startup events skipped day)
+      (λ before e after. has_cause 7 _ (drip item classes startup events skipped day before e after)
+      (drip_form item classes startup events skipped day before e after)) [] events
 
-  releases : AllByRecursion (Has 8) (each_where (release item classes startup events skipped t) events)
+  releases : AllByRecursion (Has 8) (each_where (release item classes startup events skipped day) events)
   releases =
-      of_events 8 (release item classes startup events skipped t)
-      (λ before e after. has_cause 8 _ (release item classes startup events skipped t before e after)
-      (release_form item classes startup events skipped t before e after)) [] events
+      of_events 8 (release item classes startup events skipped day)
+      (λ before e after. has_cause 8 _ (release item classes startup events skipped day before e after)
+      (release_form item classes startup events skipped day before e after)) [] events
 
-  evidences : AllByRecursion (Has 9) (each_where (evidence item classes startup events skipped t) events)
+  evidences : AllByRecursion (Has 9) (each_where (evidence item classes startup events skipped day) events)
   evidences =
-      of_events 9 (evidence item classes startup events skipped t)
-      (λ before e after. has_cause 9 _ (evidence item classes startup events skipped t before e after)
-      (evidence_form item classes startup events skipped t before e after)) [] events
+      of_events 9 (evidence item classes startup events skipped day)
+      (λ before e after. has_cause 9 _ (evidence item classes startup events skipped day before e after)
+      (evidence_form item classes startup events skipped day before e after)) [] events
 
   -- the duties of a cause from the seventh on are those of the blocks from there on
   past_periods : (wanted : ℕ) → nat_eq 1 wanted ≡ false → nat_eq 2 wanted ≡ false → nat_eq 3 wanted ≡ false → nat_eq 4 wanted ≡ false →
       nat_eq 5 wanted ≡ false → nat_eq 6 wanted ≡ false →
-      (zs : List Duty) → filter (λ d. nat_eq d.cause wanted) (each_where (drip item classes startup events skipped t) events
-      ++ (each_where (release item classes startup events skipped t) events ++ each_where (evidence item classes startup events skipped t) events)) ≡ zs →
-      filter (λ d. nat_eq d.cause wanted) (duties_of item classes startup events skipped t) ≡ zs
+      (zs : List Duty) → filter (λ d. nat_eq d.cause wanted) (each_where (drip item classes startup events skipped day) events
+      ++ (each_where (release item classes startup events skipped day) events ++ each_where (evidence item classes startup events skipped day) events)) ≡ zs →
+      filter (λ d. nat_eq d.cause wanted) (duties_of item classes startup events skipped day) ≡ zs
   unfolding duties_of
   past_periods wanted one two three four five six zs rest =
       passed wanted 1 one _ _ zs firsts
-      (passed wanted 2 two _ _ zs (months (months_after item classes startup events skipped t))
-      (passed wanted 3 three _ _ zs (quarters (months_after item classes startup events skipped t))
-      (passed wanted 4 four _ _ zs (years (years_after item classes startup events skipped t))
-      (passed wanted 5 five _ _ zs (windows (window_ends item classes startup events skipped t))
-      (passed wanted 6 six _ _ zs (weeks (weeks_after item classes startup events skipped t)) rest)))))
+      (passed wanted 2 two _ _ zs (months (months_after item classes startup events skipped day))
+      (passed wanted 3 three _ _ zs (quarters (months_after item classes startup events skipped day))
+      (passed wanted 4 four _ _ zs (years (years_after item classes startup events skipped day))
+      (passed wanted 5 five _ _ zs (windows (window_ends item classes startup events skipped day))
+      (passed wanted 6 six _ _ zs (weeks (weeks_after item classes startup events skipped day)) rest)))))
 
 pub event_duties_follow_events : EventDutiesFollowEvents
-event_duties_follow_events item classes startup events skipped t =
-    let drip_list = each_where (drip item classes startup events skipped t) events in
-    let release_list = each_where (release item classes startup events skipped t) events in
-    let evidence_list = each_where (evidence item classes startup events skipped t) events in
-    let all_drips = drips item classes startup events skipped t in
-    let all_releases = releases item classes startup events skipped t in
-    let all_evidences = evidences item classes startup events skipped t in (
-      past_periods item classes startup events skipped t 7 refl refl refl refl refl refl drip_list
+event_duties_follow_events item classes startup events skipped day =
+    let drip_list = each_where (drip item classes startup events skipped day) events in
+    let release_list = each_where (release item classes startup events skipped day) events in
+    let evidence_list = each_where (evidence item classes startup events skipped day) events in
+    let all_drips = drips item classes startup events skipped day in
+    let all_releases = releases item classes startup events skipped day in
+    let all_evidences = evidences item classes startup events skipped day in (
+      past_periods item classes startup events skipped day 7 refl refl refl refl refl refl drip_list
           (taken 7 drip_list (release_list ++ evidence_list) all_drips
           (passed 7 8 refl release_list evidence_list [] all_releases (none_kept 7 9 refl evidence_list all_evidences))),
-      past_periods item classes startup events skipped t 8 refl refl refl refl refl refl release_list
+      past_periods item classes startup events skipped day 8 refl refl refl refl refl refl release_list
           (passed 8 7 refl drip_list (release_list ++ evidence_list) release_list all_drips
           (taken 8 release_list evidence_list all_releases (none_kept 8 9 refl evidence_list all_evidences))),
-      past_periods item classes startup events skipped t 9 refl refl refl refl refl refl evidence_list
+      past_periods item classes startup events skipped day 9 refl refl refl refl refl refl evidence_list
           (passed 9 7 refl drip_list (release_list ++ evidence_list) evidence_list all_drips
           (passed 9 8 refl release_list evidence_list evidence_list all_releases (all_kept 9 evidence_list all_evidences))),
     )

@@ -109,4 +109,5 @@ pub record IsLastCounted (detected : ℕ) (attempts : List ℕ) (stops : List St
   pub delay : DelayEntry
   pub stands : slice_get delays place ≡ Some delay
   pub counts : is_ignored detected attempts stops (take place delays) delay ≡ false
-  pub later : (after : ℕ) (other : DelayEntry) → place < after → slice_get delays after ≡ Some other → is_ignored detected attempts stops (take after delays) other ≡ true
+  pub later : (after : ℕ) (other : DelayEntry) → place < after → slice_get delays after ≡ Some other
+      → is_ignored detected attempts stops (take after delays) other ≡ true

@@ -19,7 +19,7 @@ use Rattle.ldar_law.specs.Standing.{is_under_valve_rules, is_under_pump_rules, i
 
 -- the rule for lists (our own): the period contains the day, or nothing has met the duty and it was due at most 366 days before
 abbrev pub is_listed : ℕ → ℕ → ℕ → Bool → Bool
-is_listed t first due unmet = nat_le first t && (nat_le t due || (unmet && nat_le t (due + LISTED_DAYS)))
+is_listed day first due unmet = nat_le first day && (nat_le day due || (unmet && nat_le day (due + LISTED_DAYS)))
 
 -- the first counting routine reading of a period
 abbrev pub routine_in : List Event → ℕ → ℕ → Option Event
@@ -53,29 +53,29 @@ module _ (item : Equipment) (classes : List (Key × Class)) (startup : ℕ) wher
       && nat_lt startup item.begin && not item.replaces
 
 -- .. its events, the quarters of the unit that are skipped, from the first on, and the day of the list
-module _ (item : Equipment) (classes : List (Key × Class)) (startup : ℕ) (events : List Event) (skipped : List Bool) (t : ℕ) where
+module _ (item : Equipment) (classes : List (Key × Class)) (startup : ℕ) (events : List Event) (skipped : List Bool) (day : ℕ) where
   -- a duty of a cause from a first day to a due day, where it is owed, and what met it; if it belongs on the list
   abbrev pub duty : ℕ → ℕ → ℕ → Bool → Option Event → Option Duty
   duty cause first due owed met =
-      if is_listed t first due (is_none met) && owed
+      if is_listed day first due (is_none met) && owed
       then Some (record { component = item.component; cause = cause; due = due; met = option_map (λ e. e.key) met })
       else None
 
   -- 1 first: within thirty days of the beginning
   unfoldable pub first_monitoring : Option Duty
   first_monitoring = duty 1 item.begin (first_due item)
-      (is_first_owed item classes startup (min (first_due item) t))
+      (is_first_owed item classes startup (min (first_due item) day))
       (routine_in events item.begin (first_due item))
 
   -- on this day a pump, or a valve that isn't quarterly in the month, is monitored each month
   abbrev pub is_monthly : ℕ → ℕ → Bool
-  is_monthly month day =
-      is_in_service item day && is_plain item classes day
-      && (is_under_pump_rules item classes day || (is_under_valve_rules item classes day && not (is_quarterly startup events month)))
+  is_monthly month judged =
+      is_in_service item judged && is_plain item classes judged
+      && (is_under_pump_rules item classes judged || (is_under_valve_rules item classes judged && not (is_quarterly startup events month)))
 
   -- 2 monthly (40 CFR 60.482-2a(a)(1), 60.482-7a(a)(1))
   unfoldable pub monthly : ℕ → Option Duty
-  monthly month = duty 2 (first_day month) (last_day month) (is_monthly month (min (last_day month) t))
+  monthly month = duty 2 (first_day month) (last_day month) (is_monthly month (min (last_day month) day))
       (routine_in events (first_day month) (last_day month))
 
   -- the quarter of the month is skipped
@@ -84,56 +84,57 @@ module _ (item : Equipment) (classes : List (Key × Class)) (startup : ℕ) (eve
 
   -- on this day a valve that is quarterly in the month is monitored in it: it is the valve's month of a quarter not skipped
   abbrev pub is_quarter_month : ℕ → ℕ → Bool
-  is_quarter_month month day =
-      is_in_service item day && is_plain item classes day && is_under_valve_rules item classes day && is_quarterly startup events month
-      && nat_eq (class_on item classes day).month (month_in_quarter startup month) && not (is_month_skipped month)
+  is_quarter_month month judged =
+      is_in_service item judged && is_plain item classes judged && is_under_valve_rules item classes judged && is_quarterly startup events month
+      && nat_eq (class_on item classes judged).month (month_in_quarter startup month) && not (is_month_skipped month)
 
   -- 3 quarterly (40 CFR 60.482-7a(c)(1)(i))
   unfoldable pub quarterly : ℕ → Option Duty
-  quarterly month = duty 3 (first_day month) (last_day month) (is_quarter_month month (min (last_day month) t))
+  quarterly month = duty 3 (first_day month) (last_day month) (is_quarter_month month (min (last_day month) day))
       (routine_in events (first_day month) (last_day month))
 
   -- on this day a valve that is difficult to monitor, or a valve, pump or compressor with no detectable emissions
   abbrev pub is_yearly : ℕ → Bool
-  is_yearly day =
-      is_in_service item day
-      && ((is_under_valve_rules item classes day && is_difficult item classes day)
-      || ((is_under_valve_rules item classes day || is_under_pump_rules item classes day || is_under_compressor_rules item classes day) && is_nde item classes day))
+  is_yearly judged =
+      is_in_service item judged
+      && ((is_under_valve_rules item classes judged && is_difficult item classes judged)
+      || ((is_under_valve_rules item classes judged || is_under_pump_rules item classes judged || is_under_compressor_rules item classes judged)
+      && is_nde item classes judged))
 
   -- with no detectable emissions the reading has to be less than 500 above the background
   abbrev pub yearly_reading : ℕ → ℕ → ℕ → Option Event
-  yearly_reading day first due =
-      if is_nde item classes day then routine_near_background events first due else routine_in events first due
+  yearly_reading judged first due =
+      if is_nde item classes judged then routine_near_background events first due else routine_in events first due
 
   -- 4 yearly (40 CFR 60.482-2a(e), 60.482-3a(i), 60.482-7a(f), (h)), in a calendar year
   unfoldable pub yearly : ℕ → Option Duty
-  yearly year = duty 4 (first_day (12 * year)) (last_day (12 * year + 11)) (is_yearly (min (last_day (12 * year + 11)) t))
-      (yearly_reading (min (last_day (12 * year + 11)) t) (first_day (12 * year)) (last_day (12 * year + 11)))
+  yearly year = duty 4 (first_day (12 * year)) (last_day (12 * year + 11)) (is_yearly (min (last_day (12 * year + 11)) day))
+      (yearly_reading (min (last_day (12 * year + 11)) day) (first_day (12 * year)) (last_day (12 * year + 11)))
 
   -- on this day a valve or pump that is unsafe to monitor, with a plan of so many months of which the month ends a window
   abbrev pub is_planned : ℕ → ℕ → ℕ → Bool
-  is_planned month plan day =
-      is_in_service item day && is_unsafe item classes day && (is_under_valve_rules item classes day || is_under_pump_rules item classes day)
+  is_planned month plan judged =
+      is_in_service item judged && is_unsafe item classes judged && (is_under_valve_rules item classes judged || is_under_pump_rules item classes judged)
       && nat_lt 0 plan && nat_eq ((month - month_of item.begin) % plan) 0
 
   -- 5 plan (40 CFR 60.482-2a(g)(2), 60.482-7a(g)(2)): in the window of a plan's months that ends with the month; the windows run
   -- from the month after the beginning
   abbrev pub planned_by : ℕ → ℕ → Option Duty
   planned_by month plan = duty 5 (first_day (month + 1 - plan)) (end_by (last_day month))
-      (is_planned month plan (min (end_by (last_day month)) t))
+      (is_planned month plan (min (end_by (last_day month)) day))
       (routine_in events (first_day (month + 1 - plan)) (end_by (last_day month)))
 
   -- .. by the plan of the day on which the window is judged
   unfoldable pub planned : ℕ → Option Duty
-  planned month = planned_by month (class_on item classes (min (end_by (last_day month)) t)).plan
+  planned month = planned_by month (class_on item classes (min (end_by (last_day month)) day)).plan
 
   -- on this day a pump that is no designated one
   abbrev pub is_weekly : ℕ → Bool
-  is_weekly day = is_in_service item day && is_under_pump_rules item classes day && is_plain item classes day
+  is_weekly judged = is_in_service item judged && is_under_pump_rules item classes judged && is_plain item classes judged
 
   -- 6 weekly (40 CFR 60.482-2a(a)(2))
   unfoldable pub weekly : ℕ → Option Duty
-  weekly week = duty 6 (week_first week) (week_last week) (is_weekly (min (week_last week) t)) (look_in events (week_first week) (week_last week))
+  weekly week = duty 6 (week_first week) (week_last week) (is_weekly (min (week_last week) day)) (look_in events (week_first week) (week_last week))
 
   -- five days after an event
   abbrev pub five_days : Event → ℕ
@@ -159,19 +160,19 @@ module _ (item : Equipment) (classes : List (Key × Class)) (startup : ℕ) (eve
 
   -- the months after the beginning
   abbrev pub months_after : List ℕ
-  months_after = from_to (month_of item.begin + 1) (month_of t)
+  months_after = from_to (month_of item.begin + 1) (month_of day)
 
   -- the calendar years from that of the thirtieth day on (our own rule)
   abbrev pub years_after : List ℕ
-  years_after = from_to (month_of (first_due item) / 12) (month_of t / 12)
+  years_after = from_to (month_of (first_due item) / 12) (month_of day / 12)
 
   -- the months with which a window may end that has begun: a plan has at most 60 months
   abbrev pub window_ends : List ℕ
-  window_ends = from_to (month_of item.begin + 1) (month_of t + 59)
+  window_ends = from_to (month_of item.begin + 1) (month_of day + 59)
 
   -- the weeks after the beginning
   abbrev pub weeks_after : List ℕ
-  weeks_after = from_to (week_of item.begin + 1) (week_of t)
+  weeks_after = from_to (week_of item.begin + 1) (week_of day)
 
   -- all duties of the component that belong on the list, by cause, due day and event
   unfoldable pub duties_of : List Duty

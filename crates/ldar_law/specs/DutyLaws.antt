@@ -18,14 +18,17 @@ comes_no_later a b = nat_lt a.cause b.cause || (nat_eq a.cause b.cause && nat_le
 -- the duties of a component stand by cause and due day, where its events are in key order
 abbrev pub DutiesStandInOrder : Type 0
 DutiesStandInOrder =
-    (item : Equipment) (classes : List (Key × Class)) (startup : ℕ) (events : List Event) (skipped : List Bool) (t : ℕ)
+    (item : Equipment) (classes : List (Key × Class)) (startup : ℕ) (events : List Event) (skipped : List Bool) (day : ℕ)
     → IsDay item.begin → Ascends (λ a b. is_earlier a.key b.key) events
-    → Ascends comes_no_later (duties_of item classes startup events skipped t)
+    → Ascends comes_no_later (duties_of item classes startup events skipped day)
 
 -- the duties after drips, releases and evidence are those that the events give, in the order of the events
 abbrev pub EventDutiesFollowEvents : Type 0
 EventDutiesFollowEvents =
-    (item : Equipment) (classes : List (Key × Class)) (startup : ℕ) (events : List Event) (skipped : List Bool) (t : ℕ)
-    → (filter (λ d. nat_eq d.cause 7) (duties_of item classes startup events skipped t) ≡ each_where (drip item classes startup events skipped t) events)
-    × (filter (λ d. nat_eq d.cause 8) (duties_of item classes startup events skipped t) ≡ each_where (release item classes startup events skipped t) events)
-    × (filter (λ d. nat_eq d.cause 9) (duties_of item classes startup events skipped t) ≡ each_where (evidence item classes startup events skipped t) events)
+    (item : Equipment) (classes : List (Key × Class)) (startup : ℕ) (events : List Event) (skipped : List Bool) (day : ℕ)
+    → (filter (λ d. nat_eq d.cause 7) (duties_of item classes startup events skipped day)
+    ≡ each_where (drip item classes startup events skipped day) events)
+    × (filter (λ d. nat_eq d.cause 8) (duties_of item classes startup events skipped day)
+    ≡ each_where (release item classes startup events skipped day) events)
+    × (filter (λ d. nat_eq d.cause 9) (duties_of item classes startup events skipped day)
+    ≡ each_where (evidence item classes startup events skipped day) events)

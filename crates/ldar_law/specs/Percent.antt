@@ -32,13 +32,13 @@ has_delay_on day tags = list_any (λ tag. is_open_on day tag && is_delayed tag) 
 
 -- the day on which a quarter is judged
 abbrev pub judging_day : ℕ → ℕ → ℕ → ℕ
-judging_day startup quarter t = min (quarter_last startup quarter) t
+judging_day startup quarter day = min (quarter_last startup quarter) day
 
 -- a component with its classes and events, whether its repair is delayed on the quarter's judging day, and the day of the view
-module _ (item : Equipment) (classes : List (Key × Class)) (startup : ℕ) (events : List Event) (delayed : Bool) (quarter t : ℕ) where
+module _ (item : Equipment) (classes : List (Key × Class)) (startup : ℕ) (events : List Event) (delayed : Bool) (quarter day : ℕ) where
   -- valves that are in regime V then and not for no detectable emissions are counted
   abbrev pub is_counted : Bool
-  is_counted = is_under_valve_rules item classes (judging_day startup quarter t) && not (is_nde item classes (judging_day startup quarter t))
+  is_counted = is_under_valve_rules item classes (judging_day startup quarter day) && not (is_nde item classes (judging_day startup quarter day))
 
   -- it has a counting routine reading in the quarter
   abbrev pub is_read : Bool
@@ -51,8 +51,8 @@ module _ (item : Equipment) (classes : List (Key × Class)) (startup : ℕ) (eve
   -- it begins in the quarter and its first monitoring was due before the day and was not made (our own rule)
   abbrev pub is_first_missed : Bool
   is_first_missed =
-      is_in_quarter startup quarter item.begin && is_first_owed item classes startup (min (first_due item) t)
-      && nat_lt (first_due item) t && is_none (routine_in events item.begin (first_due item))
+      is_in_quarter startup quarter item.begin && is_first_owed item classes startup (min (first_due item) day)
+      && nat_lt (first_due item) day && is_none (routine_in events item.begin (first_due item))
 
   -- what the component adds to the counts of the quarter
   unfoldable pub mark_of : Mark

@@ -41,15 +41,15 @@ of_cause cause duties = filter (λ d. nat_eq d.cause cause) duties
 
 -- the duties on a day of a component of unit 1, which started up on 2020-01-15 and has skipped no quarter
 abbrev pub duties_on : ℕ → Equipment → List Event → List Duty
-duties_on t item events = duties_of item [] (date 2020 1 15) events [] t
+duties_on day item events = duties_of item [] (date 2020 1 15) events [] day
 
 -- .. with classes that are entered for it
 abbrev pub duties_with : ℕ → Equipment → List (Key × Class) → List Event → List Duty
-duties_with t item classes events = duties_of item classes (date 2020 1 15) events [] t
+duties_with day item classes events = duties_of item classes (date 2020 1 15) events [] day
 
 -- the duties on a day of valve 30, which begins with the startup of its unit on 2024-01-15
 abbrev pub duties_of_30 : List Event → List Bool → ℕ → List Duty
-duties_of_30 events skipped t = duties_of (valve 30 (date 2024 1 15)) [] (date 2024 1 15) events skipped t
+duties_of_30 events skipped day = duties_of (valve 30 (date 2024 1 15)) [] (date 2024 1 15) events skipped day
 
 -- ---- quarters and routes
 
@@ -92,11 +92,11 @@ known item classes events = record {
 
 -- what a component of unit 1 adds to the counts of a quarter, as known on a day
 abbrev pub mark_with : ℕ → ℕ → Equipment → List (Key × Class) → List Event → Mark
-mark_with t quarter item classes events = mark_in (date 2020 1 15) t quarter (known item classes events)
+mark_with day quarter item classes events = mark_in (date 2020 1 15) day quarter (known item classes events)
 
 -- .. where no class was entered for it
 abbrev pub mark_on : ℕ → ℕ → Equipment → List Event → Mark
-mark_on t quarter item events = mark_with t quarter item [] events
+mark_on day quarter item events = mark_with day quarter item [] events
 
 -- a route of these components
 abbrev pub route : List ℕ → Route
@@ -140,4 +140,4 @@ unit_1 = record { unit = 1; name = 67 ∷ []; startup = date 2020 1 15; older = 
 
 -- the tags of unit 1 on a day, after a history
 abbrev pub tags_on : ℕ → List Batch → List Tag
-tags_on t history = tags_of_unit unit_1 t (facts_to t history)
+tags_on day history = tags_of_unit unit_1 day (facts_to day history)

@@ -31,7 +31,7 @@ sheet_of c = record {
 
 -- the report of a half
 abbrev pub report_of_unit : UnitEntry → ℕ → ℕ → List Entry → Report
-report_of_unit unit half t facts = report_on unit half t (map sheet_of (components_of unit.unit facts)) (stops_of unit.unit facts)
+report_of_unit unit half day facts = report_on unit half day (map sheet_of (components_of unit.unit facts)) (stops_of unit.unit facts)
 
 -- ---- the views, from the facts up to a view day
 
@@ -40,35 +40,35 @@ abbrev pub of_unit : ℕ → List Entry → (UnitEntry → Reply) → Reply
 of_unit unit facts view = elim (unit_entry_of unit facts) [ None ↦ NoSuch NoUnit | Some entry ↦ view entry ]
 
 abbrev pub due_view : ℕ → ℕ → List Entry → Reply
-due_view unit t facts = of_unit unit facts (λ entry. Shown (due_text unit t (duties_of_unit entry t facts)))
+due_view unit day facts = of_unit unit facts (λ entry. Shown (due_text unit day (duties_of_unit entry day facts)))
 
 abbrev pub tags_view : ℕ → ℕ → List Entry → Reply
-tags_view unit t facts = of_unit unit facts (λ entry. Shown (tags_text unit t (tags_of_unit entry t facts)))
+tags_view unit day facts = of_unit unit facts (λ entry. Shown (tags_text unit day (tags_of_unit entry day facts)))
 
 abbrev pub delays_view : ℕ → ℕ → List Entry → Reply
-delays_view unit t facts = of_unit unit facts (λ entry. Shown (delays_text unit t (delays_of_unit entry facts)))
+delays_view unit day facts = of_unit unit facts (λ entry. Shown (delays_text unit day (delays_of_unit entry facts)))
 
 -- a route has at least one stop
 abbrev pub route_view : ℕ → ℕ → ℕ → List Entry → Reply
-route_view unit t stops facts = of_unit unit facts (λ entry.
-    if nat_eq stops 0 then NoSuch NoStops else Shown (route_text unit t stops (routes_of_unit entry t facts stops)))
+route_view unit day stops facts = of_unit unit facts (λ entry.
+    if nat_eq stops 0 then NoSuch NoStops else Shown (route_text unit day stops (routes_of_unit entry day facts stops)))
 
 -- the text of a quarter: its counts, whether they are good, and whether it is skipped
 abbrev pub quarter_text : UnitEntry → ℕ → ℕ → List Entry → List ℕ
-quarter_text unit quarter t facts =
-    let tally = tally_of_unit unit t facts quarter in
-    percent_text unit.unit quarter tally (is_good tally) (is_skipped_of_unit unit t facts quarter)
+quarter_text unit quarter day facts =
+    let tally = tally_of_unit unit day facts quarter in
+    percent_text unit.unit quarter tally (is_good tally) (is_skipped_of_unit unit day facts quarter)
 
 -- the quarter has begun by the day
 abbrev pub percent_view : ℕ → ℕ → ℕ → List Entry → Reply
-percent_view unit quarter t facts = of_unit unit facts (λ entry.
-    if has_quarter_begun entry.startup quarter t then Shown (quarter_text entry quarter t facts) else NoSuch NoQuarter)
+percent_view unit quarter day facts = of_unit unit facts (λ entry.
+    if has_quarter_begun entry.startup quarter day then Shown (quarter_text entry quarter day facts) else NoSuch NoQuarter)
 
 -- the half has begun by the day
 abbrev pub report_view : ℕ → ℕ → ℕ → List Entry → Reply
-report_view unit half t facts = of_unit unit facts (λ entry.
-    if has_half_begun entry.startup half t
-    then Shown (report_text (half_month entry.startup half) (report_of_unit entry half t facts)) else NoSuch NoHalf)
+report_view unit half day facts = of_unit unit facts (λ entry.
+    if has_half_begun entry.startup half day
+    then Shown (report_text (half_month entry.startup half) (report_of_unit entry half day facts)) else NoSuch NoHalf)
 
 -- ---- what is shown of a history
 

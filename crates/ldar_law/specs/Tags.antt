@@ -61,11 +61,11 @@ is_open tag = is_none tag.closed
 
 -- the tag is in the list of a day: open, or closed at most 366 days before (our own rule)
 abbrev pub is_shown : ℕ → Tag → Bool
-is_shown t tag = option_map_or (λ closed. nat_le t (closed + LISTED_DAYS)) tag.closed true
+is_shown day tag = option_map_or (λ closed. nat_le day (closed + LISTED_DAYS)) tag.closed true
 
 -- late: closed after its due day, or open when that is past
 abbrev pub is_late : ℕ → Tag → Bool
-is_late t tag = is_past (option_map_or (λ closed. closed) tag.closed t) tag.repair_due
+is_late day tag = is_past (option_map_or (λ closed. closed) tag.closed day) tag.repair_due
 
 -- the last delay that isn't ignored, unless it is withdrawn
 abbrev pub standing_delay : Tag → Option DelayEntry

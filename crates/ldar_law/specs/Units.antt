@@ -56,7 +56,7 @@ all_tags components = flat_map (λ c. c.tags) components
 
 -- the tags that are not closed, or closed at most 366 days before
 abbrev pub tag_list : ℕ → List Known → List Tag
-tag_list t components = filter (is_shown t) (all_tags components)
+tag_list day components = filter (is_shown day) (all_tags components)
 
 -- the lines on open tags whose repair is delayed
 abbrev pub delay_list : List Known → List DelayLine
@@ -64,40 +64,40 @@ delay_list components = delay_lines (all_tags components)
 
 -- what a component adds to the counts of a quarter
 abbrev pub mark_in : ℕ → ℕ → ℕ → Known → Mark
-mark_in startup t quarter c =
-    mark_of c.item c.classes startup c.events (has_delay_on (judging_day startup quarter t) c.tags) quarter t
+mark_in startup day quarter c =
+    mark_of c.item c.classes startup c.events (has_delay_on (judging_day startup quarter day) c.tags) quarter day
 
 -- the counts of a quarter
 abbrev pub tally_in : ℕ → ℕ → List Known → ℕ → Tally
-tally_in startup t components quarter = tally_of (map (mark_in startup t quarter) components)
+tally_in startup day components quarter = tally_of (map (mark_in startup day quarter) components)
 
 -- the counts of the quarters from the first to one
 abbrev pub tallies_to : ℕ → ℕ → List Known → ℕ → List Tally
-tallies_to startup t components quarter = map (tally_in startup t components) (from_to 1 quarter)
+tallies_to startup day components quarter = map (tally_in startup day components) (from_to 1 quarter)
 
 -- the number of the quarter in which the day lies; 0 before the first
 abbrev pub quarter_at : ℕ → ℕ → ℕ
-quarter_at startup t = unwrap_or (quarter_of startup (month_of t)) 0
+quarter_at startup day = unwrap_or (quarter_of startup (month_of day)) 0
 
 -- a quarter of the unit is skipped
 abbrev pub is_quarter_skipped : ℕ → ℕ → List Known → List ElectionEntry → ℕ → Bool
-is_quarter_skipped startup t components elections quarter =
-    is_skipped (tallies_to startup t components (quarter - 1)) elections startup quarter
+is_quarter_skipped startup day components elections quarter =
+    is_skipped (tallies_to startup day components (quarter - 1)) elections startup quarter
 
 -- which quarters are skipped, from the first to the one of the day
 abbrev pub skipped_on : ℕ → ℕ → List Known → List ElectionEntry → List Bool
-skipped_on startup t components elections =
-    skipped_to (tallies_to startup t components (quarter_at startup t - 1)) elections startup (quarter_at startup t)
+skipped_on startup day components elections =
+    skipped_to (tallies_to startup day components (quarter_at startup day - 1)) elections startup (quarter_at startup day)
 
 -- what has to be done at the components, by component, cause, due day and event
 abbrev pub due_list : ℕ → ℕ → List Bool → List Known → List Duty
-due_list startup t skipped components = flat_map (λ c. duties_of c.item c.classes startup c.events skipped t) components
+due_list startup day skipped components = flat_map (λ c. duties_of c.item c.classes startup c.events skipped day) components
 
 -- ---- of the facts up to a view day
 
 -- the tags of a unit
 abbrev pub tags_of_unit : UnitEntry → ℕ → List Entry → List Tag
-tags_of_unit unit t facts = tag_list t (components_of unit.unit facts)
+tags_of_unit unit day facts = tag_list day (components_of unit.unit facts)
 
 -- the lines on delayed repairs of a unit
 abbrev pub delays_of_unit : UnitEntry → List Entry → List DelayLine
@@ -105,21 +105,21 @@ delays_of_unit unit facts = delay_list (components_of unit.unit facts)
 
 -- the counts of a quarter of a unit
 abbrev pub tally_of_unit : UnitEntry → ℕ → List Entry → ℕ → Tally
-tally_of_unit unit t facts quarter = tally_in unit.startup t (components_of unit.unit facts) quarter
+tally_of_unit unit day facts quarter = tally_in unit.startup day (components_of unit.unit facts) quarter
 
 -- a quarter of a unit is skipped
 abbrev pub is_skipped_of_unit : UnitEntry → ℕ → List Entry → ℕ → Bool
-is_skipped_of_unit unit t facts quarter =
-    is_quarter_skipped unit.startup t (components_of unit.unit facts) (elections_of unit.unit facts) quarter
+is_skipped_of_unit unit day facts quarter =
+    is_quarter_skipped unit.startup day (components_of unit.unit facts) (elections_of unit.unit facts) quarter
 
 -- the duties of some components, with the elections of their unit
 abbrev pub duties_by : UnitEntry → ℕ → List ElectionEntry → List Known → List Duty
-duties_by unit t elections components = due_list unit.startup t (skipped_on unit.startup t components elections) components
+duties_by unit day elections components = due_list unit.startup day (skipped_on unit.startup day components elections) components
 
 -- the duties of a unit
 abbrev pub duties_of_unit : UnitEntry → ℕ → List Entry → List Duty
-duties_of_unit unit t facts = duties_by unit t (elections_of unit.unit facts) (components_of unit.unit facts)
+duties_of_unit unit day facts = duties_by unit day (elections_of unit.unit facts) (components_of unit.unit facts)
 
 -- the routes to the components of a unit that have something to be done
 abbrev pub routes_of_unit : UnitEntry → ℕ → List Entry → ℕ → List Route
-routes_of_unit unit t facts stops = routes_of (duties_of_unit unit t facts) stops
+routes_of_unit unit day facts stops = routes_of (duties_of_unit unit day facts) stops

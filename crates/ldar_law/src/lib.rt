@@ -12,7 +12,6 @@ mod fitness;
 mod happening;
 mod items;
 mod key_order;
-mod kind;
 pub mod laws;
 mod leak_definition;
 mod months;
@@ -25,6 +24,7 @@ mod report;
 mod request;
 mod route;
 mod sheet;
+mod sorts;
 mod span;
 mod standing;
 mod suiting;
@@ -44,7 +44,6 @@ pub use fitness::Fitness;
 pub use happening::has_leak;
 pub use items::Items;
 pub use key_order::are_in_key_order;
-pub use kind::{is_compressor, is_pump, is_valve, is_valve_or_pump};
 pub use leak_definition::limit;
 pub use months::{has_leak_in, is_clean, is_clean_twice, is_clean_twice_from, is_quarterly};
 pub use numbers::{
@@ -59,11 +58,12 @@ pub use report::{Amended, Cells, Filed, MonthCells, Report};
 pub use request::{Request, What};
 pub use route::Route;
 pub use sheet::Sheet;
-pub use span::Span;
-pub use suiting::{
-    is_difficult_designated, is_nde_designated, is_none_designated, is_under_300,
-    is_unsafe_designated, is_vacuum, suits, suits_designation, suits_service,
+pub use sorts::{
+    is_compressor, is_difficult_designated, is_nde_designated, is_none_designated, is_pump,
+    is_under_300, is_unsafe_designated, is_vacuum, is_valve, is_valve_or_pump,
 };
+pub use span::Span;
+pub use suiting::{suits, suits_designation, suits_service};
 pub use tag::Tag;
 pub use tally::{Mark, Tally};
 pub use text::Text;

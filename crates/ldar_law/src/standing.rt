@@ -12,7 +12,7 @@ use crate::equipment::Equipment;
 use crate::leak_definition::limit;
 use crate::numbers::FIRST_DAYS;
 use crate::regime::Regime;
-use crate::suiting::{
+use crate::sorts::{
     is_difficult_designated, is_nde_designated, is_none_designated, is_unsafe_designated,
 };
 use ldar_days::Day;

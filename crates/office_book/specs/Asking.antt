@@ -1,11 +1,11 @@
 -- What is asked of an office at once, and what its answers keep to.
-use Rattle.std.specs.Prelude.{◌≡◌, ◌≢◌, ℕ, ◌<◌, ◌≤◌, List, length, map}
+use Rattle.std.specs.Prelude.{◌≡◌, ◌≢◌, ℕ, ◌<◌, List, length, map}
 use Rattle.std.specs.List.{AllByRecursion}
 use Rattle.ldar_law.specs.declared.request.Request.{Request}
 use Rattle.ldar_law.specs.declared.request.Request.TheVariants.{Sync, Due, Tags, Delays, Route, Percent, Report as ReportView}
 use Rattle.ldar_law.specs.declared.reply.Reply.{Reply}
-use Rattle.ldar_law.specs.declared.reply.Reply.TheVariants.{Receipt, Conflict, Denied, Full, Shown, NoSuch, Fault, Memory}
 use Rattle.ldar_law.specs.Machine.{Call, Turn}
+pub use Rattle.ldar_law.specs.Replies.{HasRule}
 
 -- the requests of a call, and its replies
 abbrev pub requests_of : Call → List Request
@@ -27,14 +27,3 @@ IsFromHandheld (ReportView unit half day) = ⊥
 -- one request, or several batches of handhelds
 abbrev pub MayShareFrame : List Request → Type 0
 MayShareFrame requests = 1 < length requests → AllByRecursion IsFromHandheld requests
-
--- a denial names one of the 21 rules
-abbrev pub HasRule : Reply → Type 0
-HasRule (Receipt handheld number position) = Unit {0}
-HasRule (Conflict position) = Unit {0}
-HasRule (Denied fact rule) = (1 ≤ rule) × (rule ≤ 21)
-HasRule (Full facts) = Unit {0}
-HasRule (Shown text) = Unit {0}
-HasRule (NoSuch what) = Unit {0}
-HasRule Fault = Unit {0}
-HasRule Memory = Unit {0}

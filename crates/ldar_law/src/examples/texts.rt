@@ -8,7 +8,7 @@ ghost use Rattle.ldar_law.specs.declared.delay.Until.TheVariants.{Date, NoDate, 
 ghost use Rattle.ldar_law.specs.declared.reply.Reply.TheVariants.{Conflict, Denied, Fault, Full, Memory, NoSuch, Receipt};
 ghost use Rattle.ldar_law.specs.declared.request.What.TheVariants.{Day as NoDay, Half as NoHalf, Quarter as NoQuarter, Stops as NoStops, Unit as NoUnit};
 ghost use Rattle.ldar_law.specs.Delays.{delay_entered};
-ghost use Rattle.ldar_law.specs.Replies.{reply_text};
+ghost use Rattle.ldar_law.specs.Replies.{reply_text, HasRule};
 ghost use Rattle.ldar_law.specs.Short.{date, key};
 ghost use Rattle.ldar_law.specs.SmallReport.{delay_entry, filed_months, met_by, small_tag};
 ghost use Rattle.ldar_law.specs.Texts.{delays_text, due_text, percent_text, report_text, route_text, tags_text};
@@ -23,6 +23,15 @@ pub fn replies()
     ensures no_such { reply_text (NoSuch NoStops) ≡ codes "no such stops\n" }
     ensures fault { reply_text Fault ≡ codes "disk fault\n" }
     ensures memory { reply_text Memory ≡ codes "memory\n" }
+{}
+
+/// A denial names a rule from 1 to 21.
+pub fn rules_of_denials()
+    ensures first { HasRule (Denied 1 1) }
+    ensures last { HasRule (Denied 9 21) }
+    ensures none { ¬ (HasRule (Denied 1 0)) }
+    ensures beyond { ¬ (HasRule (Denied 1 22)) }
+    ensures other { HasRule (Conflict 0) }
 {}
 
 /// A due list with a duty that is open on its due day, one that was missed, and one that is done.

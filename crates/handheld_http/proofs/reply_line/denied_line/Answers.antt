@@ -1,5 +1,0 @@
-use Rattle.std.proofs.Common.{append_assoc, rules}
-use Rattle.handheld_http.proofs.reply_line.denied_line.Goals as goal
-
-pub returns : goal.returns
-returns c = simp append_assoc (search rules)
