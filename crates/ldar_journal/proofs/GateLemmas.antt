@@ -1,7 +1,7 @@
 -- What writes behind a gate, and of a gate, do to bytes that reach up to it.
-use Rattle.std.proofs.Common.{◌≡◌, ℕ, ◌+◌, ◌≤◌, List, length, take, min, subst, arith}
+use Rattle.std.proofs.Common.{◌≡◌, ℕ, ◌+◌, ◌<◌, ◌≤◌, List, [], ◌∷◌, ◌++◌, length, take, min, subst, arith}
 use Rattle.disk_model.specs.Disk.{Torn}
-use Rattle.ldar_journal.specs.Gates.{WritesBehind, WritesGate}
+use Rattle.ldar_journal.specs.Gates.{PutsBehind, SameButGate, WritesBehind, WritesGate}
 
 -- what stands before a torn write stays
 before_torn : (at n : ℕ) (old new : List ℕ) → Torn at n old new → at ≤ length old → take at new ≡ take at old

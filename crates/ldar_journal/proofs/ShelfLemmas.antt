@@ -1,8 +1,10 @@
 -- What an append leaves of the bytes of a journal, step by step.
 use Rattle.std.proofs.Common.{◌≡◌, ◌≢◌, ◌⊎◌, inl, inr, ℕ, ◌+◌, ◌*◌, ◌-◌, ◌<◌, ◌≤◌, Option, Result, Ok, Err, OnOk, is_err, false, List, [], ◌∷◌, ◌++◌, length, take, drop, get_or, slice_index, refl, sym, ◌∙◌, ap, ap₂, subst, arith, append_assoc, length-append, length-drop}
 use Rattle.std.proofs.lemmas.Bool.{cases_eq, false≢true}
+use Rattle.std.proofs.lemmas.List.Sums.{sum_by-append}
 use Rattle.std.proofs.Math.Seq.{drop-append_seam}
 use Rattle.std.proofs.lemmas.List.{drop-drop, get_or-take, take-take}
+use Rattle.disk_model.specs.Disk.{Torn}
 use Rattle.disk_model.specs.Images.{Only}
 use Rattle.disk_model.specs.Told.{Told, BothTold}
 use Rattle.disk_model.proofs.ToldLemmas.{Told-after, Told-weaker, Told-both}
@@ -14,8 +16,9 @@ use Rattle.ldar_journal.specs.FrameAt.{IsFrameOf}
 use Rattle.ldar_journal.specs.Crash.{OnDisk, ComesFrom, LeavesOnly}
 use Rattle.ldar_journal.specs.Gates.{HoldsBehind, WritesBehind, WritesGate}
 use Rattle.ldar_journal.specs.Shelf.{Shelf, behind_gate, IsInDoubt, Stands, IsCounted, IsTorn, IsDoubt, IsShelved, OpensAs, OpensToEither, OpensEither}
-use Rattle.ldar_journal.proofs.CrashLemmas.{LeavesOnly-weaker, LeavesOnly-joins, OnDisk-weaker, OnDisk-stable, OnDisk-content, OnDisk-after, OnDisk-fewer, told_image, told_before}
+use Rattle.ldar_journal.proofs.CrashLemmas.{ComesFrom-weaker, LeavesOnly-weaker, LeavesOnly-joins, OnDisk-weaker, OnDisk-stable, OnDisk-content, OnDisk-after, OnDisk-fewer, told_image, told_before}
 use Rattle.ldar_journal.proofs.FrameLemmas.{AllByRecursion-push}
+use Rattle.ldar_journal.proofs.GateLemmas.{Torn-behind, Torn-gate}
 use Rattle.ldar_journal.proofs.Frames.{length-payload}
 use Rattle.ldar_journal.proofs.Histories.{at_place, batches_of-push, front_grows, IsKept-front, damaged_opens_to_none, end_of-push, end_of-fits}
 
@@ -223,15 +226,16 @@ module _ {D : Type 0} (clock_of : D → ℕ) (left_of : D → ℕ → List ℕ �
   abbrev May : List ℕ → Type 0
   May image = Told (content_of old) (λ _. OpensToEither image frames batches)
 
-  module _ (middle : D)
+  module _ (middle : D) (n : ℕ)
       (puts : BothTold (content_of old) (content_of middle) (WritesBehind gate))
-      (from_old : (image : List ℕ) → images_of middle image → ComesFrom (WritesBehind gate) (images_of old) image)
-      (put_leaves : LeavesOnly clock_of left_of old middle (ComesFrom (WritesBehind gate) (images_of old))) where
+      (from_old : (image : List ℕ) → images_of middle image → ComesFrom (Torn (gate + 1) n) (images_of old) image)
+      (put_leaves : LeavesOnly clock_of left_of old middle (ComesFrom (Torn (gate + 1) n) (images_of old))) where
     -- the frames stand, whatever was written behind their gate
     stays : OnDisk (content_of middle) (images_of middle) (λ image. EndsAt image gate frames)
     stays =
         OnDisk-after (λ image. EndsAt image gate frames) (λ image. EndsAt image gate frames) (WritesBehind gate) (put_behind_stays gate frames)
-        (content_of old) (content_of middle) (images_of old) (images_of middle) is_ready.ends puts from_old
+        (content_of old) (content_of middle) (images_of old) (images_of middle) is_ready.ends puts
+        (λ image now. ComesFrom-weaker (Torn (gate + 1) n) (WritesBehind gate) (images_of old) (Torn-behind gate n) image (from_old image now))
 
     -- a fault behind the gate leaves the journal as it was
     pub IsShelved-shut : IsShelved (content_of middle) (images_of middle) gate frames doubt torn
@@ -246,15 +250,16 @@ module _ {D : Type 0} (clock_of : D → ℕ) (left_of : D → ℕ → List ℕ �
     -- up to then a crash leaves the frames
     pub put_moments : LeavesOnly clock_of left_of old middle May
     put_moments =
-        LeavesOnly-weaker clock_of left_of old middle (ComesFrom (WritesBehind gate) (images_of old)) May
-        (told_image (λ image. EndsAt image gate frames) (λ image. OpensToEither image frames batches) (WritesBehind gate)
-        (λ a b ends writes. ends_either gate frames batches b (put_behind_stays gate frames a b ends writes)) (content_of old) (images_of old) is_ready.ends) put_leaves
+        LeavesOnly-weaker clock_of left_of old middle (ComesFrom (Torn (gate + 1) n) (images_of old)) May
+        (told_image (λ image. EndsAt image gate frames) (λ image. OpensToEither image frames batches) (Torn (gate + 1) n)
+        (λ a b ends torn. ends_either gate frames batches b (put_behind_stays gate frames a b ends (Torn-behind gate n a b torn)))
+        (content_of old) (images_of old) is_ready.ends) put_leaves
 
     module _ (new : D)
         (holds : BothTold (content_of old) (content_of middle) (λ old new. gate < length old → HoldsBehind gate (behind_gate batches) new))
         (stable : Told (content_of middle) (λ bytes. Only bytes (images_of middle)))
         (opens : BothTold (content_of middle) (content_of new) (WritesGate gate))
-        (from_middle : (image : List ℕ) → images_of new image → ComesFrom (WritesGate gate) (images_of middle) image) where
+        (from_middle : (image : List ℕ) → images_of new image → ComesFrom (Torn gate 1) (images_of middle) image) where
       -- the frame is there behind the gate in all that a crash may leave
       put : OnDisk (content_of middle) (images_of middle) (IsPut gate frames batches)
       put =
@@ -269,7 +274,8 @@ module _ {D : Type 0} (clock_of : D → ℕ) (left_of : D → ℕ → List ℕ �
       in_doubt : OnDisk (content_of new) (images_of new) (λ image. IsInDoubt image gate frames batches)
       in_doubt =
           OnDisk-after (IsPut gate frames batches) (λ image. IsInDoubt image gate frames batches) (WritesGate gate)
-          (put_in_doubt gate frames batches is_ready.is is_ready.kept) (content_of middle) (content_of new) (images_of middle) (images_of new) put opens from_middle
+          (put_in_doubt gate frames batches is_ready.is is_ready.kept) (content_of middle) (content_of new) (images_of middle) (images_of new) put opens
+          (λ image now. ComesFrom-weaker (Torn gate 1) (WritesGate gate) (images_of middle) (Torn-gate gate) image (from_middle image now))
 
       -- a fault at the gate leaves the frame in doubt
       pub IsShelved-torn : IsShelved (content_of new) (images_of new) gate frames batches (length (behind_gate batches))
@@ -303,14 +309,15 @@ module _ {D : Type 0} (clock_of : D → ℕ) (left_of : D → ℕ → List ℕ �
           }
 
       -- at any moment of the whole a crash leaves the frames, or these and the frame
-      pub append_moments : clock_of old ≤ clock_of middle → LeavesOnly clock_of left_of middle new (ComesFrom (WritesGate gate) (images_of middle))
+      pub append_moments : clock_of old ≤ clock_of middle → LeavesOnly clock_of left_of middle new (ComesFrom (Torn gate 1) (images_of middle))
           → LeavesOnly clock_of left_of old new May
       append_moments time open_leaves =
           LeavesOnly-joins clock_of left_of old middle new May time put_moments
-          (LeavesOnly-weaker clock_of left_of middle new (ComesFrom (WritesGate gate) (images_of middle)) May
+          (LeavesOnly-weaker clock_of left_of middle new (ComesFrom (Torn gate 1) (images_of middle)) May
           (λ image from. told_before (OpensToEither image frames batches) (WritesBehind gate) (content_of old) (content_of middle) puts
-          (told_image (IsPut gate frames batches) (λ image. OpensToEither image frames batches) (WritesGate gate)
-          (λ a b is_put writes. Stands-opens b gate frames batches (Stands-doubt b gate frames batches is_ready.is.some (put_in_doubt gate frames batches is_ready.is is_ready.kept a b is_put writes)))
+          (told_image (IsPut gate frames batches) (λ image. OpensToEither image frames batches) (Torn gate 1)
+          (λ a b is_put torn. Stands-opens b gate frames batches
+          (Stands-doubt b gate frames batches is_ready.is.some (put_in_doubt gate frames batches is_ready.is is_ready.kept a b is_put (Torn-gate gate a b torn))))
           (content_of middle) (images_of middle) put image from)) open_leaves)
 
 -- where the frame takes its room, so do its parts

@@ -1,5 +1,7 @@
-ghost use Rattle.std.specs.Prelude.{◌≡◌, ◌⊎◌, ◌<◌, ◌≤◌, [], ◌∷◌, ◌++◌, length, Some, OnOk, IsOk, Err};
+ghost use Rattle.std.specs.Prelude.{◌≡◌, ◌⊎◌, ◌<◌, ◌≤◌, [], ◌∷◌, ◌++◌, length, Some, OnOk, OnErr, IsOk, Err};
+ghost use Rattle.disk_model.specs.Disk.{Torn, Holds};
 ghost use Rattle.disk_model.specs.Faults.{Rose};
+ghost use Rattle.disk_model.specs.Images.{Only};
 ghost use Rattle.disk_model.specs.Keeps.{Keeps};
 ghost use Rattle.disk_model.specs.Told.{Told, BothTold};
 ghost use Rattle.ldar_journal.specs.Crash.{OnDisk, LeavesOnly, AnswersInRoom};
@@ -57,6 +59,18 @@ pub fn create<D: Disk>(disk: &mut D) -> Result<(), CreateError>
     if disk.read_at(0, &mut first)? > 0 {
         return Err(CreateError::NotEmpty);
     }
-    write_stable(disk, 0, &EMPTY)?;
+    lay_down(disk)?;
     Ok(())
+}
+
+/// Writes the empty journal at the front of a disk, and makes it stable.
+fn lay_down<D: Disk>(disk: &mut D) -> Result<(), DiskFault>
+    ensures written { BothTold (D.content disk.old) (D.content disk.new)
+        (λ old new. Torn 0 17 old new × OnOk result (Holds 0 (header ++ 0 ∷ []) old new)) }
+    ensures durable { OnOk result (Told (D.content disk.new) (λ bytes. Only bytes (D.images disk.new))) }
+    ensures roomy { AnswersInRoom D.room D.clock 2 disk.old disk.new (λ room. 17 ≤ room → IsOk result) }
+    ensures keeps { Keeps D.clock D.name D.faults disk.old disk.new }
+    ensures cause { OnErr result (Rose (D.faults disk.old) (D.faults disk.new)) }
+{
+    write_stable(disk, 0, &EMPTY)
 }

@@ -1,5 +1,4 @@
 ghost use Rattle.std.specs.Prelude.{◌≡◌, ◌+◌, ◌<◌, ◌≤◌, ◌^◌, ℕ, List, length, slice_index, IfOk, IsOk, OnOk, OnErr};
-ghost use Rattle.std.specs.Bool.{MatchBool};
 ghost use Rattle.disk_model.specs.Disk.{Torn, Holds};
 ghost use Rattle.disk_model.specs.Faults.{Rose};
 ghost use Rattle.disk_model.specs.Images.{Only};
@@ -36,10 +35,10 @@ pub(crate) fn put_behind<D: Disk>(disk: &mut D, gate: u64, bytes: &[u8]) -> Resu
     ensures put { OnOk result (BothTold (D.content disk.old) (D.content disk.new)
         (λ old new. gate < length old → HoldsBehind gate bytes.now new)) }
     ensures crash { (image : List ℕ) → D.images disk.new image
-        → ComesFrom (WritesBehind gate) (D.images disk.old) image }
+        → ComesFrom (Torn (gate + 1) (length bytes.now)) (D.images disk.old) image }
     ensures durable { OnOk result (Told (D.content disk.new) (λ bytes. Only bytes (D.images disk.new))) }
     ensures any_moment { LeavesOnly D.clock D.left disk.old disk.new
-        (ComesFrom (WritesBehind gate) (D.images disk.old)) }
+        (ComesFrom (Torn (gate + 1) (length bytes.now)) (D.images disk.old)) }
     ensures roomy { AnswersInRoom D.room D.clock 2 disk.old disk.new
         (λ room. gate + 1 + length bytes.now ≤ room → IsOk result) }
     ensures keeps { Keeps D.clock D.name D.faults disk.old disk.new }
@@ -55,10 +54,10 @@ pub(crate) fn open_gate<D: Disk>(disk: &mut D, gate: u64) -> Result<(), DiskFaul
     ensures opened { OnOk result (BothTold (D.content disk.old) (D.content disk.new)
         (λ old new. gate < length old → slice_index new gate ≡ 1)) }
     ensures crash { (image : List ℕ) → D.images disk.new image
-        → ComesFrom (WritesGate gate) (D.images disk.old) image }
+        → ComesFrom (Torn gate 1) (D.images disk.old) image }
     ensures durable { OnOk result (Told (D.content disk.new) (λ bytes. Only bytes (D.images disk.new))) }
     ensures any_moment { LeavesOnly D.clock D.left disk.old disk.new
-        (ComesFrom (WritesGate gate) (D.images disk.old)) }
+        (ComesFrom (Torn gate 1) (D.images disk.old)) }
     ensures roomy { AnswersInRoom D.room D.clock 2 disk.old disk.new (λ room. gate + 1 ≤ room → IsOk result) }
     ensures keeps { Keeps D.clock D.name D.faults disk.old disk.new }
     ensures cause { OnErr result (Rose (D.faults disk.old) (D.faults disk.new)) }

@@ -21,4 +21,6 @@ pub use prepared::{Frame, prepare};
 pub use settling::Settled;
 
 #[cfg(test)]
+mod crash_tests;
+#[cfg(test)]
 mod tests;

@@ -1,4 +1,4 @@
-use Rattle.std.proofs.Common.{◌+◌, length, sym, ◌∙◌, ap, arith}
+use Rattle.std.proofs.Common.{◌≡◌, ◌+◌, List, [], ◌∷◌, ◌++◌, length, sym, ◌∙◌, ap, arith}
 use Rattle.ldar_journal.proofs.ShelfLemmas.{IsCounted-fits, behind_gate-fits, ready, IsShelved-shut, put_moments, IsShelved-torn, doubt_at_end, IsShelved-appended, append_moments, IsShelved-as, IsShelved-opens, from_ok}
 use Rattle.ldar_journal.proofs.journal.Journal.append.Goals as goal
 
@@ -21,7 +21,7 @@ invariant_of-self g c =
     let is_ready = ready d.content d.images j.disk j.end j.frames j.doubt.value c.args.frame.now j.torn c.args.self.now c.self.view_is c.self.invariant c.requires.settled
     c.bytes-bytes.ensures.is_frame c.requires.kept in
     IsShelved-shut d.clock d.left d.images d.content j.disk j.end j.frames j.doubt.value c.args.frame.now j.torn is_ready
-    put.new.disk put.ensures.front put.ensures.crash put.ensures.any_moment
+    put.new.disk (length c.bytes-bytes.result.now) put.ensures.front put.ensures.crash put.ensures.any_moment
 
 pub returns-then-is_err-clause-opens : goal.returns-then-is_err-clause-opens
 returns-then-is_err-clause-opens g c =
@@ -41,7 +41,7 @@ returns-then-is_err-clause-any_moment g c =
     let is_ready = ready d.content d.images j.disk j.end j.frames j.doubt.value c.args.frame.now j.torn c.args.self.now c.self.view_is c.self.invariant c.requires.settled
     c.bytes-bytes.ensures.is_frame c.requires.kept in
     rw (← c.self.view_is) (put_moments d.clock d.left d.images d.content j.disk j.end j.frames j.doubt.value c.args.frame.now j.torn is_ready
-    put.new.disk put.ensures.front put.ensures.crash put.ensures.any_moment)
+    put.new.disk (length c.bytes-bytes.result.now) put.ensures.front put.ensures.crash put.ensures.any_moment)
 
 -- the gate could not be opened
 
@@ -57,7 +57,7 @@ invariant_of-self-then-is_err-2 g c =
     let stable = from_ok put.result was_put put.ensures.durable in
     rw (c.batches.ensures.value, c.bytes-bytes.ensures.value) (
     IsShelved-torn d.clock d.left d.images d.content j.disk j.end j.frames j.doubt.value c.args.frame.now j.torn is_ready
-    put.new.disk put.ensures.front put.ensures.crash put.ensures.any_moment
+    put.new.disk (length c.bytes-bytes.result.now) put.ensures.front put.ensures.crash put.ensures.any_moment
     c.open_gate.new.disk (rw c.bytes-bytes.ensures.value at holds) stable c.open_gate.ensures.others c.open_gate.ensures.crash)
 
 pub returns-then-is_err-2-clause-opens : goal.returns-then-is_err-2-clause-opens
@@ -83,7 +83,7 @@ returns-then-is_err-2-clause-behind g c = λ torn.
     let holds = from_ok put.result was_put put.ensures.put in
     let stable = from_ok put.result was_put put.ensures.durable in
     doubt_at_end d.clock d.left d.images d.content j.disk j.end j.frames j.doubt.value c.args.frame.now j.torn is_ready
-    put.new.disk put.ensures.front put.ensures.crash put.ensures.any_moment
+    put.new.disk (length c.bytes-bytes.result.now) put.ensures.front put.ensures.crash put.ensures.any_moment
     c.open_gate.new.disk (rw c.bytes-bytes.ensures.value at holds) stable c.open_gate.ensures.others c.open_gate.ensures.crash
 
 pub returns-then-is_err-2-clause-any_moment : goal.returns-then-is_err-2-clause-any_moment
@@ -97,7 +97,7 @@ returns-then-is_err-2-clause-any_moment g c =
     let holds = from_ok put.result was_put put.ensures.put in
     let stable = from_ok put.result was_put put.ensures.durable in
     rw (← c.self.view_is) (append_moments d.clock d.left d.images d.content j.disk j.end j.frames j.doubt.value c.args.frame.now j.torn is_ready
-    put.new.disk put.ensures.front put.ensures.crash put.ensures.any_moment
+    put.new.disk (length c.bytes-bytes.result.now) put.ensures.front put.ensures.crash put.ensures.any_moment
     c.open_gate.new.disk (rw c.bytes-bytes.ensures.value at holds) stable c.open_gate.ensures.others c.open_gate.ensures.crash
     put.ensures.keeps.time c.open_gate.ensures.any_moment)
 
@@ -116,7 +116,7 @@ invariant_of-self-2 g c =
     let was_opened = sym c.is_err-2.ensures.value ∙ c.if-is_err-2.false in
     rw (c.add_to.ensures, c.bytes-bytes.ensures.value) (
     IsShelved-appended d.clock d.left d.images d.content j.disk j.end j.frames j.doubt.value c.args.frame.now j.torn is_ready
-    put.new.disk put.ensures.front put.ensures.crash put.ensures.any_moment
+    put.new.disk (length c.bytes-bytes.result.now) put.ensures.front put.ensures.crash put.ensures.any_moment
     c.open_gate.new.disk (rw c.bytes-bytes.ensures.value at holds) stable c.open_gate.ensures.others c.open_gate.ensures.crash
     (from_ok c.open_gate.result was_opened c.open_gate.ensures.opened) (from_ok c.open_gate.result was_opened c.open_gate.ensures.durable))
 
@@ -143,6 +143,6 @@ returns-clause-any_moment g c =
     let holds = from_ok put.result was_put put.ensures.put in
     let stable = from_ok put.result was_put put.ensures.durable in
     rw (← c.self.view_is) (append_moments d.clock d.left d.images d.content j.disk j.end j.frames j.doubt.value c.args.frame.now j.torn is_ready
-    put.new.disk put.ensures.front put.ensures.crash put.ensures.any_moment
+    put.new.disk (length c.bytes-bytes.result.now) put.ensures.front put.ensures.crash put.ensures.any_moment
     c.open_gate.new.disk (rw c.bytes-bytes.ensures.value at holds) stable c.open_gate.ensures.others c.open_gate.ensures.crash
     put.ensures.keeps.time c.open_gate.ensures.any_moment)

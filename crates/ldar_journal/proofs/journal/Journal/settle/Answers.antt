@@ -1,4 +1,4 @@
-use Rattle.std.proofs.Common.{◌≡◌, ◌≢◌, ◌+◌, [], sym, ◌∙◌, ap, arith}
+use Rattle.std.proofs.Common.{◌≡◌, ◌≢◌, ◌+◌, [], ◌∷◌, length, sym, ◌∙◌, ap, subst, arith}
 use Rattle.ldar_journal.proofs.ShelfLemmas.{IsCounted-fits, behind_gate-fits, IsDoubt-is, IsShelved-fewer, IsShelved-stands, IsShelved-as}
 use Rattle.ldar_journal.proofs.journal.Journal.settle.Goals as goal
 
