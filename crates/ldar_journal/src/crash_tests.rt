@@ -81,7 +81,7 @@ fn a_stop_inside_create_leaves_nothing_or_an_empty_journal(rt: HostRuntime) -> R
         (2, 17, Some(0)),
     ];
     for (call, kept, want) in cases {
-        let (left, _) = EMPTY.split_at(kept);
+        let left = EMPTY.get(..kept).ok_or("a part of the write")?;
         assert_eq!(rt; stopped_batches(rt.alloc(), &disk, call, left)?, want);
     }
     Ok(())
@@ -98,20 +98,18 @@ fn a_stop_before_the_gate_leaves_the_old_history(rt: HostRuntime) -> Result<(), 
         let (left, _) = BEHIND.split_at(kept);
         assert_eq!(rt; stopped_batches(rt.alloc(), &disk, first, left)?, Some(0));
     }
-    // The call after the first, what it left of its write, and how many batches stand then.
+    // The call after the first, what it left of its write, if it was that of the gate, and how many batches stand then.
     let cases = [
-        (1, None, Some(0)),
-        (2, None, Some(0)),
-        (2, Some(0), Some(0)),
-        (2, Some(7), Some(0)),
-        (2, Some(1), Some(1)),
-        (3, None, Some(1)),
+        (1, 0, 0, Some(0)),
+        (2, 0, 0, Some(0)),
+        (2, 1, 0, Some(0)),
+        (2, 1, 7, Some(0)),
+        (2, 1, 1, Some(1)),
+        (3, 0, 0, Some(1)),
     ];
-    for (call, byte, want) in cases {
-        let left: &[u8] = match byte {
-            Some(byte) => &[byte],
-            None => &[],
-        };
+    for (call, kept, byte, want) in cases {
+        let gate = [byte];
+        let left = gate.get(..kept).ok_or("a part of the write")?;
         let call = first.saturating_add(call);
         assert_eq!(rt; stopped_batches(rt.alloc(), &disk, call, left)?, want);
     }
