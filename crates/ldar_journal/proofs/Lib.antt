@@ -1,6 +1,8 @@
+pub mod CrashLemmas
 pub mod CreationLemmas
 pub mod FrameLemmas
 pub mod Frames
+pub mod GateLemmas
 pub mod GrammarLaws
 pub mod Histories
 pub mod PieceLemmas

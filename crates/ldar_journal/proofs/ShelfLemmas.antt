@@ -4,17 +4,23 @@ use Rattle.std.proofs.lemmas.Bool.{cases_eq, false≢true}
 use Rattle.std.proofs.lemmas.List.Sums.{sum_by-append}
 use Rattle.std.proofs.Math.Seq.{drop-append_seam}
 use Rattle.std.proofs.lemmas.List.{drop-drop, get_or-take, take-take}
+use Rattle.disk_model.specs.Disk.{Torn}
+use Rattle.disk_model.specs.Images.{Only}
 use Rattle.disk_model.specs.Told.{Told, BothTold}
 use Rattle.disk_model.proofs.ToldLemmas.{Told-after, Told-weaker, Told-both}
 use Rattle.ldar_facts.specs.declared.batch.Batch.{Batch}
 use Rattle.ldar_facts.specs.Fields.{big_endian}
-use Rattle.ldar_journal.specs.Image.{payload, frame, batches_of, end_of, IsFrame, IsFront, IsKept, EndsAt}
+use Rattle.ldar_journal.specs.Image.{payload, frame, batches_of, end_of, IsFrame, IsFront, IsKept, EndsAt, OpensTo}
+use Rattle.ldar_journal.specs.Damage.{IsDamagedAt}
 use Rattle.ldar_journal.specs.FrameAt.{IsFrameOf}
-use Rattle.ldar_journal.specs.Gates.{PutsBehind, HoldsBehind, SameButGate}
-use Rattle.ldar_journal.specs.Shelf.{behind_gate, IsInDoubt, Stands, IsCounted, IsShelved, OpensToEither, OpensEither}
+use Rattle.ldar_journal.specs.Crash.{OnDisk, ComesFrom, LeavesOnly}
+use Rattle.ldar_journal.specs.Gates.{HoldsBehind, WritesBehind, WritesGate}
+use Rattle.ldar_journal.specs.Shelf.{Shelf, behind_gate, IsInDoubt, Stands, IsCounted, IsTorn, IsDoubt, IsShelved, OpensAs, OpensToEither, OpensEither}
+use Rattle.ldar_journal.proofs.CrashLemmas.{ComesFrom-weaker, LeavesOnly-weaker, LeavesOnly-joins, OnDisk-weaker, OnDisk-stable, OnDisk-content, OnDisk-after, OnDisk-fewer, told_image, told_before}
 use Rattle.ldar_journal.proofs.FrameLemmas.{AllByRecursion-push}
+use Rattle.ldar_journal.proofs.GateLemmas.{Torn-behind, Torn-gate}
 use Rattle.ldar_journal.proofs.Frames.{length-payload}
-use Rattle.ldar_journal.proofs.Histories.{at_place, batches_of-push, front_grows, IsKept-front, end_of-push, end_of-fits}
+use Rattle.ldar_journal.proofs.Histories.{at_place, batches_of-push, front_grows, IsKept-front, damaged_opens_to_none, end_of-push, end_of-fits}
 
 -- a frame and what stands behind its gate are of one length
 length-behind_gate : (batches : List Batch) → length (behind_gate batches) ≡ length (frame batches)
@@ -64,7 +70,7 @@ Stands-opens bytes place frames (b ∷ doubt) stands = in_doubt (cases_eq (get_o
     in_doubt (inr shut) = inl (place, record { within = stands.within; front = stands.front; closed = shut; kept = IsKept-front (batches_of frames) (b ∷ doubt) stands.kept })
 
 -- bytes behind the gate that ends a journal change nothing of its frames
-pub put_behind_stays : (gate : ℕ) (frames : List (List Batch)) (old new : List ℕ) → EndsAt old gate frames → (gate < length old → PutsBehind gate old new) → EndsAt new gate frames
+pub put_behind_stays : (gate : ℕ) (frames : List (List Batch)) (old new : List ℕ) → EndsAt old gate frames → WritesBehind gate old new → EndsAt new gate frames
 put_behind_stays gate frames old new ends puts =
     let put = puts ends.within in
     let front : take gate new ≡ take gate old = take_gate new ∙ ap (take gate) put.front ∙ sym (take_gate old) in
@@ -81,7 +87,7 @@ put_behind_stays gate frames old new ends puts =
 
 -- a frame behind a gate that is being opened is in doubt
 pub put_in_doubt : (gate : ℕ) (frames : List (List Batch)) (batches : List Batch) → IsFrame batches → IsKept (batches_of frames ++ batches) → (old new : List ℕ)
-    → EndsAt old gate frames × HoldsBehind gate (behind_gate batches) old → (gate < length old → SameButGate gate old new) → IsInDoubt new gate frames batches
+    → EndsAt old gate frames × HoldsBehind gate (behind_gate batches) old → WritesGate gate old new → IsInDoubt new gate frames batches
 put_in_doubt gate frames batches is kept old new both sames =
     let ends = both.0 in
     let holds = both.1 in
@@ -100,35 +106,18 @@ pub Stands-doubt : (bytes : List ℕ) (place : ℕ) (frames : List (List Batch))
 Stands-doubt bytes place frames [] some stands = absurd (omega arith)
 Stands-doubt bytes place frames (b ∷ batches) some stands = stands
 
--- what a journal's disk tells after each step of an append
-pub told_opens : (now : Option (List ℕ)) (place : ℕ) (frames : List (List Batch)) (doubt : List Batch) → Told now (λ bytes. Stands bytes place frames doubt) → Told now (λ bytes. OpensToEither bytes frames doubt)
-told_opens now place frames doubt = Told-weaker (λ bytes. Stands bytes place frames doubt) (λ bytes. OpensToEither bytes frames doubt) (λ bytes. Stands-opens bytes place frames doubt) now
+-- what stands as a journal says opens as it says
+pub Stands-as : (bytes : List ℕ) (place : ℕ) (frames : List (List Batch)) (doubt : List Batch) → Stands bytes place frames doubt → OpensAs bytes frames doubt
+Stands-as bytes place frames [] ends = (place, ends)
+Stands-as bytes place frames (b ∷ doubt) stands = Stands-opens bytes place frames (b ∷ doubt) stands
 
-pub told_put : (old new : Option (List ℕ)) (gate : ℕ) (frames : List (List Batch)) (batches : List Batch) → Told old (λ bytes. EndsAt bytes gate frames)
-    → BothTold old new (λ old new. gate < length old → PutsBehind gate old new) → BothTold old new (λ old new. gate < length old → HoldsBehind gate (behind_gate batches) new)
-    → Told new (λ bytes. EndsAt bytes gate frames × HoldsBehind gate (behind_gate batches) bytes)
-told_put old new gate frames batches ends puts holds =
-    Told-both (λ bytes. EndsAt bytes gate frames) (λ bytes. HoldsBehind gate (behind_gate batches) bytes) new
-    (Told-after (λ bytes. EndsAt bytes gate frames) (λ bytes. EndsAt bytes gate frames) (λ old new. gate < length old → PutsBehind gate old new) (put_behind_stays gate frames) old new ends puts)
-    (Told-after (λ bytes. EndsAt bytes gate frames) (λ bytes. HoldsBehind gate (behind_gate batches) bytes) (λ old new. gate < length old → HoldsBehind gate (behind_gate batches) new) (λ old new ends holds. holds ends.within) old new ends holds)
+-- bytes that end at a closed gate stand with nothing in doubt
+pub Stands-none : (bytes : List ℕ) (place : ℕ) (frames : List (List Batch)) (doubt : List Batch) → doubt ≡ [] → Stands bytes place frames doubt → EndsAt bytes place frames
+Stands-none bytes place frames doubt none stands = subst (λ (d : List Batch). Stands bytes place frames d) none stands
 
-pub told_in_doubt : (old new : Option (List ℕ)) (gate : ℕ) (frames : List (List Batch)) (batches : List Batch) → IsFrame batches → IsKept (batches_of frames ++ batches)
-    → Told old (λ bytes. EndsAt bytes gate frames × HoldsBehind gate (behind_gate batches) bytes) → BothTold old new (λ old new. gate < length old → SameButGate gate old new)
-    → Told new (λ bytes. IsInDoubt bytes gate frames batches)
-told_in_doubt old new gate frames batches is kept put same =
-    Told-after (λ bytes. EndsAt bytes gate frames × HoldsBehind gate (behind_gate batches) bytes) (λ bytes. IsInDoubt bytes gate frames batches) (λ old new. gate < length old → SameButGate gate old new)
-    (put_in_doubt gate frames batches is kept) old new put same
-
-pub told_opened : (old new : Option (List ℕ)) (gate : ℕ) (frames : List (List Batch)) (batches : List Batch) → IsFrame batches → IsKept (batches_of frames ++ batches)
-    → Told old (λ bytes. EndsAt bytes gate frames × HoldsBehind gate (behind_gate batches) bytes)
-    → BothTold old new (λ old new. gate < length old → SameButGate gate old new) → BothTold old new (λ old new. gate < length old → slice_index new gate ≡ 1)
-    → Told new (λ bytes. EndsAt bytes (gate + length (behind_gate batches)) (frames ++ batches ∷ []))
-told_opened old new gate frames batches is kept put same open_gate =
-    let doubt = told_in_doubt old new gate frames batches is kept put same in
-    let gates = Told-after (λ bytes. EndsAt bytes gate frames × HoldsBehind gate (behind_gate batches) bytes) (λ bytes. slice_index bytes gate ≡ 1) (λ old new. gate < length old → slice_index new gate ≡ 1)
-    (λ old new put opens. opens put.0.within) old new put open_gate in
-    Told-weaker (λ bytes. IsInDoubt bytes gate frames batches × (slice_index bytes gate ≡ 1)) (λ bytes. EndsAt bytes (gate + length (behind_gate batches)) (frames ++ batches ∷ []))
-    (λ bytes both. opened bytes gate frames batches both.0 both.1) new (Told-both (λ bytes. IsInDoubt bytes gate frames batches) (λ bytes. slice_index bytes gate ≡ 1) new doubt gates)
+-- with nothing in doubt the bytes open to the frames alone
+pub OpensAs-none : (bytes : List ℕ) (frames : List (List Batch)) (doubt : List Batch) → doubt ≡ [] → OpensAs bytes frames doubt → OpensTo bytes frames
+OpensAs-none bytes frames doubt none opens = subst (λ (d : List Batch). OpensAs bytes frames d) none opens
 
 -- the place of the next gate, with a frame more
 pub IsCounted-push : (place : ℕ) (frames : List (List Batch)) (batches : List Batch) → IsFrame batches → IsKept (batches_of frames ++ batches) → IsCounted place frames
@@ -146,58 +135,271 @@ IsCounted-fits place frames counted = let fits = end_of-fits frames counted.each
 pub behind_gate-fits : (batches : List Batch) → IsFrame batches → length (behind_gate batches) ≤ 188_565
 behind_gate-fits batches is = let long = length-payload batches is.each in omega (arith, is.fits, length-append (payload batches) (0 ∷ []))
 
+-- no frame is in doubt exactly where no bytes are
+pub IsDoubt-none : (frames : List (List Batch)) (doubt : List Batch) (torn : ℕ) → IsDoubt frames doubt torn → torn ≡ 0 → doubt ≡ []
+IsDoubt-none frames [] torn is none = refl
+IsDoubt-none frames (b ∷ doubt) torn is none = absurd (omega (arith, is.long, length-append (payload (b ∷ doubt)) (0 ∷ [])))
+
+pub IsDoubt-some : (frames : List (List Batch)) (doubt : List Batch) (torn : ℕ) → IsDoubt frames doubt torn → 0 < torn → doubt ≢ []
+IsDoubt-some frames [] torn is some = absurd (omega (arith, is))
+IsDoubt-some frames (b ∷ doubt) torn is some = λ e. cc
+
+-- the frame in doubt
+pub IsDoubt-is : (frames : List (List Batch)) (doubt : List Batch) (torn : ℕ) → IsDoubt frames doubt torn → doubt ≢ [] → IsTorn frames doubt torn
+IsDoubt-is frames [] torn is some = absurd (some refl)
+IsDoubt-is frames (b ∷ doubt) torn is some = is
+
+-- a frame that may be kept is in doubt
+pub IsDoubt-of : (frames : List (List Batch)) (batches : List Batch) (torn : ℕ) → IsTorn frames batches torn → IsDoubt frames batches torn
+IsDoubt-of frames [] torn is = let some = is.is.some in absurd (omega arith)
+IsDoubt-of frames (b ∷ batches) torn is = is
+
+-- with nothing in doubt it is so behind any frames
+pub IsDoubt-anywhere : (frames others : List (List Batch)) (doubt : List Batch) (torn : ℕ) → doubt ≡ [] → IsDoubt frames doubt torn → IsDoubt others doubt torn
+IsDoubt-anywhere frames others [] torn none is = is
+IsDoubt-anywhere frames others (b ∷ doubt) torn none is = absurd cc
+
+-- stable bytes that end at a closed gate are a journal
+pub IsShelved-opened : (content : Option (List ℕ)) (images : List ℕ → Type 0) (place : ℕ) (frames : List (List Batch))
+    → Told content (λ bytes. EndsAt bytes place frames) → Told content (λ bytes. Only bytes images) → IsCounted place frames
+    → IsShelved content images place frames [] 0
+IsShelved-opened content images place frames ends stable counted = record {
+  stands = OnDisk-stable (λ image. EndsAt image place frames) content images ends stable;
+  counted = counted;
+  in_doubt = refl;
+}
+
+-- the bytes and the images of a journal open as it says
+pub IsShelved-as : (content : Option (List ℕ)) (images : List ℕ → Type 0) (place : ℕ) (frames : List (List Batch)) (doubt : List Batch) (torn : ℕ)
+    → IsShelved content images place frames doubt torn → OnDisk content images (λ image. OpensAs image frames doubt)
+IsShelved-as content images place frames doubt torn shelved =
+    OnDisk-weaker (λ image. Stands image place frames doubt) (λ image. OpensAs image frames doubt) (λ image. Stands-as image place frames doubt) content images shelved.stands
+
+pub IsShelved-opens : (content : Option (List ℕ)) (images : List ℕ → Type 0) (place : ℕ) (frames : List (List Batch)) (doubt : List Batch) (torn : ℕ)
+    → IsShelved content images place frames doubt torn → Told content (λ bytes. OpensToEither bytes frames doubt)
+IsShelved-opens content images place frames doubt torn shelved =
+    OnDisk-content (λ image. OpensToEither image frames doubt) content images
+    (OnDisk-weaker (λ image. Stands image place frames doubt) (λ image. OpensToEither image frames doubt) (λ image. Stands-opens image place frames doubt) content images shelved.stands)
+
 -- a settled journal with a frame to append
-pub record IsReady (content : Option (List ℕ)) (gate : ℕ) (frames : List (List Batch)) (doubt batches : List Batch) : Type 0 where
-  pub ends : Told content (λ bytes. EndsAt bytes gate frames)
+pub record IsReady (content : Option (List ℕ)) (images : List ℕ → Type 0) (gate : ℕ) (frames : List (List Batch)) (doubt batches : List Batch) (torn : ℕ) : Type 0 where
+  pub ends : OnDisk content images (λ image. EndsAt image gate frames)
   pub none : doubt ≡ []
+  pub in_doubt : IsDoubt frames doubt torn
   pub is : IsFrame batches
   pub kept : IsKept (batches_of frames ++ batches)
   pub counted : IsCounted gate frames
 
-pub ready : (content : Option (List ℕ)) (gate : ℕ) (frames : List (List Batch)) (doubt batches : List Batch) → IsShelved content gate frames doubt → doubt ≡ [] → IsFrame batches → IsKept (batches_of frames ++ batches)
-    → IsReady content gate frames doubt batches
-ready content gate frames doubt batches shelved none is kept = record {
-  ends = subst (λ (d : List Batch). Told content (λ bytes. Stands bytes gate frames d)) none shelved.stands;
-  none = none;
-  is = is;
-  kept = kept;
+-- a journal as contracts see it
+abbrev seen : {D : Type 0} → D → List (List Batch) → List Batch → Shelf D
+seen disk frames doubt = record { disk = disk; frames = frames; doubt = doubt }
+
+-- a journal that is seen as settled, with a frame that may be kept
+pub ready : {D : Type 0} (content_of : D → Option (List ℕ)) (images_of : D → List ℕ → Type 0) (disk : D) (gate : ℕ) (frames : List (List Batch)) (doubt batches : List Batch) (torn : ℕ) (as_seen : Shelf D)
+    → seen disk frames doubt ≡ as_seen → IsShelved (content_of disk) (images_of disk) gate frames doubt torn → as_seen.doubt ≡ [] → IsFrame batches → IsKept (batches_of as_seen.frames ++ batches)
+    → IsReady (content_of disk) (images_of disk) gate frames doubt batches torn
+ready content_of images_of disk gate frames doubt batches torn as_seen is_seen shelved settled is kept =
+    let none : doubt ≡ [] = ap (λ shelf. shelf.doubt) is_seen ∙ settled in
+    record {
+      ends =
+          OnDisk-weaker (λ image. Stands image gate frames doubt) (λ image. EndsAt image gate frames) (λ image. Stands-none image gate frames doubt none)
+          (content_of disk) (images_of disk) shelved.stands;
+      none = none;
+      in_doubt = shelved.in_doubt;
+      is = is;
+      kept = subst (λ (l : List (List Batch)). IsKept (batches_of l ++ batches)) (sym (ap (λ shelf. shelf.frames) is_seen)) kept;
+      counted = shelved.counted;
+    }
+
+-- what stands once the frame is put behind the gate, and while its gate is opened
+abbrev IsPut : ℕ → List (List Batch) → List Batch → List ℕ → Type 0
+IsPut gate frames batches image = EndsAt image gate frames × HoldsBehind gate (behind_gate batches) image
+
+-- bytes that end at a closed gate open to its frames, whatever may be appended
+ends_either : (gate : ℕ) (frames : List (List Batch)) (batches : List Batch) (image : List ℕ) → EndsAt image gate frames → OpensToEither image frames batches
+ends_either gate frames batches image ends = inl (gate, ends)
+
+module _ {D : Type 0} (clock_of : D → ℕ) (left_of : D → ℕ → List ℕ → Type 0) (images_of : D → List ℕ → Type 0) (content_of : D → Option (List ℕ))
+    (old : D) (gate : ℕ) (frames : List (List Batch)) (doubt batches : List Batch) (torn : ℕ)
+    (is_ready : IsReady (content_of old) (images_of old) gate frames doubt batches torn) where
+  -- what a crash may leave at any moment of the append
+  abbrev May : List ℕ → Type 0
+  May image = Told (content_of old) (λ _. OpensToEither image frames batches)
+
+  module _ (middle : D) (n : ℕ)
+      (puts : BothTold (content_of old) (content_of middle) (WritesBehind gate))
+      (from_old : (image : List ℕ) → images_of middle image → ComesFrom (Torn (gate + 1) n) (images_of old) image)
+      (put_leaves : LeavesOnly clock_of left_of old middle (ComesFrom (Torn (gate + 1) n) (images_of old))) where
+    -- the frames stand, whatever was written behind their gate
+    stays : OnDisk (content_of middle) (images_of middle) (λ image. EndsAt image gate frames)
+    stays =
+        OnDisk-after (λ image. EndsAt image gate frames) (λ image. EndsAt image gate frames) (WritesBehind gate) (put_behind_stays gate frames)
+        (content_of old) (content_of middle) (images_of old) (images_of middle) is_ready.ends puts
+        (λ image now. ComesFrom-weaker (Torn (gate + 1) n) (WritesBehind gate) (images_of old) (Torn-behind gate n) image (from_old image now))
+
+    -- a fault behind the gate leaves the journal as it was
+    pub IsShelved-shut : IsShelved (content_of middle) (images_of middle) gate frames doubt torn
+    IsShelved-shut = record {
+      stands =
+          OnDisk-weaker (λ image. EndsAt image gate frames) (λ image. Stands image gate frames doubt)
+          (λ image ends. subst (λ (d : List Batch). Stands image gate frames d) (sym is_ready.none) ends) (content_of middle) (images_of middle) stays;
+      counted = is_ready.counted;
+      in_doubt = is_ready.in_doubt;
+    }
+
+    -- up to then a crash leaves the frames
+    pub put_moments : LeavesOnly clock_of left_of old middle May
+    put_moments =
+        LeavesOnly-weaker clock_of left_of old middle (ComesFrom (Torn (gate + 1) n) (images_of old)) May
+        (told_image (λ image. EndsAt image gate frames) (λ image. OpensToEither image frames batches) (Torn (gate + 1) n)
+        (λ a b ends torn. ends_either gate frames batches b (put_behind_stays gate frames a b ends (Torn-behind gate n a b torn)))
+        (content_of old) (images_of old) is_ready.ends) put_leaves
+
+    module _ (new : D)
+        (holds : BothTold (content_of old) (content_of middle) (λ old new. gate < length old → HoldsBehind gate (behind_gate batches) new))
+        (stable : Told (content_of middle) (λ bytes. Only bytes (images_of middle)))
+        (opens : BothTold (content_of middle) (content_of new) (WritesGate gate))
+        (from_middle : (image : List ℕ) → images_of new image → ComesFrom (Torn gate 1) (images_of middle) image) where
+      -- the frame is there behind the gate in all that a crash may leave
+      put : OnDisk (content_of middle) (images_of middle) (IsPut gate frames batches)
+      put =
+          OnDisk-stable (IsPut gate frames batches) (content_of middle) (images_of middle)
+          (Told-both (λ bytes. EndsAt bytes gate frames) (λ bytes. HoldsBehind gate (behind_gate batches) bytes) (content_of middle)
+          (OnDisk-content (λ image. EndsAt image gate frames) (content_of middle) (images_of middle) stays)
+          (Told-after (λ bytes. EndsAt bytes gate frames) (λ bytes. HoldsBehind gate (behind_gate batches) bytes) (λ old new. gate < length old → HoldsBehind gate (behind_gate batches) new)
+          (λ old new ends holds. holds ends.within) (content_of old) (content_of middle) (OnDisk-content (λ image. EndsAt image gate frames) (content_of old) (images_of old) is_ready.ends) holds))
+          stable
+
+      -- so the frame is in doubt while its gate is opened
+      in_doubt : OnDisk (content_of new) (images_of new) (λ image. IsInDoubt image gate frames batches)
+      in_doubt =
+          OnDisk-after (IsPut gate frames batches) (λ image. IsInDoubt image gate frames batches) (WritesGate gate)
+          (put_in_doubt gate frames batches is_ready.is is_ready.kept) (content_of middle) (content_of new) (images_of middle) (images_of new) put opens
+          (λ image now. ComesFrom-weaker (Torn gate 1) (WritesGate gate) (images_of middle) (Torn-gate gate) image (from_middle image now))
+
+      -- a fault at the gate leaves the frame in doubt
+      pub IsShelved-torn : IsShelved (content_of new) (images_of new) gate frames batches (length (behind_gate batches))
+      IsShelved-torn = record {
+        stands =
+            OnDisk-weaker (λ image. IsInDoubt image gate frames batches) (λ image. Stands image gate frames batches)
+            (λ image. Stands-doubt image gate frames batches is_ready.is.some) (content_of new) (images_of new) in_doubt;
+        counted = is_ready.counted;
+        in_doubt = IsDoubt-of frames batches (length (behind_gate batches)) (record { is = is_ready.is; kept = is_ready.kept; long = refl });
+      }
+
+      -- and the doubt is at the end of the frames
+      pub doubt_at_end : OnDisk (content_of new) (images_of new) (λ image. IsInDoubt image (end_of frames) frames batches)
+      doubt_at_end = subst (λ (n : ℕ). OnDisk (content_of new) (images_of new) (λ image. IsInDoubt image n frames batches)) is_ready.counted.at_end in_doubt
+
+      -- with the open gate stable the frame stands
+      pub IsShelved-appended : BothTold (content_of middle) (content_of new) (λ old new. gate < length old → slice_index new gate ≡ 1)
+          → Told (content_of new) (λ bytes. Only bytes (images_of new))
+          → IsShelved (content_of new) (images_of new) (gate + length (behind_gate batches)) (frames ++ batches ∷ []) doubt torn
+      IsShelved-appended gates stable_new =
+          let gate_is = Told-after (IsPut gate frames batches) (λ bytes. slice_index bytes gate ≡ 1) (λ old new. gate < length old → slice_index new gate ≡ 1)
+          (λ old new is_put is_open. is_open is_put.0.within) (content_of middle) (content_of new) (OnDisk-content (IsPut gate frames batches) (content_of middle) (images_of middle) put) gates in
+          let stands = Told-weaker (λ bytes. IsInDoubt bytes gate frames batches × (slice_index bytes gate ≡ 1)) (λ bytes. Stands bytes (gate + length (behind_gate batches)) (frames ++ batches ∷ []) doubt)
+          (λ bytes both. subst (λ (d : List Batch). Stands bytes (gate + length (behind_gate batches)) (frames ++ batches ∷ []) d) (sym is_ready.none) (opened bytes gate frames batches both.0 both.1))
+          (content_of new) (Told-both (λ bytes. IsInDoubt bytes gate frames batches) (λ bytes. slice_index bytes gate ≡ 1) (content_of new)
+          (OnDisk-content (λ image. IsInDoubt image gate frames batches) (content_of new) (images_of new) in_doubt) gate_is) in
+          record {
+            stands = OnDisk-stable (λ image. Stands image (gate + length (behind_gate batches)) (frames ++ batches ∷ []) doubt) (content_of new) (images_of new) stands stable_new;
+            counted = IsCounted-push gate frames batches is_ready.is is_ready.kept is_ready.counted;
+            in_doubt = IsDoubt-anywhere frames (frames ++ batches ∷ []) doubt torn is_ready.none is_ready.in_doubt;
+          }
+
+      -- at any moment of the whole a crash leaves the frames, or these and the frame
+      pub append_moments : clock_of old ≤ clock_of middle → LeavesOnly clock_of left_of middle new (ComesFrom (Torn gate 1) (images_of middle))
+          → LeavesOnly clock_of left_of old new May
+      append_moments time open_leaves =
+          LeavesOnly-joins clock_of left_of old middle new May time put_moments
+          (LeavesOnly-weaker clock_of left_of middle new (ComesFrom (Torn gate 1) (images_of middle)) May
+          (λ image from. told_before (OpensToEither image frames batches) (WritesBehind gate) (content_of old) (content_of middle) puts
+          (told_image (IsPut gate frames batches) (λ image. OpensToEither image frames batches) (Torn gate 1)
+          (λ a b is_put torn. Stands-opens b gate frames batches
+          (Stands-doubt b gate frames batches is_ready.is.some (put_in_doubt gate frames batches is_ready.is is_ready.kept a b is_put (Torn-gate gate a b torn))))
+          (content_of middle) (images_of middle) put image from)) open_leaves)
+
+-- where the frame takes its room, so do its parts
+pub room_of_parts : (gate : ℕ) (frames : List (List Batch)) (batches : List Batch) → IsCounted gate frames
+    → gate + 1 + length (behind_gate batches) ≡ end_of (frames ++ batches ∷ []) + 1
+room_of_parts gate frames batches counted = omega (arith, counted.at_end, end_of-push frames batches, length-behind_gate batches)
+
+-- ---- settling
+
+-- a journal stays as it is where its bytes stay and a crash leaves no more
+pub IsShelved-fewer : (old new : Option (List ℕ)) (images images' : List ℕ → Type 0) (place : ℕ) (frames : List (List Batch)) (doubt : List Batch) (torn : ℕ)
+    → IsShelved old images place frames doubt torn → BothTold old new (λ old new. new ≡ old) → ((image : List ℕ) → images' image → images image)
+    → IsShelved new images' place frames doubt torn
+IsShelved-fewer old new images images' place frames doubt torn shelved same fewer = record {
+  stands = OnDisk-fewer (λ image. Stands image place frames doubt) old new images images' shelved.stands same fewer;
   counted = shelved.counted;
+  in_doubt = shelved.in_doubt;
 }
 
-module _ (old : Option (List ℕ)) (gate : ℕ) (frames : List (List Batch)) (doubt batches : List Batch) (is_ready : IsReady old gate frames doubt batches) where
-  -- a fault behind the gate leaves the frames as they were
-  pub stays : (new : Option (List ℕ)) → BothTold old new (λ old new. gate < length old → PutsBehind gate old new) → Told new (λ bytes. OpensToEither bytes frames doubt)
-  stays new puts =
-      Told-weaker (λ bytes. EndsAt bytes gate frames) (λ bytes. OpensToEither bytes frames doubt) (λ bytes ends. inl (gate, ends)) new
-      (Told-after (λ bytes. EndsAt bytes gate frames) (λ bytes. EndsAt bytes gate frames) (λ old new. gate < length old → PutsBehind gate old new) (put_behind_stays gate frames) old new is_ready.ends puts)
+-- a frame in doubt, where one is
+Stands-some : (bytes : List ℕ) (place : ℕ) (frames : List (List Batch)) (doubt : List Batch) → doubt ≢ [] → Stands bytes place frames doubt → IsInDoubt bytes place frames doubt
+Stands-some bytes place frames [] some stands = absurd (some refl)
+Stands-some bytes place frames (b ∷ doubt) some stands = stands
 
-  module _ (middle new : Option (List ℕ))
-      (puts : BothTold old middle (λ old new. gate < length old → PutsBehind gate old new))
-      (holds : BothTold old middle (λ old new. gate < length old → HoldsBehind gate (behind_gate batches) new))
-      (same : BothTold middle new (λ old new. gate < length old → SameButGate gate old new)) where
-    put : Told middle (λ bytes. EndsAt bytes gate frames × HoldsBehind gate (behind_gate batches) bytes)
-    put = told_put old middle gate frames batches is_ready.ends puts holds
+module _ (content : Option (List ℕ)) (images : List ℕ → Type 0) (place : ℕ) (frames : List (List Batch)) (doubt : List Batch) (torn : ℕ)
+    (shelved : IsShelved content images place frames doubt torn) (some : doubt ≢ []) (stable : Told content (λ bytes. Only bytes images)) where
+  is_torn : IsTorn frames doubt torn
+  is_torn = IsDoubt-is frames doubt torn shelved.in_doubt some
 
-    -- a fault at the gate leaves the frame in doubt
-    pub in_doubt : Told new (λ bytes. Stands bytes gate frames batches)
-    in_doubt = Told-weaker (λ bytes. IsInDoubt bytes gate frames batches) (λ bytes. Stands bytes gate frames batches) (λ bytes. Stands-doubt bytes gate frames batches is_ready.is.some) new
-        (told_in_doubt middle new gate frames batches is_ready.is is_ready.kept put same)
+  doubted : Told content (λ bytes. IsInDoubt bytes place frames doubt)
+  doubted = Told-weaker (λ bytes. Stands bytes place frames doubt) (λ bytes. IsInDoubt bytes place frames doubt) (λ bytes. Stands-some bytes place frames doubt some) content
+      (OnDisk-content (λ image. Stands image place frames doubt) content images shelved.stands)
 
-    -- the frame stands
-    pub appended : BothTold middle new (λ old new. gate < length old → slice_index new gate ≡ 1) → Told new (λ bytes. EndsAt bytes (gate + length (behind_gate batches)) (frames ++ batches ∷ []))
-    appended gates = told_opened middle new gate frames batches is_ready.is is_ready.kept put same gates
+  -- behind an open gate the frame stands
+  pub IsShelved-stands : Told content (λ bytes. place < length bytes → slice_index bytes place ≡ 1) → IsShelved content images (place + torn) (frames ++ doubt ∷ []) [] 0
+  IsShelved-stands open_gate = rw (is_torn.long) (record {
+    stands =
+        OnDisk-stable (λ image. EndsAt image (place + length (behind_gate doubt)) (frames ++ doubt ∷ [])) content images
+        (Told-weaker (λ bytes. IsInDoubt bytes place frames doubt × (place < length bytes → slice_index bytes place ≡ 1)) (λ bytes. EndsAt bytes (place + length (behind_gate doubt)) (frames ++ doubt ∷ []))
+        (λ bytes both. opened bytes place frames doubt both.0 (both.1 both.0.within)) content
+        (Told-both (λ bytes. IsInDoubt bytes place frames doubt) (λ bytes. place < length bytes → slice_index bytes place ≡ 1) content doubted open_gate)) stable;
+    counted = IsCounted-push place frames doubt is_torn.is is_torn.kept shelved.counted;
+    in_doubt = refl;
+  })
 
-    pub IsShelved-torn : IsShelved new gate frames batches
-    IsShelved-torn = record { stands = in_doubt; counted = is_ready.counted }
+  -- behind a closed one it is gone
+  pub IsShelved-gone : Told content (λ bytes. place < length bytes → slice_index bytes place ≢ 1) → IsShelved content images place frames [] 0
+  IsShelved-gone shut = record {
+    stands =
+        OnDisk-stable (λ image. EndsAt image place frames) content images
+        (Told-weaker (λ bytes. IsInDoubt bytes place frames doubt × (place < length bytes → slice_index bytes place ≢ 1)) (λ bytes. EndsAt bytes place frames)
+        (λ bytes both. let stands = both.0 in record {
+          within = stands.within;
+          front = stands.front;
+          closed = both.1 stands.within;
+          kept = IsKept-front (batches_of frames) doubt stands.kept;
+        }) content
+        (Told-both (λ bytes. IsInDoubt bytes place frames doubt) (λ bytes. place < length bytes → slice_index bytes place ≢ 1) content doubted shut)) stable;
+    counted = shelved.counted;
+    in_doubt = refl;
+  }
 
-    pub IsShelved-appended : BothTold middle new (λ old new. gate < length old → slice_index new gate ≡ 1) → IsShelved new (gate + length (behind_gate batches)) (frames ++ batches ∷ []) doubt
-    IsShelved-appended gates = rw is_ready.none (record { stands = appended gates; counted = IsCounted-push gate frames batches is_ready.is is_ready.kept is_ready.counted })
+-- what a crash leaves of a journal opens to its frames, or to these and the frame in doubt
+pub settle_moments : {D : Type 0} (clock_of : D → ℕ) (left_of : D → ℕ → List ℕ → Type 0) (old new : D) (content : Option (List ℕ)) (images : List ℕ → Type 0)
+    (place : ℕ) (frames : List (List Batch)) (doubt : List Batch) (torn : ℕ) → IsShelved content images place frames doubt torn
+    → LeavesOnly clock_of left_of old new images → LeavesOnly clock_of left_of old new (λ image. Told content (λ _. OpensToEither image frames doubt))
+settle_moments clock_of left_of old new content images place frames doubt torn shelved leaves =
+    LeavesOnly-weaker clock_of left_of old new images (λ image. Told content (λ _. OpensToEither image frames doubt))
+    (λ image now. told_image (λ image. Stands image place frames doubt) (λ image. OpensToEither image frames doubt) (λ a b. a ≡ b)
+    (λ a b stands same. Stands-opens b place frames doubt (subst (λ (l : List ℕ). Stands l place frames doubt) same stands)) content images shelved.stands image (image, now, refl)) leaves
 
 -- what opens to frames, or to one more, opens to their batches, or to these and its own
 pub either_history : (bytes : List ℕ) (frames : List (List Batch)) (history doubt : List Batch) → batches_of frames ≡ history → OpensToEither bytes frames doubt → OpensEither bytes history doubt
 either_history bytes frames history doubt are (inl opens) = inl (frames, are, opens)
 either_history bytes frames history doubt are (inr opens) =
     inr (frames ++ doubt ∷ [], batches_of-push frames doubt ∙ ap (λ (l : List Batch). l ++ doubt) are, opens)
+
+-- bytes that open to frames, or to one more, are not damaged
+pub either_not_damaged : (image : List ℕ) (place : ℕ) (frames : List (List Batch)) (batches : List Batch) → OpensToEither image frames batches → ¬ (IsDamagedAt image place)
+either_not_damaged image place frames batches (inl opens) damaged = damaged_opens_to_none image place (batches_of frames) damaged (frames, refl, opens)
+either_not_damaged image place frames batches (inr opens) damaged =
+    damaged_opens_to_none image place (batches_of (frames ++ batches ∷ [])) damaged (frames ++ batches ∷ [], refl, opens)
 
 -- what a call that answered Ok promises
 pub from_ok : {T E : Type 0} (r : Result T E) {P : Type 0} → is_err r ≡ false → OnOk r P → P

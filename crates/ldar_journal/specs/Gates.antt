@@ -16,3 +16,11 @@ pub record SameButGate (gate : ℕ) (old new : List ℕ) : Type 0 where
   pub within : gate < length new
   pub front : take gate new ≡ take gate old
   pub behind : drop (gate + 1) new ≡ drop (gate + 1) old
+
+-- a step that writes behind a gate, if the bytes reach up to it
+abbrev pub WritesBehind : ℕ → List ℕ → List ℕ → Type 0
+WritesBehind gate old new = gate < length old → PutsBehind gate old new
+
+-- a step that writes a gate, if the bytes reach up to it
+abbrev pub WritesGate : ℕ → List ℕ → List ℕ → Type 0
+WritesGate gate old new = gate < length old → SameButGate gate old new

@@ -1,4 +1,5 @@
 pub mod Accepted
+pub mod Crash
 pub mod Damage
 pub mod FrameAt
 pub mod Gates

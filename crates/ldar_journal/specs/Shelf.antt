@@ -1,9 +1,9 @@
 -- A journal over its disk.
 use Rattle.std.specs.Prelude.{◌≡◌, ◌⊎◌, ℕ, ◌+◌, ◌<◌, Option, List, [], ◌∷◌, ◌++◌, length, take, drop}
 use Rattle.std.specs.List.{AllByRecursion}
-use Rattle.disk_model.specs.Told.{Told}
 use Rattle.ldar_facts.specs.declared.batch.Batch.{Batch}
 use Rattle.ldar_facts.specs.Fields.{big_endian}
+use Rattle.ldar_journal.specs.Crash.{OnDisk}
 use Rattle.ldar_journal.specs.Image.{payload, batches_of, end_of, IsFrame, IsFront, IsKept, EndsAt, OpensTo, Opens}
 
 -- a journal as contracts see it: its disk, its frames, and the batches of one more frame that may stand or not, if any
@@ -36,14 +36,31 @@ pub record IsCounted (place : ℕ) (frames : List (List Batch)) : Type 0 where
   pub kept : IsKept (batches_of frames)
   pub at_end : place ≡ end_of frames
 
--- what a journal keeps of its disk and its place
-pub record IsShelved (content : Option (List ℕ)) (place : ℕ) (frames : List (List Batch)) (doubt : List Batch) : Type 0 where
-  pub stands : Told content (λ bytes. Stands bytes place frames doubt)
+-- what a journal knows of a frame in doubt: it may be kept, and takes so many bytes behind its gate
+pub record IsTorn (frames : List (List Batch)) (batches : List Batch) (torn : ℕ) : Type 0 where
+  pub is : IsFrame batches
+  pub kept : IsKept (batches_of frames ++ batches)
+  pub long : torn ≡ length (behind_gate batches)
+
+-- no frame is in doubt, and so no bytes, or a frame of so many bytes
+abbrev pub IsDoubt : List (List Batch) → List Batch → ℕ → Type 0
+IsDoubt frames [] torn = torn ≡ 0
+IsDoubt frames (batch ∷ batches) torn = IsTorn frames (batch ∷ batches) torn
+
+-- What a journal keeps of its disk and its place: the bytes, and each image that a crash may leave, stand as it says.
+pub record IsShelved (content : Option (List ℕ)) (images : List ℕ → Type 0) (place : ℕ) (frames : List (List Batch)) (doubt : List Batch) (torn : ℕ) : Type 0 where
+  pub stands : OnDisk content images (λ image. Stands image place frames doubt)
   pub counted : IsCounted place frames
+  pub in_doubt : IsDoubt frames doubt torn
 
 -- the bytes open to the frames, or to these and one more with the batches in doubt
 abbrev pub OpensToEither : List ℕ → List (List Batch) → List Batch → Type 0
 OpensToEither bytes frames doubt = OpensTo bytes frames ⊎ OpensTo bytes (frames ++ doubt ∷ [])
+
+-- the bytes open to the frames; where batches are in doubt, to these frames or to these and one more of those batches
+abbrev pub OpensAs : List ℕ → List (List Batch) → List Batch → Type 0
+OpensAs bytes frames [] = OpensTo bytes frames
+OpensAs bytes frames (batch ∷ batches) = OpensToEither bytes frames (batch ∷ batches)
 
 -- the bytes open to the history, or to it with the batches in doubt
 abbrev pub OpensEither : List ℕ → List Batch → List Batch → Type 0

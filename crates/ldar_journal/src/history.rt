@@ -3,6 +3,7 @@ ghost use Rattle.std.specs.Prelude.{◌≡◌, [], ◌∷◌, ◌++◌};
 use http_server::Log;
 use ldar_facts::Batch;
 use std::marker::Model;
+use std::snapshot::Snapshot;
 
 /// Some batches, for proofs alone: it takes no memory, and its calls do nothing when they run.
 #[derive(Drop)]
@@ -20,13 +21,20 @@ impl Model for Chapter {
 }
 
 impl Chapter {
+    /// No batch.
+    pub fn none() -> Chapter
+        ensures value { result ≡ [] }
+    {
+        Chapter {
+            batches: Log::new(),
+        }
+    }
+
     /// These batches.
     pub fn of(batches: &[Batch]) -> Chapter
         ensures value { result ≡ batches.now }
     {
-        let mut chapter = Chapter {
-            batches: Log::new(),
-        };
+        let mut chapter = Chapter::none();
         for batch in batches {
             chapter.push(batch);
         }
@@ -43,7 +51,7 @@ impl Chapter {
 /// Frames one after the other, each as its batches, for proofs alone.
 #[derive(Drop)]
 pub struct Frames {
-    chapters: Log<Chapter, ()>,
+    chapters: Log<Snapshot<Chapter>, ()>,
 }
 
 impl Model for Frames {
@@ -52,7 +60,7 @@ impl Model for Frames {
 
     ghost Value = { List (List Batch) };
 
-    ghost view = { λ f. map (λ e. e.0) f.chapters.items };
+    ghost view = { λ f. map (λ e. e.0.value) f.chapters.items };
 }
 
 impl Frames {
@@ -68,6 +76,13 @@ impl Frames {
     /// Goes on with a frame of these batches.
     pub fn push(&mut self, chapter: &Chapter)
         ensures value { self.new ≡ self.old ++ chapter.now ∷ [] }
+    {
+        self.push_kept(&Snapshot::of(chapter));
+    }
+
+    /// Goes on with a frame of batches that were kept for proofs.
+    pub fn push_kept(&mut self, chapter: &Snapshot<Chapter>)
+        ensures value { self.new ≡ self.old ++ chapter.now.value ∷ [] }
     {
         self.chapters = self.chapters.and(chapter, &());
     }

@@ -1,15 +1,19 @@
-ghost use Rattle.std.specs.Prelude.{◌≡◌, ◌≢◌, ◌^◌, ◌+◌, ◌<◌, ◌≤◌, [], ◌∷◌, ◌++◌, length, true, false, slice_index, OnOk, OnErr, IsErrOf};
-ghost use Rattle.ldar_journal.specs.Gates.{PutsBehind, HoldsBehind, SameButGate};
+ghost use Rattle.std.specs.Prelude.{◌≡◌, ◌≢◌, ◌+◌, ◌≤◌, [], ◌∷◌, ◌++◌, length, true, false, Ok, OnOk, OnErr, IsOk, IsErrOf};
 ghost use Rattle.disk_model.specs.Faults.{Rose};
+ghost use Rattle.disk_model.specs.Images.{Only};
 ghost use Rattle.disk_model.specs.Keeps.{Keeps};
 ghost use Rattle.disk_model.specs.Told.{Told, BothTold};
-ghost use Rattle.ldar_journal.specs.Image.{batches_of, end_of, IsKept, EndsAt};
-ghost use Rattle.ldar_journal.specs.Shelf.{OpensToEither, IsCounted};
+ghost use Rattle.ldar_journal.specs.Crash.{OnDisk, LeavesOnly, AnswersInRoom};
+ghost use Rattle.ldar_journal.specs.Image.{batches_of, end_of, IsKept, EndsAt, OpensTo};
+ghost use Rattle.ldar_journal.specs.Shelf.{OpensAs, OpensToEither, IsCounted, IsInDoubt};
 
-use crate::history::Frames;
+use crate::gates::{open_gate, put_behind};
+use crate::history::{Chapter, Frames};
 use crate::prepared::Frame;
+use crate::settling::{Settled, is_open_for_good};
 use disk_model::{Disk, DiskFault};
 use std::marker::Model;
+use std::snapshot::Snapshot;
 
 /// An append failed. Behind an open gate the frame may stand or not.
 #[derive(Clone, Copy, Debug, PartialEq, Eq)]
@@ -25,26 +29,27 @@ pub struct Journal<D: Disk> {
     /// The place of the gate at which the next frame will stand.
     end: u64,
     frames: Frames,
-    doubt: Frames,
-    settling: bool,
+    /// The batches of the frame in doubt, if one is.
+    doubt: Snapshot<Chapter>,
+    /// How many bytes the frame in doubt takes behind its gate, and 0 where none is in doubt.
+    torn: u64,
 }
 
 impl<D: Disk> Model for Journal<D> {
-    ghost use Rattle.std.specs.Prelude.{◌≡◌, [], false};
-    ghost use Rattle.ldar_journal.specs.Image.{batches_of};
     ghost use Rattle.ldar_journal.specs.Shelf.{Shelf, IsShelved};
 
     ghost Value = { Shelf D };
 
-    ghost view = { λ j. record { disk = j.disk; frames = j.frames; doubt = batches_of j.doubt } };
+    ghost view = { λ j. record { disk = j.disk; frames = j.frames; doubt = j.doubt.value } };
 
-    ghost invariant = { λ j. IsShelved (D.content j.disk) j.end j.frames (batches_of j.doubt) × (j.settling ≡ false → j.doubt ≡ []) × (batches_of j.doubt ≡ [] → j.settling ≡ false) };
+    ghost invariant = { λ j. IsShelved (D.content j.disk) (D.images j.disk) j.end j.frames j.doubt.value j.torn };
 }
 
 impl<D: Disk> Journal<D> {
-    /// A journal whose bytes end at a closed gate at this place, behind these frames.
+    /// A journal whose bytes are stable, and end at a closed gate at this place, behind these frames.
     pub(crate) fn at(disk: D, end: u64, frames: Frames) -> Journal<D>
         requires ends { Told (D.content disk) (λ bytes. EndsAt bytes end frames) }
+        requires durable { Told (D.content disk) (λ bytes. Only bytes (D.images disk)) }
         requires counted { IsCounted end frames }
         ensures value { result ≡ record { disk = disk; frames = frames; doubt = [] } }
     {
@@ -52,8 +57,8 @@ impl<D: Disk> Journal<D> {
             disk,
             end,
             frames,
-            doubt: Frames::new(),
-            settling: false,
+            doubt: Snapshot::of(&Chapter::none()),
+            torn: 0,
         }
     }
 
@@ -62,13 +67,15 @@ impl<D: Disk> Journal<D> {
         ensures in_doubt { result ≡ true → self.now.doubt ≢ [] }
         ensures settled { result ≡ false → self.now.doubt ≡ [] }
     {
-        self.settling
+        self.torn > 0
     }
 
     /// The disk.
     pub fn disk(&self) -> &D
         ensures value { result.now ≡ self.now.disk }
         ensures opens { Told (D.content result.now) (λ bytes. OpensToEither bytes self.now.frames self.now.doubt) }
+        ensures images { OnDisk (D.content result.now) (D.images result.now)
+            (λ image. OpensAs image self.now.frames self.now.doubt) }
         ensures kept { IsKept (batches_of self.now.frames) }
     {
         &self.disk
@@ -78,13 +85,14 @@ impl<D: Disk> Journal<D> {
     pub fn into_disk(self) -> D
         ensures value { result ≡ self.disk }
         ensures opens { Told (D.content result) (λ bytes. OpensToEither bytes self.frames self.doubt) }
+        ensures images { OnDisk (D.content result) (D.images result) (λ image. OpensAs image self.frames self.doubt) }
     {
         let Journal {
             disk,
             end: _,
             frames: _,
             doubt: _,
-            settling: _,
+            torn: _,
         } = self;
         disk
     }
@@ -100,8 +108,20 @@ impl<D: Disk> Journal<D> {
         ensures gate_shut { IsErrOf result (record { gate = false }) → self.new.doubt ≡ [] }
         ensures in_doubt { IsErrOf result (record { gate = true }) → self.new.doubt ≡ frame.now }
 
+        // A crash then leaves what the journal says: in doubt, all that follows the gate of the frame is there.
         ensures opens { Told (D.content self.new.disk) (λ bytes. OpensToEither bytes self.new.frames self.new.doubt) }
+        ensures images { OnDisk (D.content self.new.disk) (D.images self.new.disk)
+            (λ image. OpensAs image self.new.frames self.new.doubt) }
+        ensures behind { IsErrOf result (record { gate = true }) → OnDisk (D.content self.new.disk) (D.images self.new.disk)
+            (λ image. IsInDoubt image (end_of self.new.frames) self.new.frames frame.now) }
+
+        // A crash at any moment of the call leaves all of the frame or nothing of it.
+        ensures any_moment { LeavesOnly D.clock D.left self.old.disk self.new.disk (λ image.
+            Told (D.content self.old.disk) (λ _. OpensToEither image self.old.frames frame.now)) }
+
         ensures grows { BothTold (D.content self.old.disk) (D.content self.new.disk) (λ old new. length old ≤ length new) }
+        ensures roomy { AnswersInRoom D.room D.clock 4 self.old.disk self.new.disk
+            (λ room. end_of (self.old.frames ++ frame.now ∷ []) + 1 ≤ room → IsOk result) }
         ensures keeps { Keeps D.clock D.name D.faults self.old.disk self.new.disk }
         ensures cause { OnErr result (Rose (D.faults self.old.disk) (D.faults self.new.disk)) }
     {
@@ -112,37 +132,46 @@ impl<D: Disk> Journal<D> {
             return Err(Torn { gate: false });
         }
         if open_gate(&mut self.disk, gate).is_err() {
-            frame.add_to(&mut self.doubt);
-            self.settling = true;
+            self.doubt = frame.batches();
+            self.torn = length;
             return Err(Torn { gate: true });
         }
         frame.add_to(&mut self.frames);
         self.end = gate + length;
         Ok(())
     }
-}
 
-/// Writes what stands behind a gate, and makes it stable.
-fn put_behind<D: Disk>(disk: &mut D, gate: u64, bytes: &[u8]) -> Result<(), DiskFault>
-    requires { gate < 2 ^ 63 }
-    ensures front { BothTold (D.content disk.old) (D.content disk.new) (λ old new. gate < length old → PutsBehind gate old new) }
-    ensures grows { BothTold (D.content disk.old) (D.content disk.new) (λ old new. length old ≤ length new) }
-    ensures put { OnOk result (BothTold (D.content disk.old) (D.content disk.new) (λ old new. gate < length old → HoldsBehind gate bytes.now new)) }
-    ensures keeps { Keeps D.clock D.name D.faults disk.old disk.new }
-    ensures cause { OnErr result (Rose (D.faults disk.old) (D.faults disk.new)) }
-{
-    disk.write_at(gate + 1, bytes)?;
-    disk.sync()
-}
+    /// Finds out whether the frame in doubt stands: it makes the bytes stable, and looks at the gate.
+    /// After a fault the journal is still settling.
+    pub fn settle(&mut self) -> Result<Settled, DiskFault>
+        requires settling { self.old.doubt ≢ [] }
+        ensures stands { result ≡ Ok Settled.Stands → self.new.frames ≡ self.old.frames ++ self.old.doubt ∷ [] }
+        ensures gone { result ≡ Ok Settled.Gone → self.new.frames ≡ self.old.frames }
+        ensures settled { OnOk result (self.new.doubt ≡ []) }
+        ensures still { OnErr result ((self.new.frames ≡ self.old.frames) × (self.new.doubt ≡ self.old.doubt)) }
 
-/// Writes an open gate, and makes it stable.
-fn open_gate<D: Disk>(disk: &mut D, gate: u64) -> Result<(), DiskFault>
-    ensures others { BothTold (D.content disk.old) (D.content disk.new) (λ old new. gate < length old → SameButGate gate old new) }
-    ensures grows { BothTold (D.content disk.old) (D.content disk.new) (λ old new. length old ≤ length new) }
-    ensures opened { OnOk result (BothTold (D.content disk.old) (D.content disk.new) (λ old new. gate < length old → slice_index new gate ≡ 1)) }
-    ensures keeps { Keeps D.clock D.name D.faults disk.old disk.new }
-    ensures cause { OnErr result (Rose (D.faults disk.old) (D.faults disk.new)) }
-{
-    disk.write_at(gate, &[1])?;
-    disk.sync()
+        // A crash then leaves what was answered; after a fault, and at any moment of the call, one of the two.
+        ensures images { OnDisk (D.content self.new.disk) (D.images self.new.disk)
+            (λ image. OpensAs image self.new.frames self.new.doubt) }
+        ensures any_moment { LeavesOnly D.clock D.left self.old.disk self.new.disk (λ image.
+            Told (D.content self.old.disk) (λ _. OpensToEither image self.old.frames self.old.doubt)) }
+
+        ensures unchanged { BothTold (D.content self.old.disk) (D.content self.new.disk) (λ old new. new ≡ old) }
+        ensures roomy { AnswersInRoom D.room D.clock 2 self.old.disk self.new.disk (λ _. IsOk result) }
+        ensures keeps { Keeps D.clock D.name D.faults self.old.disk self.new.disk }
+        ensures cause { OnErr result (Rose (D.faults self.old.disk) (D.faults self.new.disk)) }
+    {
+        let gate = self.end;
+        let stands = is_open_for_good(&mut self.disk, gate)?;
+        if !stands {
+            self.doubt = Snapshot::of(&Chapter::none());
+            self.torn = 0;
+            return Ok(Settled::Gone);
+        }
+        self.frames.push_kept(&self.doubt);
+        self.end = gate + self.torn;
+        self.doubt = Snapshot::of(&Chapter::none());
+        self.torn = 0;
+        Ok(Settled::Stands)
+    }
 }

@@ -3,6 +3,7 @@ ghost use Rattle.std.specs.Prelude.{◌≡◌, ◌≢◌, ℕ, List, [], ◌∷�
 ghost use Rattle.ldar_facts.specs.declared.batch.Batch.{Batch};
 ghost use Rattle.ldar_journal.specs.Image.{header, frame, end_of, EndsAt, OpensTo, Opens};
 ghost use Rattle.ldar_journal.specs.Damage.{IsDamagedAt};
+ghost use Rattle.ldar_journal.specs.Shelf.{OpensToEither};
 
 /// Bytes open to at most one row of frames.
 pub fn one_row_of_frames()
@@ -33,4 +34,10 @@ pub fn damaged_opens_to_none()
 /// Bytes without the header open to no history.
 pub fn no_header_opens_to_none()
     ensures { (image : List ℕ) (history : List Batch) → take 16 image ≢ header → ¬ (Opens image history) }
+{}
+
+/// What a crash leaves in the midst of an append has no bad frame: it opens.
+pub fn torn_append_is_not_damaged()
+    ensures { (image : List ℕ) (place : ℕ) (frames : List (List Batch)) (batches : List Batch)
+        → OpensToEither image frames batches → ¬ (IsDamagedAt image place) }
 {}

@@ -4,18 +4,23 @@
 mod accepted;
 mod creation;
 mod frame;
+mod gates;
 mod history;
 mod image;
 mod journal;
 pub mod laws;
 mod opening;
 mod prepared;
+mod settling;
 
 pub use accepted::{Accepted, MOST_FACTS};
 pub use creation::{CreateError, create};
 pub use journal::{Journal, Torn};
 pub use opening::{OpenError, OpenWhy, open_accepted, open_journal};
 pub use prepared::{Frame, prepare};
+pub use settling::Settled;
 
+#[cfg(test)]
+mod crash_tests;
 #[cfg(test)]
 mod tests;

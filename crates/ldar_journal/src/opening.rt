@@ -1,5 +1,6 @@
 ghost use Rattle.std.specs.Prelude.{◌≡◌, ◌≢◌, ◌<◌, ◌≤◌, [], length, take, true, false, Ok, Err, IfOk, OnOk, IfErr, MatchResult};
 ghost use Rattle.disk_model.specs.Faults.{Rose};
+ghost use Rattle.disk_model.specs.Images.{Same, Only};
 ghost use Rattle.disk_model.specs.Keeps.{Keeps};
 ghost use Rattle.disk_model.specs.Told.{Told, BothTold};
 ghost use Rattle.ldar_journal.specs.Image.{header, batches_of, IsKept, EndsAt};
@@ -109,6 +110,7 @@ fn opened<D: Disk>(alloc: Global, disk: &mut D) -> Result<Opened, OpenWhy>
     ensures value { IfOk result (λ opened. Told (D.content disk.new) (λ bytes. EndsAt bytes opened.end opened.frames)) }
     ensures batches { IfOk result (λ opened. opened.accepted ≡ batches_of opened.frames) }
     ensures counted { IfOk result (λ opened. IsCounted opened.end opened.frames) }
+    ensures durable { OnOk result (Told (D.content disk.new) (λ bytes. Only bytes (D.images disk.new))) }
     ensures not_a_journal { IfErr result (OnNotAJournal (Told (D.content disk.old) (λ bytes. take 16 bytes ≢ header))) }
     ensures damaged { IfErr result (IfDamaged (λ at. Told (D.content disk.old) (λ bytes. IsDamagedAt bytes at))) }
     ensures unchanged { BothTold (D.content disk.old) (D.content disk.new) (λ old new. new ≡ old) }
@@ -124,6 +126,7 @@ fn opened<D: Disk>(alloc: Global, disk: &mut D) -> Result<Opened, OpenWhy>
 fn read_all<D: Disk>(alloc: Global, disk: &mut D) -> Result<Vec<u8>, OpenWhy>
     ensures value { IfOk result (λ bytes. Told (D.content disk.new) (λ now. bytes.items ≡ now)) }
     ensures unchanged { BothTold (D.content disk.old) (D.content disk.new) (λ old new. new ≡ old) }
+    ensures images { Same (D.images disk.old) (D.images disk.new) }
     ensures cause { result ≡ Err OpenWhy.Disk → Rose (D.faults disk.old) (D.faults disk.new) }
     ensures only { IfErr result IsFaultOrMemory }
     ensures keeps { Keeps D.clock D.name D.faults disk.old disk.new }
@@ -150,6 +153,7 @@ fn read_piece<D: Disk>(disk: &mut D, bytes: &mut Vec<u8>, piece: &mut [u8]) -> R
     ensures all { result ≡ Ok false → BothTold (D.content disk.old) (D.content disk.new)
         (λ old new. IsFrontOf bytes.old.items old → bytes.new.items ≡ new) }
     ensures unchanged { BothTold (D.content disk.old) (D.content disk.new) (λ old new. new ≡ old) }
+    ensures images { Same (D.images disk.old) (D.images disk.new) }
     ensures cause { result ≡ Err OpenWhy.Disk → Rose (D.faults disk.old) (D.faults disk.new) }
     ensures only { IfErr result IsFaultOrMemory }
     ensures keeps { Keeps D.clock D.name D.faults disk.old disk.new }

@@ -7,6 +7,7 @@ use crate::history::{Chapter, Frames};
 use ldar_facts::{Batch, Memory, write_batch};
 use std::alloc::Global;
 use std::marker::Model;
+use std::snapshot::Snapshot;
 
 /// A frame made ready to be appended: what will stand behind its gate. Contracts see its batches.
 #[derive(Drop)]
@@ -35,6 +36,13 @@ impl Frame {
         ensures is_frame { IsFrame self.now }
     {
         self.bytes.as_slice()
+    }
+
+    /// The batches of this frame, kept for proofs alone.
+    pub fn batches(&self) -> Snapshot<Chapter>
+        ensures value { result.value ≡ self.now }
+    {
+        Snapshot::of(&self.batches)
     }
 
     /// Adds this frame to others.

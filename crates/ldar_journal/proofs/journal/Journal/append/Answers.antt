@@ -1,71 +1,148 @@
-use Rattle.std.proofs.Common.{◌≡◌, ◌+◌, List, [], ◌∷◌, ◌++◌, length, sym, ◌∙◌, ap, subst, arith}
-use Rattle.std.proofs.lemmas.Bool.{false≢true}
-use Rattle.std.proofs.lemmas.List.{append-nil}
-use Rattle.ldar_facts.specs.declared.batch.Batch.{Batch}
-use Rattle.ldar_journal.specs.Image.{batches_of, IsKept}
-use Rattle.ldar_journal.proofs.ShelfLemmas.{IsCounted-fits, behind_gate-fits, ready, stays, IsShelved-torn, IsShelved-appended, told_opens, from_ok}
+use Rattle.std.proofs.Common.{◌≡◌, ◌+◌, List, [], ◌∷◌, ◌++◌, length, sym, ◌∙◌, ap, arith}
+use Rattle.ldar_journal.proofs.ShelfLemmas.{IsCounted-fits, behind_gate-fits, ready, IsShelved-shut, put_moments, IsShelved-torn, doubt_at_end, IsShelved-appended, append_moments, IsShelved-as, IsShelved-opens, from_ok}
 use Rattle.ldar_journal.proofs.journal.Journal.append.Goals as goal
 
 pub put_behind-requires : goal.put_behind-requires
-put_behind-requires g c = let fits = IsCounted-fits c.self.inside.end c.self.inside.frames c.self.invariant.0.counted in omega arith
+put_behind-requires g c = let fits = IsCounted-fits c.self.inside.end c.self.inside.frames c.self.invariant.counted in omega arith
 
 pub overflow_add-self : goal.overflow_add-self
 overflow_add-self g c =
-    let fits = IsCounted-fits c.self.inside.end c.self.inside.frames c.self.invariant.0.counted in
+    let fits = IsCounted-fits c.self.inside.end c.self.inside.frames c.self.invariant.counted in
     let frame = behind_gate-fits c.args.frame.now c.bytes-bytes.ensures.is_frame in
     omega (arith, ap length c.bytes-bytes.ensures.value)
+
+-- the frame could not be put behind the gate
+
+pub invariant_of-self : goal.invariant_of-self
+invariant_of-self g c =
+    let j = c.self.inside in
+    let d = g.D.Disk in
+    let put = c.put_behind in
+    let is_ready = ready d.content d.images j.disk j.end j.frames j.doubt.value c.args.frame.now j.torn c.args.self.now c.self.view_is c.self.invariant c.requires.settled
+    c.bytes-bytes.ensures.is_frame c.requires.kept in
+    IsShelved-shut d.clock d.left d.images d.content j.disk j.end j.frames j.doubt.value c.args.frame.now j.torn is_ready
+    put.new.disk (length c.bytes-bytes.result.now) put.ensures.front put.ensures.crash put.ensures.any_moment
 
 pub returns-then-is_err-clause-opens : goal.returns-then-is_err-clause-opens
 returns-then-is_err-clause-opens g c =
     let j = c.self.inside in
-    let doubt = batches_of j.doubt in
-    let none : doubt ≡ [] = cc in
-    let same : j.frames ≡ c.args.self.now.frames = cc in
-    let kept : IsKept (batches_of j.frames ++ c.args.frame.now) = rw same c.requires.kept in
-    let is_ready = ready (g.D.Disk.content j.disk) j.end j.frames doubt c.args.frame.now c.self.invariant.0 none c.bytes-bytes.ensures.is_frame kept in
-    stays (g.D.Disk.content j.disk) j.end j.frames doubt c.args.frame.now is_ready (g.D.Disk.content c.put_behind.new.disk) c.put_behind.ensures.front
+    IsShelved-opens (g.D.Disk.content c.put_behind.new.disk) (g.D.Disk.images c.put_behind.new.disk) j.end j.frames j.doubt.value j.torn (invariant_of-self g c)
+
+pub returns-then-is_err-clause-images : goal.returns-then-is_err-clause-images
+returns-then-is_err-clause-images g c =
+    let j = c.self.inside in
+    IsShelved-as (g.D.Disk.content c.put_behind.new.disk) (g.D.Disk.images c.put_behind.new.disk) j.end j.frames j.doubt.value j.torn (invariant_of-self g c)
+
+pub returns-then-is_err-clause-any_moment : goal.returns-then-is_err-clause-any_moment
+returns-then-is_err-clause-any_moment g c =
+    let j = c.self.inside in
+    let d = g.D.Disk in
+    let put = c.put_behind in
+    let is_ready = ready d.content d.images j.disk j.end j.frames j.doubt.value c.args.frame.now j.torn c.args.self.now c.self.view_is c.self.invariant c.requires.settled
+    c.bytes-bytes.ensures.is_frame c.requires.kept in
+    rw (← c.self.view_is) (put_moments d.clock d.left d.images d.content j.disk j.end j.frames j.doubt.value c.args.frame.now j.torn is_ready
+    put.new.disk (length c.bytes-bytes.result.now) put.ensures.front put.ensures.crash put.ensures.any_moment)
+
+-- the gate could not be opened
 
 pub invariant_of-self-then-is_err-2 : goal.invariant_of-self-then-is_err-2
 invariant_of-self-then-is_err-2 g c =
     let j = c.self.inside in
-    let frame = c.args.frame.now in
-    let none : batches_of j.doubt ≡ [] = cc in
-    let same : j.frames ≡ c.args.self.now.frames = cc in
-    let kept : IsKept (batches_of j.frames ++ frame) = rw same c.requires.kept in
-    let is_ready = ready (g.D.Disk.content j.disk) j.end j.frames (batches_of j.doubt) frame c.self.invariant.0 none c.bytes-bytes.ensures.is_frame kept in
-    let holds = from_ok c.put_behind.result (sym c.is_err.ensures.value ∙ c.if-is_err.false) c.put_behind.ensures.put in
-    let before : j.doubt ≡ [] = c.self.invariant.1 (c.self.invariant.2 none) in
-    let doubt : batches_of c.add_to.new.frames ≡ frame =
-    ap batches_of (c.add_to.ensures ∙ ap (λ (l : List (List Batch)). l ++ frame ∷ []) before) ∙ append-nil frame in
-    rw doubt (
-      IsShelved-torn (g.D.Disk.content j.disk) j.end j.frames (batches_of j.doubt) frame is_ready (g.D.Disk.content c.put_behind.new.disk) (g.D.Disk.content c.open_gate.new.disk)
-          c.put_behind.ensures.front (rw c.bytes-bytes.ensures.value at holds) c.open_gate.ensures.others,
-      λ e. absurd (false≢true (sym e)),
-      λ e. absurd (omega (arith, ap length e, is_ready.is.some)),
-    )
+    let d = g.D.Disk in
+    let put = c.put_behind in
+    let is_ready = ready d.content d.images j.disk j.end j.frames j.doubt.value c.args.frame.now j.torn c.args.self.now c.self.view_is c.self.invariant c.requires.settled
+    c.bytes-bytes.ensures.is_frame c.requires.kept in
+    let was_put = sym c.is_err.ensures.value ∙ c.if-is_err.false in
+    let holds = from_ok put.result was_put put.ensures.put in
+    let stable = from_ok put.result was_put put.ensures.durable in
+    rw (c.batches.ensures.value, c.bytes-bytes.ensures.value) (
+    IsShelved-torn d.clock d.left d.images d.content j.disk j.end j.frames j.doubt.value c.args.frame.now j.torn is_ready
+    put.new.disk (length c.bytes-bytes.result.now) put.ensures.front put.ensures.crash put.ensures.any_moment
+    c.open_gate.new.disk (rw c.bytes-bytes.ensures.value at holds) stable c.open_gate.ensures.others c.open_gate.ensures.crash)
 
 pub returns-then-is_err-2-clause-opens : goal.returns-then-is_err-2-clause-opens
 returns-then-is_err-2-clause-opens g c =
-    told_opens (g.D.Disk.content c.open_gate.new.disk) c.self.inside.end c.self.inside.frames (batches_of c.add_to.new.frames) (invariant_of-self-then-is_err-2 g c).0.stands
+    let j = c.self.inside in
+    IsShelved-opens (g.D.Disk.content c.open_gate.new.disk) (g.D.Disk.images c.open_gate.new.disk) j.end j.frames c.batches.result.value (length c.bytes-bytes.result.now)
+    (invariant_of-self-then-is_err-2 g c)
+
+pub returns-then-is_err-2-clause-images : goal.returns-then-is_err-2-clause-images
+returns-then-is_err-2-clause-images g c =
+    let j = c.self.inside in
+    IsShelved-as (g.D.Disk.content c.open_gate.new.disk) (g.D.Disk.images c.open_gate.new.disk) j.end j.frames c.batches.result.value (length c.bytes-bytes.result.now)
+    (invariant_of-self-then-is_err-2 g c)
+
+pub returns-then-is_err-2-clause-behind : goal.returns-then-is_err-2-clause-behind
+returns-then-is_err-2-clause-behind g c = λ torn.
+    let j = c.self.inside in
+    let d = g.D.Disk in
+    let put = c.put_behind in
+    let is_ready = ready d.content d.images j.disk j.end j.frames j.doubt.value c.args.frame.now j.torn c.args.self.now c.self.view_is c.self.invariant c.requires.settled
+    c.bytes-bytes.ensures.is_frame c.requires.kept in
+    let was_put = sym c.is_err.ensures.value ∙ c.if-is_err.false in
+    let holds = from_ok put.result was_put put.ensures.put in
+    let stable = from_ok put.result was_put put.ensures.durable in
+    doubt_at_end d.clock d.left d.images d.content j.disk j.end j.frames j.doubt.value c.args.frame.now j.torn is_ready
+    put.new.disk (length c.bytes-bytes.result.now) put.ensures.front put.ensures.crash put.ensures.any_moment
+    c.open_gate.new.disk (rw c.bytes-bytes.ensures.value at holds) stable c.open_gate.ensures.others c.open_gate.ensures.crash
+
+pub returns-then-is_err-2-clause-any_moment : goal.returns-then-is_err-2-clause-any_moment
+returns-then-is_err-2-clause-any_moment g c =
+    let j = c.self.inside in
+    let d = g.D.Disk in
+    let put = c.put_behind in
+    let is_ready = ready d.content d.images j.disk j.end j.frames j.doubt.value c.args.frame.now j.torn c.args.self.now c.self.view_is c.self.invariant c.requires.settled
+    c.bytes-bytes.ensures.is_frame c.requires.kept in
+    let was_put = sym c.is_err.ensures.value ∙ c.if-is_err.false in
+    let holds = from_ok put.result was_put put.ensures.put in
+    let stable = from_ok put.result was_put put.ensures.durable in
+    rw (← c.self.view_is) (append_moments d.clock d.left d.images d.content j.disk j.end j.frames j.doubt.value c.args.frame.now j.torn is_ready
+    put.new.disk (length c.bytes-bytes.result.now) put.ensures.front put.ensures.crash put.ensures.any_moment
+    c.open_gate.new.disk (rw c.bytes-bytes.ensures.value at holds) stable c.open_gate.ensures.others c.open_gate.ensures.crash
+    put.ensures.keeps.time c.open_gate.ensures.any_moment)
+
+-- the frame stands
 
 pub invariant_of-self-2 : goal.invariant_of-self-2
 invariant_of-self-2 g c =
     let j = c.self.inside in
-    let frame = c.args.frame.now in
-    let doubt = batches_of j.doubt in
-    let none : doubt ≡ [] = cc in
-    let same : j.frames ≡ c.args.self.now.frames = cc in
-    let kept : IsKept (batches_of j.frames ++ frame) = rw same c.requires.kept in
-    let is_ready = ready (g.D.Disk.content j.disk) j.end j.frames doubt frame c.self.invariant.0 none c.bytes-bytes.ensures.is_frame kept in
-    let holds = from_ok c.put_behind.result (sym c.is_err.ensures.value ∙ c.if-is_err.false) c.put_behind.ensures.put in
-    let gates = from_ok c.open_gate.result (sym c.is_err-2.ensures.value ∙ c.if-is_err-2.false) c.open_gate.ensures.opened in
-    rw (c.add_to-2.ensures, c.bytes-bytes.ensures.value) (
-      IsShelved-appended (g.D.Disk.content j.disk) j.end j.frames doubt frame is_ready (g.D.Disk.content c.put_behind.new.disk) (g.D.Disk.content c.open_gate.new.disk)
-          c.put_behind.ensures.front (rw c.bytes-bytes.ensures.value at holds) c.open_gate.ensures.others gates,
-      c.self.invariant.1,
-      c.self.invariant.2,
-    )
+    let d = g.D.Disk in
+    let put = c.put_behind in
+    let is_ready = ready d.content d.images j.disk j.end j.frames j.doubt.value c.args.frame.now j.torn c.args.self.now c.self.view_is c.self.invariant c.requires.settled
+    c.bytes-bytes.ensures.is_frame c.requires.kept in
+    let was_put = sym c.is_err.ensures.value ∙ c.if-is_err.false in
+    let holds = from_ok put.result was_put put.ensures.put in
+    let stable = from_ok put.result was_put put.ensures.durable in
+    let was_opened = sym c.is_err-2.ensures.value ∙ c.if-is_err-2.false in
+    rw (c.add_to.ensures, c.bytes-bytes.ensures.value) (
+    IsShelved-appended d.clock d.left d.images d.content j.disk j.end j.frames j.doubt.value c.args.frame.now j.torn is_ready
+    put.new.disk (length c.bytes-bytes.result.now) put.ensures.front put.ensures.crash put.ensures.any_moment
+    c.open_gate.new.disk (rw c.bytes-bytes.ensures.value at holds) stable c.open_gate.ensures.others c.open_gate.ensures.crash
+    (from_ok c.open_gate.result was_opened c.open_gate.ensures.opened) (from_ok c.open_gate.result was_opened c.open_gate.ensures.durable))
 
 pub returns-clause-opens : goal.returns-clause-opens
 returns-clause-opens g c =
-    told_opens (g.D.Disk.content c.open_gate.new.disk) (c.self.inside.end + length c.bytes-bytes.result.now) c.add_to-2.new.frames (batches_of c.self.inside.doubt) (invariant_of-self-2 g c).0.stands
+    let j = c.self.inside in
+    IsShelved-opens (g.D.Disk.content c.open_gate.new.disk) (g.D.Disk.images c.open_gate.new.disk) (j.end + length c.bytes-bytes.result.now) c.add_to.new.frames j.doubt.value j.torn
+    (invariant_of-self-2 g c)
+
+pub returns-clause-images : goal.returns-clause-images
+returns-clause-images g c =
+    let j = c.self.inside in
+    IsShelved-as (g.D.Disk.content c.open_gate.new.disk) (g.D.Disk.images c.open_gate.new.disk) (j.end + length c.bytes-bytes.result.now) c.add_to.new.frames j.doubt.value j.torn
+    (invariant_of-self-2 g c)
+
+pub returns-clause-any_moment : goal.returns-clause-any_moment
+returns-clause-any_moment g c =
+    let j = c.self.inside in
+    let d = g.D.Disk in
+    let put = c.put_behind in
+    let is_ready = ready d.content d.images j.disk j.end j.frames j.doubt.value c.args.frame.now j.torn c.args.self.now c.self.view_is c.self.invariant c.requires.settled
+    c.bytes-bytes.ensures.is_frame c.requires.kept in
+    let was_put = sym c.is_err.ensures.value ∙ c.if-is_err.false in
+    let holds = from_ok put.result was_put put.ensures.put in
+    let stable = from_ok put.result was_put put.ensures.durable in
+    rw (← c.self.view_is) (append_moments d.clock d.left d.images d.content j.disk j.end j.frames j.doubt.value c.args.frame.now j.torn is_ready
+    put.new.disk (length c.bytes-bytes.result.now) put.ensures.front put.ensures.crash put.ensures.any_moment
+    c.open_gate.new.disk (rw c.bytes-bytes.ensures.value at holds) stable c.open_gate.ensures.others c.open_gate.ensures.crash
+    put.ensures.keeps.time c.open_gate.ensures.any_moment)
