@@ -374,10 +374,10 @@ fn rules_on_components_deny_and_let_pass(rt: HostRuntime) -> Result<(), Fail> {
             pass,
         ),
     ];
-    for (what, handheld, few, want) in cases {
+    for (what, handheld, few, want) in &cases {
         assert_eq!(rt;
-            said_of(alloc, &register, 20, handheld, &few)?,
-            want,
+            said_of(alloc, &register, 20, *handheld, few)?,
+            *want,
             "{what}"
         );
     }
@@ -621,11 +621,11 @@ fn the_office_s_own_rules_deny_and_let_pass(rt: HostRuntime) -> Result<(), Fail>
             denied(1, 5),
         ),
     ];
-    for (what, handheld, held, few, want) in cases {
-        if held <= 8_000_000 {
+    for (what, handheld, held, few, want) in &cases {
+        if *held <= 8_000_000 {
             assert_eq!(rt;
-                said_of(alloc, &register, held, handheld, &few)?,
-                want,
+                said_of(alloc, &register, *held, *handheld, few)?,
+                *want,
                 "{what}"
             );
         }
@@ -711,8 +711,8 @@ fn three_valves_in_a_hundred_are_too_many(rt: HostRuntime) -> Result<(), Fail> {
             denied(3, 18),
         ),
     ];
-    for (what, register, few, want) in cases {
-        assert_eq!(rt; said_of(alloc, register, 200, 0, &few)?, want, "{what}");
+    for (what, register, few, want) in &cases {
+        assert_eq!(rt; said_of(alloc, register, 200, 0, few)?, *want, "{what}");
     }
     Ok(())
 }
