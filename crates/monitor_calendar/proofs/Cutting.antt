@@ -1,10 +1,10 @@
 -- Months, years and weeks before that of the earliest day on which a duty of the list can be due: the list holds none of their duties.
-use Rattle.std.proofs.Common.{◌≡◌, ℕ, ◌+◌, ◌-◌, ◌*◌, ◌/◌, ◌<◌, ◌≤◌, None, refl, sym, ap, ◌∙◌, subst, inl, inr, arith}
+use Rattle.std.proofs.Common.{◌≡◌, ℕ, ◌+◌, ◌-◌, ◌*◌, ◌/◌, ◌<◌, ◌≤◌, None, refl, ap, subst, inl, inr, arith}
 use Rattle.std.specs.Prelude.{max, filter_map}
 use Rattle.std.proofs.lemmas.Bool.{cases_lt}
 use Rattle.list_words.specs.Ranges.{until}
-use Rattle.ldar_days.specs.Calendar.{IsDay, IsMonth, first_day, last_day, month_of, week_of, week_last, end_by}
-use Rattle.ldar_days.proofs.Months.{month_of-is, month_of-month}
+use Rattle.ldar_days.specs.Calendar.{IsDay, IsMonth, last_day, month_of, week_of}
+use Rattle.ldar_days.proofs.Months.{month_of-is}
 use Rattle.ldar_law.specs.Duties.{first_due}
 use Rattle.monitor_calendar.specs.Causes as causes
 use Rattle.monitor_calendar.specs.Covering.{IsFirstListed}
@@ -90,7 +90,7 @@ module _ (asked : Asked) (cut : ℕ) (is : cut ≡ max asked.item.now.begin (ask
   windows_from_cut lt =
       let end : month_of day + 59 + 1 ≡ month_of day + 60 = omega arith in
       subst (λ e. filter_map (causes.planned asked) (until (month_of cut) e) ≡ filter_map (causes.planned asked) (until (month_of begin + 1)
-          (month_of day + 59 + 1))) end
+      (month_of day + 59 + 1))) end
       (from_later (causes.planned asked) (month_of begin + 1) (month_of cut) (month_of day + 59 + 1) (omega (arith, lt)) planned_none)
 
   -- .. or from the month after the beginning

@@ -1,7 +1,7 @@
 -- What past events tell of drips, with one event more.
-use Rattle.std.proofs.Common.{◌≡◌, Bool, true, false, not, ◌&&◌, ◌||◌, List, [], ◌∷◌, ◌++◌, refl, sym, ap, ◌∙◌}
+use Rattle.std.proofs.Common.{◌≡◌, Bool, true, false, not, ◌&&◌, ◌||◌, List, [], ◌∷◌, ◌++◌, refl}
 use Rattle.std.specs.List.{list_any}
-use Rattle.list_words.specs.Words.{somewhere, somewhere_from}
+use Rattle.list_words.specs.Words.{somewhere_from}
 use Rattle.ldar_law.specs.declared.event.Event.{Event}
 use Rattle.ldar_law.specs.declared.event.Happening.{Happening}
 use Rattle.ldar_law.specs.declared.event.Happening.TheVariants.{Look}

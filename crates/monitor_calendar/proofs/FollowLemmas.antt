@@ -1,6 +1,6 @@
 -- The first later event that meets a duty, and the duty of an event.
-use Rattle.std.proofs.Common.{◌≡◌, ℕ, zero, suc, ◌+◌, ◌-◌, ◌<◌, ◌≤◌, Bool, true, false, not, ◌&&◌, ◌||◌, nat_le, nat_lt, cond, Option, Some, None, List, [], ◌∷◌, ◌++◌, length, take, drop, get_or, slice_get, find, refl, sym, ap, ◌∙◌, subst, inl, inr, arith}
-use Rattle.std.specs.List.{AllByRecursion, cons_option}
+use Rattle.std.proofs.Common.{◌≡◌, ℕ, zero, suc, ◌+◌, ◌-◌, ◌<◌, ◌≤◌, Bool, true, false, ◌&&◌, nat_le, nat_lt, Option, Some, None, List, [], ◌∷◌, ◌++◌, length, take, drop, get_or, slice_get, find, refl, sym, ap, ◌∙◌, subst, inl, inr, arith}
+use Rattle.std.specs.List.{AllByRecursion}
 use Rattle.std.specs.List.Sorted.{IsPartitionPoint}
 use Rattle.std.specs.Option.{option_to_list}
 use Rattle.std.proofs.lemmas.Bool.{cases_Bool, cases_lt, and_left, and_right, leb-false, lt-leb, ltb-true}
@@ -63,7 +63,7 @@ module _ (p : Event → Bool) (due : ℕ) where
         | inl by ↦ rw (passes, by) refl
         | inr late ↦ rw (passes, late)
             (none_by events (all_weaker (λ x. e.key.day ≤ x.key.day) (λ x. due < x.key.day) (λ x le. omega
-                (arith, le, leb-false e.key.day due late)) events later))
+            (arith, le, leb-false e.key.day due late)) events later))
       ]
 
 -- the days of later events are no earlier
@@ -125,11 +125,11 @@ module _ (asked : Asked) where
   in_one_form Drips before e later = refl
   in_one_form Release before e later =
       ap (λ owed. causes.duty asked 8 e.key.day (end_by (e.key.day + 5)) owed (find (λ x. meets Release x.what && nat_le x.key.day (end_by
-          (e.key.day + 5))) later))
+      (e.key.day + 5))) later))
       (and_assoc (is_release e.what) (is_in_service asked.item.now e.key.day) (is_under_relief_rules asked.item.now asked.classes.now e.key.day))
   in_one_form Evidence before e later =
       ap (λ owed. causes.duty asked 9 e.key.day (end_by (e.key.day + 5)) owed (find (λ x. meets Evidence x.what && nat_le x.key.day (end_by
-          (e.key.day + 5))) later))
+      (e.key.day + 5))) later))
       (and_assoc (has_evidence e.what) (is_in_service asked.item.now e.key.day) (is_under_heavy_liquid_rules asked.item.now asked.classes.now e.key.day))
 
   -- what is told of drips suffices

@@ -1,8 +1,7 @@
 -- What is owed, by what the component is on the day on which it is judged.
-use Rattle.std.proofs.Common.{◌≡◌, ℕ, ◌+◌, ◌-◌, ◌*◌, ◌%◌, ◌<◌, ◌≤◌, Bool, true, false, ◌&&◌, ◌||◌, nat_lt, nat_eq, min, Option, None, List, refl, sym, ap, ◌∙◌, subst, inl, inr, mod-eq_of_lt, arith}
+use Rattle.std.proofs.Common.{◌≡◌, ℕ, ◌+◌, ◌-◌, ◌*◌, ◌%◌, ◌<◌, ◌≤◌, Bool, true, ◌&&◌, ◌||◌, nat_lt, nat_eq, min, refl, inl, inr, mod-eq_of_lt, arith}
 use Rattle.std.proofs.lemmas.Bool.{and_parts, eqb-true, cases_lt}
 use Rattle.ldar_days.specs.Calendar.{first_day, last_day, end_by, month_of, week_first, week_last}
-use Rattle.ldar_law.specs.declared.duty.Duty.{Duty}
 use Rattle.ldar_law.specs.Duties as law
 use Rattle.ldar_law.specs.Force.{class_on, regime_on, is_in_service}
 use Rattle.ldar_law.specs.Months.{is_quarterly}
@@ -31,10 +30,13 @@ module _ (asked : Asked) where
       judged.class.plan + month_of asked.item.now.begin ≤ month
   plan_fits judged month after planned =
       let whole = (and_parts (judged.serves && is_unsafe_designated judged.class.designation &&
-          (are_valve_rules judged.regime || are_pump_rules judged.regime) && nat_lt 0 judged.class.plan)
+      (are_valve_rules judged.regime || are_pump_rules judged.regime) && nat_lt 0 judged.class.plan)
       (nat_eq ((month - month_of asked.item.now.begin) % judged.class.plan) 0) planned).1 in
-      omega (arith, one_window (month - month_of asked.item.now.begin) judged.class.plan (omega (arith, after)) (eqb-true
-          ((month - month_of asked.item.now.begin) % judged.class.plan) 0 whole))
+      omega (
+        arith,
+        one_window (month - month_of asked.item.now.begin) judged.class.plan (omega (arith, after)) (eqb-true
+            ((month - month_of asked.item.now.begin) % judged.class.plan) 0 whole),
+      )
 
   -- the monthly duty, by what is judged
   pub monthly_by : (judged : Judged) (month first due : ℕ) (quarterly : Bool) → first ≡ first_day month → due ≡ last_day month → quarterly
@@ -49,7 +51,7 @@ module _ (asked : Asked) where
       ≡ is_quarterly asked.startup asked.events.now month →
       IsOf judged (min due asked.day) →
       causes.quarterly asked month ≡ causes.duty asked 3 first due (causes.is_quarter_month_judged asked judged month quarterly)
-          (law.routine_in asked.events.now first due)
+      (law.routine_in asked.events.now first due)
   unfolding law.quarterly
   quarterly_by judged month first due quarterly from to same is = rw (is.serves, is.regime, is.class, same, from, to) refl
 

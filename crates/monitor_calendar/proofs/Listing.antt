@@ -1,11 +1,10 @@
 -- What was due more than 366 days before the day of the list is not on it.
-use Rattle.std.proofs.Common.{◌≡◌, ℕ, ◌+◌, ◌-◌, ◌*◌, ◌/◌, ◌<◌, ◌≤◌, Bool, true, false, ◌&&◌, ◌||◌, nat_le, Option, Some, None, is_none, option_map, List, refl, cond, arith}
+use Rattle.std.proofs.Common.{◌≡◌, ℕ, ◌+◌, ◌*◌, ◌<◌, ◌≤◌, Bool, false, ◌&&◌, ◌||◌, nat_le, Option, None, is_none, List, arith}
 use Rattle.std.proofs.lemmas.Bool.{lt-leb, cond-false, and_left, and_right, or_from}
-use Rattle.ldar_days.specs.Calendar.{first_day, last_day, month_length, week_last, end_by}
+use Rattle.ldar_days.specs.Calendar.{first_day, last_day, week_last, end_by}
 use Rattle.ldar_days.proofs.Months.{first_day-lt, month_length_bounds}
 use Rattle.ldar_facts.specs.declared.class.Class.{Class}
 use Rattle.ldar_facts.specs.declared.key.Key.{Key}
-use Rattle.ldar_law.specs.declared.duty.Duty.{Duty}
 use Rattle.ldar_law.specs.declared.equipment.Equipment.{Equipment}
 use Rattle.ldar_law.specs.declared.event.Event.{Event}
 use Rattle.ldar_law.specs.Duties.{duty, monthly, quarterly, yearly, planned, weekly, drip, release, evidence}
@@ -24,7 +23,7 @@ module _ (item : Equipment) (classes : List (Key × Class)) (startup : ℕ) (eve
       duty item classes startup events skipped t cause first due owed met ≡ None
   unlisted cause first due owed met gone =
       cond-false _ _ _ (fails (nat_le first t) (nat_le t due) (is_none met) (nat_le t (due + 366)) owed (lt-leb t due (omega (arith, gone))) (lt-leb t
-          (due + 366) gone))
+      (due + 366) gone))
 
   -- one that is not owed
   pub unowed : (cause first due : ℕ) (owed : Bool) (met : Option Event) → owed ≡ false →

@@ -14,9 +14,8 @@ use Rattle.ldar_law.specs.declared.duty.Duty.{Duty}
 use Rattle.ldar_law.specs.declared.equipment.Equipment.{Equipment}
 use Rattle.ldar_law.specs.declared.event.Event.{Event}
 use Rattle.ldar_law.specs.Duties as law
-use Rattle.ldar_law.specs.Equipment.{elections_of}
-use Rattle.ldar_law.specs.Units.{Known, components_of, due_list, duties_of_unit, duties_by}
-use Rattle.monitor_calendar.specs.DutiesOfUnit.{own_skipped, part_of, PartStandsInList, PartIsOwn}
+use Rattle.ldar_law.specs.Units.{Known, due_list}
+use Rattle.monitor_calendar.specs.DutiesOfUnit.{own_skipped, PartStandsInList, PartIsOwn}
 
 -- ---- all duties of a component are its own
 
@@ -118,18 +117,18 @@ module _ (item : Equipment) (classes : List (Key × Class)) (startup : ℕ) (eve
       let release = each_where (law.release item classes startup events skipped t) events in
       let evidence = each_where (law.evidence item classes startup events skipped t) events in
       all_append (Own number) (option_to_list (law.first_monitoring item classes startup events skipped t)) (monthly ++ (quarterly ++ (yearly ++
-          (planned ++ (weekly ++ (drip ++ (release ++ evidence))))))) (alone_own number
-              (law.first_monitoring item classes startup events skipped t) first_own)
+      (planned ++ (weekly ++ (drip ++ (release ++ evidence))))))) (alone_own number
+      (law.first_monitoring item classes startup events skipped t) first_own)
       (all_append (Own number) monthly (quarterly ++ (yearly ++ (planned ++ (weekly ++ (drip ++ (release ++ evidence)))))) (numbers_own number
-          (law.monthly item classes startup events skipped t) monthly_own (law.months_after item classes startup events skipped t))
+      (law.monthly item classes startup events skipped t) monthly_own (law.months_after item classes startup events skipped t))
       (all_append (Own number) quarterly (yearly ++ (planned ++ (weekly ++ (drip ++ (release ++ evidence))))) (numbers_own number
-          (law.quarterly item classes startup events skipped t) quarterly_own (law.months_after item classes startup events skipped t))
+      (law.quarterly item classes startup events skipped t) quarterly_own (law.months_after item classes startup events skipped t))
       (all_append (Own number) yearly (planned ++ (weekly ++ (drip ++ (release ++ evidence)))) (numbers_own number
-          (law.yearly item classes startup events skipped t) yearly_own (law.years_after item classes startup events skipped t))
+      (law.yearly item classes startup events skipped t) yearly_own (law.years_after item classes startup events skipped t))
       (all_append (Own number) planned (weekly ++ (drip ++ (release ++ evidence))) (numbers_own number
-          (law.planned item classes startup events skipped t) planned_own (law.window_ends item classes startup events skipped t))
+      (law.planned item classes startup events skipped t) planned_own (law.window_ends item classes startup events skipped t))
       (all_append (Own number) weekly (drip ++ (release ++ evidence)) (numbers_own number
-          (law.weekly item classes startup events skipped t) weekly_own (law.weeks_after item classes startup events skipped t))
+      (law.weekly item classes startup events skipped t) weekly_own (law.weeks_after item classes startup events skipped t))
       (all_append (Own number) drip (release ++ evidence) (events_own number (law.drip item classes startup events skipped t) drip_own [] events)
       (all_append (Own number) release evidence (events_own number (law.release item classes startup events skipped t) release_own [] events)
       (events_own number (law.evidence item classes startup events skipped t) evidence_own [] events))))))))

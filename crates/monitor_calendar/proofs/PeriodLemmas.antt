@@ -1,12 +1,11 @@
 -- The events of a period, as halving finds them.
-use Rattle.std.proofs.Common.{◌≡◌, ℕ, zero, suc, ◌<◌, ◌≤◌, Bool, true, false, not, ◌&&◌, cond, nat_le, nat_lt, ◌-◌, Option, Some, None, option_map, List, [], ◌∷◌, length, take, drop, get_or, filter, find, refl, sym, ap, ◌∙◌, inl, inr, arith}
+use Rattle.std.proofs.Common.{◌≡◌, ℕ, zero, suc, ◌≤◌, Bool, true, false, not, ◌&&◌, cond, nat_le, nat_lt, ◌-◌, Option, Some, None, option_map, List, [], ◌∷◌, length, take, drop, filter, find, refl, ap, ◌∙◌, inl, inr, arith}
 use Rattle.std.specs.List.Sorted.{IsPartitionPoint}
 use Rattle.std.proofs.lemmas.Bool.{cases_Bool}
 use Rattle.std.proofs.lemmas.Bool.Decides.{nat_tests}
 use Rattle.std.proofs.lemmas.List.Elements.{filter_agree}
 use Rattle.std.proofs.lemmas.List.{take_all, length-drop}
 use Rattle.ldar_law.specs.declared.event.Event.{Event}
-use Rattle.ldar_law.specs.Happenings.{is_from_to}
 
 -- in front of a point stands what passes, and behind it what fails
 pub sides_of_point : {X : Type 0} (p : X → Bool) (xs : List X) (n : ℕ) → IsPartitionPoint (λ y. p y ≡ true) (λ y. p y ≡ false) xs n → n ≤ length xs →

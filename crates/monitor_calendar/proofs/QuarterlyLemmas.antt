@@ -1,14 +1,14 @@
 -- What the events of the months before a month tell decides whether it is a quarterly one.
-use Rattle.std.proofs.Common.{◌≡◌, ℕ, ◌+◌, ◌-◌, ◌*◌, ◌/◌, ◌<◌, ◌≤◌, Bool, true, false, not, ◌&&◌, ◌||◌, nat_eq, nat_lt, nat_le, Option, Some, None, IfSome, List, [], ◌∷◌, ◌++◌, take, drop, refl, sym, ap, ◌∙◌, subst, inl, inr, arith}
-use Rattle.std.specs.List.{AllByRecursion, list_any}
-use Rattle.std.proofs.lemmas.Bool.{cases_Bool, cases_lt, false≢true, not-true, and_parts, and_from, and_left, and_right, or_cases, or_from, or_left, leb-true, le-leb, lt-leb, ltb-true, lt-ltb, eqb-true, ne_eqb, not_from_false}
+use Rattle.std.proofs.Common.{◌≡◌, ℕ, ◌+◌, ◌-◌, ◌<◌, ◌≤◌, Bool, true, false, not, ◌&&◌, ◌||◌, nat_lt, nat_le, Option, Some, None, IfSome, List, [], ◌∷◌, ◌++◌, take, drop, refl, sym, ap, ◌∙◌, inl, inr, arith}
+use Rattle.std.specs.List.{AllByRecursion}
+use Rattle.std.proofs.lemmas.Bool.{cases_lt, false≢true, not-true, and_parts, and_from, and_right, or_cases, or_from, or_left, leb-true, le-leb, lt-leb, ltb-true, lt-ltb, eqb-true, ne_eqb, not_from_false}
 use Rattle.std.proofs.lemmas.List.{take-append-drop}
 use Rattle.std.proofs.lemmas.List.Folds.{list_any-append}
 use Rattle.ldar_days.specs.Calendar.{month_of}
 use Rattle.ldar_days.specs.Quarters.{first_quarter}
 use Rattle.ldar_law.specs.declared.event.Event.{Event}
 use Rattle.ldar_law.specs.Happenings.{is_leak, is_routine_below, is_in_month}
-use Rattle.ldar_law.specs.Months.{has_leak_in, is_clean, is_clean_twice, begins_quarterly, is_quarterly, quarter_start}
+use Rattle.ldar_law.specs.Months.{has_leak_in, is_clean, is_clean_twice, is_quarterly, quarter_start}
 use Rattle.ldar_law.proofs.MonthLemmas.{quarterly_decides}
 use Rattle.ldar_law.proofs.TestLemmas.{list_any_implied, passing}
 use Rattle.monitor_calendar.specs.Behind.{Tells, IsBy, leaks_from, reads_in, lets_after, lets_be_quarterly}
@@ -57,7 +57,7 @@ module _ (startup month : ℕ) (past : PastMonths) (last : ℕ) (front rest : Li
   none_leaks (e ∷ es) low high all lt =
       or_from (is_leak e.what && nat_le low (month_of e.key.day) && nat_le (month_of e.key.day) high) (has_leak_in es low high)
       (and_right (is_leak e.what && nat_le low (month_of e.key.day)) (nat_le (month_of e.key.day) high) (lt-leb (month_of e.key.day) high (omega
-          (arith, all.0, lt))))
+      (arith, all.0, lt))))
       (none_leaks es low high all.1 lt)
 
   -- what is read in an earlier month
@@ -119,7 +119,7 @@ module _ (startup month : ℕ) (past : PastMonths) (last : ℕ) (front rest : Li
   unfolding is_clean
   clean_after k lt within read =
       and_from (reads_in (front ++ rest) k) (not (has_leak_in (front ++ rest) k k)) (read_after k read) (not_from_false (has_leak_in
-          (front ++ rest) k k) (no_leak k k lt within))
+      (front ++ rest) k k) (no_leak k k lt within))
 
   -- a clean month is read below
   clean_reads : (k : ℕ) → is_clean (front ++ rest) k ≡ true → reads_in (front ++ rest) k ≡ true
@@ -142,7 +142,7 @@ module _ (startup month : ℕ) (past : PastMonths) (last : ℕ) (front rest : Li
       let there = (quarterly_decides startup (front ++ rest) month).0 is in
       let k = there.1.0 in
       let parts = and_parts (nat_lt (k + 1) (quarter_start startup month) && is_clean_twice (front ++ rest) k) (not (has_leak_in (front ++ rest) k
-          (month - 1))) there.1.1 in
+      (month - 1))) there.1.1 in
       let begun = and_parts (nat_lt (k + 1) (quarter_start startup month)) (is_clean_twice (front ++ rest) k) parts.0 in
       let clean = and_parts (is_clean (front ++ rest) k) (is_clean (front ++ rest) (k + 1)) begun.1 in
       let lt : k + 1 < quarter_start startup month = ltb-true (k + 1) (quarter_start startup month) begun.0 in
@@ -172,7 +172,7 @@ module _ (startup month : ℕ) (past : PastMonths) (last : ℕ) (front rest : Li
           p,
           and_from (nat_lt (p + 1) (quarter_start startup month) && is_clean_twice (front ++ rest) p) (not (has_leak_in (front ++ rest) p (month - 1)))
               (and_from (nat_lt (p + 1) (quarter_start startup month)) (is_clean_twice (front ++ rest) p) (lt-ltb (p + 1)
-                  (quarter_start startup month) (omega (arith, lt))) clean)
+              (quarter_start startup month) (omega (arith, lt))) clean)
               (not_from_false (has_leak_in (front ++ rest) p (month - 1)) (no_leak p (month - 1) after (omega (arith, lt, by)))),
         ),
       )

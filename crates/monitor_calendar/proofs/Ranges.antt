@@ -1,5 +1,5 @@
 -- Numbers that give nothing are passed over.
-use Rattle.std.proofs.Common.{◌≡◌, ℕ, zero, suc, ◌+◌, ◌-◌, ◌<◌, ◌≤◌, Option, None, List, [], ◌++◌, refl, sym, ap, ◌∙◌, subst, inl, inr, arith}
+use Rattle.std.proofs.Common.{◌≡◌, ℕ, zero, suc, ◌+◌, ◌-◌, ◌<◌, ◌≤◌, Option, None, refl, sym, subst, inl, inr, arith}
 use Rattle.std.specs.List.{filter_map}
 use Rattle.std.proofs.lemmas.Bool.{cases_lt}
 use Rattle.list_words.specs.Ranges.{until}
@@ -24,4 +24,4 @@ pub from_later : {B : Type 0} (f : ℕ → Option B) (low cut end : ℕ) → low
 from_later f low cut end le none =
     let at : low + (cut - low) ≡ cut = omega arith in
     sym (subst (λ from. filter_map f (until low end) ≡ filter_map f (until from end)) at (passed_over f low end (cut - low) (λ n from to. none n from
-        (omega (arith, to)))))
+    (omega (arith, to)))))

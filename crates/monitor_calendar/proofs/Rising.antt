@@ -1,12 +1,11 @@
 -- Events in key order stand by their days, and so by their months.
-use Rattle.std.proofs.Common.{◌≡◌, ℕ, zero, suc, ◌+◌, ◌<◌, ◌≤◌, true, nat_le, List, [], ◌∷◌, length, drop, get_or, arith}
+use Rattle.std.proofs.Common.{◌≡◌, ℕ, zero, suc, ◌+◌, ◌<◌, ◌≤◌, true, List, [], ◌∷◌, length, drop, get_or, arith}
 use Rattle.std.specs.List.{AllByRecursion}
 use Rattle.std.specs.List.Sorted.{IsNonDecreasingBy}
-use Rattle.std.proofs.lemmas.Bool.{cases_lt, leb-true, le-leb}
 use Rattle.std.proofs.lemmas.Bool.Decides.{nat_tests}
 use Rattle.list_words.specs.Order.{Ascends}
 use Rattle.list_words.proofs.Members.{all_weaker}
-use Rattle.ldar_days.specs.Calendar.{near, first_day, month_of}
+use Rattle.ldar_days.specs.Calendar.{month_of}
 use Rattle.ldar_facts.specs.Facts.{is_earlier}
 use Rattle.ldar_facts.proofs.Cuts.{earlier_day}
 use Rattle.ldar_law.specs.declared.event.Event.{Event}

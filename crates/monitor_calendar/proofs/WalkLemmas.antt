@@ -1,5 +1,5 @@
 -- A walk over events, one event on, and where it stops.
-use Rattle.std.proofs.Common.{◌≡◌, ℕ, zero, ◌+◌, ◌<◌, ◌≤◌, List, [], ◌∷◌, ◌++◌, length, take, drop, get_or, refl, sym, ap, ◌∙◌, subst, arith}
+use Rattle.std.proofs.Common.{◌≡◌, ℕ, ◌+◌, ◌<◌, ◌≤◌, List, [], ◌∷◌, ◌++◌, length, take, drop, get_or, sym, ap, ◌∙◌, subst, arith}
 use Rattle.std.specs.List.{AllByRecursion}
 use Rattle.std.proofs.lemmas.List.{drop_more, take_more, drop_all}
 use Rattle.list_words.specs.Order.{Ascends}
@@ -73,9 +73,11 @@ module _ (events : List Event) (place month : ℕ) (e : Event) (up : Ascends (λ
   at_event past on le = record {
     on = on;
     rest =
-        subst (AllByRecursion (λ x. month ≤ month_of x.key.day)) (sym split)
-        (le, all_weaker (λ x. month_of e.key.day ≤ month_of x.key.day) (λ x. month ≤ month_of x.key.day) (λ x h. omega (arith, h, le)) (drop
-            (place + 1) events) later);
+        subst (AllByRecursion (λ x. month ≤ month_of x.key.day)) (sym split) (
+          le,
+          all_weaker (λ x. month_of e.key.day ≤ month_of x.key.day) (λ x. month ≤ month_of x.key.day) (λ x h. omega (arith, h, le)) (drop
+              (place + 1) events) later,
+        );
   }
 
 -- .. or there is none

@@ -1,5 +1,5 @@
 -- That a list is in order is one fact.
-use Rattle.std.specs.Prelude.{Bool, true, List, [], ◌∷◌, ⊤}
+use Rattle.std.specs.Prelude.{Bool, List, [], ◌∷◌}
 use Rattle.std.specs.Coded.{×_prop, Unit-prop}
 use Rattle.std.specs.List.{AllByRecursion-prop}
 use Rattle.list_words.specs.Order.{Ascends}

@@ -1,4 +1,4 @@
-use Rattle.std.proofs.Common.{◌&&◌, find, ap, ◌∙◌}
+use Rattle.std.proofs.Common.{find, ap, ◌∙◌}
 use Rattle.ldar_law.specs.declared.event.Event.{Event}
 use Rattle.ldar_law.specs.Happenings.{is_look, is_from_to}
 use Rattle.monitor_calendar.proofs.PeriodLemmas.{find_among, same_mapped}

@@ -1,4 +1,4 @@
-use Rattle.std.proofs.Common.{◌≡◌, ◌+◌, ◌<◌, ◌≢◌, length, arith, ◌∙◌, get_or-set_other, get_or-set_same, below_more}
+use Rattle.std.proofs.Common.{◌+◌, ◌<◌, ◌≢◌, length, arith, ◌∙◌, get_or-set_other, get_or-set_same, below_more}
 use Rattle.std.proofs.Common.{length-set}
 use Rattle.monitor_calendar.proofs.QuarterlyLemmas.{quarterly_at}
 use Rattle.monitor_calendar.proofs.quarterly_months.quarterly_months.Goals as goal

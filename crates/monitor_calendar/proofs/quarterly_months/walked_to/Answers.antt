@@ -1,5 +1,4 @@
-use Rattle.std.proofs.Common.{◌≡◌, ◌<◌, ◌≤◌, length, get_or, sym, subst, arith}
-use Rattle.ldar_days.specs.Calendar.{month_of}
+use Rattle.std.proofs.Common.{◌≡◌, length, sym, subst, arith}
 use Rattle.monitor_calendar.specs.Walks.{IsAt}
 use Rattle.monitor_calendar.proofs.WalkLemmas.{on_from, on_next, at_event, at_end}
 use Rattle.monitor_calendar.proofs.quarterly_months.walked_to.Goals as goal
@@ -28,5 +27,7 @@ pub returns : goal.returns
 returns c =
     let l = c.loop-place in
     let end : l.place ≡ length c.args.events.now = omega (arith, l.invariant.within) in
-    record { value = subst (λ n. IsAt l.past c.args.events.now n c.args.month) end
-        (at_end l.past c.args.events.now l.place c.args.month c.loop-place-test.false l.invariant) }
+    record {
+      value = subst (λ n. IsAt l.past c.args.events.now n c.args.month) end
+          (at_end l.past c.args.events.now l.place c.args.month c.loop-place-test.false l.invariant);
+    }

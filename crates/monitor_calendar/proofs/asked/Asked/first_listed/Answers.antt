@@ -1,5 +1,4 @@
-use Rattle.std.proofs.Common.{◌≡◌, ◌+◌, nat_lt, true, false, rules, arith}
-use Rattle.std.specs.List.Sorted.{IsPartitionPoint}
+use Rattle.std.proofs.Common.{◌+◌, nat_lt, rules, arith}
 use Rattle.std.proofs.lemmas.List.Sorted.{IsPartitionPoint-from_clause, IsPartitionedBy-ltb}
 use Rattle.ldar_law.specs.declared.event.Event.{Event}
 use Rattle.monitor_calendar.proofs.Rising.{days_rise}
@@ -11,4 +10,4 @@ returns-clause-value c =
     let day = c.args.self.now.day in
     IsPartitionPoint-from_clause (λ (e : Event). nat_lt (e.key.day + 5 + 366) day) events c.partition_point.result c.partition_point.ensures.partitioned
     (IsPartitionedBy-ltb (λ (e : Event). e.key.day + 5 + 366) events day (λ i j d le within. omega
-        (arith, days_rise events c.args.self.now.events_ordered i j d le within))) (search rules)
+    (arith, days_rise events c.args.self.now.events_ordered i j d le within))) (search rules)

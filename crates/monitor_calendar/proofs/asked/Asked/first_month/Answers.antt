@@ -14,7 +14,7 @@ returns-then-begin-earliest c =
     record {
       value = subst (IsFirstListed asked) (sym at)
           (listed_from_cut asked cut c.earliest.ensures.value c.earliest.ensures.in_range (month_of-month cut c.earliest.ensures.in_range) (omega
-              (arith, at, begin)));
+          (arith, at, begin)));
     }
 
 pub returns-else-begin-earliest : goal.returns-else-begin-earliest
@@ -26,5 +26,5 @@ returns-else-begin-earliest c =
     record {
       value = subst (λ m. IsFirstListed asked (m + 1)) (sym begin)
           (listed_from_begin asked cut c.earliest.ensures.value c.earliest.ensures.in_range (subst IsMonth begin c.number-begin.ensures.in_range)
-              (omega (arith, at, begin)));
+          (omega (arith, at, begin)));
     }

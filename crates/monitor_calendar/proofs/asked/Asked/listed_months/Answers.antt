@@ -1,4 +1,4 @@
-use Rattle.std.proofs.Common.{◌≡◌, ◌+◌, arith}
+use Rattle.std.proofs.Common.{◌≡◌, arith}
 use Rattle.ldar_days.specs.Calendar.{month_of}
 use Rattle.monitor_calendar.proofs.asked.Asked.listed_months.Goals as goal
 

@@ -1,6 +1,5 @@
-use Rattle.std.proofs.Common.{◌≡◌, ◌+◌, ◌-◌, ◌<◌, ◌≤◌, true, false, rules, min, sym, ap, subst, ◌∙◌, arith}
-use Rattle.ldar_days.specs.Calendar.{first_day, last_day, month_of, end_by}
-use Rattle.ldar_days.proofs.Months.{first_day-lt, month_length_bounds}
+use Rattle.std.proofs.Common.{◌≡◌, ◌+◌, ◌-◌, ◌<◌, true, rules, min, sym, ap, subst, ◌∙◌, arith}
+use Rattle.ldar_days.specs.Calendar.{first_day}
 use Rattle.ldar_law.specs.Duties.{routine_in}
 use Rattle.monitor_calendar.specs.Causes as causes
 use Rattle.monitor_calendar.proofs.Judging.{IsOf, planned_by, plan_fits}
@@ -73,7 +72,7 @@ returns c =
     let form : causes.planned asked month ≡ causes.duty asked 5 first due owed met = planned_by asked judged month due c.last_day_by-due.ensures.value is in
     let plan : c.from.result ≡ judged.class.plan = search rules in
     let from : c.first_day-first.result ≡ first = c.first_day-first.ensures.value ∙ ap first_day c.at.ensures.value
-        ∙ ap (λ p. first_day (month + 1 - p)) plan in
+    ∙ ap (λ p. first_day (month + 1 - p)) plan in
     record {
       value = c.duty.ensures.value
           ∙ ap (λ m. causes.duty asked 5 c.first_day-first.result due true m) c.routine_in-met.ensures.value

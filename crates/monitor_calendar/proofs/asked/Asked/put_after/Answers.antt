@@ -1,5 +1,4 @@
-use Rattle.std.proofs.Common.{◌≡◌, ◌+◌, ◌++◌, List, [], ◌∷◌, subst, length, take, drop, get_or, sym, ap, ◌∙◌, arith}
-use Rattle.std.specs.Option.{option_to_list}
+use Rattle.std.proofs.Common.{◌+◌, ◌++◌, List, [], ◌∷◌, subst, take, drop, sym, ap, ◌∙◌, arith}
 use Rattle.list_words.specs.Words.{each_from}
 use Rattle.list_words.proofs.WordLemmas.{each_done}
 use Rattle.monitor_calendar.specs.Following.{after_event, after_by}
@@ -32,7 +31,7 @@ loop-place-preserved c =
           ∙ l.invariant.done;
       tells = tells_on asked c.args.after l.past c.with-past.result events l.place e c.loop-place-test.true (sym c.index-self-place.is) l.invariant.tells
           (subst (λ x. (front : List Event) → TellsOfDrips l.past front → TellsOfDrips c.with-past.result (front ++ x ∷ []))
-              (sym c.index-self-place.is) c.with-past.ensures.value);
+          (sym c.index-self-place.is) c.with-past.ensures.value);
       next = c.next_after-next.ensures.value;
     }
 
@@ -40,5 +39,7 @@ pub returns : goal.returns
 returns c =
     let l = c.loop-place in
     let asked = c.args.self.now in
-    record { put = each_done (after_event asked c.args.after) l.duties.items _ (take l.place asked.events.now) asked.events.now l.place (omega
-        (arith, c.loop-place-test.false)) l.invariant.done }
+    record {
+      put = each_done (after_event asked c.args.after) l.duties.items _ (take l.place asked.events.now) asked.events.now l.place (omega
+          (arith, c.loop-place-test.false)) l.invariant.done;
+    }

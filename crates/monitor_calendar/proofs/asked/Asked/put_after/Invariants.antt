@@ -1,4 +1,4 @@
-use Rattle.std.proofs.Common.{◌≡◌, ◌≤◌, ◌++◌, length, take, drop}
+use Rattle.std.proofs.Common.{◌≡◌, ◌++◌, take, drop}
 use Rattle.list_words.specs.Words.{each_from, each_where}
 use Rattle.monitor_calendar.specs.Following as following
 use Rattle.monitor_calendar.proofs.asked.Asked.put_after.Given as goal

@@ -1,9 +1,9 @@
-use Rattle.std.proofs.Common.{◌≡◌, ◌+◌, ◌-◌, ◌/◌, ◌++◌, List, sym, ap, ◌∙◌, arith}
+use Rattle.std.proofs.Common.{◌≡◌, ◌+◌, ◌++◌, ap, ◌∙◌, arith}
 use Rattle.std.specs.List.{filter_map}
 use Rattle.std.specs.Option.{option_to_list}
 use Rattle.list_words.specs.Ranges.{until}
 use Rattle.list_words.proofs.RangeLemmas.{filter_map_until, filter_map_done}
-use Rattle.ldar_days.specs.Calendar.{month_of, week_of}
+use Rattle.ldar_days.specs.Calendar.{month_of}
 use Rattle.monitor_calendar.specs.Causes as causes
 use Rattle.monitor_calendar.proofs.asked.Asked.put_monthly.Goals as goal
 
@@ -19,7 +19,7 @@ loop-number-preserved c =
     let l = c.loop-number in
     let f = causes.monthly c.args.self.now in
     ap (λ ds. ds ++ filter_map f (until (l.number + 1) c.args.months.now.end)) (c.in_ok-put.ensures.put
-        ∙ ap (λ o. l.duties.items ++ option_to_list o) (c.monthly.ensures.value ∙ ap (causes.monthly c.args.self.now) c.at.ensures.value))
+    ∙ ap (λ o. l.duties.items ++ option_to_list o) (c.monthly.ensures.value ∙ ap (causes.monthly c.args.self.now) c.at.ensures.value))
     ∙ filter_map_until f l.duties.items l.number c.args.months.now.end c.loop-number-test.true ∙ l.invariant
 
 pub returns : goal.returns

@@ -1,9 +1,9 @@
-use Rattle.std.proofs.Common.{◌≡◌, ◌+◌, ◌-◌, ◌/◌, ◌++◌, List, sym, ap, ◌∙◌, arith}
+use Rattle.std.proofs.Common.{◌≡◌, ◌+◌, ◌++◌, ap, ◌∙◌, arith}
 use Rattle.std.specs.List.{filter_map}
 use Rattle.std.specs.Option.{option_to_list}
 use Rattle.list_words.specs.Ranges.{until}
 use Rattle.list_words.proofs.RangeLemmas.{filter_map_until, filter_map_done}
-use Rattle.ldar_days.specs.Calendar.{month_of, week_of}
+use Rattle.ldar_days.specs.Calendar.{week_of}
 use Rattle.monitor_calendar.specs.Causes as causes
 use Rattle.monitor_calendar.proofs.asked.Asked.put_weekly.Goals as goal
 
@@ -19,7 +19,7 @@ loop-week-preserved c =
     let l = c.loop-week in
     let f = causes.weekly c.args.self.now in
     ap (λ ds. ds ++ filter_map f (until (l.week + 1) (c.week_of-end.result + 1))) (c.in_ok-put.ensures.put
-        ∙ ap (λ o. l.duties.items ++ option_to_list o) (c.weekly.ensures.value))
+    ∙ ap (λ o. l.duties.items ++ option_to_list o) (c.weekly.ensures.value))
     ∙ filter_map_until f l.duties.items l.week (c.week_of-end.result + 1) c.loop-week-test.true ∙ l.invariant
 
 pub returns : goal.returns

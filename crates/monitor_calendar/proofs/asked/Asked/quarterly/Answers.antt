@@ -1,6 +1,6 @@
-use Rattle.std.proofs.Common.{◌≡◌, ◌+◌, ◌*◌, true, false, min, sym, ap, subst, ◌∙◌, arith}
-use Rattle.ldar_days.specs.Calendar.{first_day, last_day, week_first, week_last}
-use Rattle.ldar_law.specs.Duties.{routine_in, look_in}
+use Rattle.std.proofs.Common.{◌≡◌, true, min, sym, ap, subst, ◌∙◌}
+use Rattle.ldar_days.specs.Calendar.{first_day, last_day}
+use Rattle.ldar_law.specs.Duties.{routine_in}
 use Rattle.monitor_calendar.specs.Causes as causes
 use Rattle.monitor_calendar.proofs.Judging.{IsOf, quarterly_by}
 use Rattle.monitor_calendar.proofs.Listing.{unowed}
@@ -18,7 +18,7 @@ returns-then-not-is_quarter_month c =
     let owed = causes.is_quarter_month_judged asked judged c.args.month c.args.is_quarterly in
     let met = routine_in asked.events.now c.first_day-first.result c.last_day-due.result in
     let form : causes.quarterly asked c.args.month
-        ≡ causes.duty asked 3 c.first_day-first.result c.last_day-due.result owed met = quarterly_by asked judged c.args.month c.first_day-first.result c.last_day-due.result c.args.is_quarterly from to c.requires.quarterly is in
+    ≡ causes.duty asked 3 c.first_day-first.result c.last_day-due.result owed met = quarterly_by asked judged c.args.month c.first_day-first.result c.last_day-due.result c.args.is_quarterly from to c.requires.quarterly is in
     record {
       value = sym (form ∙ unowed asked.item.now asked.classes.now asked.startup asked.events.now asked.skipped.now asked.day 3 c.first_day-first.result c.last_day-due.result owed met
           (sym c.is_quarter_month.ensures.value ∙ c.if-not-is_quarter_month.true));
@@ -36,11 +36,11 @@ returns c =
     let owed = causes.is_quarter_month_judged asked judged c.args.month c.args.is_quarterly in
     let met = routine_in asked.events.now c.first_day-first.result c.last_day-due.result in
     let form : causes.quarterly asked c.args.month
-        ≡ causes.duty asked 3 c.first_day-first.result c.last_day-due.result owed met = quarterly_by asked judged c.args.month c.first_day-first.result c.last_day-due.result c.args.is_quarterly from to c.requires.quarterly is in
+    ≡ causes.duty asked 3 c.first_day-first.result c.last_day-due.result owed met = quarterly_by asked judged c.args.month c.first_day-first.result c.last_day-due.result c.args.is_quarterly from to c.requires.quarterly is in
     record {
       value = c.duty.ensures.value
           ∙ ap (λ m. causes.duty asked 3 c.first_day-first.result c.last_day-due.result true m) c.routine_in-met.ensures.value
           ∙ ap (λ o. causes.duty asked 3 c.first_day-first.result c.last_day-due.result o met) (sym c.if-not-is_quarter_month.false
-              ∙ c.is_quarter_month.ensures.value)
+          ∙ c.is_quarter_month.ensures.value)
           ∙ sym form;
     }

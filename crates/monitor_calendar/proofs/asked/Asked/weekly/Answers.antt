@@ -1,6 +1,6 @@
-use Rattle.std.proofs.Common.{◌≡◌, ◌+◌, ◌*◌, true, false, min, sym, ap, subst, ◌∙◌, arith}
-use Rattle.ldar_days.specs.Calendar.{first_day, last_day, week_first, week_last}
-use Rattle.ldar_law.specs.Duties.{routine_in, look_in}
+use Rattle.std.proofs.Common.{◌≡◌, true, min, sym, ap, subst, ◌∙◌, arith}
+use Rattle.ldar_days.specs.Calendar.{week_first, week_last}
+use Rattle.ldar_law.specs.Duties.{look_in}
 use Rattle.monitor_calendar.specs.Causes as causes
 use Rattle.monitor_calendar.proofs.Judging.{IsOf, weekly_by}
 use Rattle.monitor_calendar.proofs.Listing.{unowed}
@@ -18,7 +18,7 @@ returns-then-not-is_plain_pump c =
     let owed = causes.is_plain_pump judged in
     let met = look_in asked.events.now c.at-first.result c.plus_days-due.result in
     let form : causes.weekly asked c.args.week
-        ≡ causes.duty asked 6 c.at-first.result c.plus_days-due.result owed met = weekly_by asked judged c.args.week c.at-first.result c.plus_days-due.result from to is in
+    ≡ causes.duty asked 6 c.at-first.result c.plus_days-due.result owed met = weekly_by asked judged c.args.week c.at-first.result c.plus_days-due.result from to is in
     record {
       value = sym (form ∙ unowed asked.item.now asked.classes.now asked.startup asked.events.now asked.skipped.now asked.day 6 c.at-first.result c.plus_days-due.result owed met
           (sym c.is_plain_pump.ensures.value ∙ c.if-not-is_plain_pump.true));
@@ -36,7 +36,7 @@ returns c =
     let owed = causes.is_plain_pump judged in
     let met = look_in asked.events.now c.at-first.result c.plus_days-due.result in
     let form : causes.weekly asked c.args.week
-        ≡ causes.duty asked 6 c.at-first.result c.plus_days-due.result owed met = weekly_by asked judged c.args.week c.at-first.result c.plus_days-due.result from to is in
+    ≡ causes.duty asked 6 c.at-first.result c.plus_days-due.result owed met = weekly_by asked judged c.args.week c.at-first.result c.plus_days-due.result from to is in
     record {
       value = c.duty.ensures.value
           ∙ ap (λ m. causes.duty asked 6 c.at-first.result c.plus_days-due.result true m) c.look_in-met.ensures.value

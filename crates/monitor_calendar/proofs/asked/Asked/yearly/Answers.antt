@@ -1,6 +1,5 @@
-use Rattle.std.proofs.Common.{◌≡◌, ◌+◌, ◌*◌, true, false, min, sym, ap, subst, ◌∙◌, arith}
-use Rattle.ldar_days.specs.Calendar.{first_day, last_day, week_first, week_last}
-use Rattle.ldar_law.specs.Duties.{routine_in, look_in}
+use Rattle.std.proofs.Common.{◌≡◌, ◌+◌, ◌*◌, true, min, sym, ap, subst, ◌∙◌}
+use Rattle.ldar_days.specs.Calendar.{first_day, last_day}
 use Rattle.monitor_calendar.specs.Causes as causes
 use Rattle.monitor_calendar.proofs.Judging.{IsOf, yearly_by}
 use Rattle.monitor_calendar.proofs.Listing.{unowed}
@@ -18,7 +17,7 @@ returns-then-not-is_yearly c =
     let owed = causes.is_yearly_judged judged in
     let met = causes.yearly_reading_judged asked judged c.first_day-first.result c.last_day-due.result in
     let form : causes.yearly asked c.args.year
-        ≡ causes.duty asked 4 c.first_day-first.result c.last_day-due.result owed met = yearly_by asked judged c.args.year c.first_day-first.result c.last_day-due.result from to is in
+    ≡ causes.duty asked 4 c.first_day-first.result c.last_day-due.result owed met = yearly_by asked judged c.args.year c.first_day-first.result c.last_day-due.result from to is in
     record {
       value = sym (form ∙ unowed asked.item.now asked.classes.now asked.startup asked.events.now asked.skipped.now asked.day 4 c.first_day-first.result c.last_day-due.result owed met
           (sym c.is_yearly.ensures.value ∙ c.if-not-is_yearly.true));
@@ -36,7 +35,7 @@ returns c =
     let owed = causes.is_yearly_judged judged in
     let met = causes.yearly_reading_judged asked judged c.first_day-first.result c.last_day-due.result in
     let form : causes.yearly asked c.args.year
-        ≡ causes.duty asked 4 c.first_day-first.result c.last_day-due.result owed met = yearly_by asked judged c.args.year c.first_day-first.result c.last_day-due.result from to is in
+    ≡ causes.duty asked 4 c.first_day-first.result c.last_day-due.result owed met = yearly_by asked judged c.args.year c.first_day-first.result c.last_day-due.result from to is in
     record {
       value = c.duty.ensures.value
           ∙ ap (λ m. causes.duty asked 4 c.first_day-first.result c.last_day-due.result true m) c.yearly_reading-met.ensures.value

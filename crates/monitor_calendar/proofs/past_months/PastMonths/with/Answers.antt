@@ -1,7 +1,6 @@
-use Rattle.std.proofs.Common.{◌≡◌, ◌<◌, ◌≤◌, true, false, [], ◌∷◌, ◌++◌, None, not, sym, subst, ◌∙◌, inl, inr, arith}
+use Rattle.std.proofs.Common.{◌≡◌, ◌<◌, ◌≤◌, true, false, [], ◌∷◌, ◌++◌, None, sym, subst, inl, inr, arith}
 use Rattle.ldar_days.specs.Calendar.{month_of}
 use Rattle.ldar_law.specs.Happenings.{is_leak, is_routine_below}
-use Rattle.std.proofs.lemmas.Bool.{not-true, not-false}
 use Rattle.monitor_calendar.specs.Behind.{Tells, pair_with}
 use Rattle.monitor_calendar.proofs.PastLemmas.{told_leak, told_same, told_below}
 use Rattle.monitor_calendar.proofs.past_months.PastMonths.with.Goals as goal
@@ -14,7 +13,7 @@ returns-then-is_leak c =
     record {
       value = λ last front tells le.
           subst (λ m. Tells (record { leak = m; below = 0; pair = None }) (month_of e.key.day) (front ++ e ∷ [])) (sym at)
-              (told_leak c.args.self last front e tells le leaks);
+          (told_leak c.args.self last front e tells le leaks);
     }
 
 pub returns-then-month-self : goal.returns-then-month-self
@@ -42,7 +41,7 @@ returns c =
     record {
       value = λ last front tells le.
           subst (λ p. Tells (record { leak = c.args.self.leak; below = c.number-month.result; pair = p }) (month_of e.key.day) (front ++ e ∷ []))
-              (sym c.pair_with.ensures.value)
+          (sym c.pair_with.ensures.value)
           (subst (λ m. Tells (record { leak = c.args.self.leak; below = m; pair = pair_with c.args.self m }) (month_of e.key.day) (front ++ e ∷ [])) (sym at)
           (told_below c.args.self last front e tells le sound after read));
     }
