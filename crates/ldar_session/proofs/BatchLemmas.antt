@@ -10,11 +10,9 @@ use Rattle.ldar_facts.proofs.GrammarLaws.{spelling_length}
 use Rattle.ldar_law.specs.declared.request.Request.{Request}
 use Rattle.ldar_law.specs.declared.request.Request.TheVariants.{Sync}
 use Rattle.ldar_law.specs.Machine.{Call, Turn}
-use Rattle.ldar_law.specs.declared.reply.Reply.{Reply}
-use Rattle.ldar_law.specs.declared.reply.Reply.TheVariants.{Receipt, Conflict, Denied, Full, Shown, NoSuch, Fault, Memory}
-use Rattle.ldar_law.specs.Replies.{reply_text, HasRule as HasLine}
+use Rattle.ldar_law.specs.Replies.{reply_text}
 use Rattle.ldar_ports.specs.Sink.{Piece, Puts, IsStamped, bytes_of}
-use Rattle.office_book.specs.Asking.{requests_of, replies_of, HasRule}
+use Rattle.office_book.specs.Asking.{requests_of, replies_of}
 use Rattle.ldar_session.specs.Served.{Served, Stretch, items_of, turns_of}
 use Rattle.ldar_session.specs.Batches.{Asks, AsksEach, IsBatch, IsGroup, StandInFront, line_of}
 use Rattle.ldar_session.proofs.Stretches.{stretch_call}
@@ -123,12 +121,6 @@ group_alone bytes most batch used some within spells zero = record {
   full = inr (inl (λ all. all.0 zero));
 }
 
--- the batches in front have as many bytes as are used
-pub length-stand : (bytes : List ℕ) (requests : List Request) (used : ℕ) (stand : StandInFront bytes requests used)
-    → length (flat_map (λ item. item) stand.items) ≡ used
-length-stand bytes requests used stand =
-    omega (arith, ap length stand.stands, length-append (flat_map (λ (i : List ℕ). i) stand.items) (drop used bytes), length-drop used bytes, stand.within)
-
 -- the beginning of a batch is no longer than the longest batch
 pub begun_fits : (bytes : List ℕ) → Begins bytes → length bytes ≤ 11_785
 begun_fits bytes begins = omega (arith, spelling_length (bytes ++ begins.1) begins.0 begins.2, length-append bytes begins.1)
@@ -148,14 +140,3 @@ pub stretch_group : {O : Type 0} (led : O → List Call → O → Type 0) (old n
 stretch_group led old new call items pieces pieces' put unsaid clock asked run puts said stamped late =
     stretch_call IsBatch line_of led old new call pieces pieces' put (served_in items call.turns) unsaid clock run (turns_of-served_in items call.turns asked)
     (are_batches items call.turns asked) puts (lines_of-served_in items call.turns asked ∙ said) stamped late
-
--- a reply of an office has a line
-pub has_rule : (reply : Reply) → HasRule reply → HasLine reply
-has_rule (Receipt handheld number position) is = tt
-has_rule (Conflict position) is = tt
-has_rule (Denied fact rule) is = is
-has_rule (Full facts) is = tt
-has_rule (Shown text) is = tt
-has_rule (NoSuch what) is = tt
-has_rule Fault is = tt
-has_rule Memory is = tt
