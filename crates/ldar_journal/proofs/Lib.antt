@@ -3,6 +3,9 @@ pub mod FrameLemmas
 pub mod Frames
 pub mod GrammarLaws
 pub mod Histories
-pub mod PieceLemmas
+pub mod JudgingLemmas
+pub mod KeepingLemmas
+pub mod ReadingLemmas
 pub mod Positions
 pub mod ShelfLemmas
+pub mod WindowLemmas

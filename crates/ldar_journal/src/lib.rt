@@ -7,15 +7,20 @@ mod frame;
 mod history;
 mod image;
 mod journal;
+mod judging;
+mod keeping;
 pub mod laws;
 mod opening;
 mod prepared;
+mod reader;
+mod window;
 
 pub use accepted::{Accepted, MOST_FACTS};
 pub use creation::{CreateError, create};
 pub use journal::{Journal, Torn};
 pub use opening::{OpenError, OpenWhy, open_accepted, open_journal};
 pub use prepared::{Frame, prepare};
+pub use reader::Opening;
 
 #[cfg(test)]
 mod tests;

@@ -1,7 +1,7 @@
 use Rattle.std.proofs.Common.{◌≡◌, ◌≤◌, ◌++◌, length}
 use Rattle.std.specs.List.{AllByRecursion}
 use Rattle.ldar_journal.specs.Image.{IsBatch, payload}
-use Rattle.ldar_journal.proofs.frame.batches_of.Given as goal
+use Rattle.ldar_journal.proofs.frame.read_batches.Given as goal
 
 -- the batches so far, and then the rest, are the bytes
 abbrev pub invariant-loop-rest : goal.invariant-loop-rest

@@ -3,7 +3,7 @@ use Rattle.std.proofs.lemmas.Bool.Decides.{nat_tests}
 use Rattle.ldar_facts.specs.Grammar.{HasNoBatch}
 use Rattle.ldar_journal.specs.Image.{IsBatch}
 use Rattle.ldar_journal.proofs.FrameLemmas.{AllByRecursion-push, Spells-is, too_many, no_batch, one_more, nothing_left}
-use Rattle.ldar_journal.proofs.frame.batches_of.Goals as goal
+use Rattle.ldar_journal.proofs.frame.read_batches.Goals as goal
 
 pub returns-then-len-eq-MOST_BATCHES : goal.returns-then-len-eq-MOST_BATCHES
 returns-then-len-eq-MOST_BATCHES c =
