@@ -1,9 +1,9 @@
 -- What one identity more, or one less, does to an index.
-use Rattle.std.proofs.Common.{◌≡◌, ◌≢◌, ◌<◌, ◌≤◌, ◌+◌, ◌-◌, ◌⊎◌, inl, inr, ℕ, zero, suc, eqb, ◌&&◌, List, [], ◌∷◌, ◌++◌, length, map, take, drop, set, min, replicate, get_or, slice_get, Option, Some, None, Bool, true, false, cond, not, refl, sym, ◌∙◌, ap, subst, arith, length-append}
+use Rattle.std.proofs.Common.{◌≡◌, ◌≢◌, ◌<◌, ◌≤◌, ◌+◌, ◌-◌, ◌⊎◌, inl, inr, ℕ, zero, suc, eqb, List, [], ◌∷◌, ◌++◌, length, map, take, drop, set, min, replicate, slice_get, Option, Some, None, Bool, true, false, cond, not, refl, sym, ◌∙◌, ap, subst, arith, length-append}
 use Rattle.std.specs.Option.{option_map}
 use Rattle.std.specs.List.{position_from}
 use Rattle.std.proofs.lemmas.Option.{slice_get_within, slice_get-map, same_Some, get_or_from_slice_get}
-use Rattle.std.proofs.lemmas.Bool.{cases_eq, cases_lt, cases_Bool, false≢true}
+use Rattle.std.proofs.lemmas.Bool.{cases_lt, cases_Bool, false≢true}
 use Rattle.std.proofs.lemmas.Bool.Decides.{nat_tests}
 use Rattle.std.proofs.lemmas.Grind.{common_steps}
 use Rattle.std.proofs.lemmas.List.{length-set, append-nil, drop_all, drop-append-le, get_or-replicate, length-replicate}
@@ -15,7 +15,7 @@ use Rattle.batch_positions.specs.declared.entry.Entry.{Entry}
 use Rattle.batch_positions.specs.declared.late.Late.{Late}
 use Rattle.std.specs.List.{count_by, sum_by}
 use Rattle.std.proofs.lemmas.List.Sums.{sum_by-append}
-use Rattle.batch_positions.specs.Index.{runs_among, IsRoomy, identity_at, late_entry, IsInRun, IsLastOf, AreRuns, lates_of, AreApart, HaveHeads, IsIndexed}
+use Rattle.batch_positions.specs.Index.{runs_among, IsRoomy, identity_at, late_entry, IsInRun, IsLastOf, AreRuns, lates_of, AreApart, IsIndexed}
 use Rattle.batch_positions.proofs.TreeLemmas.{at_position-within, at_position-push, at_position-parts, at_position-last, at_position-some}
 
 -- the entries below a position are the same in a list with one entry more
@@ -292,8 +292,7 @@ late_goes_back front heads lates e index late =
     let all : lates ≡ lates_of 1 front ++ here =
     index.late ∙ lates_of-push 1 front e ∙ ap (λ (b : Bool). lates_of 1 front ++ if_late b e (1 + length front)) late in
     let long : length lates ≡ length (lates_of 1 front) + 1 = ap length all ∙ length-append (lates_of 1 front) here in
-    let before : length lates - 1 ≡ length (lates_of 1 front) = omega arith in
-    (
+    let before : length lates - 1 ≡ length (lates_of 1 front) = omega arith in (
       record {
         runs = AreRuns-front front e index.runs;
         apart = λ p q x y here there same. index.apart p q x y (at_position-push front e p x here) (at_position-push front e q y there) same;

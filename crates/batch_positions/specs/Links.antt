@@ -1,5 +1,5 @@
 -- Lists by position, from 1.
-use Rattle.std.specs.Prelude.{ℕ, zero, suc, Option, Some, None, List, slice_get}
+use Rattle.std.specs.Prelude.{ℕ, zero, suc, Option, None, List, slice_get}
 
 -- the element at a position, from 1; there is none at 0
 abbrev pub at_position : {X : Type 0} → List X → ℕ → Option X

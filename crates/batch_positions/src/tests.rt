@@ -39,7 +39,12 @@ fn each_identity_has_its_position(rt: HostRuntime) -> Result<(), Fail> {
         assert_eq!(rt; positions.position(*identity), Some(index as u32 + 1));
     }
     assert_eq!(rt; add(&mut positions, &all)?, 10);
-    for absent in [identity(7, 3), identity(7, 13), identity(3, 0), identity(4, 1)] {
+    for absent in [
+        identity(7, 3),
+        identity(7, 13),
+        identity(3, 0),
+        identity(4, 1),
+    ] {
         assert_eq!(rt; positions.position(absent), None);
     }
     Ok(())
@@ -72,7 +77,13 @@ fn a_long_list_is_found_in_any_order(rt: HostRuntime) -> Result<(), Fail> {
 #[test]
 fn what_was_added_goes_again(rt: HostRuntime) -> Result<(), Fail> {
     let mut positions = Positions::new(rt.alloc())?;
-    assert_eq!(rt; add(&mut positions, &[identity(1, 8), identity(1, 4), identity(2, 9)])?, 3);
+    assert_eq!(rt;
+        add(
+            &mut positions,
+            &[identity(1, 8), identity(1, 4), identity(2, 9)]
+        )?,
+        3
+    );
     // A late one, one that goes on, and a late one again.
     for number in [2, 9, 6] {
         assert_eq!(rt; add(&mut positions, &[identity(1, number)])?, 4);
@@ -81,7 +92,13 @@ fn what_was_added_goes_again(rt: HostRuntime) -> Result<(), Fail> {
         assert_eq!(rt; positions.position(identity(1, 4)), Some(2));
         assert_eq!(rt; positions.position(identity(2, 9)), Some(3));
     }
-    assert_eq!(rt; add(&mut positions, &[identity(1, 6), identity(1, 2), identity(1, 9)])?, 6);
+    assert_eq!(rt;
+        add(
+            &mut positions,
+            &[identity(1, 6), identity(1, 2), identity(1, 9)]
+        )?,
+        6
+    );
     for (number, want) in [(8, 1), (4, 2), (6, 4), (2, 5), (9, 6)] {
         assert_eq!(rt; positions.position(identity(1, number)), Some(want));
     }

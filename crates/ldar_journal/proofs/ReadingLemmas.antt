@@ -75,10 +75,10 @@ pub reading_on : (content content' : Option (List ℕ)) (images images' : List �
 reading_on content content' images images' place used frames batches window window' reading same images_same ahead found is used_is within kept = record {
   behind =
       told_three content content' (λ bytes. IsBehind bytes place frames window) (λ bytes. IsBehind bytes (place + used) (frames ++ batches ∷ []) (drop used window'))
-          (λ old new. IsAhead place window old → IsAhead place window' old) (λ old new. IsAhead place window old → place ≤ length old → IsFrameOf (drop place old) batches used)
-          (λ x y behind goes stands equal. subst (λ (l : List ℕ). IsBehind l (place + used) (frames ++ batches ∷ []) (drop used window')) (sym equal)
-          (behind_more place used frames batches window window' x behind goes stands within))
-          reading.behind ahead found same;
+      (λ old new. IsAhead place window old → IsAhead place window' old) (λ old new. IsAhead place window old → place ≤ length old → IsFrameOf (drop place old) batches used)
+      (λ x y behind goes stands equal. subst (λ (l : List ℕ). IsBehind l (place + used) (frames ++ batches ∷ []) (drop used window')) (sym equal)
+      (behind_more place used frames batches window window' x behind goes stands within))
+      reading.behind ahead found same;
   durable = durable_same content content' images images' reading.durable same images_same;
   counted = record {
     each = AllByRecursion-push IsFrame frames batches reading.counted.each is;

@@ -23,4 +23,6 @@ pub use prepared::{Frame, prepare};
 pub use reader::Opening;
 
 #[cfg(test)]
+mod opening_tests;
+#[cfg(test)]
 mod tests;

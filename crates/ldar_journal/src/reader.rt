@@ -18,7 +18,7 @@ use crate::keeping::add_frame;
 use crate::opening::{OpenError, OpenWhy};
 use crate::window::{Window, fill};
 use batch_positions::Positions;
-use disk_model::Disk;
+use disk_model::{Disk, DiskFault};
 use ldar_facts::Batch;
 use std::alloc::Global;
 use std::marker::Model;
@@ -103,8 +103,7 @@ impl<D: Disk> Opening<D> {
             Judged::Bad => Err(OpenWhy::Damaged { at: self.place }),
             Judged::Whole(used) => {
                 self.positions.reserve(batches.len())?;
-                let Some(facts) =
-                    add_frame(&mut self.positions, &self.frames, self.facts, batches)
+                let Some(facts) = add_frame(&mut self.positions, &self.frames, self.facts, batches)
                 else {
                     return Err(OpenWhy::Damaged { at: self.place });
                 };
@@ -174,7 +173,7 @@ fn started<D: Disk>(alloc: Global, disk: &mut D) -> Result<(Window, Positions), 
     ensures cause { result ≡ Err OpenWhy.Disk → Rose (D.faults disk.old) (D.faults disk.new) }
     ensures keeps { Keeps D.clock D.name D.faults disk.old disk.new }
 {
-    disk.sync()?;
+    make_stable(disk)?;
     let mut window = Window::new(alloc)?;
     fill(disk, &mut window, 0, 16)?;
     if !begins_with_header(window.bytes()) {
@@ -182,4 +181,15 @@ fn started<D: Disk>(alloc: Global, disk: &mut D) -> Result<(Window, Positions), 
     }
     window.drop_front(16);
     Ok((window, Positions::new(alloc)?))
+}
+
+/// Makes the bytes of a disk stable.
+fn make_stable<D: Disk>(disk: &mut D) -> Result<(), DiskFault>
+    ensures same { BothTold (D.content disk.old) (D.content disk.new) (λ old new. new ≡ old) }
+    ensures durable { OnOk result (Told (D.content disk.new) (λ bytes. Only bytes (D.images disk.new))) }
+    ensures any_moment { LeavesOnly D.clock D.left disk.old disk.new (D.images disk.old) }
+    ensures cause { OnErr result (Rose (D.faults disk.old) (D.faults disk.new)) }
+    ensures keeps { Keeps D.clock D.name D.faults disk.old disk.new }
+{
+    disk.sync()
 }

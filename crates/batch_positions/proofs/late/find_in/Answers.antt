@@ -1,4 +1,4 @@
-use Rattle.std.proofs.Common.{◌≢◌, sym, ◌∙◌}
+use Rattle.std.proofs.Common.{sym}
 use Rattle.batch_positions.proofs.TreeLemmas.{at_position-within, way_on, ended, nowhere, elsewhere, differs_by}
 use Rattle.batch_positions.proofs.late.find_in.Goals as goal
 

@@ -1,4 +1,3 @@
-use Rattle.std.proofs.Common.{◌≡◌, ℕ, Some}
 use Rattle.std.proofs.lemmas.Option.{IfSome_then}
 use Rattle.batch_positions.proofs.TreeLemmas.{lates_found, lates_none}
 use Rattle.batch_positions.proofs.late.LateTree.find.Goals as goal

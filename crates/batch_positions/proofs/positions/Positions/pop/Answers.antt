@@ -14,8 +14,7 @@ pop-requires-then-entry-clause-fits c =
 pub invariant_of-self-then-entry : goal.invariant_of-self-then-entry
 invariant_of-self-then-entry c =
     let e = c.in-Some.entry in
-    let gives : c.pop-then-entry.new.self.room ≡ c.self.inside.late.room + cond e.late 1 0 = rw c.if-entry.true c.pop-then-entry.ensures.room in
-    (
+    let gives : c.pop-then-entry.new.self.room ≡ c.self.inside.late.room + cond e.late 1 0 = rw c.if-entry.true c.pop-then-entry.ensures.room in (
       rw c.pop-then-entry.ensures.lates (late_goes_back c.pop.new.self.items c.self.inside.heads.items c.self.inside.late.lates e (rw c.in-Some.ensures.items at c.self.invariant.0) c.if-entry.true).0,
       omega (arith, c.in-Some.ensures.len, c.in-Some.ensures.capacity, c.self.invariant.1, c.min-again.ensures),
       omega (arith, c.in-Some.ensures.len, c.self.invariant.2, c.min-again.ensures),
@@ -26,8 +25,7 @@ invariant_of-self-then-entry c =
 pub invariant_of-self-2 : goal.invariant_of-self-2
 invariant_of-self-2 c =
     let e = c.in-Some.entry in
-    let gives : c.self.inside.late.room ≡ c.self.inside.late.room + cond e.late 1 0 = rw c.if-entry.false (omega arith) in
-    (
+    let gives : c.self.inside.late.room ≡ c.self.inside.late.room + cond e.late 1 0 = rw c.if-entry.false (omega arith) in (
       rw c.set_head.ensures.value (goes_back c.pop.new.self.items c.self.inside.heads.items c.self.inside.late.lates e (rw c.in-Some.ensures.items at c.self.invariant.0) c.if-entry.false),
       omega (arith, c.in-Some.ensures.len, c.in-Some.ensures.capacity, c.self.invariant.1, c.min-again.ensures),
       omega (arith, c.in-Some.ensures.len, c.self.invariant.2, c.min-again.ensures),

@@ -1,4 +1,4 @@
-use Rattle.std.proofs.Common.{◌≡◌, ◌+◌, length, refl, sym, ◌∙◌, ap, arith}
+use Rattle.std.proofs.Common.{◌≡◌, ◌+◌, length, refl, ◌∙◌, ap, arith}
 use Rattle.batch_positions.proofs.IndexLemmas.{pushed_on, pushed_late, room_goes_on, room_comes_late, no_more_late}
 use Rattle.batch_positions.proofs.positions.Positions.push.Goals as goal
 
@@ -10,8 +10,7 @@ invariant_of-self c =
     let some = rw (← c.self.view_is) at c.requires.roomy in
     let place : c.len.result + 1 ≡ length entries + 1 = ap (λ n. n + 1) (c.len.ensures ∙ c.self.inside.entries.ok.0) in
     let here = rw c.deref.ensures.value at c.head_of-head.ensures.value in
-    let above = rw c.deref-2.ensures.value at (c.is_above.ensures.above c.if-is_above.true) in
-    (
+    let above = rw c.deref-2.ensures.value at (c.is_above.ensures.above c.if-is_above.true) in (
       pushed_on entries c.push_reserved.new.self.items c.self.inside.heads.items c.set_head.new.heads.items c.self.inside.late.lates c.args.identity e c.head_of-head.result (c.len.result + 1) c.self.invariant.0
           c.next_in_run-entry.ensures.identity c.next_in_run-entry.ensures.in_run c.next_in_run-entry.ensures.earlier here above new
           c.push_reserved.ensures.items place c.set_head.ensures.value,
@@ -32,8 +31,7 @@ invariant_of-self-2 c =
     let new = rw (← c.self.view_is) at c.requires.is_new in
     let some = rw (← c.self.view_is) at c.requires.roomy in
     let place : c.len.result + 1 ≡ length entries + 1 = ap (λ n. n + 1) (c.len.ensures ∙ c.self.inside.entries.ok.0) in
-    let items = rw c.late.ensures.value at c.push_reserved-2.ensures.items in
-    (
+    let items = rw c.late.ensures.value at c.push_reserved-2.ensures.items in (
       pushed_late entries c.push_reserved-2.new.self.items c.self.inside.heads.items c.self.inside.late.lates c.push.new.self.lates c.args.identity (c.len.result + 1) c.self.invariant.0
           new items place c.push.ensures.lates,
       omega (arith, c.push_reserved-2.ensures.len, c.push_reserved-2.ensures.capacity, c.self.invariant.1, some),

@@ -33,8 +33,7 @@ invariant_of-self-in-Whole g c =
     let chapter : c.of.result ≡ batches = c.of.ensures.value ∙ c.deref-in-Whole.ensures.value in
     let frames : c.push.new.self ≡ old.frames ++ batches ∷ [] = c.push.ensures.value ∙ ap (λ (l : List Batch). old.frames ++ l ∷ []) chapter in
     let known = rw c.deref.ensures.value at c.in-Some.ensures.added in
-    let bytes = ap (λ (w : WindowState). w.bytes) c.drop_front.ensures.value in
-    (
+    let bytes = ap (λ (w : WindowState). w.bytes) c.drop_front.ensures.value in (
       rw (frames, bytes) (reading_on (g.D.Disk.content old.disk) (g.D.Disk.content c.judge.new.disk) (g.D.Disk.images old.disk) (g.D.Disk.images c.judge.new.disk) old.place c.in-Whole.used old.frames batches
           old.window.bytes c.judge.new.window.bytes c.self.invariant.0 judge.reads.content judge.reads.images judge.ahead found whole.0 whole.1 whole.2 known.kept),
       rw frames (known_frames old.frames batches c.add_frame.new.positions.identities c.in-Some.facts known),
