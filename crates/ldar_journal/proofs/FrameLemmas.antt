@@ -3,14 +3,14 @@ use Rattle.std.proofs.Common.{◌≡◌, ℕ, zero, suc, ◌+◌, ◌/◌, ◌<�
 use Rattle.std.specs.List.{AllByRecursion}
 use Rattle.std.specs.Int.{w32, to_be_bytes, from_be_bytes}
 use Rattle.std.proofs.lemmas.Grind.{flat_map-append}
-use Rattle.std.proofs.lemmas.List.{append-nil, take-append-drop, length-take-le}
+use Rattle.std.proofs.lemmas.List.{append-nil, take-append-drop, take-append-le, drop-append-le, length-take-le}
 use Rattle.std.proofs.lemmas.Nat.{be_bytes_4}
 use Rattle.std.proofs.Math.Seq.{take-append_seam, drop-append_seam}
 use Rattle.ldar_facts.specs.declared.batch.Batch.{Batch}
 use Rattle.ldar_facts.specs.Fields.{big_endian}
 use Rattle.ldar_facts.specs.Grammar.{Spells, HasNoBatch}
 use Rattle.ldar_journal.specs.Image.{IsBatch, spelling, payload, frame, IsFrame}
-use Rattle.ldar_journal.specs.FrameAt.{IsPayloadAt, IsFrameOf}
+use Rattle.ldar_journal.specs.FrameAt.{IsPayloadAt, IsFrameOf, HasNoFrame}
 use Rattle.ldar_journal.proofs.Frames.{length-payload, payload_goes_on, PayloadGoesOn, big_endian-one, fronts}
 
 -- a payload of one more batch
@@ -137,3 +137,46 @@ frame_stands bytes found batches stands is same =
       within = omega (arith, ap length whole, length-append (frame batches) stands.rest);
       stands = whole ∙ ap (λ (l : List ℕ). frame batches ++ l) (sym after);
     }
+
+-- the length that stands in front of a payload
+wanted_payload : (bytes more : List ℕ) (len : ℕ) → 5 ≤ length bytes → ((i : ℕ) → get_or bytes i 0 < 256)
+    → len ≡ from_be_bytes w32 (get_or bytes 1 0 ∷ get_or bytes 2 0 ∷ get_or bytes 3 0 ∷ get_or bytes 4 0 ∷ []) → len < 4_294_967_296
+    → (found : List ℕ) → IsPayloadAt (bytes ++ more) found → length found ≡ len
+wanted_payload [] more len long are_bytes len_is fits found stands = absurd (omega arith)
+wanted_payload (a ∷ []) more len long are_bytes len_is fits found stands = absurd (omega arith)
+wanted_payload (a ∷ b ∷ []) more len long are_bytes len_is fits found stands = absurd (omega arith)
+wanted_payload (a ∷ b ∷ c ∷ []) more len long are_bytes len_is fits found stands = absurd (omega arith)
+wanted_payload (a ∷ b ∷ c ∷ d ∷ []) more len long are_bytes len_is fits found stands = absurd (omega arith)
+wanted_payload (a ∷ b ∷ c ∷ d ∷ e ∷ tail) more len long are_bytes len_is fits found stands =
+    let bytes_are : big_endian 4 len ≡ b ∷ c ∷ d ∷ e ∷ [] =
+    big_endian-bytes len ∙ be_bytes_4 (b ∷ c ∷ d ∷ e ∷ []) len refl (four b c d e (are_bytes 1) (are_bytes 2) (are_bytes 3) (are_bytes 4)) len_is in
+    let same = stands.stands in
+    let head : big_endian 4 (length found) ≡ b ∷ c ∷ d ∷ e ∷ [] = cc in
+    big_endian-one (length found) len (omega (arith, stands.fits)) fits (head ∙ sym bytes_are)
+
+-- a front that is as long as another is the front of it
+front_of : (a b x y : List ℕ) → a ++ x ≡ b ++ y → length b ≤ length a → a ≡ b ++ drop (length b) a
+front_of a b x y same within =
+    let first : take (length b) a ≡ b = sym (take-append-le (length b) a x within) ∙ ap (take (length b)) same ∙ take-append_seam b y in
+    sym (take-append-drop (length b) a) ∙ ap (λ (l : List ℕ). l ++ drop (length b) a) first
+
+-- with as many bytes as a frame takes, no frame stands in more of them where none stands in these
+pub wanted_enough : (bytes more rest : List ℕ) (len wanted : ℕ) → 5 ≤ length bytes → ((i : ℕ) → get_or bytes i 0 < 256)
+    → len ≡ from_be_bytes w32 (get_or bytes 1 0 ∷ get_or bytes 2 0 ∷ get_or bytes 3 0 ∷ get_or bytes 4 0 ∷ []) → len < 4_294_967_296
+    → (len ≤ 188_560 → 5 + len ≤ wanted) → wanted ≤ length (bytes ++ more) → HasNoFrame (bytes ++ more) → HasNoFrame ((bytes ++ more) ++ rest)
+wanted_enough bytes more rest len wanted long are_bytes len_is fits reaches within none others after is stands =
+    let at = payload_of_frame ((bytes ++ more) ++ rest) after others is stands in
+    let same : length (payload others) ≡ len = wanted_payload bytes (more ++ rest) len long are_bytes len_is fits (payload others) (subst (λ (l : List ℕ). IsPayloadAt l (payload others)) (append_assoc bytes more rest) at) in
+    let small = at.fits in
+    let reached : 5 + len ≤ wanted = reaches (omega arith) in
+    let size : length (frame others) ≡ 5 + length (payload others) = omega arith in
+    none others (drop (length (frame others)) (bytes ++ more)) is (front_of (bytes ++ more) (frame others) rest after stands (omega arith))
+
+-- a frame in a front stands in the whole
+pub IsFrameOf-longer : (front rest : List ℕ) (batches : List Batch) (used : ℕ) → IsFrameOf front batches used → IsFrameOf (front ++ rest) batches used
+IsFrameOf-longer front rest batches used is = record {
+  is = is.is;
+  used_is = is.used_is;
+  within = omega (arith, is.within, length-append front rest);
+  stands = ap (λ (l : List ℕ). l ++ rest) is.stands ∙ append_assoc (frame batches) (drop used front) rest ∙ ap (λ (l : List ℕ). frame batches ++ l) (sym (drop-append-le used front rest is.within));
+}

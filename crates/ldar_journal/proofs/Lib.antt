@@ -5,6 +5,9 @@ pub mod Frames
 pub mod GateLemmas
 pub mod GrammarLaws
 pub mod Histories
-pub mod PieceLemmas
+pub mod JudgingLemmas
+pub mod KeepingLemmas
+pub mod ReadingLemmas
 pub mod Positions
 pub mod ShelfLemmas
+pub mod WindowLemmas

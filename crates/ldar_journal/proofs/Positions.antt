@@ -1,9 +1,5 @@
 -- Where a batch of an identity stands in a history, and what one more batch changes.
 use Rattle.std.proofs.Common.{◌≡◌, ℕ, ◌+◌, ◌<◌, ◌≤◌, Bool, true, false, ◌&&◌, ◌==◌, not, cond, List, [], ◌∷◌, ◌++◌, length, Some, None, is_some, ◌⊎◌, refl, sym, ◌∙◌, ap₂, inl, inr, subst, arith, length-append}
-use Rattle.std.specs.declared.cmp.Ordering.{Ordering}
-use Rattle.std.specs.declared.cmp.Ordering.TheVariants.{Less, Equal, Greater}
-use Rattle.std.specs.Ordering.{nat_cmp, ordering_then, is_eq}
-use Rattle.std.specs.BTreeMap.{BTreeMap, get}
 use Rattle.std.specs.List.{list_any, position_from}
 use Rattle.std.specs.Option.{option_or}
 use Rattle.std.proofs.lemmas.Bool.{cases_Bool}
@@ -15,7 +11,6 @@ use Rattle.ldar_facts.specs.declared.batch.Batch.{Batch}
 use Rattle.ldar_facts.specs.declared.identity.Identity.{Identity}
 use Rattle.ldar_facts.specs.Identity.{identity_of, is_of, is_same_identity, identities_differ, position_of}
 use Rattle.ldar_journal.specs.Image.{fact_count, IsKept}
-use Rattle.ldar_journal.specs.Accepted.{identity_cmp, IsIndexed}
 
 -- the first place that passes, in a list with one more element
 pub position_from-push : {X : Type 0} (p : X → Bool) (i : ℕ) (xs : List X) (y : X) → position_from p i (xs ++ y ∷ []) ≡ option_or (position_from p i xs) (cond (p y) (Some (i + length xs)) None)
@@ -43,7 +38,7 @@ identities_differ-push (x ∷ xs) y =
     let swapped = is_same_identity-swap x y in
     grind (arith, common_steps)
 
-fact_count-push : (xs : List Batch) (y : Batch) → fact_count (xs ++ y ∷ []) ≡ fact_count xs + length y.facts
+pub fact_count-push : (xs : List Batch) (y : Batch) → fact_count (xs ++ y ∷ []) ≡ fact_count xs + length y.facts
 fact_count-push xs y = omega (arith, sum_by-append (λ (batch : Batch). length batch.facts) xs (y ∷ []))
 
 -- a batch whose identity is there already can't be kept too
@@ -63,56 +58,4 @@ IsKept-push xs y new kept fits = record {
       let kept_differ : identities_differ xs ≡ true = kept.differ in
       grind (arith, common_steps);
   fits = omega (arith, fact_count-push xs y);
-}
-
-is_eq-ordering_then : (o p : Ordering) → is_eq (ordering_then o p) ≡ (is_eq o && is_eq p)
-is_eq-ordering_then Less p = refl
-is_eq-ordering_then Equal p = refl
-is_eq-ordering_then Greater p = refl
-
-is_eq-nat_cmp : (a b : ℕ) → is_eq (nat_cmp a b) ≡ (a == b)
-is_eq-nat_cmp a b = grind (arith, nat_tests)
-
--- identities that compare alike are told by the test
-pub is_eq-identity_cmp : (y : Batch) (q : Identity) → is_eq (identity_cmp (identity_of y) q) ≡ is_of q y
-is_eq-identity_cmp y q =
-    is_eq-ordering_then (nat_cmp y.handheld q.handheld) (nat_cmp y.number q.number)
-    ∙ rw (is_eq-nat_cmp y.handheld q.handheld, is_eq-nat_cmp y.number q.number, ==-swap y.handheld q.handheld, ==-swap y.number q.number) refl
-
-==-same : (a b : ℕ) → (a == b) ≡ true → a ≡ b
-==-same a b same = grind (arith, nat_tests)
-
--- the identity that a batch passes is its own
-is_of-same : (q : Identity) (y : Batch) → is_of q y ≡ true → q ≡ identity_of y
-is_of-same q y same =
-    let handheld : (q.handheld == y.handheld) ≡ true = grind (arith, common_steps) in
-    let number : (q.number == y.number) ≡ true = grind (arith, common_steps) in
-    ap₂ made (==-same q.handheld y.handheld handheld) (==-same q.number y.number number)
-  where
-    made : ℕ → ℕ → Identity
-    made h n = record { handheld = h; number = n }
-
--- the positions of a history with one more batch, which is new
-pub position_of-push : (q : Identity) (xs : List Batch) (y : Batch) → is_some (position_of (identity_of y) xs) ≡ false → position_of q (xs ++ y ∷ []) ≡ cond (is_of q y) (Some (length xs + 1)) (position_of q xs)
-position_of-push q xs y new = at (cases_Bool (is_of q y))
-  where
-    at : (is_of q y ≡ true) ⊎ (is_of q y ≡ false) → position_of q (xs ++ y ∷ []) ≡ cond (is_of q y) (Some (length xs + 1)) (position_of q xs)
-    at (inl same) =
-        let none : is_some (position_of q xs) ≡ false = subst (λ (i : Identity). is_some (position_of i xs) ≡ false) (sym (is_of-same q y same)) new in
-        let push = position_from-push (is_of q) 1 xs y in
-        grind (arith, common_steps)
-    at (inr other) =
-        let push = position_from-push (is_of q) 1 xs y in
-        grind (arith, common_steps)
-
--- an index after one more batch, which is new
-pub IsIndexed-push : (xs : List Batch) (y : Batch) (old new : BTreeMap Identity ℕ) (facts : ℕ) → IsIndexed xs old facts
-    → is_some (position_of (identity_of y) xs) ≡ false
-    → ((q : Identity) → get identity_cmp new q ≡ cond (is_eq (identity_cmp (identity_of y) q)) (Some (length xs + 1)) (get identity_cmp old q))
-    → facts + length y.facts ≤ 8_000_000 → 0 < length y.facts → IsIndexed (xs ++ y ∷ []) new (facts + length y.facts)
-IsIndexed-push xs y old new facts index is_new updates fits some = record {
-  found = λ q. updates q ∙ rw (is_eq-identity_cmp y q, index.found q) (sym (position_of-push q xs y is_new));
-  counted = omega (arith, fact_count-push xs y, index.counted);
-  kept = IsKept-push xs y is_new index.kept (omega (arith, index.counted));
-  some = omega (arith, fact_count-push xs y, length-append xs (y ∷ []), index.some);
 }

@@ -1,9 +1,10 @@
-pub mod Accepted
 pub mod Crash
 pub mod Damage
 pub mod FrameAt
 pub mod Gates
 pub mod Image
+pub mod Known
 pub mod Opening
 pub mod Piece
 pub mod Shelf
+pub mod Window

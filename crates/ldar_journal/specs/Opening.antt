@@ -1,10 +1,19 @@
 -- What opening a journal promises.
-use Rattle.std.specs.Prelude.{◌≡◌, ◌≢◌, ℕ, ◌≤◌, Option, List, take}
+use Rattle.std.specs.Prelude.{◌≡◌, ◌≢◌, ◌⊎◌, ℕ, ◌<◌, ◌≤◌, Bool, Option, List, [], length, take, drop, slice_index}
+use Rattle.disk_model.specs.Images.{Only}
 use Rattle.disk_model.specs.Told.{Told, BothTold}
+use Rattle.batch_positions.specs.Positions.{PositionsState}
 use Rattle.ldar_facts.specs.declared.batch.Batch.{Batch}
+use Rattle.ldar_facts.specs.declared.identity.Identity.{Identity}
+use Rattle.ldar_journal.specs.declared.judging.Judged.{Judged}
+use Rattle.ldar_journal.specs.declared.judging.Judged.TheVariants.{Closed, Bad, Whole}
 use Rattle.ldar_journal.specs.declared.opening.OpenWhy.{OpenWhy}
-use Rattle.ldar_journal.specs.Image.{header, OpensTo}
+use Rattle.ldar_journal.specs.FrameAt.{IsFrameOf, HasNoFrame}
+use Rattle.ldar_journal.specs.Image.{header, frame, batches_of, IsFrame, IsFront, OpensTo}
 use Rattle.ldar_journal.specs.Damage.{OnNotAJournal, IfDamaged, IsDamagedAt}
+use Rattle.ldar_journal.specs.Known.{IsKnown}
+use Rattle.ldar_journal.specs.Shelf.{IsCounted}
+use Rattle.ldar_journal.specs.Window.{WindowState, IsAhead}
 
 -- the bytes stay, and open to these frames
 abbrev pub IsOpened : Option (List ℕ) → Option (List ℕ) → List (List Batch) → Type 0
@@ -15,3 +24,52 @@ pub record IsRefused (old new : Option (List ℕ)) (why : OpenWhy) : Type 0 wher
   pub unchanged : BothTold old new (λ old new. new ≡ old)
   pub not_a_journal : OnNotAJournal (Told old (λ bytes. take 16 bytes ≢ header)) why
   pub damaged : IfDamaged (λ at. Told old (λ bytes. IsDamagedAt bytes at)) why
+
+-- a journal that is being read, as contracts see it: its disk, the frames read so far, the identities of their batches, and
+-- whether the closed gate stands behind them
+pub record OpeningState (D : Type 0) : Type 0 where
+  pub disk : D
+  pub frames : List (List Batch)
+  pub identities : List Identity
+  pub ended : Bool
+
+-- a closed gate stands at the place
+pub record IsClosedAt (bytes : List ℕ) (place : ℕ) : Type 0 where
+  pub within : place < length bytes
+  pub closed : slice_index bytes place ≢ 1
+
+-- no frame stands at the place, or no gate
+pub record IsBadAt (bytes : List ℕ) (place : ℕ) : Type 0 where
+  pub open_gate : (place ≡ length bytes) ⊎ (slice_index bytes place ≡ 1)
+  pub no_frame : HasNoFrame (drop place bytes)
+
+-- what was found at a place
+abbrev pub IsJudged : List ℕ → ℕ → List Batch → Judged → Type 0
+IsJudged bytes place batches Closed = IsClosedAt bytes place
+IsJudged bytes place batches Bad = IsBadAt bytes place
+IsJudged bytes place batches (Whole used) = IsFrameOf (drop place bytes) batches used
+
+-- a frame of so many bytes was found, all of them among so many
+abbrev pub IfWhole : List Batch → ℕ → Judged → Type 0
+IfWhole batches most Closed = Unit {0}
+IfWhole batches most Bad = Unit {0}
+IfWhole batches most (Whole used) = IsFrame batches × (used ≡ length (frame batches)) × (used ≤ most)
+
+-- the frames stand in front of the place, and the window is ahead of it
+pub record IsBehind (bytes : List ℕ) (place : ℕ) (frames : List (List Batch)) (window : List ℕ) : Type 0 where
+  pub within : place ≤ length bytes
+  pub front : IsFront (take place bytes) frames
+  pub ahead : IsAhead place window bytes
+
+-- what is known while a journal is read: its disk is stable, these frames stand in front of the place, and the window is ahead of it
+pub record IsReading (content : Option (List ℕ)) (images : List ℕ → Type 0) (place : ℕ) (frames : List (List Batch)) (window : List ℕ) : Type 0 where
+  pub behind : Told content (λ bytes. IsBehind bytes place frames window)
+  pub durable : Told content (λ bytes. Only bytes images)
+  pub counted : IsCounted place frames
+
+-- a journal was begun: its disk is stable, the header stands in front of the window, and no identity is known
+pub record IsStarted (content : Option (List ℕ)) (images : List ℕ → Type 0) (window : WindowState) (positions : PositionsState) : Type 0 where
+  pub behind : Told content (λ bytes. IsBehind bytes 16 [] window.bytes)
+  pub durable : Told content (λ bytes. Only bytes images)
+  pub size : window.size ≡ 1_048_576
+  pub none : positions.identities ≡ []

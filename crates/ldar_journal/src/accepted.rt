@@ -1,46 +1,47 @@
-ghost use Rattle.std.specs.Prelude.{◌≡◌, ℕ, ◌-◌, ◌<◌, ◌≤◌, [], ◌∷◌, ◌++◌, length, slice_get, Some, IfOk, OnErr};
-ghost use Rattle.std.specs.Bool.{MatchBool};
+ghost use Rattle.std.specs.Prelude.{◌≡◌, ℕ, ◌-◌, ◌≤◌, length, slice_get, Some};
 ghost use Rattle.ldar_facts.specs.Identity.{position_of};
 ghost use Rattle.ldar_journal.specs.Image.{fact_count, IsKept};
+ghost use Rattle.ldar_journal.specs.Known.{IsKnown};
 
-use ldar_facts::{Batch, Identity, Memory};
-use std::alloc::Global;
-use std::collections::BTreeMap;
+use batch_positions::Positions;
+use ldar_facts::{Batch, Identity};
 use std::marker::Model;
 
 /// How many facts a journal may hold.
 pub const MOST_FACTS: u64 = 8_000_000;
 
-/// The batches of a history in order, each identity once, with at most 8,000,000 facts together.
-/// A batch is found by its identity in the time of a look-up in an ordered map.
+/// The batches of a history in order, each identity once, with at most 8,000,000 facts together. Each is found by its identity.
 #[derive(Drop)]
 pub struct Accepted {
     batches: Vec<Batch>,
-    positions: BTreeMap<Identity, u32>,
+    positions: Positions,
     facts: u64,
 }
 
 impl Model for Accepted {
-    ghost use Rattle.std.specs.Prelude.{List};
+    ghost use Rattle.std.specs.Prelude.{List, length, ◌≤◌};
     ghost use Rattle.ldar_facts.specs.declared.batch.Batch.{Batch};
-    ghost use Rattle.ldar_journal.specs.Accepted.{IsIndexed};
+    ghost use Rattle.ldar_journal.specs.Image.{fact_count};
+    ghost use Rattle.ldar_journal.specs.Known.{IsKnown};
 
     ghost Value = { List Batch };
 
     ghost view = { λ a. a.batches.items };
 
-    ghost invariant = { λ a. IsIndexed a.batches.items a.positions a.facts };
+    ghost invariant = { λ a. IsKnown a.batches.items a.positions.identities a.facts × (length a.batches.items ≤ fact_count a.batches.items) };
 }
 
 impl Accepted {
-    /// No batch yet.
-    pub fn new(alloc: Global) -> Accepted
-        ensures value { result ≡ [] }
+    /// These batches, where their identities stand and how many facts they have.
+    pub(crate) fn of(batches: Vec<Batch>, positions: Positions, facts: u64) -> Accepted
+        requires known { IsKnown batches.items positions.identities facts }
+        requires some { length batches.items ≤ fact_count batches.items }
+        ensures value { result ≡ batches.items }
     {
         Accepted {
-            batches: Vec::new(alloc),
-            positions: BTreeMap::new(alloc),
-            facts: 0,
+            batches,
+            positions,
+            facts,
         }
     }
 
@@ -56,7 +57,7 @@ impl Accepted {
     pub fn position(&self, identity: Identity) -> Option<u32>
         ensures value { result ≡ position_of identity self.now }
     {
-        self.positions.get(&identity).copied()
+        self.positions.position(identity)
     }
 
     /// The batches, in order.
@@ -77,32 +78,10 @@ impl Accepted {
         &self.batches[position as usize - 1]
     }
 
-    /// Takes one more batch, unless its identity is there already or there would be too many facts.
-    pub fn adopt(&mut self, batch: Batch) -> Result<bool, Memory>
-        ensures value { IfOk result (λ taken. MatchBool taken
-            ((self.new ≡ self.old ++ batch ∷ []) × IsKept (self.old ++ batch ∷ []))
-            ((self.new ≡ self.old) × ¬ (IsKept (self.old ++ batch ∷ [])))) }
-        ensures unchanged { OnErr result (self.new ≡ self.old) }
-    {
-        let identity = batch.identity();
-        let more = batch.facts.as_slice().len() as u64;
-        if self.positions.contains_key(&identity) {
-            return Ok(false);
-        }
-        if self.facts + more > MOST_FACTS {
-            return Ok(false);
-        }
-        self.batches.reserve(1)?;
-        let position = self.batches.len() as u32 + 1;
-        self.positions.insert(identity, position)?;
-        self.batches.push_reserved(batch);
-        self.facts += more;
-        Ok(true)
-    }
-
     /// The batches, in order.
     pub fn into_batches(self) -> Vec<Batch>
         ensures value { result.items ≡ self }
+        ensures kept { IsKept self }
     {
         let Accepted {
             batches,

@@ -1,4 +1,6 @@
-ghost use Rattle.std.specs.Prelude.{◌≡◌, ℕ, ◌≤◌, ◌<◌, List, [], ◌∷◌, ◌++◌, length, take, drop, IfOk, MatchOption};
+ghost use Rattle.std.specs.Prelude.{◌≡◌, ℕ, ◌≤◌, ◌<◌, List, [], ◌∷◌, ◌++◌, length, take, drop, true, false, IfOk, OnOk};
+ghost use Rattle.std.specs.Bool.{MatchBool};
+ghost use Rattle.std.specs.Option.{MatchOption};
 ghost use Rattle.ldar_journal.specs.Image.{payload, IsFrame};
 ghost use Rattle.ldar_facts.specs.declared.batch.Batch.{Batch};
 ghost use Rattle.ldar_journal.specs.FrameAt.{IsFrameOf, HasNoFrame, IsPayloadAt};
@@ -12,17 +14,35 @@ const MOST_PAYLOAD: u32 = 188_560;
 /// The most batches of a frame.
 const MOST_BATCHES: usize = 16;
 
-/// The batches of the open frame at the front of these bytes, and how many bytes it takes, if one stands there.
-pub fn frame_at(alloc: Global, bytes: &[u8]) -> Result<Option<(Vec<Batch>, usize)>, Memory>
-    ensures { IfOk result (λ found. MatchOption found (HasNoFrame bytes.now) (λ f. IsFrameOf bytes.now f.0.items f.1)) }
+/// How many bytes have to be there to see whether a frame stands at their front, as far as they tell. With five bytes
+/// there it is the whole frame's length, if that is in range.
+pub fn bytes_wanted(bytes: &[u8]) -> usize
+    ensures within { result ≤ 188_565 }
+    ensures enough { 5 ≤ length bytes.now → (more rest : List ℕ) → result ≤ length (bytes.now ++ more)
+        → HasNoFrame (bytes.now ++ more) → HasNoFrame ((bytes.now ++ more) ++ rest) }
+{
+    if bytes.len() < 5 {
+        return 5;
+    }
+    let len = u32::from_be_bytes([bytes[1], bytes[2], bytes[3], bytes[4]]);
+    5 + len.min(MOST_PAYLOAD) as usize
+}
+
+/// Reads the batches of the open frame at the front of these bytes, and says how many bytes it takes, if one stands there.
+pub fn frame_at(
+    alloc: Global,
+    bytes: &[u8],
+    batches: &mut Vec<Batch>,
+) -> Result<Option<usize>, Memory>
+    ensures { IfOk result (λ found. MatchOption found (HasNoFrame bytes.now) (IsFrameOf bytes.now batches.new.items)) }
 {
     let Some(payload) = payload_at(bytes) else {
         return Ok(None);
     };
-    match batches_of(alloc, payload)? {
-        Some(batches) => Ok(Some((batches, 5 + payload.len()))),
-        None => Ok(None),
+    if read_batches(alloc, payload, batches)? {
+        return Ok(Some(5 + payload.len()));
     }
+    Ok(None)
 }
 
 /// The payload of the frame at the front of these bytes, as its gate and length have it.
@@ -46,29 +66,29 @@ fn payload_at(bytes: &[u8]) -> Option<&[u8]>
     Some(payload)
 }
 
-/// The batches of a payload, if it is 1 to 16 of them.
-fn batches_of(alloc: Global, bytes: &[u8]) -> Result<Option<Vec<Batch>>, Memory>
-    ensures { IfOk result (λ found. MatchOption found
-        ((batches : List Batch) → IsFrame batches → ¬ (payload batches ≡ bytes.now))
-        (λ batches. IsFrame batches.items × (payload batches.items ≡ bytes.now))) }
+/// Reads the batches of a payload, in place of what was among them, if it is 1 to 16 of them.
+fn read_batches(alloc: Global, bytes: &[u8], batches: &mut Vec<Batch>) -> Result<bool, Memory>
+    ensures { IfOk result (λ found. MatchBool found
+        (IsFrame batches.new.items × (payload batches.new.items ≡ bytes.now))
+        ((others : List Batch) → IsFrame others → ¬ (payload others ≡ bytes.now))) }
 {
-    let mut batches = Vec::new(alloc);
+    batches.clear();
     let mut rest = bytes;
     while !rest.is_empty() {
         if batches.len() == MOST_BATCHES {
-            return Ok(None);
+            return Ok(false);
         }
         match read_batch(alloc, rest)? {
             Read::Whole { batch, used } => {
                 batches.push(batch)?;
                 (_, rest) = rest.split_at(used);
             }
-            Read::Short => return Ok(None),
-            Read::Bad { at: _ } => return Ok(None),
+            Read::Short => return Ok(false),
+            Read::Bad { at: _ } => return Ok(false),
         }
     }
     if batches.is_empty() {
-        return Ok(None);
+        return Ok(false);
     }
-    Ok(Some(batches))
+    Ok(true)
 }

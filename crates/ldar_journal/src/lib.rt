@@ -8,19 +8,26 @@ mod gates;
 mod history;
 mod image;
 mod journal;
+mod judging;
+mod keeping;
 pub mod laws;
 mod opening;
 mod prepared;
+mod reader;
 mod settling;
+mod window;
 
 pub use accepted::{Accepted, MOST_FACTS};
 pub use creation::{CreateError, create};
 pub use journal::{Journal, Torn};
 pub use opening::{OpenError, OpenWhy, open_accepted, open_journal};
 pub use prepared::{Frame, prepare};
+pub use reader::Opening;
 pub use settling::Settled;
 
 #[cfg(test)]
 mod crash_tests;
+#[cfg(test)]
+mod opening_tests;
 #[cfg(test)]
 mod tests;

@@ -1,23 +1,20 @@
-ghost use Rattle.std.specs.Prelude.{◌≡◌, ◌≢◌, ◌<◌, ◌≤◌, [], length, take, true, false, Ok, Err, IfOk, OnOk, IfErr, MatchResult};
+ghost use Rattle.std.specs.Prelude.{◌≡◌, ◌≢◌, [], true, Err, IfOk, OnOk, IfErr, MatchResult};
 ghost use Rattle.disk_model.specs.Faults.{Rose};
-ghost use Rattle.disk_model.specs.Images.{Same, Only};
+ghost use Rattle.disk_model.specs.Images.{Only};
 ghost use Rattle.disk_model.specs.Keeps.{Keeps};
-ghost use Rattle.disk_model.specs.Told.{Told, BothTold};
-ghost use Rattle.ldar_journal.specs.Image.{header, batches_of, IsKept, EndsAt};
-ghost use Rattle.ldar_journal.specs.Shelf.{IsCounted};
+ghost use Rattle.disk_model.specs.Told.{Told};
+ghost use Rattle.ldar_journal.specs.Crash.{LeavesOnly};
+ghost use Rattle.ldar_journal.specs.Damage.{IfDamaged, IsDamagedAt};
+ghost use Rattle.ldar_journal.specs.Image.{batches_of, IsKept};
 ghost use Rattle.ldar_journal.specs.Opening.{IsOpened, IsRefused};
-ghost use Rattle.ldar_journal.specs.Damage.{OnNotAJournal, IfDamaged, IsDamagedAt};
-ghost use Rattle.ldar_journal.specs.Piece.{IsFrontOf, IsFaultOrMemory};
+ghost use Rattle.ldar_journal.specs.Window.{OnlyReads};
 
 use crate::accepted::Accepted;
-use crate::image::{Opened, read_image};
 use crate::journal::Journal;
+use crate::reader::Opening;
 use disk_model::{Disk, DiskFault};
 use ldar_facts::Batch;
 use std::alloc::{AllocError, Global};
-
-/// How many bytes are asked for at once.
-const PIECE: usize = 1 << 16;
 
 /// Why a journal was not opened.
 #[derive(Clone, Copy, Debug, PartialEq, Eq)]
@@ -69,6 +66,12 @@ pub fn open_journal<D: Disk>(
     ensures opens { IfOk result (λ r. IsOpened (D.content disk) (D.content r.0.disk) r.0.frames) }
     ensures kept { IfOk result (λ r. IsKept r.1.items) }
     ensures refused { IfErr result (λ e. IsRefused (D.content disk) (D.content e.disk) e.why) }
+
+    // Each image that a crash may leave of it was left before, or could have been left at entry; once it is opened, only the bytes.
+    ensures any_moment { MatchResult result (λ r. LeavesOnly D.clock D.left disk r.0.disk (D.images disk))
+        (λ e. LeavesOnly D.clock D.left disk e.disk (D.images disk)) }
+    ensures durable { IfOk result (λ r. Told (D.content r.0.disk) (λ bytes. Only bytes (D.images r.0.disk))) }
+
     ensures cause { IfErr result (λ e. e.why ≡ OpenWhy.Disk → Rose (D.faults disk) (D.faults e.disk)) }
     ensures keeps { MatchResult result (λ r. Keeps D.clock D.name D.faults disk r.0.disk) (λ e. Keeps D.clock D.name D.faults disk e.disk) }
 {
@@ -87,81 +90,44 @@ pub fn open_accepted<D: Disk>(
 
     // Why it was not opened; the bytes stay.
     ensures refused { IfErr result (λ e. IsRefused (D.content disk) (D.content e.disk) e.why) }
-    ensures cause { IfErr result (λ e. e.why ≡ OpenWhy.Disk → Rose (D.faults disk) (D.faults e.disk)) }
 
+    // Each image that a crash may leave of it was left before, or could have been left at entry; once it is opened, only the bytes.
+    ensures any_moment { MatchResult result (λ r. LeavesOnly D.clock D.left disk r.0.disk (D.images disk))
+        (λ e. LeavesOnly D.clock D.left disk e.disk (D.images disk)) }
+    ensures durable { IfOk result (λ r. Told (D.content r.0.disk) (λ bytes. Only bytes (D.images r.0.disk))) }
+
+    ensures cause { IfErr result (λ e. e.why ≡ OpenWhy.Disk → Rose (D.faults disk) (D.faults e.disk)) }
     ensures keeps { MatchResult result (λ r. Keeps D.clock D.name D.faults disk r.0.disk) (λ e. Keeps D.clock D.name D.faults disk e.disk) }
 {
-    let mut disk = disk;
-    match opened(alloc, &mut disk) {
-        Ok(opened) => {
-            let Opened {
-                accepted,
-                frames,
-                end,
-            } = opened;
-            Ok((Journal::at(disk, end as u64, frames), accepted))
+    let mut opening = Opening::begin(alloc, disk)?;
+    match collect(alloc, &mut opening) {
+        Ok(batches) => {
+            let facts = opening.facts();
+            let (journal, positions) = opening.finish();
+            Ok((journal, Accepted::of(batches, positions, facts)))
         }
-        Err(why) => Err(OpenError { disk, why }),
+        Err(why) => Err(OpenError {
+            disk: opening.into_disk(),
+            why,
+        }),
     }
 }
 
-/// What the bytes of a disk open to.
-fn opened<D: Disk>(alloc: Global, disk: &mut D) -> Result<Opened, OpenWhy>
-    ensures value { IfOk result (λ opened. Told (D.content disk.new) (λ bytes. EndsAt bytes opened.end opened.frames)) }
-    ensures batches { IfOk result (λ opened. opened.accepted ≡ batches_of opened.frames) }
-    ensures counted { IfOk result (λ opened. IsCounted opened.end opened.frames) }
-    ensures durable { OnOk result (Told (D.content disk.new) (λ bytes. Only bytes (D.images disk.new))) }
-    ensures not_a_journal { IfErr result (OnNotAJournal (Told (D.content disk.old) (λ bytes. take 16 bytes ≢ header))) }
-    ensures damaged { IfErr result (IfDamaged (λ at. Told (D.content disk.old) (λ bytes. IsDamagedAt bytes at))) }
-    ensures unchanged { BothTold (D.content disk.old) (D.content disk.new) (λ old new. new ≡ old) }
-    ensures cause { result ≡ Err OpenWhy.Disk → Rose (D.faults disk.old) (D.faults disk.new) }
-    ensures keeps { Keeps D.clock D.name D.faults disk.old disk.new }
+/// The batches of all frames.
+fn collect<D: Disk>(alloc: Global, opening: &mut Opening<D>) -> Result<Vec<Batch>, OpenWhy>
+    requires first { opening.old.frames ≡ [] }
+    ensures batches { IfOk result (λ batches. batches.items ≡ batches_of opening.new.frames) }
+    ensures ended { OnOk result (opening.new.ended ≡ true) }
+    ensures not_a_journal { result ≢ Err OpenWhy.NotAJournal }
+    ensures damaged { IfErr result (IfDamaged (λ at. Told (D.content opening.old.disk) (λ bytes. IsDamagedAt bytes at))) }
+    ensures reads { OnlyReads D.content D.images D.left D.clock opening.old.disk opening.new.disk }
+    ensures cause { result ≡ Err OpenWhy.Disk → Rose (D.faults opening.old.disk) (D.faults opening.new.disk) }
+    ensures keeps { Keeps D.clock D.name D.faults opening.old.disk opening.new.disk }
 {
-    disk.sync()?;
-    let image = read_all(alloc, disk)?;
-    read_image(alloc, &image)
-}
-
-/// All bytes of a disk.
-fn read_all<D: Disk>(alloc: Global, disk: &mut D) -> Result<Vec<u8>, OpenWhy>
-    ensures value { IfOk result (λ bytes. Told (D.content disk.new) (λ now. bytes.items ≡ now)) }
-    ensures unchanged { BothTold (D.content disk.old) (D.content disk.new) (λ old new. new ≡ old) }
-    ensures images { Same (D.images disk.old) (D.images disk.new) }
-    ensures cause { result ≡ Err OpenWhy.Disk → Rose (D.faults disk.old) (D.faults disk.new) }
-    ensures only { IfErr result IsFaultOrMemory }
-    ensures keeps { Keeps D.clock D.name D.faults disk.old disk.new }
-{
-    let mut bytes = Vec::new(alloc);
-    let mut piece = buffer(alloc)?;
-    while read_piece(disk, &mut bytes, &mut piece)? {}
-    Ok(bytes)
-}
-
-/// Room for a piece of the bytes.
-fn buffer(alloc: Global) -> Result<Vec<u8>, AllocError>
-    ensures room { IfOk result (λ piece. 0 < length piece.items) }
-{
-    vec![in alloc; 0; PIECE]
-}
-
-/// Reads one more piece behind the bytes read so far. It answers false where all were read.
-fn read_piece<D: Disk>(disk: &mut D, bytes: &mut Vec<u8>, piece: &mut [u8]) -> Result<bool, OpenWhy>
-    requires { 0 < length piece.old }
-    ensures front { OnOk result (BothTold (D.content disk.old) (D.content disk.new)
-        (λ old new. IsFrontOf bytes.old.items old → IsFrontOf bytes.new.items new)) }
-    ensures grows { result ≡ Ok true → length bytes.old.items < length bytes.new.items }
-    ensures all { result ≡ Ok false → BothTold (D.content disk.old) (D.content disk.new)
-        (λ old new. IsFrontOf bytes.old.items old → bytes.new.items ≡ new) }
-    ensures unchanged { BothTold (D.content disk.old) (D.content disk.new) (λ old new. new ≡ old) }
-    ensures images { Same (D.images disk.old) (D.images disk.new) }
-    ensures cause { result ≡ Err OpenWhy.Disk → Rose (D.faults disk.old) (D.faults disk.new) }
-    ensures only { IfErr result IsFaultOrMemory }
-    ensures keeps { Keeps D.clock D.name D.faults disk.old disk.new }
-{
-    let read = disk.read_at(bytes.len() as u64, piece)?;
-    if read == 0 {
-        return Ok(false);
+    let mut all = Vec::new(alloc);
+    let mut frame = Vec::new(alloc);
+    while opening.next_frame(alloc, &mut frame)? {
+        all.append(&mut frame)?;
     }
-    bytes.extend_from_slice(&piece[..read])?;
-    Ok(true)
+    Ok(all)
 }

@@ -1,0 +1,4 @@
+pub mod Index
+pub mod LateTree
+pub mod Links
+pub mod Positions

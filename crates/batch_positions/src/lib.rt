@@ -1,0 +1,13 @@
+//! Where the batches of a history stand, by their identities.
+#![tactic(auto)]
+
+mod entry;
+mod late;
+mod links;
+mod positions;
+mod runs;
+
+pub use positions::Positions;
+
+#[cfg(test)]
+mod tests;
