@@ -22,7 +22,8 @@ passed_is case (Some asked) passed = elim (cases_eq asked.1 case.entry.0.day) [
 ]
 
 -- the rule looks at the day and the whole register alone
-reached_alike : (case other : Case) (unit : ℕ) → other.whole ≡ case.whole → other.entry.0.day ≡ case.entry.0.day → is_reached other unit ≡ is_reached case unit
+reached_alike : (case other : Case) (unit : ℕ) → other.whole ≡ case.whole → other.entry.0.day ≡ case.entry.0.day
+    → is_reached other unit ≡ is_reached case unit
 reached_alike case other unit whole day =
     ap (λ (r : Register). is_reached (record other { whole = r }) unit) whole
     ∙ ap (λ (d : ℕ). is_reached (record { entry = (record other.entry.0 { day = d }, other.entry.1); known = other.known; whole = case.whole }) unit) day

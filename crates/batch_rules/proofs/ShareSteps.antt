@@ -1,4 +1,5 @@
-use Rattle.std.proofs.Common.{◌≡◌, ℕ, ◌+◌, ◌<◌, ◌≤◌, Bool, true, false, cond, Option, Some, None, List, [], ◌∷◌, ◌++◌, length, take, drop, get_or, filter}
+use Rattle.std.proofs.Common.{◌≡◌, ℕ, ◌+◌, ◌<◌, ◌≤◌, Bool, true, false, cond}
+use Rattle.std.proofs.Common.{Option, Some, None, List, [], ◌∷◌, ◌++◌, length, take, drop, get_or, filter}
 use Rattle.std.proofs.Common.{refl, sym, ap, ◌∙◌, inl, inr, arith}
 use Rattle.std.proofs.lemmas.Bool.{cases_Bool}
 use Rattle.std.proofs.lemmas.List.{append-nil, append_assoc}
@@ -55,9 +56,11 @@ named_so body number e =
       | inr out ↦ let clash : None ≡ Some number = rw out at e in absurd cc
     ]
 
-module _ (unit day : ℕ) (known : Known) (index : ℕ) (fact : Stated) (within : index < length known.front.now) (is : fact ≡ get_or known.front.now index fact) where
+module _ (unit day : ℕ) (known : Known) (index : ℕ) (fact : Stated) (within : index < length known.front.now)
+    (is : fact ≡ get_or known.front.now index fact) where
   one_more : register_by known (index + 1)
-      ≡ register_with (facts_in known.register.now) (entries_from (batch_of known) 0 (take index known.front.now) ++ (key_of (batch_of known) index fact, fact) ∷ [])
+      ≡ register_with (facts_in known.register.now)
+      (entries_from (batch_of known) 0 (take index known.front.now) ++ (key_of (batch_of known) index fact, fact) ∷ [])
   one_more = ap (register_with (facts_in known.register.now)) (entries-take_more (batch_of known) index known.front.now fact within is)
 
   -- a fact that is no entry leaves what is known

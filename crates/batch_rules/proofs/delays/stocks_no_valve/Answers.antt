@@ -10,5 +10,9 @@ use Rattle.batch_rules.proofs.delays.stocks_no_valve.Goals as goal
 pub returns-then-ground-eq-OUT_OF_STOCK : goal.returns-then-ground-eq-OUT_OF_STOCK
 returns-then-ground-eq-OUT_OF_STOCK c =
     let case = c.args.case.now in
-    let says : case.entry.1.body ≡ Delay c.in-Delay.component c.in-Delay.ground c.in-Delay.signer c.in-Delay.expected = sym c.body.ensures.value ∙ c.in-Delay.is in
-    record { value = c.is_no_valve.ensures.value ∙ ap (is_so (λ kind _. not (kinds.is_valve kind))) c.asked.ensures.value ∙ sym (delay_is case c.in-Delay.component c.in-Delay.ground c.in-Delay.signer c.in-Delay.expected 5 kinds.is_valve says c.if-ground-eq-OUT_OF_STOCK.true) }
+    let says : case.entry.1.body ≡ Delay c.in-Delay.component c.in-Delay.ground c.in-Delay.signer c.in-Delay.expected = sym c.body.ensures.value
+    ∙ c.in-Delay.is in
+    record {
+      value = c.is_no_valve.ensures.value ∙ ap (is_so (λ kind _. not (kinds.is_valve kind))) c.asked.ensures.value
+          ∙ sym (delay_is case c.in-Delay.component c.in-Delay.ground c.in-Delay.signer c.in-Delay.expected 5 kinds.is_valve says c.if-ground-eq-OUT_OF_STOCK.true);
+    }

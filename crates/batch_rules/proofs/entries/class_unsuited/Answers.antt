@@ -11,4 +11,7 @@ pub returns-in-Class : goal.returns-in-Class
 returns-in-Class c =
     let case = c.args.case.now in
     let says : case.entry.1.body ≡ ClassFact c.in-Class.component c.in-Class.class = sym c.body.ensures.value ∙ c.in-Class.is in
-    record { value = c.is_unsuited.ensures.value ∙ ap (is_so (λ kind _. not (law.suits kind c.in-Class.class))) c.asked.ensures.value ∙ sym (class_is case c.in-Class.component c.in-Class.class says) }
+    record {
+      value = c.is_unsuited.ensures.value ∙ ap (is_so (λ kind _. not (law.suits kind c.in-Class.class))) c.asked.ensures.value
+          ∙ sym (class_is case c.in-Class.component c.in-Class.class says);
+    }

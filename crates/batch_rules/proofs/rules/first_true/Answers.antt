@@ -17,4 +17,7 @@ loop-index-preserved c =
 
 pub returns : goal.returns
 unfolding first_true
-returns c = record { value = sym (c.loop-index.invariant ∙ rw (drop_all c.loop-index.index c.args.findings.now (omega (arith, c.told-findings, c.loop-index-test.false))) refl) }
+returns c = record {
+  value = sym (c.loop-index.invariant
+      ∙ rw (drop_all c.loop-index.index c.args.findings.now (omega (arith, c.told-findings, c.loop-index-test.false))) refl);
+}

@@ -37,8 +37,24 @@ returns-in-Some-clause-value c =
     let now = c.share_of-now.ensures.value ∙ ap (λ r. added c.args.unit c.args.day r c.in-Some.component) c.up_to-in-Some.ensures.value in
     let old = c.requires.so_far in
     let new = share_in c.args.unit c.args.day (register_by c.args.known.now (c.args.index + 1)) in
-    let valves : new.valves ≡ c.corrected.result.valves = omega (arith, changes.0, ap (λ (s : Share). s.valves) before, ap (λ (s : Share). s.valves) now, ap (λ (s : Share). s.valves) old, c.corrected.ensures.valves) in
-    let difficult : new.difficult ≡ c.corrected.result.difficult = omega (arith, changes.1, ap (λ (s : Share). s.difficult) before, ap (λ (s : Share). s.difficult) now, ap (λ (s : Share). s.difficult) old, c.corrected.ensures.difficult) in
+    let valves : new.valves ≡ c.corrected.result.valves =
+    omega (
+      arith,
+      changes.0,
+      ap (λ (s : Share). s.valves) before,
+      ap (λ (s : Share). s.valves) now,
+      ap (λ (s : Share). s.valves) old,
+      c.corrected.ensures.valves,
+    ) in
+    let difficult : new.difficult ≡ c.corrected.result.difficult =
+    omega (
+      arith,
+      changes.1,
+      ap (λ (s : Share). s.difficult) before,
+      ap (λ (s : Share). s.difficult) now,
+      ap (λ (s : Share). s.difficult) old,
+      c.corrected.ensures.difficult,
+    ) in
     rw (valves, difficult) refl
 
 pub returns-in-None-clause-value : goal.returns-in-None-clause-value
