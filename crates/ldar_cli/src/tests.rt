@@ -235,7 +235,7 @@ fn a_fault_of_the_output_is_told_and_the_batch_stands(rt: HostRuntime) -> Result
 
 #[test]
 fn a_fault_of_the_disk_is_told_where_its_call_was_made(rt: HostRuntime) -> Result<(), Fail> {
-    // `init` reads, writes and syncs. A `dock` syncs, reads twice, and writes and syncs twice.
+    // `init` reads, writes and syncs. A `dock` syncs, reads, and writes and syncs twice.
     for call in 0..12 {
         let mut disk = MemoryDisk::new(rt.alloc(), &[], &[call])?;
         for word in ["init", "dock"] {
@@ -249,14 +249,14 @@ fn a_fault_of_the_disk_is_told_where_its_call_was_made(rt: HostRuntime) -> Resul
                 assert_eq!(rt; got.status, 0);
             }
         }
-        assert_eq!(rt; disk.faults(), u64::from(call < 10));
+        assert_eq!(rt; disk.faults(), u64::from(call < 9));
     }
     Ok(())
 }
 
 #[test]
 fn what_a_fault_of_the_disk_left_is_docked_again(rt: HostRuntime) -> Result<(), Fail> {
-    for call in 0..7 {
+    for call in 0..6 {
         let mut disk = MemoryDisk::new(rt.alloc(), &EMPTY, &[call])?;
         assert_eq!(rt;
             ran(rt.alloc(), &mut disk, &untroubled(&["dock"], &BATCH))?.status,
