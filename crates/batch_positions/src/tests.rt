@@ -1,3 +1,5 @@
+ghost use Rattle.std.specs.Prelude.{◌≡◌, length, IfOk};
+
 use crate::Positions;
 use ldar_facts::Identity;
 use std::alloc::Global;
@@ -8,7 +10,9 @@ fn identity(handheld: u16, number: u32) -> Identity {
 }
 
 // Adds identities one after the other, each if it is new, and gives how many there are.
-fn add(positions: &mut Positions, identities: &[Identity]) -> Result<usize, Fail> {
+fn add(positions: &mut Positions, identities: &[Identity]) -> Result<usize, Fail>
+    ensures { IfOk result (λ count. count ≡ length positions.new.identities) }
+{
     for identity in identities {
         positions.reserve(1)?;
         if positions.position(*identity).is_none() {
@@ -67,7 +71,10 @@ fn a_long_list_is_found_in_any_order(rt: HostRuntime) -> Result<(), Fail> {
         let mut positions = Positions::new(rt.alloc())?;
         assert_eq!(rt; add(&mut positions, &all)?, 5_000);
         for (index, identity) in all.iter().enumerate() {
-            assert_eq!(rt; positions.position(*identity), Some(index as u32 + 1));
+            assert_eq!(rt;
+                positions.position(*identity),
+                u32::try_from(index + 1).ok()
+            );
         }
         assert_eq!(rt; positions.position(identity(1, 5_000)), None);
     }
@@ -86,7 +93,8 @@ fn what_was_added_goes_again(rt: HostRuntime) -> Result<(), Fail> {
     );
     // A late one, one that goes on, and a late one again.
     for number in [2, 9, 6] {
-        assert_eq!(rt; add(&mut positions, &[identity(1, number)])?, 4);
+        let count = add(&mut positions, &[identity(1, number)])?;
+        assert_eq!(rt; count, 4);
         positions.pop();
         assert_eq!(rt; positions.position(identity(1, number)), None);
         assert_eq!(rt; positions.position(identity(1, 4)), Some(2));
