@@ -4,6 +4,7 @@
 mod add_fact;
 mod batch;
 mod body;
+mod body_at;
 mod class;
 mod cursor;
 mod fact;
