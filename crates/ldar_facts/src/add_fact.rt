@@ -1,7 +1,9 @@
-//! A fact in front of some bytes that are long enough for any: each kind of fact has its fields at known places.
+//! A fact in front of some bytes is added to others: each kind of fact has its fields at known places.
 
-ghost use Rattle.std.specs.Prelude.{◌≡◌, ◌+◌, ◌<◌, ◌≤◌, length, vec_len, vec_capacity, IsNone, IsSome, IfSome};
-ghost use Rattle.ldar_facts.specs.Places.{FieldsAt, AddsFact, SaysAt, head_fields};
+ghost use Rattle.std.specs.Prelude.{◌≡◌, ◌+◌, ◌<◌, ◌≤◌, length, drop, vec_len, vec_capacity, Err, OnOk, IfOk, IfErr};
+ghost use Rattle.ldar_facts.specs.Form.{Takes};
+ghost use Rattle.ldar_facts.specs.FactForms as forms;
+ghost use Rattle.ldar_facts.specs.Places.{GoesOn, TakesFact};
 
 use crate::body::FactBody;
 use crate::body_at::{
@@ -12,6 +14,7 @@ use crate::body_at::{
 use crate::fact::Fact;
 use crate::field_at::{byte_at, day_at, two_bytes_at};
 use crate::ranges::LAST_MINUTE;
+use crate::stop::Stop;
 use ldar_days::Day;
 
 /// What stands before what a fact says.
@@ -22,18 +25,15 @@ struct FactHead {
     minute: u16,
 }
 
-/// Adds the fact in front of the bytes, and gives those behind it. `None` says nothing of them: too few may be left, or
-/// some are wrong, and then nothing is added.
-pub(crate) fn add_fact<'a>(bytes: &'a [u8], facts: &mut Vec<Fact>) -> Option<&'a [u8]>
-    requires { vec_len facts.old < vec_capacity facts.old }
-    ensures none { IsNone result → facts.new ≡ facts.old }
-    ensures added { IfSome result (λ rest. AddsFact bytes.now facts.old.items facts.new.items rest.now) }
-    ensures len { IsSome result → vec_len facts.new ≡ vec_len facts.old + 1 }
+/// Adds the fact in front of bytes that are long enough for any, and gives those behind it.
+pub(crate) fn add_fact<'a>(bytes: &'a [u8], facts: &mut Vec<Fact>) -> Result<&'a [u8], Stop>
+    requires long { LONGEST_FACT ≤ length bytes.now }
+    requires room { vec_len facts.old < vec_capacity facts.old }
+    ensures taken { IfOk result (λ rest. TakesFact bytes.now facts.old.items facts.new.items rest.now) }
+    ensures stopped { IfErr result (λ stop. forms.fact.read bytes.now ≡ Err stop) }
+    ensures len { OnOk result (vec_len facts.new ≡ vec_len facts.old + 1) }
     ensures capacity { vec_capacity facts.old ≤ vec_capacity facts.new }
 {
-    if bytes.len() < LONGEST_FACT {
-        return None;
-    }
     let head = head_at(bytes)?;
     match head.kind {
         1 => push(bytes, 19, head, unit_at(bytes), facts),
@@ -50,46 +50,50 @@ pub(crate) fn add_fact<'a>(bytes: &'a [u8], facts: &mut Vec<Fact>) -> Option<&'a
         12 => push(bytes, 8, head, attempt_at(bytes), facts),
         13 => push(bytes, 12, head, delay_at(bytes), facts),
         14 => push(bytes, 7, head, release_at(bytes), facts),
-        15 => push(bytes, 9, head, indication_at(bytes), facts),
-        _ => None,
+        _ => push(bytes, 9, head, indication_at(bytes), facts),
     }
 }
 
 /// The kind, day and minute of a fact.
 #[inline(always)]
-fn head_at(bytes: &[u8]) -> Option<FactHead>
+#[tactic(auto, unfolding(crate::specs::FactForms::fact, crate::specs::FieldForms::fact_kind, crate::specs::FieldForms::minute))]
+fn head_at(bytes: &[u8]) -> Result<FactHead, Stop>
     requires { LONGEST_FACT ≤ length bytes.now }
-    ensures { IfSome result (λ head. FieldsAt bytes.now 0 5 (head_fields head.kind head.day head.minute)) }
+    ensures value { IfOk result (λ head. GoesOn bytes.now head.kind head.day head.minute) }
+    ensures stopped { IfErr result (λ stop. forms.fact.read bytes.now ≡ Err stop) }
 {
     let kind = byte_at(bytes, 0, 1, 15)?;
     let day = day_at(bytes, 1)?;
     let minute = two_bytes_at(bytes, 3, 0, LAST_MINUTE)?;
-    Some(FactHead { kind, day, minute })
+    Ok(FactHead { kind, day, minute })
 }
 
-/// Adds a fact that says this up to a place, if anything, and gives the bytes from there on.
+/// Adds a fact that says this up to a place, and gives the bytes from there on.
 #[inline(always)]
 fn push<'a>(
     bytes: &'a [u8],
     to: usize,
     head: FactHead,
-    body: Option<FactBody>,
+    body: Result<FactBody, Stop>,
     facts: &mut Vec<Fact>,
-) -> Option<&'a [u8]>
+) -> Result<&'a [u8], Stop>
     requires within { to ≤ length bytes.now }
     requires room { vec_len facts.old < vec_capacity facts.old }
-    requires head { FieldsAt bytes.now 0 5 (head_fields head.kind head.day head.minute) }
-    requires says { IfSome body (SaysAt bytes.now head.kind to) }
-    ensures none { IsNone result → facts.new ≡ facts.old }
-    ensures added { IfSome result (λ rest. AddsFact bytes.now facts.old.items facts.new.items rest.now) }
-    ensures len { IsSome result → vec_len facts.new ≡ vec_len facts.old + 1 }
+    requires head { GoesOn bytes.now head.kind head.day head.minute }
+    requires says { Takes (forms.body head.kind).read body (drop 5 bytes.now) (drop to bytes.now) }
+    ensures taken { IfOk result (λ rest. TakesFact bytes.now facts.old.items facts.new.items rest.now) }
+    ensures stopped { IfErr result (λ stop. forms.fact.read bytes.now ≡ Err stop) }
+    ensures len { OnOk result (vec_len facts.new ≡ vec_len facts.old + 1) }
     ensures capacity { vec_capacity facts.old ≤ vec_capacity facts.new }
 {
-    let body = body?;
+    let body = match body {
+        Ok(body) => body,
+        Err(stop) => return Err(stop),
+    };
     facts.push_reserved(Fact {
         day: head.day,
         minute: head.minute,
         body,
     });
-    Some(&bytes[to..])
+    Ok(&bytes[to..])
 }

@@ -1,7 +1,8 @@
 //! What each kind of fact says, in fields at known places behind its kind, day and minute.
 
-ghost use Rattle.std.specs.Prelude.{◌+◌, ◌<◌, ◌≤◌, length, IfSome};
-ghost use Rattle.ldar_facts.specs.Places.{SaysAt};
+ghost use Rattle.std.specs.Prelude.{◌+◌, ◌<◌, ◌≤◌, length, drop};
+ghost use Rattle.ldar_facts.specs.Form.{Takes};
+ghost use Rattle.ldar_facts.specs.FactForms as forms;
 
 use crate::body::FactBody;
 use crate::field_at::{
@@ -9,27 +10,30 @@ use crate::field_at::{
     purpose_at, readings_at, sort_at, state_at, two_bytes_at,
 };
 use crate::ranges::{LAST_COMPONENT, LAST_UNIT, LONGEST_SHUTDOWN, MOST_PPM};
+use crate::stop::Stop;
 
 /// The bytes of the longest fact, a precision test or a drift assessment.
 pub(crate) const LONGEST_FACT: usize = 23;
 
 /// What a process unit's fact says.
 #[inline(always)]
-pub(crate) fn unit_at(bytes: &[u8]) -> Option<FactBody>
+#[tactic(auto, unfolding(crate::specs::FactForms::unit_fact, crate::specs::FieldForms::unit))]
+pub(crate) fn unit_at(bytes: &[u8]) -> Result<FactBody, Stop>
     requires { LONGEST_FACT ≤ length bytes.now }
-    ensures { IfSome result (SaysAt bytes.now 1 19) }
+    ensures { Takes forms.unit_fact.read result (drop 5 bytes.now) (drop 19 bytes.now) }
 {
     let unit = byte_at(bytes, 5, 1, LAST_UNIT)?;
     let older = flag_at(bytes, 6)?;
     let name = name_at(bytes, 7)?;
-    Some(FactBody::Unit { unit, older, name })
+    Ok(FactBody::Unit { unit, older, name })
 }
 
 /// What a component's fact says.
 #[inline(always)]
-pub(crate) fn component_at(bytes: &[u8]) -> Option<FactBody>
+#[tactic(auto, unfolding(crate::specs::FactForms::component_fact, crate::specs::FieldForms::component, crate::specs::FieldForms::unit))]
+pub(crate) fn component_at(bytes: &[u8]) -> Result<FactBody, Stop>
     requires { LONGEST_FACT ≤ length bytes.now }
-    ensures { IfSome result (SaysAt bytes.now 2 15) }
+    ensures { Takes forms.component_fact.read result (drop 5 bytes.now) (drop 15 bytes.now) }
 {
     let component = two_bytes_at(bytes, 5, 1, LAST_COMPONENT)?;
     let unit = byte_at(bytes, 7, 1, LAST_UNIT)?;
@@ -37,7 +41,7 @@ pub(crate) fn component_at(bytes: &[u8]) -> Option<FactBody>
     let monomer = flag_at(bytes, 9)?;
     let replaces = flag_at(bytes, 10)?;
     let class = class_at(bytes, 11)?;
-    Some(FactBody::Component {
+    Ok(FactBody::Component {
         component,
         unit,
         kind,
@@ -49,35 +53,38 @@ pub(crate) fn component_at(bytes: &[u8]) -> Option<FactBody>
 
 /// What the fact of a class says.
 #[inline(always)]
-pub(crate) fn class_fact_at(bytes: &[u8]) -> Option<FactBody>
+#[tactic(auto, unfolding(crate::specs::FactForms::class_fact, crate::specs::FieldForms::component))]
+pub(crate) fn class_fact_at(bytes: &[u8]) -> Result<FactBody, Stop>
     requires { LONGEST_FACT ≤ length bytes.now }
-    ensures { IfSome result (SaysAt bytes.now 3 11) }
+    ensures { Takes forms.class_fact.read result (drop 5 bytes.now) (drop 11 bytes.now) }
 {
     let component = two_bytes_at(bytes, 5, 1, LAST_COMPONENT)?;
     let class = class_at(bytes, 7)?;
-    Some(FactBody::Class { component, class })
+    Ok(FactBody::Class { component, class })
 }
 
 /// What a retirement says.
 #[inline(always)]
-pub(crate) fn retire_at(bytes: &[u8]) -> Option<FactBody>
+#[tactic(auto, unfolding(crate::specs::FactForms::retire, crate::specs::FieldForms::component))]
+pub(crate) fn retire_at(bytes: &[u8]) -> Result<FactBody, Stop>
     requires { LONGEST_FACT ≤ length bytes.now }
-    ensures { IfSome result (SaysAt bytes.now 4 7) }
+    ensures { Takes forms.retire.read result (drop 5 bytes.now) (drop 7 bytes.now) }
 {
     let component = two_bytes_at(bytes, 5, 1, LAST_COMPONENT)?;
-    Some(FactBody::Retire { component })
+    Ok(FactBody::Retire { component })
 }
 
 /// What the choice of a programme of skip periods says.
 #[inline(always)]
-pub(crate) fn election_at(bytes: &[u8]) -> Option<FactBody>
+#[tactic(auto, unfolding(crate::specs::FactForms::election, crate::specs::FieldForms::unit))]
+pub(crate) fn election_at(bytes: &[u8]) -> Result<FactBody, Stop>
     requires { LONGEST_FACT ≤ length bytes.now }
-    ensures { IfSome result (SaysAt bytes.now 5 9) }
+    ensures { Takes forms.election.read result (drop 5 bytes.now) (drop 9 bytes.now) }
 {
     let unit = byte_at(bytes, 5, 1, LAST_UNIT)?;
     let mode = mode_at(bytes, 6)?;
     let notified = day_at(bytes, 7)?;
-    Some(FactBody::Election {
+    Ok(FactBody::Election {
         unit,
         mode,
         notified,
@@ -86,36 +93,39 @@ pub(crate) fn election_at(bytes: &[u8]) -> Option<FactBody>
 
 /// What a shutdown says.
 #[inline(always)]
-pub(crate) fn shutdown_at(bytes: &[u8]) -> Option<FactBody>
+#[tactic(auto, unfolding(crate::specs::FactForms::shutdown, crate::specs::FieldForms::unit, crate::specs::FieldForms::shutdown_length))]
+pub(crate) fn shutdown_at(bytes: &[u8]) -> Result<FactBody, Stop>
     requires { LONGEST_FACT ≤ length bytes.now }
-    ensures { IfSome result (SaysAt bytes.now 6 8) }
+    ensures { Takes forms.shutdown.read result (drop 5 bytes.now) (drop 8 bytes.now) }
 {
     let unit = byte_at(bytes, 5, 1, LAST_UNIT)?;
     let days = two_bytes_at(bytes, 6, 1, LONGEST_SHUTDOWN)?;
-    Some(FactBody::Shutdown { unit, days })
+    Ok(FactBody::Shutdown { unit, days })
 }
 
 /// What a calibration says.
 #[inline(always)]
-pub(crate) fn calibration_at(bytes: &[u8]) -> Option<FactBody>
+#[tactic(auto, unfolding(crate::specs::FactForms::calibration, crate::specs::FieldForms::instrument, crate::specs::FieldForms::known_value))]
+pub(crate) fn calibration_at(bytes: &[u8]) -> Result<FactBody, Stop>
     requires { LONGEST_FACT ≤ length bytes.now }
-    ensures { IfSome result (SaysAt bytes.now 7 11) }
+    ensures { Takes forms.calibration.read result (drop 5 bytes.now) (drop 11 bytes.now) }
 {
     let instrument = two_bytes_at(bytes, 5, 1, 65_535)?;
     let gas = four_bytes_at(bytes, 7, 1, MOST_PPM)?;
-    Some(FactBody::Calibration { instrument, gas })
+    Ok(FactBody::Calibration { instrument, gas })
 }
 
 /// What a precision test says.
 #[inline(always)]
-pub(crate) fn precision_at(bytes: &[u8]) -> Option<FactBody>
+#[tactic(auto, unfolding(crate::specs::FactForms::precision, crate::specs::FieldForms::instrument, crate::specs::FieldForms::known_value))]
+pub(crate) fn precision_at(bytes: &[u8]) -> Result<FactBody, Stop>
     requires { LONGEST_FACT ≤ length bytes.now }
-    ensures { IfSome result (SaysAt bytes.now 8 23) }
+    ensures { Takes forms.precision.read result (drop 5 bytes.now) (drop 23 bytes.now) }
 {
     let instrument = two_bytes_at(bytes, 5, 1, 65_535)?;
     let value = four_bytes_at(bytes, 7, 1, MOST_PPM)?;
     let readings = readings_at(bytes, 11)?;
-    Some(FactBody::Precision {
+    Ok(FactBody::Precision {
         instrument,
         value,
         readings,
@@ -124,14 +134,15 @@ pub(crate) fn precision_at(bytes: &[u8]) -> Option<FactBody>
 
 /// What a drift assessment says.
 #[inline(always)]
-pub(crate) fn drift_at(bytes: &[u8]) -> Option<FactBody>
+#[tactic(auto, unfolding(crate::specs::FactForms::drift, crate::specs::FieldForms::instrument, crate::specs::FieldForms::known_value))]
+pub(crate) fn drift_at(bytes: &[u8]) -> Result<FactBody, Stop>
     requires { LONGEST_FACT ≤ length bytes.now }
-    ensures { IfSome result (SaysAt bytes.now 9 23) }
+    ensures { Takes forms.drift.read result (drop 5 bytes.now) (drop 23 bytes.now) }
 {
     let instrument = two_bytes_at(bytes, 5, 1, 65_535)?;
     let value = four_bytes_at(bytes, 7, 1, MOST_PPM)?;
     let readings = readings_at(bytes, 11)?;
-    Some(FactBody::Drift {
+    Ok(FactBody::Drift {
         instrument,
         value,
         readings,
@@ -140,9 +151,10 @@ pub(crate) fn drift_at(bytes: &[u8]) -> Option<FactBody>
 
 /// What a reading says.
 #[inline(always)]
-pub(crate) fn reading_at(bytes: &[u8]) -> Option<FactBody>
+#[tactic(auto, unfolding(crate::specs::FactForms::reading, crate::specs::FieldForms::component, crate::specs::FieldForms::number_or_none, crate::specs::FieldForms::concentration))]
+pub(crate) fn reading_at(bytes: &[u8]) -> Result<FactBody, Stop>
     requires { LONGEST_FACT ≤ length bytes.now }
-    ensures { IfSome result (SaysAt bytes.now 10 20) }
+    ensures { Takes forms.reading.read result (drop 5 bytes.now) (drop 20 bytes.now) }
 {
     let component = two_bytes_at(bytes, 5, 1, LAST_COMPONENT)?;
     let instrument = two_bytes_at(bytes, 7, 0, 65_535)?;
@@ -150,7 +162,7 @@ pub(crate) fn reading_at(bytes: &[u8]) -> Option<FactBody>
     let purpose = purpose_at(bytes, 11)?;
     let ppm = four_bytes_at(bytes, 12, 0, MOST_PPM)?;
     let background = four_bytes_at(bytes, 16, 0, MOST_PPM)?;
-    Some(FactBody::Reading {
+    Ok(FactBody::Reading {
         component,
         instrument,
         operator,
@@ -162,24 +174,26 @@ pub(crate) fn reading_at(bytes: &[u8]) -> Option<FactBody>
 
 /// What a visual inspection says.
 #[inline(always)]
-pub(crate) fn visual_at(bytes: &[u8]) -> Option<FactBody>
+#[tactic(auto, unfolding(crate::specs::FactForms::visual, crate::specs::FieldForms::component))]
+pub(crate) fn visual_at(bytes: &[u8]) -> Result<FactBody, Stop>
     requires { LONGEST_FACT ≤ length bytes.now }
-    ensures { IfSome result (SaysAt bytes.now 11 8) }
+    ensures { Takes forms.visual.read result (drop 5 bytes.now) (drop 8 bytes.now) }
 {
     let component = two_bytes_at(bytes, 5, 1, LAST_COMPONENT)?;
     let state = state_at(bytes, 7)?;
-    Some(FactBody::Visual { component, state })
+    Ok(FactBody::Visual { component, state })
 }
 
 /// What an attempt at a repair says.
 #[inline(always)]
-pub(crate) fn attempt_at(bytes: &[u8]) -> Option<FactBody>
+#[tactic(auto, unfolding(crate::specs::FactForms::attempt, crate::specs::FieldForms::component))]
+pub(crate) fn attempt_at(bytes: &[u8]) -> Result<FactBody, Stop>
     requires { LONGEST_FACT ≤ length bytes.now }
-    ensures { IfSome result (SaysAt bytes.now 12 8) }
+    ensures { Takes forms.attempt.read result (drop 5 bytes.now) (drop 8 bytes.now) }
 {
     let component = two_bytes_at(bytes, 5, 1, LAST_COMPONENT)?;
     let complete = flag_at(bytes, 7)?;
-    Some(FactBody::Attempt {
+    Ok(FactBody::Attempt {
         component,
         complete,
     })
@@ -187,15 +201,16 @@ pub(crate) fn attempt_at(bytes: &[u8]) -> Option<FactBody>
 
 /// What a delay of repair says.
 #[inline(always)]
-pub(crate) fn delay_at(bytes: &[u8]) -> Option<FactBody>
+#[tactic(auto, unfolding(crate::specs::FactForms::delay, crate::specs::FieldForms::component, crate::specs::FieldForms::delay_ground, crate::specs::FieldForms::number_or_none))]
+pub(crate) fn delay_at(bytes: &[u8]) -> Result<FactBody, Stop>
     requires { LONGEST_FACT ≤ length bytes.now }
-    ensures { IfSome result (SaysAt bytes.now 13 12) }
+    ensures { Takes forms.delay.read result (drop 5 bytes.now) (drop 12 bytes.now) }
 {
     let component = two_bytes_at(bytes, 5, 1, LAST_COMPONENT)?;
     let ground = byte_at(bytes, 7, 0, 5)?;
     let signer = two_bytes_at(bytes, 8, 0, 65_535)?;
     let expected = day_or_none_at(bytes, 10)?;
-    Some(FactBody::Delay {
+    Ok(FactBody::Delay {
         component,
         ground,
         signer,
@@ -205,24 +220,26 @@ pub(crate) fn delay_at(bytes: &[u8]) -> Option<FactBody>
 
 /// What a pressure release says.
 #[inline(always)]
-pub(crate) fn release_at(bytes: &[u8]) -> Option<FactBody>
+#[tactic(auto, unfolding(crate::specs::FactForms::release, crate::specs::FieldForms::component))]
+pub(crate) fn release_at(bytes: &[u8]) -> Result<FactBody, Stop>
     requires { LONGEST_FACT ≤ length bytes.now }
-    ensures { IfSome result (SaysAt bytes.now 14 7) }
+    ensures { Takes forms.release.read result (drop 5 bytes.now) (drop 7 bytes.now) }
 {
     let component = two_bytes_at(bytes, 5, 1, LAST_COMPONENT)?;
-    Some(FactBody::Release { component })
+    Ok(FactBody::Release { component })
 }
 
 /// What an indication says.
 #[inline(always)]
-pub(crate) fn indication_at(bytes: &[u8]) -> Option<FactBody>
+#[tactic(auto, unfolding(crate::specs::FactForms::indication, crate::specs::FieldForms::component))]
+pub(crate) fn indication_at(bytes: &[u8]) -> Result<FactBody, Stop>
     requires { LONGEST_FACT ≤ length bytes.now }
-    ensures { IfSome result (SaysAt bytes.now 15 9) }
+    ensures { Takes forms.indication.read result (drop 5 bytes.now) (drop 9 bytes.now) }
 {
     let component = two_bytes_at(bytes, 5, 1, LAST_COMPONENT)?;
     let sort = sort_at(bytes, 7)?;
     let present = flag_at(bytes, 8)?;
-    Some(FactBody::Indication {
+    Ok(FactBody::Indication {
         component,
         sort,
         present,

@@ -1,6 +1,0 @@
-use Rattle.std.proofs.Common.{refl}
-use Rattle.ldar_facts.proofs.Places.{field_and, last_field}
-use Rattle.ldar_facts.proofs.body_at.attempt_at.Goals as goal
-
-pub returns : goal.returns
-returns c = record { number = refl; fields = field_and c.in_ok-component.ensures (last_field c.in_ok-complete.ensures) }

@@ -1,6 +1,0 @@
-use Rattle.std.proofs.Common.{refl}
-use Rattle.ldar_facts.proofs.Places.{field_and, last_field}
-use Rattle.ldar_facts.proofs.body_at.reading_at.Goals as goal
-
-pub returns : goal.returns
-returns c = record { number = refl; fields = field_and c.in_ok-component.ensures (field_and c.in_ok-instrument.ensures (field_and c.in_ok-operator.ensures (field_and c.in_ok-purpose.ensures (field_and c.in_ok-ppm.ensures (last_field c.in_ok-background.ensures))))) }
