@@ -1,40 +1,10 @@
 -- The derived test of facts, and of lists of them, answers yes exactly of the same two.
-use Rattle.std.proofs.Common.{◌≡◌, ◌&&◌, ◌↔◌, ℕ, ◌-◌, Bool, true, false, List, [], ◌∷◌, length, take, replicate, Option, refl, sym, ap, ◌∙◌, eqb, arith}
+use Rattle.std.proofs.Common.{◌≡◌, ◌&&◌, ◌↔◌, Bool, true, List, [], ◌∷◌, refl, sym, ap, ◌∙◌, eqb}
 use Rattle.std.proofs.lemmas.Bool.{eqb-true, eq-eqb, and_parts, and_from}
-use Rattle.std.proofs.lemmas.Bool.Decides.{nat_tests}
-use Rattle.std.proofs.lemmas.List.{take_at}
-use Rattle.std.specs.Cmp.Lexicographic.{same_text}
 use lib.Pointwise.{pointwise}
-use mathlib.Core.Bool.{beq}
-use Rattle.ldar_facts.specs.declared.class.Class.{Class}
-use Rattle.ldar_facts.specs.declared.class.Kind.{Kind}
-use Rattle.ldar_facts.specs.declared.class.Kind.TheVariants.{Valve, Pump, Compressor, Relief}
-use Rattle.ldar_facts.specs.declared.class.Service.{Service}
-use Rattle.ldar_facts.specs.declared.class.Service.TheVariants.{Gas, Light, Heavy, Vacuum, Under300}
-use Rattle.ldar_facts.specs.declared.class.Designation.{Designation}
-use Rattle.ldar_facts.specs.declared.class.Designation.TheVariants.{Plain, Nde, Unsafe, Difficult}
-use Rattle.ldar_facts.specs.declared.body.Purpose.{Purpose}
-use Rattle.ldar_facts.specs.declared.body.Purpose.TheVariants.{Routine, FollowUp}
-use Rattle.ldar_facts.specs.declared.body.VisualState.{VisualState}
-use Rattle.ldar_facts.specs.declared.body.VisualState.TheVariants.{Dry, Drips, Designated}
-use Rattle.ldar_facts.specs.declared.body.Sort.{Sort}
-use Rattle.ldar_facts.specs.declared.body.Sort.TheVariants.{Sensor, Evidence}
-use Rattle.ldar_facts.specs.declared.body.FactBody.{FactBody}
-use Rattle.ldar_facts.specs.declared.body.FactBody.TheVariants.{Unit as UnitFact, Component as ComponentFact, Class as ClassFact, Retire, Election}
-use Rattle.ldar_facts.specs.declared.body.FactBody.TheVariants.{Shutdown, Calibration, Precision, Drift, Reading, Visual, Attempt, Delay, Release}
-use Rattle.ldar_facts.specs.declared.body.FactBody.TheVariants.{Indication}
 use Rattle.ldar_facts.specs.Stated.{Stated}
-use Rattle.ldar_facts.specs.Name.{spelled_name}
 use Rattle.ldar_facts.specs.contracts.body.FactBodyPartialEq.TheImpl as bodies
-use Rattle.ldar_facts.specs.contracts.body.PurposePartialEq.TheImpl as purposes
-use Rattle.ldar_facts.specs.contracts.body.VisualStatePartialEq.TheImpl as states
-use Rattle.ldar_facts.specs.contracts.body.SortPartialEq.TheImpl as sorts
-use Rattle.ldar_facts.specs.contracts.class.ClassPartialEq.TheImpl as classes
-use Rattle.ldar_facts.specs.contracts.class.KindPartialEq.TheImpl as kinds
-use Rattle.ldar_facts.specs.contracts.class.ServicePartialEq.TheImpl as services
-use Rattle.ldar_facts.specs.contracts.class.DesignationPartialEq.TheImpl as designations
 use Rattle.ldar_facts.specs.contracts.fact.FactPartialEq.TheImpl as facts
-use Rattle.ldar_facts.specs.contracts.name.NamePartialEq.TheImpl as names
 use Rattle.ldar_facts.proofs.FactTies.{same_stated}
 use Rattle.ldar_facts.proofs.FieldEquality.{pointwise_itself}
 use Rattle.ldar_facts.proofs.KindEquality.{same_body}

@@ -1,5 +1,5 @@
 -- The derived test of each field answers yes of the same two, and of a field and itself.
-use Rattle.std.proofs.Common.{◌≡◌, ◌&&◌, ◌↔◌, ℕ, ◌-◌, Bool, true, false, List, [], ◌∷◌, length, take, replicate, Option, refl, sym, ap, ◌∙◌, eqb, arith}
+use Rattle.std.proofs.Common.{◌≡◌, ◌&&◌, ℕ, ◌-◌, Bool, true, false, List, [], ◌∷◌, length, take, replicate, refl, sym, ap, ◌∙◌, eqb, arith}
 use Rattle.std.proofs.lemmas.Bool.{eqb-true, eq-eqb, and_parts, and_from}
 use Rattle.std.proofs.lemmas.Bool.Decides.{nat_tests}
 use Rattle.std.proofs.lemmas.List.{take_at}
@@ -19,13 +19,7 @@ use Rattle.ldar_facts.specs.declared.body.VisualState.{VisualState}
 use Rattle.ldar_facts.specs.declared.body.VisualState.TheVariants.{Dry, Drips, Designated}
 use Rattle.ldar_facts.specs.declared.body.Sort.{Sort}
 use Rattle.ldar_facts.specs.declared.body.Sort.TheVariants.{Sensor, Evidence}
-use Rattle.ldar_facts.specs.declared.body.FactBody.{FactBody}
-use Rattle.ldar_facts.specs.declared.body.FactBody.TheVariants.{Unit as UnitFact, Component as ComponentFact, Class as ClassFact, Retire, Election}
-use Rattle.ldar_facts.specs.declared.body.FactBody.TheVariants.{Shutdown, Calibration, Precision, Drift, Reading, Visual, Attempt, Delay, Release}
-use Rattle.ldar_facts.specs.declared.body.FactBody.TheVariants.{Indication}
-use Rattle.ldar_facts.specs.Stated.{Stated}
 use Rattle.ldar_facts.specs.Name.{spelled_name}
-use Rattle.ldar_facts.specs.contracts.body.FactBodyPartialEq.TheImpl as bodies
 use Rattle.ldar_facts.specs.contracts.body.PurposePartialEq.TheImpl as purposes
 use Rattle.ldar_facts.specs.contracts.body.VisualStatePartialEq.TheImpl as states
 use Rattle.ldar_facts.specs.contracts.body.SortPartialEq.TheImpl as sorts
@@ -33,9 +27,7 @@ use Rattle.ldar_facts.specs.contracts.class.ClassPartialEq.TheImpl as classes
 use Rattle.ldar_facts.specs.contracts.class.KindPartialEq.TheImpl as kinds
 use Rattle.ldar_facts.specs.contracts.class.ServicePartialEq.TheImpl as services
 use Rattle.ldar_facts.specs.contracts.class.DesignationPartialEq.TheImpl as designations
-use Rattle.ldar_facts.specs.contracts.fact.FactPartialEq.TheImpl as facts
 use Rattle.ldar_facts.specs.contracts.name.NamePartialEq.TheImpl as names
-use Rattle.ldar_facts.proofs.FactTies.{same_stated}
 
 -- kinds that are told to be the same are
 pub same_kind : (a b : Kind) → (kinds.eq-value).it a b ≡ true → a ≡ b

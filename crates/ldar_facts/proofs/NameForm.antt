@@ -9,9 +9,8 @@ use Rattle.std.proofs.lemmas.List.Folds.{list_all-append}
 use Rattle.ldar_facts.specs.Fields.{IsAmong, big_endian}
 use Rattle.ldar_facts.specs.Name.{IsName, is_name_byte, spelled_name}
 use Rattle.ldar_facts.specs.Form.{Form}
-use Rattle.ldar_facts.specs.Compose.{done, either, ◌>>=◌}
-use Rattle.ldar_facts.specs.Number.{number_form}
-use Rattle.ldar_facts.specs.Letters.{letters, letters_or_zero, letter, letter_or_zero, zero_byte, zeros, ended, behind, name_form}
+use Rattle.ldar_facts.specs.Compose.{either}
+use Rattle.ldar_facts.specs.Letters.{letters, letters_or_zero, letter, zeros, ended, behind, name_form}
 
 -- ---- letters are the bytes of names
 

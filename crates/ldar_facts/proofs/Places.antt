@@ -1,49 +1,70 @@
--- Fields one after the other at known places, and the fact that they make.
-use Rattle.std.proofs.Common.{◌≡◌, ℕ, ◌+◌, ◌*◌, ◌/◌, ◌%◌, ◌<◌, ◌≤◌, List, [], ◌∷◌, ◌++◌, length, get_or, drop, Ok, refl, sym, ap, subst, ◌∙◌, append_assoc}
-use Rattle.std.proofs.Common.{add_assoc, arith}
-use Rattle.std.specs.List.{flat_map, AllByRecursion}
-use Rattle.std.proofs.lemmas.List.{append-nil, drop_more}
-use Rattle.ldar_facts.specs.declared.body.FactBody.{FactBody}
-use Rattle.ldar_facts.specs.Stated.{Stated}
-use Rattle.ldar_facts.specs.Fields.{Field, IsFilled, IsFact, bytes_of, big_endian, body_number, body_fields, fact_fields}
-use Rattle.ldar_facts.specs.Grammar.{spelled}
-use Rattle.ldar_facts.specs.FactForms as forms
-use Rattle.ldar_facts.specs.Places.{FieldAt, FieldsAt, head_fields, AddsFact}
-use Rattle.ldar_facts.proofs.FactTies as tie
+-- Fields at known places of some bytes are read as those in front of what is left.
+use Rattle.std.proofs.Common.{◌≡◌, ℕ, zero, suc, ◌+◌, ◌*◌, ◌-◌, ◌≤◌, List, [], ◌∷◌, length, get_or, take, drop, Result, Ok, Err, sym}
+use Rattle.std.proofs.Common.{replicate, ap, ◌∙◌, length-append, arith}
+use Rattle.std.proofs.lemmas.List.{drop_more, drop_at, drop-drop, take-append-drop, length-replicate}
+use Rattle.ldar_facts.specs.declared.stop.Stop.{Stop}
+use Rattle.ldar_facts.specs.declared.stop.Stop.TheVariants.{Wrong}
+use Rattle.ldar_facts.specs.Compose.{IsBytes-behind, ok_pair}
+use Rattle.ldar_facts.specs.Form.{IsBytes, Takes}
+use Rattle.ldar_facts.specs.Letters.{name_form}
+use Rattle.ldar_facts.specs.Number.{number_from, may_be, no_value}
+use Rattle.ldar_facts.proofs.NameForm.{name_text}
 
--- no fields
-pub none_at : (bytes : List ℕ) (at : ℕ) → FieldsAt bytes at at []
-none_at bytes at = record { filled = tt; stands = refl }
+-- bytes from a place on are bytes
+pub IsBytes-drop : (bytes : List ℕ) (at : ℕ) → IsBytes bytes → IsBytes (drop at bytes)
+IsBytes-drop bytes at are = IsBytes-behind bytes (take at bytes) (drop at bytes) (sym (take-append-drop at bytes)) are
 
--- a field, and fields behind it
-pub field_and : {bytes : List ℕ} {from mid to : ℕ} {field : Field} {fields : List Field}
-    → FieldAt bytes from mid field → FieldsAt bytes mid to fields → FieldsAt bytes from to (field ∷ fields)
-field_and {bytes = bytes} {to = to} {field = field} {fields = fields} first others = record {
-  filled = (first.filled, others.filled);
-  stands = first.stands ∙ ap (λ l. bytes_of field ++ l) others.stands ∙ sym (append_assoc (bytes_of field) (spelled fields) (drop to bytes));
-}
+-- two bytes stand at a place
+pub two_stand : (bytes : List ℕ) (at : ℕ) → at + 2 ≤ length bytes → drop at bytes ≡ get_or bytes at 0 ∷ get_or bytes (at + 1) 0 ∷ drop (at + 2) bytes
+two_stand bytes at within =
+    let next : at + 1 + 1 ≡ at + 2 = omega arith in
+    drop_more bytes at 0 (omega arith)
+    ∙ ap (λ l. get_or bytes at 0 ∷ l) (drop_more bytes (at + 1) 0 (omega arith) ∙ ap (λ k. get_or bytes (at + 1) 0 ∷ drop k bytes) next)
 
--- a last field
-pub last_field : {bytes : List ℕ} {from to : ℕ} {field : Field} → FieldAt bytes from to field → FieldsAt bytes from to (field ∷ [])
-last_field {bytes = bytes} {to = to} first = field_and first (none_at bytes to)
+-- four bytes stand at a place
+pub four_stand : (bytes : List ℕ) (at : ℕ) → at + 4 ≤ length bytes
+    → drop at bytes ≡ get_or bytes at 0 ∷ get_or bytes (at + 1) 0 ∷ get_or bytes (at + 2) 0 ∷ get_or bytes (at + 3) 0 ∷ drop (at + 4) bytes
+four_stand bytes at within =
+    let third : at + 2 + 1 ≡ at + 3 = omega arith in
+    let behind : at + 2 + 2 ≡ at + 4 = omega arith in
+    let later : drop (at + 2) bytes ≡ get_or bytes (at + 2) 0 ∷ get_or bytes (at + 3) 0 ∷ drop (at + 4) bytes =
+    two_stand bytes (at + 2) (omega arith)
+    ∙ ap (λ k. get_or bytes (at + 2) 0 ∷ get_or bytes k 0 ∷ drop (at + 2 + 2) bytes) third
+    ∙ ap (λ k. get_or bytes (at + 2) 0 ∷ get_or bytes (at + 3) 0 ∷ drop k bytes) behind in
+    two_stand bytes at (omega arith) ∙ ap (λ l. get_or bytes at 0 ∷ get_or bytes (at + 1) 0 ∷ l) later
 
--- the head of a fact, and what it says
-pub fact_stands : (bytes : List ℕ) (to day minute : ℕ) (body : FactBody) → FieldsAt bytes 0 5 (head_fields (body_number body) day minute)
-    → FieldsAt bytes 5 to (body_fields body) → FieldsAt bytes 0 to (fact_fields (record { day = day; minute = minute; body = body }))
-fact_stands bytes to day minute body head says =
-    let parts = head.filled in
-    record {
-      filled = (parts.0, (parts.1.0, (parts.1.1.0, says.filled)));
-      stands = head.stands ∙ ap (λ l. spelled (head_fields (body_number body) day minute) ++ l) says.stands
-          ∙ sym (append_assoc (spelled (head_fields (body_number body) day minute)) (spelled (body_fields body)) (drop to bytes));
-    }
+-- ---- how far a field reaches
 
--- ---- the form reads what was added
+-- a number ends behind its bytes
+number_ends : (more : ℕ) (ranges : List (ℕ × ℕ)) (n : ℕ) (bytes : List ℕ) (v : ℕ) (rest : List ℕ)
+    → number_from more ranges n bytes ≡ Ok (v, rest) → rest ≡ drop more bytes
+unfolding number_from
+number_ends zero ranges n bytes v rest e = sym (ok_pair (n, bytes) (v, rest) e).1
+number_ends (suc more) ranges n [] v rest e = absurd cc
+number_ends (suc more) ranges n (b ∷ bytes) v rest e =
+    let step = no_value (may_be more ranges (n * 256 + b)) (number_from more ranges (n * 256 + b) bytes) (Wrong (suc (length bytes))) (v, rest) e in
+    number_ends more ranges (n * 256 + b) bytes v rest step.1
 
--- a fact in its range is read, whatever follows its spelling
-pub fact_again : (fact : Stated) (bytes rest : List ℕ) → IsFact fact → bytes ≡ spelled (fact_fields fact) ++ rest → (forms.fact).read bytes ≡ Ok (fact, rest)
-fact_again fact bytes rest filled stands =
-    let p = tie.fact.path fact filled in
-    let text : (forms.fact).text p.0 ≡ spelled (fact_fields fact) = tie.fact.text p.0 ∙ ap (λ x. spelled (fact_fields x)) p.1 in
-    let again : (forms.fact).read ((forms.fact).text p.0 ++ rest) ≡ Ok (fact, rest) = (forms.fact).reads.again p.0 rest ∙ ap (λ x. Ok (x, rest)) p.1 in
-    rw stands (subst (λ l. (forms.fact).read (l ++ rest) ≡ Ok (fact, rest)) text again)
+-- a number at a place ends so many bytes behind it
+pub number_to : (width at : ℕ) (ranges : List (ℕ × ℕ)) (bytes : List ℕ) (v : ℕ) (rest : List ℕ)
+    → number_from width ranges 0 (drop at bytes) ≡ Ok (v, rest) → number_from width ranges 0 (drop at bytes) ≡ Ok (v, drop (at + width) bytes)
+number_to width at ranges bytes v rest e =
+    e ∙ ap (λ (l : List ℕ). Ok (v, l)) (number_ends width ranges 0 (drop at bytes) v rest e ∙ drop-drop width at bytes)
+
+-- a name ends behind its twelve bytes
+name_ends : (bytes rest : List ℕ) (name : List ℕ) → IsBytes bytes → name_form.read bytes ≡ Ok (name, rest) → rest ≡ drop 12 bytes
+name_ends bytes rest name are e =
+    let p = name_form.reads.found bytes name rest are e in
+    let text = name_text p.0 in
+    let fits = text.0.fits in
+    let len : length (name_form.text p.0) ≡ 12 =
+    ap length text.1 ∙ length-append (name_form.value p.0) (replicate (12 - length (name_form.value p.0)) 0)
+    ∙ rw (length-replicate {A = ℕ} (12 - length (name_form.value p.0)) 0) (omega (arith, fits)) in
+    sym (rw p.2 (drop_at (name_form.text p.0) rest 12 len))
+
+-- a name at a place ends twelve bytes behind it
+pub name_to : (at : ℕ) (bytes rest : List ℕ) (result : Result (List ℕ) Stop) → IsBytes bytes → Takes name_form.read result (drop at bytes) rest
+    → Takes name_form.read result (drop at bytes) (drop (at + 12) bytes)
+name_to at bytes rest (Ok name) are e =
+    e ∙ ap (λ (l : List ℕ). Ok (name, l)) (name_ends (drop at bytes) rest name (IsBytes-drop bytes at are) e ∙ drop-drop 12 at bytes)
+name_to at bytes rest (Err stop) are e = e

@@ -1,5 +1,7 @@
 -- Writing the facts of a batch, as a loop does.
 use Rattle.std.proofs.Common.{◌≡◌, ℕ, ◌+◌, ◌<◌, ◌≤◌, List, [], ◌∷◌, ◌++◌, length, get_or, take, sym, ap, ◌∙◌, append_assoc, arith}
+use Rattle.std.proofs.Common.{Result, Ok, Err}
+use Rattle.std.specs.Prelude.{OnOk}
 use Rattle.std.specs.List.{flat_map, AllByRecursion}
 use Rattle.std.proofs.lemmas.List.{append-nil, take_more, take_all}
 use Rattle.std.proofs.lemmas.List.Concat.{flat_map-append}
@@ -54,3 +56,15 @@ all_written batch i bytes so_far le some few any_handheld any_number =
       filled = ((omega arith, omega arith), ((omega arith, any_handheld), ((omega arith, any_number), ((some, few), rw all at so_far.filled))));
       spells = so_far.items ∙ ap (λ (facts : List Stated). spelled (head_fields batch) ++ spelled (flat_map fact_fields facts)) all;
     }
+
+-- ---- bytes added one after the other
+
+-- these were added, and those behind them
+pub more : (old mid new added other : List ℕ) → mid ≡ old ++ added → new ≡ mid ++ other → new ≡ old ++ (added ++ other)
+more old mid new added other first second = second ∙ ap (λ l. l ++ other) first ∙ append_assoc old added other
+
+-- and where the last call did not want memory, those behind them
+pub last : (old mid new added other : List ℕ) {E : Type 0} (answer : Result (Unit {0}) E) → mid ≡ old ++ added → OnOk answer (new ≡ mid ++ other)
+    → OnOk answer (new ≡ old ++ (added ++ other))
+last old mid new added other (Ok x) first second = more old mid new added other first second
+last old mid new added other (Err e) first second = tt

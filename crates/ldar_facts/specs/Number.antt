@@ -5,7 +5,7 @@ use Rattle.std.specs.Prelude.{if◌then◌else◌, List, [], ◌∷◌, ◌++◌
 use Rattle.std.specs.List.{list_any, list_all}
 use Rattle.std.proofs.Common.{sym, ap, subst, ◌∙◌, inl, inr, cond, arith}
 use Rattle.std.proofs.lemmas.Bool.{cases_lt, cases_Bool, leb-true, ltb-true, le-leb, and_parts, and_from, or_cases, or_left, or_right, cond-true}
-use Rattle.std.proofs.lemmas.Bool.{cond-false, false≢true}
+use Rattle.std.proofs.lemmas.Bool.{cond-false}
 use Rattle.std.proofs.lemmas.Nat.{mul-le, le-div, div_below}
 use Rattle.std.proofs.Math.Nat.{pow-suc, one-le-pow, div-eq_of_lt-le}
 use Rattle.ldar_facts.specs.declared.stop.Stop.{Stop}

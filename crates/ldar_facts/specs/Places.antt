@@ -1,35 +1,24 @@
 -- How the private readers are proved; nothing here has to be believed. It stands in specs/ since their clauses cite it.
--- Fields at known places of some bytes, and a fact that was added from there.
-use Rattle.std.specs.Prelude.{◌≡◌, ℕ, List, [], ◌∷◌, ◌++◌, drop, Ok}
-use Rattle.std.specs.List.{AllByRecursion}
+-- What is left to read of a fact behind its head, and a fact that was added to others.
+use Rattle.std.specs.Prelude.{◌≡◌, ℕ, ◌-◌, nat_lt, if◌then◌else◌, List, [], ◌∷◌, ◌++◌, drop, Ok}
+use Rattle.ldar_facts.specs.declared.stop.Stop.{Stop}
+use Rattle.ldar_facts.specs.declared.stop.Stop.TheVariants.{Short, Wrong}
 use Rattle.ldar_facts.specs.Stated.{Stated}
-use Rattle.ldar_facts.specs.Fields.{Field, number, IsFilled, IsFact, bytes_of, fact_kinds, days, minutes, fact_fields}
-use Rattle.ldar_facts.specs.Grammar.{spelled}
+use Rattle.ldar_facts.specs.Form.{◌then◌}
 use Rattle.ldar_facts.specs.FactForms as forms
 
--- this field stands from one place of the bytes to another
-pub record FieldAt (bytes : List ℕ) (from to : ℕ) (field : Field) : Type 0 where
-  pub filled : IsFilled field
-  pub stands : drop from bytes ≡ bytes_of field ++ drop to bytes
-
--- these fields stand from one place of the bytes to another
-pub record FieldsAt (bytes : List ℕ) (from to : ℕ) (fields : List Field) : Type 0 where
-  pub filled : AllByRecursion IsFilled fields
-  pub stands : drop from bytes ≡ spelled fields ++ drop to bytes
-
--- the fields with which each fact begins: its kind, day and minute
-abbrev pub head_fields : ℕ → ℕ → ℕ → List Field
-head_fields kind day minute = number 1 fact_kinds kind ∷ number 2 days day ∷ number 2 minutes minute ∷ []
-
--- the fact in front of the bytes was added to some, and this is left
-pub record AddsFact (bytes : List ℕ) (old new : List Stated) (rest : List ℕ) : Type 0 where
-  pub fact : Stated
-  pub filled : IsFact fact
-  pub items : new ≡ old ++ fact ∷ []
-  pub stands : bytes ≡ spelled (fact_fields fact) ++ rest
+-- in front of the bytes stands the head of a fact, in five bytes: what reading the fact gives is decided by those behind
+abbrev pub GoesOn : List ℕ → ℕ → ℕ → ℕ → Type 0
+GoesOn bytes kind day minute =
+    (forms.fact).read bytes ≡ ((forms.body kind).read (drop 5 bytes) then λ x. Ok (record { day = day; minute = minute; body = x.0 }, x.1))
 
 -- the fact in front of some bytes was taken, and added to some
 pub record TakesFact (bytes : List ℕ) (old new : List Stated) (rest : List ℕ) : Type 0 where
   pub fact : Stated
   pub read : (forms.fact).read bytes ≡ Ok (fact, rest)
   pub items : new ≡ old ++ fact ∷ []
+
+-- why reading stopped, if so many bytes at the end had not been there
+abbrev pub stop_before : Stop → ℕ → Stop
+stop_before Short added = Short
+stop_before (Wrong left) added = if nat_lt added left then Wrong (left - added) else Short

@@ -1,201 +1,209 @@
-//! Fields at known places, read with no look at what follows a wrong one. None of these says where bytes go wrong.
+//! Fields at known places of bytes that are long enough for them. Only a wrong field is looked at again, for its place.
 
-ghost use Rattle.std.specs.Prelude.{◌+◌, ◌<◌, ◌≤◌, [], ◌∷◌, length, IfSome};
-ghost use Rattle.ldar_facts.specs.Fields as fields;
-ghost use Rattle.ldar_facts.specs.Places.{FieldAt, FieldsAt};
+ghost use Rattle.std.specs.Prelude.{◌≡◌, ◌+◌, ◌<◌, ◌≤◌, [], ◌∷◌, length, drop, IfOk};
+ghost use Rattle.ldar_facts.specs.Form.{Takes};
+ghost use Rattle.ldar_facts.specs.Number.{number_from, among, stop_of};
+ghost use Rattle.ldar_facts.specs.Letters.{name_form};
+ghost use Rattle.ldar_facts.specs.FieldForms as forms;
 
 use crate::body::{Purpose, Sort, VisualState};
 use crate::class::{Class, Designation, Kind, Service};
+use crate::cursor::Cursor;
 use crate::name::Name;
-use crate::ranges::MOST_PPM;
+use crate::ranges::{DAYS_OR_NONE, MODES, MOST_PPM};
+use crate::read_number::{self, first_wrong};
+use crate::stop::Stop;
 use ldar_days::Day;
+
+/// Whether the number lies in the range.
+#[inline(always)]
+fn lies(number: u32, least: u32, most: u32) -> bool
+    ensures { result ≡ among ((least, most) ∷ []) number }
+{
+    least <= number && number <= most
+}
+
+/// The bytes from a place on.
+fn bytes_from(bytes: &[u8], at: usize) -> &[u8]
+    requires { at ≤ length bytes.now }
+    ensures { result.now ≡ drop at bytes.now }
+{
+    &bytes[at..]
+}
+
+/// Where a number at a place goes wrong.
+#[cold]
+fn wrong_at(bytes: &[u8], at: usize, width: usize, least: u32, most: u32) -> Stop
+    requires fits { width ≤ 4 }
+    requires within { at ≤ length bytes.now }
+    ensures { result ≡ stop_of (number_from width ((least, most) ∷ []) 0 (drop at bytes.now)) }
+{
+    first_wrong(bytes_from(bytes, at), width, &[(least, most)])
+}
 
 /// The byte at a place, if it lies in a range.
 #[inline(always)]
-pub(crate) fn byte_at(bytes: &[u8], at: usize, least: u8, most: u8) -> Option<u8>
+pub(crate) fn byte_at(bytes: &[u8], at: usize, least: u8, most: u8) -> Result<u8, Stop>
     requires { at < length bytes.now }
-    ensures { IfSome result (λ n. FieldAt bytes.now at (at + 1) (fields.number 1 ((least, most) ∷ []) n)) }
+    ensures read { Takes (number_from 1 ((least, most) ∷ []) 0) result (drop at bytes.now) (drop (at + 1) bytes.now) }
+    ensures in_range { IfOk result (λ n. (least ≤ n) × (n ≤ most)) }
 {
     let number = bytes[at];
-    if number < least || number > most {
-        return None;
+    if !lies(u32::from(number), u32::from(least), u32::from(most)) {
+        return Err(wrong_at(bytes, at, 1, u32::from(least), u32::from(most)));
     }
-    Some(number)
+    Ok(number)
 }
 
 /// The number of two bytes at a place, if it lies in a range.
 #[inline(always)]
-pub(crate) fn two_bytes_at(bytes: &[u8], at: usize, least: u16, most: u16) -> Option<u16>
+pub(crate) fn two_bytes_at(bytes: &[u8], at: usize, least: u16, most: u16) -> Result<u16, Stop>
     requires { at + 2 ≤ length bytes.now }
-    ensures { IfSome result (λ n. FieldAt bytes.now at (at + 2) (fields.number 2 ((least, most) ∷ []) n)) }
+    ensures read { Takes (number_from 2 ((least, most) ∷ []) 0) result (drop at bytes.now) (drop (at + 2) bytes.now) }
+    ensures in_range { IfOk result (λ n. (least ≤ n) × (n ≤ most)) }
 {
     let number = u16::from_be_bytes([bytes[at], bytes[at + 1]]);
-    if number < least || number > most {
-        return None;
+    if !lies(u32::from(number), u32::from(least), u32::from(most)) {
+        return Err(wrong_at(bytes, at, 2, u32::from(least), u32::from(most)));
     }
-    Some(number)
+    Ok(number)
 }
 
 /// The number of four bytes at a place, if it lies in a range.
 #[inline(always)]
-pub(crate) fn four_bytes_at(bytes: &[u8], at: usize, least: u32, most: u32) -> Option<u32>
+pub(crate) fn four_bytes_at(bytes: &[u8], at: usize, least: u32, most: u32) -> Result<u32, Stop>
     requires { at + 4 ≤ length bytes.now }
-    ensures { IfSome result (λ n. FieldAt bytes.now at (at + 4) (fields.number 4 ((least, most) ∷ []) n)) }
+    ensures { Takes (number_from 4 ((least, most) ∷ []) 0) result (drop at bytes.now) (drop (at + 4) bytes.now) }
 {
     let number = u32::from_be_bytes([bytes[at], bytes[at + 1], bytes[at + 2], bytes[at + 3]]);
-    if number < least || number > most {
-        return None;
+    if !lies(number, least, most) {
+        return Err(wrong_at(bytes, at, 4, least, most));
     }
-    Some(number)
+    Ok(number)
+}
+
+/// No or yes, at a place.
+#[inline(always)]
+#[tactic(auto, unfolding(crate::specs::FieldForms::flag))]
+pub(crate) fn flag_at(bytes: &[u8], at: usize) -> Result<bool, Stop>
+    requires { at < length bytes.now }
+    ensures { Takes forms.flag.read result (drop at bytes.now) (drop (at + 1) bytes.now) }
+{
+    let number = byte_at(bytes, at, 0, 1)?;
+    Ok(number == 1)
 }
 
 /// The day at a place.
 #[inline(always)]
-pub(crate) fn day_at(bytes: &[u8], at: usize) -> Option<Day>
+#[tactic(auto, unfolding(crate::specs::FieldForms::day))]
+pub(crate) fn day_at(bytes: &[u8], at: usize) -> Result<Day, Stop>
     requires { at + 2 ≤ length bytes.now }
-    ensures { IfSome result (λ day. FieldAt bytes.now at (at + 2) (fields.number 2 fields.days day)) }
+    ensures { Takes forms.day.read result (drop at bytes.now) (drop (at + 2) bytes.now) }
 {
     let number = two_bytes_at(bytes, at, 13_879, 47_481)?;
-    Some(Day::at(u32::from(number)))
+    Ok(Day::at(u32::from(number)))
 }
 
-/// The flag at a place.
-#[inline(always)]
-pub(crate) fn flag_at(bytes: &[u8], at: usize) -> Option<bool>
-    requires { at < length bytes.now }
-    ensures { IfSome result (λ flag. FieldAt bytes.now at (at + 1) (fields.flag flag)) }
+/// A day, or 0 for none, at a place.
+#[tactic(auto, unfolding(crate::specs::FieldForms::day_or_none))]
+pub(crate) fn day_or_none_at(bytes: &[u8], at: usize) -> Result<Option<Day>, Stop>
+    requires { at + 2 ≤ length bytes.now }
+    ensures { Takes forms.day_or_none.read result (drop at bytes.now) (drop (at + 2) bytes.now) }
 {
-    let number = byte_at(bytes, at, 0, 1)?;
-    match number {
-        0 => Some(false),
-        1 => Some(true),
-        _ => None,
-    }
+    let (number, _) = read_number::two_bytes(bytes_from(bytes, at), &DAYS_OR_NONE)?;
+    Ok(Day::of_number(u32::from(number)))
+}
+
+/// A programme of skip periods, at a place.
+#[tactic(auto, unfolding(crate::specs::FieldForms::mode))]
+pub(crate) fn mode_at(bytes: &[u8], at: usize) -> Result<u8, Stop>
+    requires { at < length bytes.now }
+    ensures { Takes forms.mode.read result (drop at bytes.now) (drop (at + 1) bytes.now) }
+{
+    let (mode, _) = read_number::byte(bytes_from(bytes, at), &MODES)?;
+    Ok(mode)
+}
+
+/// The name of a process unit, at a place.
+pub(crate) fn name_at(bytes: &[u8], at: usize) -> Result<Name, Stop>
+    requires { at + 12 ≤ length bytes.now }
+    ensures { Takes name_form.read result (drop at bytes.now) (drop (at + 12) bytes.now) }
+{
+    Cursor::new(bytes_from(bytes, at)).name()
 }
 
 /// What a component is, at a place.
 #[inline(always)]
-pub(crate) fn kind_at(bytes: &[u8], at: usize) -> Option<Kind>
+#[tactic(auto, unfolding(crate::specs::FieldForms::kind))]
+pub(crate) fn kind_at(bytes: &[u8], at: usize) -> Result<Kind, Stop>
     requires { at < length bytes.now }
-    ensures { IfSome result (λ kind. FieldAt bytes.now at (at + 1) (fields.number 1 fields.component_kinds (fields.kind_number kind))) }
+    ensures { Takes forms.kind.read result (drop at bytes.now) (drop (at + 1) bytes.now) }
 {
     let number = byte_at(bytes, at, 1, 4)?;
-    match number {
-        1 => Some(Kind::Valve),
-        2 => Some(Kind::Pump),
-        3 => Some(Kind::Compressor),
-        4 => Some(Kind::Relief),
-        _ => None,
-    }
-}
-
-/// Why a reading was taken, at a place.
-#[inline(always)]
-pub(crate) fn purpose_at(bytes: &[u8], at: usize) -> Option<Purpose>
-    requires { at < length bytes.now }
-    ensures { IfSome result (λ purpose. FieldAt bytes.now at (at + 1) (fields.number 1 fields.purposes (fields.purpose_number purpose))) }
-{
-    let number = byte_at(bytes, at, 1, 2)?;
-    match number {
-        1 => Some(Purpose::Routine),
-        2 => Some(Purpose::FollowUp),
-        _ => None,
-    }
-}
-
-/// What a visual inspection found, at a place.
-#[inline(always)]
-pub(crate) fn state_at(bytes: &[u8], at: usize) -> Option<VisualState>
-    requires { at < length bytes.now }
-    ensures { IfSome result (λ state. FieldAt bytes.now at (at + 1) (fields.number 1 fields.visual_states (fields.state_number state))) }
-{
-    let number = byte_at(bytes, at, 0, 2)?;
-    match number {
-        0 => Some(VisualState::Dry),
-        1 => Some(VisualState::Drips),
-        2 => Some(VisualState::Designated),
-        _ => None,
-    }
-}
-
-/// What an indication speaks of, at a place.
-#[inline(always)]
-pub(crate) fn sort_at(bytes: &[u8], at: usize) -> Option<Sort>
-    requires { at < length bytes.now }
-    ensures { IfSome result (λ sort. FieldAt bytes.now at (at + 1) (fields.number 1 fields.sorts (fields.sort_number sort))) }
-{
-    let number = byte_at(bytes, at, 1, 2)?;
-    match number {
-        1 => Some(Sort::Sensor),
-        2 => Some(Sort::Evidence),
-        _ => None,
-    }
-}
-
-/// A programme of skip periods, at a place.
-#[inline(always)]
-pub(crate) fn mode_at(bytes: &[u8], at: usize) -> Option<u8>
-    requires { at < length bytes.now }
-    ensures { IfSome result (λ mode. FieldAt bytes.now at (at + 1) (fields.number 1 fields.modes mode)) }
-{
-    let mode = byte_at(bytes, at, 0, 3)?;
-    if mode == 2 {
-        return None;
-    }
-    Some(mode)
-}
-
-/// A day, or 0 for none, at a place.
-#[inline(always)]
-pub(crate) fn day_or_none_at(bytes: &[u8], at: usize) -> Option<Option<Day>>
-    requires { at + 2 ≤ length bytes.now }
-    ensures { IfSome result (λ expected. FieldAt bytes.now at (at + 2) (fields.day_or_none expected)) }
-{
-    if two_bytes_at(bytes, at, 0, 0).is_some() {
-        return Some(None);
-    }
-    let day = day_at(bytes, at)?;
-    Some(Some(day))
+    Ok(kind_of(number))
 }
 
 /// What flows through a component, at a place.
 #[inline(always)]
-fn service_at(bytes: &[u8], at: usize) -> Option<Service>
+#[tactic(auto, unfolding(crate::specs::FieldForms::service))]
+fn service_at(bytes: &[u8], at: usize) -> Result<Service, Stop>
     requires { at < length bytes.now }
-    ensures { IfSome result (λ service. FieldAt bytes.now at (at + 1) (fields.number 1 fields.services (fields.service_number service))) }
+    ensures { Takes forms.service.read result (drop at bytes.now) (drop (at + 1) bytes.now) }
 {
     let number = byte_at(bytes, at, 1, 5)?;
-    match number {
-        1 => Some(Service::Gas),
-        2 => Some(Service::Light),
-        3 => Some(Service::Heavy),
-        4 => Some(Service::Vacuum),
-        5 => Some(Service::Under300),
-        _ => None,
-    }
+    Ok(service_of(number))
 }
 
 /// How a component is designated, at a place.
 #[inline(always)]
-fn designation_at(bytes: &[u8], at: usize) -> Option<Designation>
+#[tactic(auto, unfolding(crate::specs::FieldForms::designation))]
+fn designation_at(bytes: &[u8], at: usize) -> Result<Designation, Stop>
     requires { at < length bytes.now }
-    ensures { IfSome result (λ designation. FieldAt bytes.now at (at + 1) (fields.number 1 fields.designations (fields.designation_number designation))) }
+    ensures { Takes forms.designation.read result (drop at bytes.now) (drop (at + 1) bytes.now) }
 {
     let number = byte_at(bytes, at, 0, 3)?;
-    match number {
-        0 => Some(Designation::Plain),
-        1 => Some(Designation::Nde),
-        2 => Some(Designation::Unsafe),
-        3 => Some(Designation::Difficult),
-        _ => None,
-    }
+    Ok(designation_of(number))
+}
+
+/// Why a reading was taken, at a place.
+#[inline(always)]
+#[tactic(auto, unfolding(crate::specs::FieldForms::purpose))]
+pub(crate) fn purpose_at(bytes: &[u8], at: usize) -> Result<Purpose, Stop>
+    requires { at < length bytes.now }
+    ensures { Takes forms.purpose.read result (drop at bytes.now) (drop (at + 1) bytes.now) }
+{
+    let number = byte_at(bytes, at, 1, 2)?;
+    Ok(purpose_of(number))
+}
+
+/// What a visual inspection found, at a place.
+#[inline(always)]
+#[tactic(auto, unfolding(crate::specs::FieldForms::state))]
+pub(crate) fn state_at(bytes: &[u8], at: usize) -> Result<VisualState, Stop>
+    requires { at < length bytes.now }
+    ensures { Takes forms.state.read result (drop at bytes.now) (drop (at + 1) bytes.now) }
+{
+    let number = byte_at(bytes, at, 0, 2)?;
+    Ok(state_of(number))
+}
+
+/// What an indication speaks of, at a place.
+#[inline(always)]
+#[tactic(auto, unfolding(crate::specs::FieldForms::sort))]
+pub(crate) fn sort_at(bytes: &[u8], at: usize) -> Result<Sort, Stop>
+    requires { at < length bytes.now }
+    ensures { Takes forms.sort.read result (drop at bytes.now) (drop (at + 1) bytes.now) }
+{
+    let number = byte_at(bytes, at, 1, 2)?;
+    Ok(sort_of(number))
 }
 
 /// The months of a plan, as the designation allows, at a place.
 #[inline(always)]
-fn plan_at(bytes: &[u8], at: usize, designation: Designation) -> Option<u8>
+#[tactic(auto, unfolding(crate::specs::FieldForms::plan))]
+fn plan_at(bytes: &[u8], at: usize, designation: Designation) -> Result<u8, Stop>
     requires { at < length bytes.now }
-    ensures { IfSome result (λ plan. FieldAt bytes.now at (at + 1) (fields.number 1 (fields.plans designation) plan)) }
+    ensures { Takes (forms.plan designation).read result (drop at bytes.now) (drop (at + 1) bytes.now) }
 {
     match designation {
         Designation::Unsafe => byte_at(bytes, at, 1, 60),
@@ -207,15 +215,16 @@ fn plan_at(bytes: &[u8], at: usize, designation: Designation) -> Option<u8>
 
 /// The class of a component, at a place.
 #[inline(always)]
-pub(crate) fn class_at(bytes: &[u8], at: usize) -> Option<Class>
+#[tactic(auto, unfolding(crate::specs::FieldForms::class, crate::specs::FieldForms::month))]
+pub(crate) fn class_at(bytes: &[u8], at: usize) -> Result<Class, Stop>
     requires { at + 4 ≤ length bytes.now }
-    ensures { IfSome result (λ class. FieldsAt bytes.now at (at + 4) (fields.class_fields class)) }
+    ensures { Takes forms.class.read result (drop at bytes.now) (drop (at + 4) bytes.now) }
 {
     let service = service_at(bytes, at)?;
     let designation = designation_at(bytes, at + 1)?;
     let plan = plan_at(bytes, at + 2, designation)?;
     let month = byte_at(bytes, at + 3, 1, 3)?;
-    Some(Class {
+    Ok(Class {
         service,
         designation,
         plan,
@@ -225,27 +234,75 @@ pub(crate) fn class_at(bytes: &[u8], at: usize) -> Option<Class>
 
 /// Three readings, at a place.
 #[inline(always)]
-pub(crate) fn readings_at(bytes: &[u8], at: usize) -> Option<(u32, u32, u32)>
+#[tactic(auto, unfolding(crate::specs::FieldForms::readings, crate::specs::FieldForms::concentration))]
+pub(crate) fn readings_at(bytes: &[u8], at: usize) -> Result<(u32, u32, u32), Stop>
     requires { at + 12 ≤ length bytes.now }
-    ensures { IfSome result (λ readings. FieldsAt bytes.now at (at + 12) (fields.readings_fields readings)) }
+    ensures { Takes forms.readings.read result (drop at bytes.now) (drop (at + 12) bytes.now) }
 {
     let first = four_bytes_at(bytes, at, 0, MOST_PPM)?;
     let second = four_bytes_at(bytes, at + 4, 0, MOST_PPM)?;
     let third = four_bytes_at(bytes, at + 8, 0, MOST_PPM)?;
-    Some((first, second, third))
+    Ok((first, second, third))
 }
 
-/// The name of a process unit, at a place: its letters up to a zero byte, and zero bytes behind it.
-pub(crate) fn name_at(bytes: &[u8], at: usize) -> Option<Name>
-    requires { at + 12 ≤ length bytes.now }
-    ensures { IfSome result (λ name. FieldAt bytes.now at (at + 12) (fields.name name)) }
+fn kind_of(number: u8) -> Kind
+    ensures { result ≡ forms.kind_of number }
 {
-    let field = &bytes[at..at + 12];
-    let len = field.iter().take_while(|b| **b != 0).count();
-    let letters = field.get(..len)?;
-    let name = Name::new(letters)?;
-    if name.padded() != field {
-        return None;
+    match number {
+        1 => Kind::Valve,
+        2 => Kind::Pump,
+        3 => Kind::Compressor,
+        _ => Kind::Relief,
     }
-    Some(name)
+}
+
+fn service_of(number: u8) -> Service
+    ensures { result ≡ forms.service_of number }
+{
+    match number {
+        1 => Service::Gas,
+        2 => Service::Light,
+        3 => Service::Heavy,
+        4 => Service::Vacuum,
+        _ => Service::Under300,
+    }
+}
+
+fn designation_of(number: u8) -> Designation
+    ensures { result ≡ forms.designation_of number }
+{
+    match number {
+        0 => Designation::Plain,
+        1 => Designation::Nde,
+        2 => Designation::Unsafe,
+        _ => Designation::Difficult,
+    }
+}
+
+fn purpose_of(number: u8) -> Purpose
+    ensures { result ≡ forms.purpose_of number }
+{
+    match number {
+        1 => Purpose::Routine,
+        _ => Purpose::FollowUp,
+    }
+}
+
+fn state_of(number: u8) -> VisualState
+    ensures { result ≡ forms.state_of number }
+{
+    match number {
+        0 => VisualState::Dry,
+        1 => VisualState::Drips,
+        _ => VisualState::Designated,
+    }
+}
+
+fn sort_of(number: u8) -> Sort
+    ensures { result ≡ forms.sort_of number }
+{
+    match number {
+        1 => Sort::Sensor,
+        _ => Sort::Evidence,
+    }
 }

@@ -4,6 +4,7 @@
 mod add_fact;
 mod batch;
 mod body;
+mod body_at;
 mod class;
 mod cursor;
 mod fact;
@@ -17,9 +18,7 @@ mod order;
 pub mod order_laws;
 mod ranges;
 mod read;
-mod read_body;
 mod read_fact;
-mod read_field;
 mod read_name;
 mod read_number;
 mod stop;

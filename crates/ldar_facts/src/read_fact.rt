@@ -1,13 +1,13 @@
-ghost use Rattle.std.specs.Prelude.{◌≡◌, ◌+◌, ◌<◌, ◌≤◌, vec_len, vec_capacity, OnOk, IfErr};
+ghost use Rattle.std.specs.Prelude.{◌≡◌, ◌+◌, ◌<◌, ◌≤◌, ◌-◌, ◌++◌, length, replicate, vec_len, vec_capacity, Err, OnOk, IfOk, IfErr};
 ghost use Rattle.ldar_facts.specs.Form.{Takes};
 ghost use Rattle.ldar_facts.specs.FactForms as forms;
-ghost use Rattle.ldar_facts.specs.Places.{TakesFact};
+ghost use Rattle.ldar_facts.specs.Places.{TakesFact, stop_before};
 
 use crate::add_fact::add_fact;
 use crate::batch::FactList;
+use crate::body_at::LONGEST_FACT;
 use crate::cursor::Cursor;
 use crate::fact::Fact;
-use crate::ranges::{FACT_KINDS, MINUTES};
 use crate::stop::Stop;
 
 /// What stands before the facts of a batch.
@@ -33,19 +33,6 @@ impl Cursor<'_> {
         })
     }
 
-    /// Takes a fact.
-    #[cold]
-    #[tactic(auto, unfolding(crate::specs::FactForms::fact, crate::specs::FieldForms::fact_kind, crate::specs::FieldForms::minute))]
-    pub(crate) fn fact(&mut self) -> Result<Fact, Stop>
-        ensures { Takes forms.fact.read result self.old self.new }
-    {
-        let kind = self.byte(&FACT_KINDS)?;
-        let day = self.day()?;
-        let minute = self.two_bytes(&MINUTES)?;
-        let body = self.body(kind)?;
-        Ok(Fact { day, minute, body })
-    }
-
     /// Takes so many facts, for which there is room.
     pub(crate) fn facts(&mut self, count: u16, room: Vec<Fact>) -> Result<FactList, Stop>
         requires some { (1 ≤ count) × (count ≤ 512) }
@@ -68,13 +55,62 @@ impl Cursor<'_> {
         ensures len { OnOk result (vec_len facts.new ≡ vec_len facts.old + 1) }
         ensures capacity { vec_capacity facts.old ≤ vec_capacity facts.new }
     {
-        if let Some(rest) = add_fact(self.left_bytes(), facts) {
-            *self = Cursor::new(rest);
-            return Ok(());
-        }
-        // Too few bytes for any fact are left, or something is wrong: only the exact reader tells where.
-        let fact = self.fact()?;
-        facts.push_reserved(fact);
+        let rest = if self.left() < LONGEST_FACT {
+            add_last_fact(self.left_bytes(), facts)?
+        } else {
+            add_fact(self.left_bytes(), facts)?
+        };
+        *self = Cursor::new(rest);
         Ok(())
+    }
+}
+
+/// Adds the fact in front of bytes that are too few for some facts, and gives those behind it: it is read as if zero bytes
+/// followed.
+#[cold]
+fn add_last_fact<'a>(bytes: &'a [u8], facts: &mut Vec<Fact>) -> Result<&'a [u8], Stop>
+    requires few { length bytes.now < LONGEST_FACT }
+    requires room { vec_len facts.old < vec_capacity facts.old }
+    ensures taken { IfOk result (λ rest. TakesFact bytes.now facts.old.items facts.new.items rest.now) }
+    ensures stopped { IfErr result (λ stop. forms.fact.read bytes.now ≡ Err stop) }
+    ensures len { OnOk result (vec_len facts.new ≡ vec_len facts.old + 1) }
+    ensures capacity { vec_capacity facts.old ≤ vec_capacity facts.new }
+{
+    let zeros = LONGEST_FACT - bytes.len();
+    let longer = padded(bytes);
+    match add_fact(&longer, facts) {
+        Ok(rest) => {
+            if rest.len() < zeros {
+                return Err(Stop::Short);
+            }
+            Ok(&bytes[LONGEST_FACT - rest.len()..])
+        }
+        Err(stop) => Err(before(stop, zeros)),
+    }
+}
+
+/// The bytes, with zero bytes behind them up to those of the longest fact.
+fn padded(bytes: &[u8]) -> [u8; LONGEST_FACT]
+    requires { length bytes.now < LONGEST_FACT }
+    ensures { result ≡ bytes.now ++ replicate (LONGEST_FACT - length bytes.now) 0 }
+{
+    let mut longer = [0u8; LONGEST_FACT];
+    longer[..bytes.len()].copy_from_slice(bytes);
+    longer
+}
+
+/// Why reading stopped, without so many bytes that were added at the end.
+fn before(stop: Stop, added: usize) -> Stop
+    ensures { result ≡ stop_before stop added }
+{
+    match stop {
+        Stop::Short => Stop::Short,
+        Stop::Wrong { left } => {
+            if added < left {
+                Stop::Wrong { left: left - added }
+            } else {
+                Stop::Short
+            }
+        }
     }
 }

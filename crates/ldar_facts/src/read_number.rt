@@ -62,7 +62,7 @@ fn is_among(number: u32, ranges: &[(u32, u32)]) -> bool
 }
 
 /// Where a number of so many bytes goes wrong, or that the bytes end within it.
-fn first_wrong(bytes: &[u8], width: usize, ranges: &[(u32, u32)]) -> Stop
+pub(crate) fn first_wrong(bytes: &[u8], width: usize, ranges: &[(u32, u32)]) -> Stop
     requires { width ≤ 4 }
     ensures { result ≡ stop_of (number_from width ranges.now 0 bytes.now) }
 {

@@ -1,5 +1,5 @@
 /// Why nothing of a kind stands at the front of some bytes.
-#[derive(Clone, Copy, Debug, PartialEq, Eq)]
+#[derive(Clone, Copy)]
 pub(crate) enum Stop {
     /// The bytes end too early.
     Short,
