@@ -1,5 +1,6 @@
 -- What one identity more, or one less, does to an index.
-use Rattle.std.proofs.Common.{◌≡◌, ◌≢◌, ◌<◌, ◌≤◌, ◌+◌, ◌-◌, ◌⊎◌, inl, inr, ℕ, zero, suc, eqb, List, [], ◌∷◌, ◌++◌, length, map, take, drop, set, min, replicate, slice_get, Option, Some, None, Bool, true, false, cond, not, refl, sym, ◌∙◌, ap, subst, arith, length-append}
+use Rattle.std.proofs.Common.{◌≡◌, ◌≢◌, ◌<◌, ◌≤◌, ◌+◌, ◌-◌, ◌⊎◌, inl, inr, ℕ, zero, suc, eqb, List, [], ◌∷◌, ◌++◌, length, map, take, drop, set, min}
+use Rattle.std.proofs.Common.{replicate, slice_get, Option, Some, None, Bool, true, false, cond, not, refl, sym, ◌∙◌, ap, subst, arith, length-append}
 use Rattle.std.specs.Option.{option_map}
 use Rattle.std.specs.List.{position_from}
 use Rattle.std.proofs.lemmas.Option.{slice_get_within, slice_get-map, same_Some, get_or_from_slice_get}
@@ -19,7 +20,8 @@ use Rattle.batch_positions.specs.Index.{runs_among, IsRoomy, identity_at, late_e
 use Rattle.batch_positions.proofs.TreeLemmas.{at_position-within, at_position-push, at_position-parts, at_position-last, at_position-some}
 
 -- the entries below a position are the same in a list with one entry more
-IsLastOf-push : (entries : List Entry) (e : Entry) (handheld bound link : ℕ) → bound ≤ length entries + 1 → IsLastOf entries handheld bound link → IsLastOf (entries ++ e ∷ []) handheld bound link
+IsLastOf-push : (entries : List Entry) (e : Entry) (handheld bound link : ℕ) → bound ≤ length entries + 1 → IsLastOf entries handheld bound link
+    → IsLastOf (entries ++ e ∷ []) handheld bound link
 IsLastOf-push entries e handheld bound link within last = record {
   within = last.within;
   in_run = λ x here. run x (at_position-parts entries e link x here);
@@ -51,7 +53,8 @@ IsLastOf-beyond entries e handheld link other last =
     later at x in_run (inr end) = absurd (other (subst (IsInRun handheld) end.1 in_run))
 
 -- an entry that was pushed is the last of its run
-IsLastOf-itself : (entries : List Entry) (e : Entry) → e.late ≡ false → IsLastOf (entries ++ e ∷ []) e.handheld (length (entries ++ e ∷ []) + 1) (length entries + 1)
+IsLastOf-itself : (entries : List Entry) (e : Entry) → e.late ≡ false
+    → IsLastOf (entries ++ e ∷ []) e.handheld (length (entries ++ e ∷ []) + 1) (length entries + 1)
 IsLastOf-itself entries e in_run =
     let place : length entries + 1 ≡ suc (length entries) = omega arith in
     record {
@@ -67,10 +70,12 @@ AreRuns-push : (entries : List Entry) (e : Entry) → AreRuns entries → (e.lat
     → (e.late ≡ false → (last : Entry) → at_position entries e.earlier ≡ Some last → last.number < e.number) → AreRuns (entries ++ e ∷ [])
 AreRuns-push entries e runs last above = record {
   earlier = λ at x here in_run. earlier at x in_run (at_position-parts entries e at x here);
-  rise = λ p q x y here there in_run y_run below. rise p q x y in_run y_run below (at_position-parts entries e p x here) (at_position-parts entries e q y there);
+  rise = λ p q x y here there in_run y_run below. rise p q x y in_run y_run below (at_position-parts entries e p x here)
+      (at_position-parts entries e q y there);
 }
   where
-    earlier : (at : ℕ) (x : Entry) → x.late ≡ false → (at_position entries at ≡ Some x) ⊎ ((at ≡ suc (length entries)) × (x ≡ e)) → IsLastOf (entries ++ e ∷ []) x.handheld at x.earlier
+    earlier : (at : ℕ) (x : Entry) → x.late ≡ false → (at_position entries at ≡ Some x) ⊎ ((at ≡ suc (length entries)) × (x ≡ e))
+        → IsLastOf (entries ++ e ∷ []) x.handheld at x.earlier
     earlier at x in_run (inl here) =
         let within = at_position-within entries at x here in
         IsLastOf-push entries e x.handheld at x.earlier (omega arith) (runs.earlier at x here in_run)
@@ -91,7 +96,8 @@ AreRuns-push entries e runs last above = record {
         let found_run = ends.in_run found.0 found.1 in
         number_of found.0 found.1 found_run number (cases_lt p e.earlier)
       where
-        number_of : (end : Entry) → at_position entries e.earlier ≡ Some end → IsInRun e.handheld end → end.number < e.number → (p < e.earlier) ⊎ (e.earlier ≤ p) → x.number < e.number
+        number_of : (end : Entry) → at_position entries e.earlier ≡ Some end → IsInRun e.handheld end → end.number < e.number
+            → (p < e.earlier) ⊎ (e.earlier ≤ p) → x.number < e.number
         number_of end there end_run number (inl below) =
             let rises : x.number < end.number = runs.rise p e.earlier x end here there (rw end_run.1 in_run) end_run.0 below in
             omega arith
@@ -104,7 +110,8 @@ AreRuns-push entries e runs last above = record {
             rw one number
 
     rise : (p q : ℕ) (x y : Entry) → IsInRun y.handheld x → y.late ≡ false → p < q
-        → (at_position entries p ≡ Some x) ⊎ ((p ≡ suc (length entries)) × (x ≡ e)) → (at_position entries q ≡ Some y) ⊎ ((q ≡ suc (length entries)) × (y ≡ e)) → x.number < y.number
+        → (at_position entries p ≡ Some x) ⊎ ((p ≡ suc (length entries)) × (x ≡ e))
+            → (at_position entries q ≡ Some y) ⊎ ((q ≡ suc (length entries)) × (y ≡ e)) → x.number < y.number
     rise p q x y in_run y_run below (inl here) (inl there) = runs.rise p q x y here there in_run y_run below
     rise p q x y in_run y_run below (inl here) (inr end) =
         let e_run : e.late ≡ false = ap (λ (z : Entry). z.late) (sym end.1) ∙ y_run in
@@ -113,11 +120,13 @@ AreRuns-push entries e runs last above = record {
     rise p q x y in_run y_run below (inr end) (inr other) = let place = end.0 in let too = other.0 in absurd (omega arith)
 
 -- a new identity keeps all apart
-AreApart-push : (entries : List Entry) (e : Entry) → AreApart entries → ((at : ℕ) (x : Entry) → at_position entries at ≡ Some x → identity_at x ≢ identity_at e) → AreApart (entries ++ e ∷ [])
+AreApart-push : (entries : List Entry) (e : Entry) → AreApart entries
+    → ((at : ℕ) (x : Entry) → at_position entries at ≡ Some x → identity_at x ≢ identity_at e) → AreApart (entries ++ e ∷ [])
 AreApart-push entries e apart new = λ p q x y here there same. by p q x y same (at_position-parts entries e p x here) (at_position-parts entries e q y there)
   where
     by : (p q : ℕ) (x y : Entry) → identity_at x ≡ identity_at y
-        → (at_position entries p ≡ Some x) ⊎ ((p ≡ suc (length entries)) × (x ≡ e)) → (at_position entries q ≡ Some y) ⊎ ((q ≡ suc (length entries)) × (y ≡ e)) → p ≡ q
+        → (at_position entries p ≡ Some x) ⊎ ((p ≡ suc (length entries)) × (x ≡ e))
+            → (at_position entries q ≡ Some y) ⊎ ((q ≡ suc (length entries)) × (y ≡ e)) → p ≡ q
     by p q x y same (inl here) (inl there) = apart p q x y here there same
     by p q x y same (inl here) (inr end) = absurd (new p x here (same ∙ ap identity_at end.1))
     by p q x y same (inr end) (inl there) = absurd (new q y there (sym same ∙ ap identity_at end.1))
@@ -134,7 +143,8 @@ lates_of-push at (x ∷ entries) e = by x.late (lates_of-push (at + 1) entries e
   where
     by : (late : Bool) → lates_of (at + 1) (entries ++ e ∷ []) ≡ lates_of (at + 1) entries ++ if_late e.late e (at + 1 + length entries)
         → cond late (record { identity = identity_at x; position = at } ∷ lates_of (at + 1) (entries ++ e ∷ [])) (lates_of (at + 1) (entries ++ e ∷ []))
-        ≡ cond late (record { identity = identity_at x; position = at } ∷ lates_of (at + 1) entries) (lates_of (at + 1) entries) ++ if_late e.late e (at + suc (length entries))
+        ≡ cond late (record { identity = identity_at x; position = at } ∷ lates_of (at + 1) entries) (lates_of (at + 1) entries) ++ if_late e.late e
+            (at + suc (length entries))
     by true rest =
         let place : at + 1 + length entries ≡ at + suc (length entries) = omega arith in
         ap (λ (l : List Late). record { identity = identity_at x; position = at } ∷ l) (rest ∙ ap (λ n. lates_of (at + 1) entries ++ if_late e.late e n) place)
@@ -164,12 +174,15 @@ lates_of-stand at (x ∷ entries) i late found = by x.late i found (λ j. lates_
         let place : at + 1 + stands.0 ≡ at + suc stands.0 = omega arith in
         (suc stands.0, stands.1, stands.2, stands.3 ∙ ap (λ n. record { identity = identity_at stands.1; position = n }) place)
 
-    by : (b : Bool) (i : ℕ) → slice_get (cond b (record { identity = identity_at x; position = at } ∷ lates_of (at + 1) entries) (lates_of (at + 1) entries)) i ≡ Some late
-        → ((j : ℕ) → slice_get (lates_of (at + 1) entries) j ≡ Some late → (k : ℕ) × (y : Entry) × (slice_get entries k ≡ Some y) × (late ≡ record { identity = identity_at y; position = at + 1 + k }))
+    by : (b : Bool) (i : ℕ) → slice_get (cond b (record { identity = identity_at x; position = at } ∷ lates_of (at + 1) entries) (lates_of (at + 1) entries))
+        i ≡ Some late
+        → ((j : ℕ) → slice_get (lates_of (at + 1) entries) j ≡ Some late
+            → (k : ℕ) × (y : Entry) × (slice_get entries k ≡ Some y) × (late ≡ record { identity = identity_at y; position = at + 1 + k }))
         → (k : ℕ) × (y : Entry) × (slice_get (x ∷ entries) k ≡ Some y) × (late ≡ record { identity = identity_at y; position = at + k })
     by true zero there rest =
         let place : at ≡ at + 0 = omega arith in
-        (0, x, refl, sym (same_Some (record { identity = identity_at x; position = at }) late there) ∙ ap (λ n. record { identity = identity_at x; position = n }) place)
+        (0, x, refl, sym (same_Some (record { identity = identity_at x; position = at }) late there)
+            ∙ ap (λ n. record { identity = identity_at x; position = n }) place)
     by true (suc i) there rest = behind (rest i there)
     by false i there rest = behind (rest i there)
 
@@ -181,19 +194,22 @@ lates_of-have at (y ∷ entries) zero x here late =
     let same : y ≡ x = same_Some y x here in
     let y_late : y.late ≡ true = ap (λ (e : Entry). e.late) same ∙ late in
     let place : at ≡ at + 0 = omega arith in
-    (0, rw y_late (ap (λ (e : Entry). Some (record { identity = identity_at e; position = at })) same ∙ ap (λ n. Some (record { identity = identity_at x; position = n })) place))
+    (0, rw y_late (ap (λ (e : Entry). Some (record { identity = identity_at e; position = at })) same
+        ∙ ap (λ n. Some (record { identity = identity_at x; position = n })) place))
 lates_of-have at (y ∷ entries) (suc k) x here late =
     let found = lates_of-have (at + 1) entries k x here late in
     let place : at + 1 + k ≡ at + suc k = omega arith in
     by y.late found.0 (found.1 ∙ ap (λ n. Some (record { identity = identity_at x; position = n })) place)
   where
     by : (b : Bool) (i : ℕ) → slice_get (lates_of (at + 1) entries) i ≡ Some (record { identity = identity_at x; position = at + suc k })
-        → (i : ℕ) × (slice_get (cond b (record { identity = identity_at y; position = at } ∷ lates_of (at + 1) entries) (lates_of (at + 1) entries)) i ≡ Some (record { identity = identity_at x; position = at + suc k }))
+        → (i : ℕ) × (slice_get (cond b (record { identity = identity_at y; position = at } ∷ lates_of (at + 1) entries) (lates_of (at + 1) entries)) i ≡ Some
+            (record { identity = identity_at x; position = at + suc k }))
     by true i there = (suc i, there)
     by false i there = (i, there)
 
 -- a list with one element written, at that place and at others
-slice_get-set : {X : Type 0} (xs : List X) (i : ℕ) (y : X) (k : ℕ) (x : X) → slice_get (set xs i y) k ≡ Some x → ((k ≡ i) × (x ≡ y)) ⊎ ((k ≢ i) × (slice_get xs k ≡ Some x))
+slice_get-set : {X : Type 0} (xs : List X) (i : ℕ) (y : X) (k : ℕ) (x : X) → slice_get (set xs i y) k ≡ Some x
+    → ((k ≡ i) × (x ≡ y)) ⊎ ((k ≢ i) × (slice_get xs k ≡ Some x))
 slice_get-set [] i y k x here = absurd cc
 slice_get-set (a ∷ xs) zero y zero x here = inl (refl, sym (same_Some y x here))
 slice_get-set (a ∷ xs) zero y (suc k) x here = inr (λ e. omega arith, here)
@@ -204,9 +220,11 @@ slice_get-set (a ∷ xs) (suc i) y (suc k) x here = elim (slice_get-set xs i y k
 ]
 
 -- an index with one entry more, which goes on with its run
-pub goes_on : (entries : List Entry) (heads : List ℕ) (lates : List Late) (e : Entry) → IsIndexed entries heads lates → e.late ≡ false → slice_get heads e.handheld ≡ Some e.earlier
+pub goes_on : (entries : List Entry) (heads : List ℕ) (lates : List Late) (e : Entry) → IsIndexed entries heads lates → e.late ≡ false
+    → slice_get heads e.handheld ≡ Some e.earlier
     → ((last : Entry) → at_position entries e.earlier ≡ Some last → last.number < e.number)
-    → ((at : ℕ) (x : Entry) → at_position entries at ≡ Some x → identity_at x ≢ identity_at e) → IsIndexed (entries ++ e ∷ []) (set heads e.handheld (length entries + 1)) lates
+    → ((at : ℕ) (x : Entry) → at_position entries at ≡ Some x → identity_at x ≢ identity_at e)
+        → IsIndexed (entries ++ e ∷ []) (set heads e.handheld (length entries + 1)) lates
 goes_on entries heads lates e index in_run head above new = record {
   runs = AreRuns-push entries e index.runs (λ run. index.ends.last e.handheld e.earlier head) (λ run. above);
   apart = AreApart-push entries e index.apart new;
@@ -214,7 +232,8 @@ goes_on entries heads lates e index in_run head above new = record {
     long = length-set heads e.handheld (length entries + 1) ∙ index.ends.long;
     last = λ handheld link here. last handheld link (slice_get-set heads e.handheld (length entries + 1) handheld link here);
   };
-  late = index.late ∙ sym (append-nil (lates_of 1 entries)) ∙ ap (λ (b : Bool). lates_of 1 entries ++ if_late b e (1 + length entries)) (sym in_run) ∙ sym (lates_of-push 1 entries e);
+  late = index.late ∙ sym (append-nil (lates_of 1 entries)) ∙ ap (λ (b : Bool). lates_of 1 entries ++ if_late b e (1 + length entries)) (sym in_run)
+      ∙ sym (lates_of-push 1 entries e);
 }
   where
     last : (handheld link : ℕ) → ((handheld ≡ e.handheld) × (link ≡ length entries + 1)) ⊎ ((handheld ≢ e.handheld) × (slice_get heads handheld ≡ Some link))
@@ -241,7 +260,8 @@ comes_late entries heads lates e index late new = record {
 }
 
 -- the first entries of a list below a bound
-IsLastOf-front : (front : List Entry) (e : Entry) (handheld bound link : ℕ) → IsLastOf (front ++ e ∷ []) handheld bound link → IsLastOf front handheld bound link
+IsLastOf-front : (front : List Entry) (e : Entry) (handheld bound link : ℕ) → IsLastOf (front ++ e ∷ []) handheld bound link
+    → IsLastOf front handheld bound link
 IsLastOf-front front e handheld bound link last = record {
   within = last.within;
   in_run = λ x here. last.in_run x (at_position-push front e link x here);
@@ -255,7 +275,8 @@ AreRuns-front front e runs = record {
 }
 
 -- the last entry of another run stands among the first entries
-IsLastOf-other : (front : List Entry) (e : Entry) (handheld link : ℕ) → ¬ (IsInRun handheld e) → IsLastOf (front ++ e ∷ []) handheld (length (front ++ e ∷ []) + 1) link → IsLastOf front handheld (length front + 1) link
+IsLastOf-other : (front : List Entry) (e : Entry) (handheld link : ℕ) → ¬ (IsInRun handheld e)
+    → IsLastOf (front ++ e ∷ []) handheld (length (front ++ e ∷ []) + 1) link → IsLastOf front handheld (length front + 1) link
 IsLastOf-other front e handheld link other last =
     let within = last.within in
     let differs : link ≢ suc (length front) = λ same. other (last.in_run e (ap (at_position (front ++ e ∷ [])) same ∙ at_position-last front e)) in
@@ -266,7 +287,8 @@ IsLastOf-other front e handheld link other last =
     }
 
 -- an index without its last entry, which was in a run
-pub goes_back : (front : List Entry) (heads : List ℕ) (lates : List Late) (e : Entry) → IsIndexed (front ++ e ∷ []) heads lates → e.late ≡ false → IsIndexed front (set heads e.handheld e.earlier) lates
+pub goes_back : (front : List Entry) (heads : List ℕ) (lates : List Late) (e : Entry) → IsIndexed (front ++ e ∷ []) heads lates → e.late ≡ false
+    → IsIndexed front (set heads e.handheld e.earlier) lates
 goes_back front heads lates e index in_run = record {
   runs = AreRuns-front front e index.runs;
   apart = λ p q x y here there same. index.apart p q x y (at_position-push front e p x here) (at_position-push front e q y there) same;
@@ -277,7 +299,8 @@ goes_back front heads lates e index in_run = record {
   late = index.late ∙ lates_of-push 1 front e ∙ ap (λ (b : Bool). lates_of 1 front ++ if_late b e (1 + length front)) in_run ∙ append-nil (lates_of 1 front);
 }
   where
-    last : (handheld link : ℕ) → ((handheld ≡ e.handheld) × (link ≡ e.earlier)) ⊎ ((handheld ≢ e.handheld) × (slice_get heads handheld ≡ Some link)) → IsLastOf front handheld (length front + 1) link
+    last : (handheld link : ℕ) → ((handheld ≡ e.handheld) × (link ≡ e.earlier)) ⊎ ((handheld ≢ e.handheld) × (slice_get heads handheld ≡ Some link))
+        → IsLastOf front handheld (length front + 1) link
     last handheld link (inl same) =
         let place : suc (length front) ≡ length front + 1 = omega arith in
         let before = index.runs.earlier (suc (length front)) e (at_position-last front e) in_run in
@@ -322,7 +345,8 @@ same-is_identity a b is =
     made : ℕ → ℕ → Identity
     made h n = record { handheld = h; number = n }
 
-position_from-found : (identity : Identity) (i : ℕ) (ids : List Identity) (k : ℕ) → slice_get ids k ≡ Some identity → ((j : ℕ) → slice_get ids j ≡ Some identity → j ≡ k)
+position_from-found : (identity : Identity) (i : ℕ) (ids : List Identity) (k : ℕ) → slice_get ids k ≡ Some identity
+    → ((j : ℕ) → slice_get ids j ≡ Some identity → j ≡ k)
     → position_from (is_identity identity) i ids ≡ Some (i + k)
 position_from-found identity i [] k here only = absurd cc
 position_from-found identity i (x ∷ ids) zero here only =
@@ -331,21 +355,26 @@ position_from-found identity i (x ∷ ids) zero here only =
 position_from-found identity i (x ∷ ids) (suc k) here only =
     by (is_identity identity x) refl (position_from-found identity (i + 1) ids k here (λ j there. let more = only (suc j) there in omega arith))
   where
-    by : (b : Bool) → is_identity identity x ≡ b → position_from (is_identity identity) (i + 1) ids ≡ Some (i + 1 + k) → cond b (Some i) (position_from (is_identity identity) (i + 1) ids) ≡ Some (i + suc k)
+    by : (b : Bool) → is_identity identity x ≡ b → position_from (is_identity identity) (i + 1) ids ≡ Some (i + 1 + k)
+        → cond b (Some i) (position_from (is_identity identity) (i + 1) ids) ≡ Some (i + suc k)
     by true is rest = let first : 0 ≡ suc k = only 0 (ap Some (sym (same-is_identity identity x is))) in absurd (omega arith)
     by false is rest = let place : i + 1 + k ≡ i + suc k = omega arith in rest ∙ ap Some place
 
-position_from-none : (identity : Identity) (i : ℕ) (ids : List Identity) → ((j : ℕ) (x : Identity) → slice_get ids j ≡ Some x → x ≢ identity) → position_from (is_identity identity) i ids ≡ None
+position_from-none : (identity : Identity) (i : ℕ) (ids : List Identity) → ((j : ℕ) (x : Identity) → slice_get ids j ≡ Some x → x ≢ identity)
+    → position_from (is_identity identity) i ids ≡ None
 position_from-none identity i [] none = refl
 position_from-none identity i (x ∷ ids) none = by (is_identity identity x) refl (position_from-none identity (i + 1) ids (λ j. none (suc j)))
   where
-    by : (b : Bool) → is_identity identity x ≡ b → position_from (is_identity identity) (i + 1) ids ≡ None → cond b (Some i) (position_from (is_identity identity) (i + 1) ids) ≡ None
+    by : (b : Bool) → is_identity identity x ≡ b → position_from (is_identity identity) (i + 1) ids ≡ None
+        → cond b (Some i) (position_from (is_identity identity) (i + 1) ids) ≡ None
     by true is rest = absurd (none 0 x refl (sym (same-is_identity identity x is)))
     by false is rest = rest
 
-none-position_from : (identity : Identity) (i : ℕ) (ids : List Identity) → position_from (is_identity identity) i ids ≡ None → (j : ℕ) (x : Identity) → slice_get ids j ≡ Some x → x ≢ identity
+none-position_from : (identity : Identity) (i : ℕ) (ids : List Identity) → position_from (is_identity identity) i ids ≡ None → (j : ℕ) (x : Identity)
+    → slice_get ids j ≡ Some x → x ≢ identity
 none-position_from identity i [] none j x here same = absurd cc
-none-position_from identity i (y ∷ ids) none j x here same = by (is_identity identity y) refl none (λ rest k there. none-position_from identity (i + 1) ids rest k x there same) j here
+none-position_from identity i (y ∷ ids) none j x here same =
+    by (is_identity identity y) refl none (λ rest k there. none-position_from identity (i + 1) ids rest k x there same) j here
   where
     by : (b : Bool) → is_identity identity y ≡ b → cond b (Some i) (position_from (is_identity identity) (i + 1) ids) ≡ None
         → (position_from (is_identity identity) (i + 1) ids ≡ None → (k : ℕ) → slice_get ids k ≡ Some x → ⊥) → (j : ℕ) → slice_get (y ∷ ids) j ≡ Some x → ⊥
@@ -354,7 +383,8 @@ none-position_from identity i (y ∷ ids) none j x here same = by (is_identity i
     by false is none rest (suc j) here = rest none j here
 
 -- the identity of an entry stands at its position
-pub position_found : (entries : List Entry) (identity : Identity) (at : ℕ) (x : Entry) → AreApart entries → at_position entries at ≡ Some x → identity_at x ≡ identity
+pub position_found : (entries : List Entry) (identity : Identity) (at : ℕ) (x : Entry) → AreApart entries → at_position entries at ≡ Some x
+    → identity_at x ≡ identity
     → position_in identity (map identity_at entries) ≡ Some at
 position_found entries identity zero x apart here same = absurd cc
 position_found entries identity (suc k) x apart here same =
@@ -369,18 +399,22 @@ position_found entries identity (suc k) x apart here same =
         omega arith
 
 -- .. and what no entry has stands nowhere
-pub position_none : (entries : List Entry) (identity : Identity) → ((at : ℕ) (x : Entry) → at_position entries at ≡ Some x → identity_at x ≢ identity) → position_in identity (map identity_at entries) ≡ None
-position_none entries identity none = position_from-none identity 1 (map identity_at entries) (λ j x there. by j x (slice_get entries j) refl (sym (slice_get-map identity_at entries j) ∙ there))
+pub position_none : (entries : List Entry) (identity : Identity) → ((at : ℕ) (x : Entry) → at_position entries at ≡ Some x → identity_at x ≢ identity)
+    → position_in identity (map identity_at entries) ≡ None
+position_none entries identity none = position_from-none identity 1 (map identity_at entries)
+    (λ j x there. by j x (slice_get entries j) refl (sym (slice_get-map identity_at entries j) ∙ there))
   where
     by : (j : ℕ) (x : Identity) (o : Option Entry) → slice_get entries j ≡ o → option_map identity_at o ≡ Some x → x ≢ identity
     by j x None there is same = absurd cc
     by j x (Some y) there is same = none (suc j) y there (same_Some (identity_at y) x is ∙ same)
 
 -- an identity that stands nowhere is no entry's
-pub is_new : (entries : List Entry) (identity : Identity) → position_in identity (map identity_at entries) ≡ None → (at : ℕ) (x : Entry) → at_position entries at ≡ Some x → identity_at x ≢ identity
+pub is_new : (entries : List Entry) (identity : Identity) → position_in identity (map identity_at entries) ≡ None → (at : ℕ) (x : Entry)
+    → at_position entries at ≡ Some x → identity_at x ≢ identity
 is_new entries identity none zero x here same = absurd cc
 is_new entries identity none (suc k) x here same =
-    none-position_from identity 1 (map identity_at entries) none k identity (slice_get-map identity_at entries k ∙ ap (option_map identity_at) here ∙ ap Some same) refl
+    none-position_from identity 1 (map identity_at entries) none k identity
+        (slice_get-map identity_at entries k ∙ ap (option_map identity_at) here ∙ ap Some same) refl
 
 -- what a look-up among the late ones finds, where none is in a run
 pub late_position : (entries : List Entry) (heads : List ℕ) (lates : List Late) (identity : Identity) (found : Option ℕ) → IsIndexed entries heads lates
@@ -397,7 +431,8 @@ late_position entries heads lates identity None index no_run some none = sym (po
         none refl have.0 (record { identity = identity_at x; position = 1 + k }) (ap (λ (l : List Late). slice_get l have.0) index.late ∙ have.1)
 late_position entries heads lates identity (Some position) index no_run some none =
     let found = some position refl in
-    let stands = lates_of-stand 1 entries found.0 (record { identity = identity; position = position }) (ap (λ (l : List Late). slice_get l found.0) (sym index.late) ∙ found.1) in
+    let stands = lates_of-stand 1 entries found.0 (record { identity = identity; position = position })
+        (ap (λ (l : List Late). slice_get l found.0) (sym index.late) ∙ found.1) in
     let place : position ≡ 1 + stands.0 = ap (λ (l : Late). l.position) stands.3 in
     let at_place : suc stands.0 ≡ position = omega arith in
     let same : identity_at stands.1 ≡ identity = sym (ap (λ (l : Late). l.identity) stands.3) in
@@ -428,12 +463,14 @@ nothing_indexed heads long none = record {
 -- ---- room
 
 -- the runs' entries among the last ones, with one entry more
-last-push : (n : ℕ) (entries : List Entry) (e : Entry) → n ≤ length entries → drop (length (entries ++ e ∷ []) - (n + 1)) (entries ++ e ∷ []) ≡ drop (length entries - n) entries ++ e ∷ []
+last-push : (n : ℕ) (entries : List Entry) (e : Entry) → n ≤ length entries
+    → drop (length (entries ++ e ∷ []) - (n + 1)) (entries ++ e ∷ []) ≡ drop (length entries - n) entries ++ e ∷ []
 last-push n entries e within =
     let place : length (entries ++ e ∷ []) - (n + 1) ≡ length entries - n = omega (arith, length-append entries (e ∷ [])) in
     ap (λ k. drop k (entries ++ e ∷ [])) place ∙ drop-append-le (length entries - n) entries (e ∷ []) (omega arith)
 
-pub runs_among-push : (n : ℕ) (entries : List Entry) (e : Entry) → n ≤ length entries → runs_among (n + 1) (entries ++ e ∷ []) ≡ runs_among n entries + cond e.late 0 1
+pub runs_among-push : (n : ℕ) (entries : List Entry) (e : Entry) → n ≤ length entries
+    → runs_among (n + 1) (entries ++ e ∷ []) ≡ runs_among n entries + cond e.late 0 1
 runs_among-push n entries e within =
     let one = one_of (cases_Bool e.late) in
     let parts = sum_by-append (λ (x : Entry). cond (not x.late) 1 0) (drop (length entries - n) entries) (e ∷ []) in
@@ -444,16 +481,20 @@ runs_among-push n entries e within =
     one_of (inr in_run) = rw in_run refl
 
 -- an entry that goes on with its run takes room, and the late ones keep theirs
-pub room_goes_on : (entries : List Entry) (room fresh late_room : ℕ) (e : Entry) → IsRoomy entries room fresh late_room → e.late ≡ false → 0 < room → IsRoomy (entries ++ e ∷ []) (room - 1) (fresh + 1) late_room
+pub room_goes_on : (entries : List Entry) (room fresh late_room : ℕ) (e : Entry) → IsRoomy entries room fresh late_room → e.late ≡ false → 0 < room
+    → IsRoomy (entries ++ e ∷ []) (room - 1) (fresh + 1) late_room
 room_goes_on entries room fresh late_room e roomy in_run some =
-    let count : runs_among (fresh + 1) (entries ++ e ∷ []) ≡ runs_among fresh entries + 1 = runs_among-push fresh entries e roomy.within ∙ ap (λ (b : Bool). runs_among fresh entries + cond b 0 1) in_run in
+    let count : runs_among (fresh + 1) (entries ++ e ∷ []) ≡ runs_among fresh entries + 1 = runs_among-push fresh entries e roomy.within
+        ∙ ap (λ (b : Bool). runs_among fresh entries + cond b 0 1) in_run in
     record { within = omega (arith, roomy.within, length-append entries (e ∷ [])); room = omega (arith, roomy.room) }
 
 -- .. and one that comes late takes room of both
-pub room_comes_late : (entries : List Entry) (room fresh late_room late_room' : ℕ) (e : Entry) → IsRoomy entries room fresh late_room → e.late ≡ true → 0 < room → late_room' + 1 ≡ late_room
+pub room_comes_late : (entries : List Entry) (room fresh late_room late_room' : ℕ) (e : Entry) → IsRoomy entries room fresh late_room → e.late ≡ true
+    → 0 < room → late_room' + 1 ≡ late_room
     → IsRoomy (entries ++ e ∷ []) (room - 1) (fresh + 1) late_room'
 room_comes_late entries room fresh late_room late_room' e roomy late some takes =
-    let count : runs_among (fresh + 1) (entries ++ e ∷ []) ≡ runs_among fresh entries + 0 = runs_among-push fresh entries e roomy.within ∙ ap (λ (b : Bool). runs_among fresh entries + cond b 0 1) late in
+    let count : runs_among (fresh + 1) (entries ++ e ∷ []) ≡ runs_among fresh entries + 0 = runs_among-push fresh entries e roomy.within
+        ∙ ap (λ (b : Bool). runs_among fresh entries + cond b 0 1) late in
     record { within = omega (arith, roomy.within, length-append entries (e ∷ [])); room = omega (arith, roomy.room) }
 
 -- none of the last none is in a run
@@ -461,7 +502,8 @@ runs_among-none : (entries : List Entry) → runs_among 0 entries ≡ 0
 runs_among-none entries = ap (count_by (λ (x : Entry). not x.late)) (drop_all (length entries - 0) entries (omega arith))
 
 -- an entry that is taken out gives its room back, if it came since room was made
-pub room_goes_back : (front : List Entry) (room fresh late_room late_room' : ℕ) (e : Entry) → IsRoomy (front ++ e ∷ []) room fresh late_room → late_room' ≡ late_room + cond e.late 1 0
+pub room_goes_back : (front : List Entry) (room fresh late_room late_room' : ℕ) (e : Entry) → IsRoomy (front ++ e ∷ []) room fresh late_room
+    → late_room' ≡ late_room + cond e.late 1 0
     → IsRoomy front (room + min fresh 1) (fresh - min fresh 1) late_room'
 room_goes_back front room zero late_room late_room' e roomy gives = by e.late gives
   where
@@ -471,12 +513,14 @@ room_goes_back front room zero late_room late_room' e roomy gives = by e.late gi
 room_goes_back front room (suc n) late_room late_room' e roomy gives =
     let within : n ≤ length front = omega (arith, roomy.within, length-append front (e ∷ [])) in
     let same : suc n ≡ n + 1 = omega arith in
-    let count : runs_among (suc n) (front ++ e ∷ []) ≡ runs_among n front + cond e.late 0 1 = ap (λ k. runs_among k (front ++ e ∷ [])) same ∙ runs_among-push n front e within in
+    let count : runs_among (suc n) (front ++ e ∷ []) ≡ runs_among n front + cond e.late 0 1 = ap (λ k. runs_among k (front ++ e ∷ [])) same
+        ∙ runs_among-push n front e within in
     let one : min (suc n) 1 ≡ 1 = omega arith in
     let before : suc n - 1 ≡ n = omega arith in
     rw (one, before) (by e.late within count gives)
   where
-    by : (late : Bool) → n ≤ length front → runs_among (suc n) (front ++ e ∷ []) ≡ runs_among n front + cond late 0 1 → late_room' ≡ late_room + cond late 1 0 → IsRoomy front (room + 1) n late_room'
+    by : (late : Bool) → n ≤ length front → runs_among (suc n) (front ++ e ∷ []) ≡ runs_among n front + cond late 0 1 → late_room' ≡ late_room + cond late 1 0
+        → IsRoomy front (room + 1) n late_room'
     by true within count gives = record { within = within; room = omega (arith, roomy.room) }
     by false within count gives = record { within = within; room = omega (arith, roomy.room) }
 
@@ -490,11 +534,14 @@ slice_get-replicate n k x here =
 pub roomy_none : (entries : List Entry) (late_room : ℕ) → IsRoomy entries 0 0 late_room
 roomy_none entries late_room = record { within = omega arith; room = omega (arith, runs_among-none entries) }
 
-pub starts : (entries : List Entry) (heads : List ℕ) (lates : List Late) → entries ≡ [] → heads ≡ replicate 65_536 0 → lates ≡ [] → IsIndexed entries heads lates
+pub starts : (entries : List Entry) (heads : List ℕ) (lates : List Late) → entries ≡ [] → heads ≡ replicate 65_536 0 → lates ≡ []
+    → IsIndexed entries heads lates
 starts entries heads lates no_entry zeros no_late =
-    rw (no_entry, zeros, no_late) (nothing_indexed (replicate 65_536 0) (length-replicate {A = ℕ} 65_536 0) (λ handheld link. slice_get-replicate 65_536 handheld link))
+    rw (no_entry, zeros, no_late) (nothing_indexed (replicate 65_536 0) (length-replicate {A = ℕ} 65_536 0)
+        (λ handheld link. slice_get-replicate 65_536 handheld link))
 
-pub pushed_on : (entries entries' : List Entry) (heads heads' : List ℕ) (lates : List Late) (identity : Identity) (e : Entry) (head position : ℕ) → IsIndexed entries heads lates
+pub pushed_on : (entries entries' : List Entry) (heads heads' : List ℕ) (lates : List Late) (identity : Identity) (e : Entry) (head position : ℕ)
+    → IsIndexed entries heads lates
     → identity_at e ≡ identity → e.late ≡ false → e.earlier ≡ head → slice_get heads identity.handheld ≡ Some head
     → ((last : Entry) → at_position entries head ≡ Some last → last.number < identity.number) → position_in identity (map identity_at entries) ≡ None
     → entries' ≡ entries ++ e ∷ [] → position ≡ length entries + 1 → heads' ≡ set heads identity.handheld position → IsIndexed entries' heads' lates
@@ -506,7 +553,8 @@ pushed_on entries entries' heads heads' lates identity e head position index sam
     (λ at x there is. is_new entries identity new at x there (is ∙ same)) in
     rw (items_are, heads_are, ← handheld, position_is) index'
 
-pub pushed_late : (entries entries' : List Entry) (heads : List ℕ) (lates lates' : List Late) (identity : Identity) (position : ℕ) → IsIndexed entries heads lates
+pub pushed_late : (entries entries' : List Entry) (heads : List ℕ) (lates lates' : List Late) (identity : Identity) (position : ℕ)
+    → IsIndexed entries heads lates
     → position_in identity (map identity_at entries) ≡ None → entries' ≡ entries ++ late_entry identity ∷ [] → position ≡ length entries + 1
     → lates' ≡ lates ++ record { identity = identity; position = position } ∷ [] → IsIndexed entries' heads lates'
 pushed_late entries entries' heads lates lates' identity position index new items_are position_is lates_are =

@@ -1,5 +1,6 @@
 -- Ways through a tree of late identities.
-use Rattle.std.proofs.Common.{◌≡◌, ◌≢◌, ◌<◌, ◌≤◌, ◌+◌, ◌-◌, ◌/◌, ◌%◌, ◌⊎◌, inl, inr, ℕ, zero, suc, eqb, List, [], ◌∷◌, ◌++◌, length, map, take, drop, slice_get, ◌&&◌, Option, Some, None, Bool, true, false, cond, refl, sym, ◌∙◌, ap, arith, length-append}
+use Rattle.std.proofs.Common.{◌≡◌, ◌≢◌, ◌<◌, ◌≤◌, ◌+◌, ◌-◌, ◌/◌, ◌%◌, ◌⊎◌, inl, inr, ℕ, zero, suc, eqb, List, [], ◌∷◌, ◌++◌, length, map, take, drop}
+use Rattle.std.proofs.Common.{slice_get, ◌&&◌, Option, Some, None, Bool, true, false, cond, refl, sym, ◌∙◌, ap, arith, length-append}
 use Rattle.std.proofs.lemmas.Option.{slice_get_within, slice_get-map, same_Some}
 use Rattle.std.proofs.lemmas.Bool.{cases_eq, false≢true}
 use Rattle.std.proofs.lemmas.Bool.Decides.{nat_tests}
@@ -9,7 +10,8 @@ use Rattle.std.specs.Option.{option_map}
 use Rattle.ldar_facts.specs.declared.identity.Identity.{Identity}
 use Rattle.batch_positions.specs.declared.late.Late.{Late}
 use Rattle.batch_positions.specs.declared.late.Node.{Node}
-use Rattle.batch_positions.specs.LateTree.{child_of, path_of, Leads, IsReached, IsTree, GoesOn, EndsHere, KeepsPaths, with_child, SetsChild, SameLates, Hangs, CutsOff}
+use Rattle.batch_positions.specs.LateTree.{child_of, path_of, Leads, IsReached, IsTree, GoesOn, EndsHere, KeepsPaths, with_child, SetsChild, SameLates, Hangs}
+use Rattle.batch_positions.specs.LateTree.{CutsOff}
 
 -- a position of an element is in range
 pub at_position-within : {X : Type 0} (xs : List X) (p : ℕ) (x : X) → at_position xs p ≡ Some x → (0 < p) × (p ≤ length xs)
@@ -59,7 +61,8 @@ Leads-later nodes goal (suc n) path link leads =
     omega arith
 
 -- ways stay where each step of them does
-pub Leads-keeps : (old new : List Node) → KeepsPaths old new → (goal n path link : ℕ) → goal ≤ length old → Leads old goal n path link → Leads new goal n path link
+pub Leads-keeps : (old new : List Node) → KeepsPaths old new → (goal n path link : ℕ) → goal ≤ length old → Leads old goal n path link
+    → Leads new goal n path link
 Leads-keeps old new keeps goal zero path link within leads = leads
 Leads-keeps old new keeps goal (suc n) path link within leads =
     let step = leads.2 in
@@ -75,7 +78,8 @@ no_way nodes goal n path link ends within leads =
     ends leads.0 leads.1 leads.2 (omega arith)
 
 -- the way of a search, one step on
-pub way_on : (nodes : List Node) (goal path link child : ℕ) → GoesOn nodes path link child → goal ≢ link → IsReached nodes goal path link → IsReached nodes goal (path / 2) child
+pub way_on : (nodes : List Node) (goal path link child : ℕ) → GoesOn nodes path link child → goal ≢ link → IsReached nodes goal path link
+    → IsReached nodes goal (path / 2) child
 way_on nodes goal path link child on other (zero, leads) = absurd (other (sym leads))
 way_on nodes goal path link child on other (suc n, leads) =
     let same : leads.0 ≡ on.node = same_Some leads.0 on.node (sym leads.1 ∙ on.here) in
@@ -83,7 +87,8 @@ way_on nodes goal path link child on other (suc n, leads) =
     (n, rw (← child_is) leads.3)
 
 -- the way back from one step on
-pub way_back : (old new : List Node) (goal path link child : ℕ) → KeepsPaths old new → GoesOn old path link child → IsReached new goal (path / 2) child → IsReached new goal path link
+pub way_back : (old new : List Node) (goal path link child : ℕ) → KeepsPaths old new → GoesOn old path link child → IsReached new goal (path / 2) child
+    → IsReached new goal path link
 way_back old new goal path link child keeps on reached =
     let later = on.later in
     let within = on.within in
@@ -104,7 +109,8 @@ on_side-put true child node = refl
 on_side-put false child node = refl
 
 -- the other side stays
-on_side-other : (one side : Bool) (child : ℕ) (node : Node) → (on_side one (put_on_side side child node) ≡ on_side one node) ⊎ (on_side one node ≡ on_side side node)
+on_side-other : (one side : Bool) (child : ℕ) (node : Node) → (on_side one (put_on_side side child node) ≡ on_side one node)
+    ⊎ (on_side one node ≡ on_side side node)
 on_side-other true true child node = inr refl
 on_side-other true false child node = inl refl
 on_side-other false true child node = inl refl
@@ -121,23 +127,29 @@ child_of-with path child node = on_side-put (eqb (path % 2) 1) child node
 pub SetsChild-lates : (place path child : ℕ) (old new : List Node) → SetsChild place path child old new → SameLates old new
 SetsChild-lates place path child old new sets = record { same = sets.same; late = λ at node here. late_of at node here (cases_eq at place) }
   where
-    late_of : (at : ℕ) (node : Node) → at_position old at ≡ Some node → (at ≡ place) ⊎ (at ≡ place → ⊥) → (after : Node) × (at_position new at ≡ Some after) × (after.late ≡ node.late)
+    late_of : (at : ℕ) (node : Node) → at_position old at ≡ Some node → (at ≡ place) ⊎ (at ≡ place → ⊥)
+        → (after : Node) × (at_position new at ≡ Some after) × (after.late ≡ node.late)
     late_of at node here (inl same) =
-        (with_child path child node, ap (at_position new) same ∙ sets.changed node (ap (at_position old) (sym same) ∙ here), late-put (eqb (path % 2) 1) child node)
+        (with_child path child node, ap (at_position new) same
+            ∙ sets.changed node (ap (at_position old) (sym same) ∙ here), late-put (eqb (path % 2) 1) child node)
     late_of at node here (inr other) = (node, sets.others at other ∙ here, refl)
 
 -- what a written child leaves of the children: each stays, or is the one that was written over
-pub SetsChild-child : (place path child : ℕ) (old new : List Node) → SetsChild place path child old new → (other at : ℕ) (node : Node) → at_position old at ≡ Some node
-    → ((after : Node) × (at_position new at ≡ Some after) × (child_of other after ≡ child_of other node)) ⊎ ((at ≡ place) × (child_of other node ≡ child_of path node))
+pub SetsChild-child : (place path child : ℕ) (old new : List Node) → SetsChild place path child old new → (other at : ℕ) (node : Node)
+    → at_position old at ≡ Some node
+    → ((after : Node) × (at_position new at ≡ Some after) × (child_of other after ≡ child_of other node))
+        ⊎ ((at ≡ place) × (child_of other node ≡ child_of path node))
 SetsChild-child place path child old new sets other at node here = by (cases_eq at place)
   where
     here_by : (at ≡ place) → (child_of other (with_child path child node) ≡ child_of other node) ⊎ (child_of other node ≡ child_of path node)
-        → ((after : Node) × (at_position new at ≡ Some after) × (child_of other after ≡ child_of other node)) ⊎ ((at ≡ place) × (child_of other node ≡ child_of path node))
+        → ((after : Node) × (at_position new at ≡ Some after) × (child_of other after ≡ child_of other node))
+            ⊎ ((at ≡ place) × (child_of other node ≡ child_of path node))
     here_by same (inl stays) = inl (with_child path child node, ap (at_position new) same ∙ sets.changed node (ap (at_position old) (sym same) ∙ here), stays)
     here_by same (inr over) = inr (same, over)
 
     by : (at ≡ place) ⊎ (at ≡ place → ⊥)
-        → ((after : Node) × (at_position new at ≡ Some after) × (child_of other after ≡ child_of other node)) ⊎ ((at ≡ place) × (child_of other node ≡ child_of path node))
+        → ((after : Node) × (at_position new at ≡ Some after) × (child_of other after ≡ child_of other node))
+            ⊎ ((at ≡ place) × (child_of other node ≡ child_of path node))
     by (inl same) = here_by same (on_side-other (eqb (other % 2) 1) (eqb (path % 2) 1) child node)
     by (inr differs) = inl (node, sets.others at differs ∙ here, refl)
 
@@ -158,7 +170,8 @@ hangs path rest end place old new next some within ends goes_on sets = record {
 }
   where
     keeps_by : (other at : ℕ) (node : Node) → at_position old at ≡ Some node → at < child_of other node → child_of other node ≤ length old
-        → ((after : Node) × (at_position new at ≡ Some after) × (child_of other after ≡ child_of other node)) ⊎ ((at ≡ end) × (child_of other node ≡ child_of rest node))
+        → ((after : Node) × (at_position new at ≡ Some after) × (child_of other after ≡ child_of other node))
+            ⊎ ((at ≡ end) × (child_of other node ≡ child_of rest node))
         → (after : Node) × (at_position new at ≡ Some after) × (child_of other after ≡ child_of other node)
     keeps_by other at node here later inside (inl stays) = stays
     keeps_by other at node here later inside (inr over) =
@@ -175,7 +188,8 @@ hangs path rest end place old new next some within ends goes_on sets = record {
     one_step node before =
         let child = child_of-with rest place before.0 in
         let later : end < place = omega arith in
-        (1, (with_child rest place before.0, at_position-push new node end (with_child rest place before.0) (sets.changed before.0 before.1), rw child later, rw child refl))
+        (1, (with_child rest place before.0, at_position-push new node end (with_child rest place before.0) (sets.changed before.0 before.1), rw child later,
+            rw child refl))
 
 -- with no node yet, a path leads to the first place
 pub hangs_first : (path place : ℕ) (old : List Node) → place ≡ length old + 1 → length old ≡ 0 → Hangs place path old old
@@ -193,7 +207,8 @@ cuts_off parent rest place old new on sets = record {
 }
   where
     by : (other at : ℕ) (node : Node) → at_position old at ≡ Some node → child_of other node ≢ place
-        → ((after : Node) × (at_position new at ≡ Some after) × (child_of other after ≡ child_of other node)) ⊎ ((at ≡ parent) × (child_of other node ≡ child_of rest node))
+        → ((after : Node) × (at_position new at ≡ Some after) × (child_of other after ≡ child_of other node))
+            ⊎ ((at ≡ parent) × (child_of other node ≡ child_of rest node))
         → (after : Node) × (at_position new at ≡ Some after) × (child_of other after ≡ child_of other node)
     by other at node here differs (inl stays) = stays
     by other at node here differs (inr over) =
@@ -207,7 +222,8 @@ cuts_nothing place old = record {
 }
 
 -- an identity stands at its place before it was changed
-back : (old new : List Node) → SameLates old new → (at : ℕ) (after : Node) → at_position new at ≡ Some after → (node : Node) × (at_position old at ≡ Some node) × (after.late ≡ node.late)
+back : (old new : List Node) → SameLates old new → (at : ℕ) (after : Node) → at_position new at ≡ Some after
+    → (node : Node) × (at_position old at ≡ Some node) × (after.late ≡ node.late)
 back old new lates at after here =
     let within = at_position-within new at after here in
     let same = lates.same in
@@ -223,12 +239,14 @@ back old new lates at after here =
 pub tree_grows : (old new : List Node) (node : Node) → IsTree old → Hangs (length old + 1) (path_of node.late.identity) old new → IsTree (new ++ node ∷ [])
 tree_grows old new node tree hangs = λ at found here. by at found (at_position-parts new node at found here)
   where
-    by : (at : ℕ) (found : Node) → (at_position new at ≡ Some found) ⊎ ((at ≡ suc (length new)) × (found ≡ node)) → IsReached (new ++ node ∷ []) at (path_of found.late.identity) 1
+    by : (at : ℕ) (found : Node) → (at_position new at ≡ Some found) ⊎ ((at ≡ suc (length new)) × (found ≡ node))
+        → IsReached (new ++ node ∷ []) at (path_of found.late.identity) 1
     by at found (inl here) =
         let before = back old new hangs.lates at found here in
         let within = at_position-within old at before.0 before.1 in
         let reached = tree at before.0 before.1 in
-        let kept = Leads-keeps old (new ++ node ∷ []) (KeepsPaths-push old new node hangs.keeps) at reached.0 (path_of before.0.late.identity) 1 within.1 reached.1 in
+        let kept = Leads-keeps old (new ++ node ∷ []) (KeepsPaths-push old new node hangs.keeps) at reached.0 (path_of before.0.late.identity) 1 within.1
+            reached.1 in
         rw before.2 (reached.0, kept)
     by at found (inr last) =
         let same = hangs.lates.same in
@@ -246,14 +264,17 @@ Leads-cut old new front last place cuts parts place_is goal (suc n) path link be
     let after = cuts.keeps path link leads.0 leads.1 differs in
     let rest = Leads-cut old new front last place cuts parts place_is goal n (path / 2) (child_of path leads.0) before leads.3 in
     let long : length new ≡ length front + 1 = ap length parts ∙ length-append front (last ∷ []) in
-    (after.0, in_front (at_position-parts front last link after.0 (ap (λ (l : List Node). at_position l link) (sym parts) ∙ after.1)) (omega arith), rw after.2 leads.2, rw after.2 rest)
+    (after.0, in_front (at_position-parts front last link after.0 (ap (λ (l : List Node). at_position l link) (sym parts) ∙ after.1)) (omega arith),
+        rw after.2 leads.2, rw after.2 rest)
   where
-    in_front : {x : Node} → (at_position front link ≡ Some x) ⊎ ((link ≡ suc (length front)) × (x ≡ last)) → link ≤ length front → at_position front link ≡ Some x
+    in_front : {x : Node} → (at_position front link ≡ Some x) ⊎ ((link ≡ suc (length front)) × (x ≡ last)) → link ≤ length front
+        → at_position front link ≡ Some x
     in_front (inl here) inside = here
     in_front (inr end) inside = let place = end.0 in absurd (omega arith)
 
 -- a tree without its last node
-pub tree_shrinks : (old new front : List Node) (last : Node) (place : ℕ) → IsTree old → CutsOff place old new → new ≡ front ++ last ∷ [] → place ≡ length old → IsTree front
+pub tree_shrinks : (old new front : List Node) (last : Node) (place : ℕ) → IsTree old → CutsOff place old new → new ≡ front ++ last ∷ [] → place ≡ length old
+    → IsTree front
 tree_shrinks old new front last place tree cuts parts place_is = λ at found here.
     let in_new : at_position new at ≡ Some found = ap (λ (l : List Node). at_position l at) parts ∙ at_position-push front last at found here in
     let before = back old new cuts.lates at found in_new in
@@ -268,7 +289,8 @@ tree_shrinks old new front last place tree cuts parts place_is = λ at found her
 pub lates_stay : (old new : List Node) → SameLates old new → map (λ node. node.late) new ≡ map (λ node. node.late) old
 lates_stay old new lates = go old new lates.same (λ i node here. lates.late (suc i) node here)
   where
-    go : (old new : List Node) → length new ≡ length old → ((i : ℕ) (node : Node) → slice_get old i ≡ Some node → (after : Node) × (slice_get new i ≡ Some after) × (after.late ≡ node.late))
+    go : (old new : List Node) → length new ≡ length old → ((i : ℕ) (node : Node) → slice_get old i ≡ Some node
+        → (after : Node) × (slice_get new i ≡ Some after) × (after.late ≡ node.late))
         → map (λ node. node.late) new ≡ map (λ node. node.late) old
     go [] [] same each = refl
     go [] (y ∷ new) same each = absurd (omega arith)
@@ -285,7 +307,8 @@ ended nodes goal path link ends within other (zero, leads) = other (sym leads)
 ended nodes goal path link ends within other (suc n, leads) = no_way nodes goal n path link ends within leads
 
 -- no way leads from where no node stands to a node
-pub nowhere : (nodes : List Node) (goal path link : ℕ) (node : Node) → at_position nodes link ≡ None → at_position nodes goal ≡ Some node → ¬ (IsReached nodes goal path link)
+pub nowhere : (nodes : List Node) (goal path link : ℕ) (node : Node) → at_position nodes link ≡ None → at_position nodes goal ≡ Some node
+    → ¬ (IsReached nodes goal path link)
 nowhere nodes goal path link node none here (zero, leads) = let same = sym here ∙ ap (at_position nodes) (sym leads) ∙ none in cc
 nowhere nodes goal path link node none here (suc n, leads) = let same = sym leads.1 ∙ none in cc
 
@@ -318,7 +341,8 @@ differs_by a b r is fails same =
     false≢true (sym fails ∙ equal)
 
 -- what a write through the slice of a Vec leaves of it
-pub written_back : {X : Type 0} (new items : List X) (len : ℕ) → length new ≡ length items → len ≡ length items → take len (new ++ drop (length new) items) ≡ new
+pub written_back : {X : Type 0} (new items : List X) (len : ℕ) → length new ≡ length items → len ≡ length items
+    → take len (new ++ drop (length new) items) ≡ new
 written_back new items len same is =
     let rest : drop (length new) items ≡ [] = drop_all (length new) items (omega arith) in
     ap (λ (l : List _). take len (new ++ l)) rest ∙ ap (take len) (append-nil new) ∙ take_all len new (omega arith)

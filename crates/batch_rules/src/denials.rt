@@ -1,4 +1,5 @@
 ghost use Rattle.std.specs.Prelude.{◌≡◌, ◌+◌, ◌<◌, ◌≤◌, ◌^◌, if◌then◌else◌, None, List, length};
+ghost use Rattle.ldar_facts.specs.declared.limits.TheConstants.{MOST_FACTS};
 ghost use Rattle.ldar_facts.specs.declared.batch.Batch.{Batch as FactBatch};
 ghost use Rattle.ldar_facts.specs.Facts.{facts_of};
 ghost use Rattle.fact_store.specs.Kept.{facts_in};
@@ -13,8 +14,8 @@ use crate::difficult::{Passed, passed_after, passed_on};
 use crate::known::Known;
 use crate::rules::least_rule;
 use component_register::Register;
-use ldar_facts::{Batch, Fact, FactBody};
-use ldar_law::{MOST_FACTS, Verdict, is_registered};
+use ldar_facts::{Batch, Fact, FactBody, MOST_FACTS};
+use ldar_law::{Verdict, is_registered};
 
 /// How many facts of a batch stand up to its last entry in the register, where the fact at a place has come too.
 fn reach_after(reach: usize, index: usize, body: &FactBody) -> usize
@@ -91,7 +92,7 @@ fn verdict_found(denial: Option<(u16, u8)>, facts: u64) -> Verdict
 /// The verdict on a batch, by the register of the office and the number of facts that it holds. The first fact that
 /// fails a rule is told, with the least rule that it fails. It takes no memory.
 pub fn verdict(register: &Register, held: u64, batch: &Batch) -> Verdict
-    requires held { held ≤ 8_000_000 }
+    requires held { held ≤ MOST_FACTS }
     ensures value { (history : List FactBatch) → facts_in register.now ≡ register_facts (facts_of history)
         → held ≡ length (facts_of history) → result ≡ verdict_on history batch.now }
 {

@@ -2,6 +2,7 @@
 //! (40 CFR 60.482-7a(h)(2)(ii)).
 
 ghost use Rattle.std.specs.Prelude.{◌≡◌, ◌+◌, ◌<◌, ◌≤◌, [], length, ◌^◌};
+ghost use Rattle.ldar_facts.specs.declared.limits.TheConstants.{MOST_FACTS};
 ghost use Rattle.fact_store.specs.Kept.{facts_in};
 ghost use Rattle.ldar_law.specs.Judged.{register_with};
 ghost use Rattle.ldar_law.specs.ShareLaws.{counts_as_valve};
@@ -62,7 +63,7 @@ fn share_of(known: &Known, component: u16, unit: u8, day: Day) -> Share
 /// The share by the register alone.
 fn share_registered(register: &Register, unit: u8, day: Day) -> Share
     ensures value { result ≡ share_in unit day (register_with (facts_in register.now) []) }
-    ensures few { (result.valves ≤ 8_000_000) × (result.difficult ≤ 8_000_000) }
+    ensures few { (result.valves ≤ MOST_FACTS) × (result.difficult ≤ MOST_FACTS) }
 {
     let known = Known {
         register,
@@ -110,9 +111,9 @@ fn share_after(known: &Known, share: Share, index: usize, unit: u8, day: Day) ->
     requires within { index < length known.now.front.now }
     requires few { length known.now.front.now ≤ 512 }
     requires so_far { share ≡ share_in unit day (register_by known.now index) }
-    requires small { (share.valves ≤ 8_000_000 + index) × (share.difficult ≤ 8_000_000 + index) }
+    requires small { (share.valves ≤ MOST_FACTS + index) × (share.difficult ≤ MOST_FACTS + index) }
     ensures value { result ≡ share_in unit day (register_by known.now (index + 1)) }
-    ensures small { (result.valves ≤ 8_000_000 + index + 1) × (result.difficult ≤ 8_000_000 + index + 1) }
+    ensures small { (result.valves ≤ MOST_FACTS + index + 1) × (result.difficult ≤ MOST_FACTS + index + 1) }
 {
     let fact = &known.front[index];
     match changed(&fact.body) {

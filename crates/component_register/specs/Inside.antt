@@ -1,5 +1,6 @@
 -- What is true inside every register.
 use Rattle.std.specs.Prelude.{◌≡◌, ℕ, ◌≤◌, None, Vec, Option, List, length}
+use Rattle.ldar_facts.specs.declared.limits.TheConstants.{MOST_FACTS}
 use Rattle.list_words.specs.Order.{AllApart}
 use Rattle.ldar_facts.specs.declared.class.Class.{Class}
 use Rattle.ldar_facts.specs.declared.key.Key.{Key}
@@ -33,7 +34,7 @@ pub record Holds {Z : Type 0} (facts : List Entry) (slots : List Slot) (units : 
 pub record IsSound {Z : Type 0} (kept : Kept) (slots : List Slot) (units : List (Option UnitEntry))
     (classes : List (Vec (Key × Class) Z)) (rosters : List (Vec ℕ Z)) : Type 0 where
   pub apart : AllApart goes_first kept.arrived
-  pub few : length kept.arrived ≤ 8_000_000
+  pub few : length kept.arrived ≤ MOST_FACTS
   pub once : AreEnteredOnce (facts_in kept)
   pub holds : Holds (facts_in kept) slots units classes rosters
   pub slot_room : HaveRows component_of kept.spare slots

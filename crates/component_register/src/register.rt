@@ -1,4 +1,5 @@
 ghost use Rattle.std.specs.Prelude.{◌≡◌, ℕ, ◌<◌, ◌≤◌, Some, false, [], ◌∷◌, ◌++◌, length, drop, filter, slice_get, option_map, OnOk, OnErr, IfOk};
+ghost use Rattle.ldar_facts.specs.declared.limits.TheConstants.{MOST_FACTS};
 ghost use Rattle.fact_store.specs.Kept.{Kept, facts_in, is_held};
 ghost use Rattle.ldar_law.specs.Equipment as law;
 ghost use Rattle.ldar_law.specs.Force as force;
@@ -79,7 +80,7 @@ impl Register {
     pub fn insert(&mut self, key: Key, fact: Fact)
         requires roomy { slice_get self.old.spare 0 ≡ Some fact }
         requires new_key { is_held key self.old.arrived ≡ false }
-        requires few { length self.old.arrived < 8_000_000 }
+        requires few { length self.old.arrived < MOST_FACTS }
         requires first { IsFirstOfNumber fact.body (facts_in self.old) }
         ensures value { self.new ≡ record { arrived = self.old.arrived ++ (key, fact) ∷ []; spare = drop 1 self.old.spare } }
     {
@@ -144,7 +145,7 @@ impl Register {
     pub fn members(&self, unit: u8) -> &[u16]
         ensures value { result.now ≡ law.members_of unit (facts_in self.now) }
         ensures once { AreEnteredOnce (facts_in self.now) }
-        ensures few { length result.now ≤ 8_000_000 }
+        ensures few { length result.now ≤ MOST_FACTS }
     {
         list_of(&self.rosters, u16::from(unit))
     }

@@ -1,6 +1,7 @@
 -- What is true inside every store.
 use Rattle.std.specs.Prelude.{◌≡◌, ℕ, ◌+◌, ◌≤◌, Vec, Option, List, length, filter}
 use Rattle.std.specs.Vec.{vec_len, vec_capacity}
+use Rattle.ldar_facts.specs.declared.limits.TheConstants.{MOST_FACTS}
 use Rattle.list_words.specs.Order.{in_order, AllApart}
 use Rattle.ldar_facts.specs.declared.body.FactBody.{FactBody}
 use Rattle.ldar_facts.specs.Facts.{Entry, goes_first}
@@ -28,7 +29,7 @@ pub record KeepsIndex (naming : Naming) (arrived : List Entry) (spare : List Sta
 -- what is true inside every store
 pub record IsSound {Z : Type 0} (arrived : Vec Entry Z) (spare : List Stated) (components units instruments readings : Index) : Type 0 where
   pub apart : AllApart goes_first arrived.items
-  pub few : vec_len arrived ≤ 8_000_000
+  pub few : vec_len arrived ≤ MOST_FACTS
   pub room : vec_len arrived + length spare ≤ vec_capacity arrived
   pub by_component : KeepsIndex Component arrived.items spare components
   pub by_unit : KeepsIndex OfUnit arrived.items spare units

@@ -1,4 +1,5 @@
 ghost use Rattle.std.specs.Prelude.{◌≡◌, ℕ, ◌+◌, ◌<◌, Some, false, [], ◌∷◌, ◌++◌, length, drop, slice_get, OnOk, OnErr};
+ghost use Rattle.ldar_facts.specs.declared.limits.TheConstants.{MOST_FACTS};
 ghost use Rattle.ldar_facts.specs.Named as named;
 ghost use Rattle.fact_store.specs.Kept.{Kept, ArePlacesOf, is_held};
 
@@ -74,7 +75,7 @@ impl FactStore {
     pub fn insert(&mut self, key: Key, fact: Fact)
         requires roomy { slice_get self.old.spare 0 ≡ Some fact }
         requires new_key { is_held key self.old.arrived ≡ false }
-        requires few { length self.old.arrived < 8_000_000 }
+        requires few { length self.old.arrived < MOST_FACTS }
         ensures { self.new ≡ record { arrived = self.old.arrived ++ (key, fact) ∷ []; spare = drop 1 self.old.spare } }
     {
         let arrived = self.arrived.as_slice();

@@ -3,7 +3,7 @@ ghost use Rattle.facts_bench.specs.Numbered.{AreNumbered};
 
 use crate::sort::{Sort, fact_at};
 use fact_store::FactStore;
-use ldar_facts::{Fact, Key, Memory};
+use ldar_facts::{Fact, Key, MOST_FACTS, Memory};
 use std::alloc::{AllocError, Global};
 
 /// How many facts room is made for at once: as many as a batch may have.
@@ -35,7 +35,7 @@ fn add_facts(store: &mut FactStore, before: u32, facts: &[Fact]) -> Result<u32, 
     store.reserve(facts)?;
     let mut came = before;
     for fact in facts {
-        if came >= 8_000_000 {
+        if u64::from(came) >= MOST_FACTS {
             break;
         }
         store.insert(key_of(fact, came), *fact);

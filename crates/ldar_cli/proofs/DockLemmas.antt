@@ -1,5 +1,6 @@
 -- Steps of docking a batch: its place in the history, what stays, and what each reply says.
-use Rattle.std.proofs.Common.{◌≡◌, ℕ, ◌+◌, ◌<◌, ◌≤◌, ◌⊎◌, Bool, true, false, List, [], ◌∷◌, ◌++◌, length, take, Option, Some, None, refl, sym, ap, subst, ◌∙◌, inl, inr, arith}
+use Rattle.std.proofs.Common.{◌≡◌, ℕ, ◌+◌, ◌<◌, ◌≤◌, ◌⊎◌, Bool, true, false, List, [], ◌∷◌, ◌++◌, length, take, Option, Some, None, refl, sym, ap, subst, ◌∙◌}
+use Rattle.std.proofs.Common.{inl, inr, arith}
 use Rattle.std.specs.List.{position_from}
 use Rattle.std.proofs.lemmas.Bool.{cases_Bool}
 use Rattle.std.proofs.lemmas.Grind.{common_steps}
@@ -52,11 +53,13 @@ Same-is (Some old) (Some new) same = ap Some same
 -- ---- positions
 
 -- a place found is in the list
-pub position_from-within : {X : Type 0} (p : X → Bool) (first : ℕ) (xs : List X) (i : ℕ) → position_from p first xs ≡ Some i → (first ≤ i) × (i < first + length xs)
+pub position_from-within : {X : Type 0} (p : X → Bool) (first : ℕ) (xs : List X) (i : ℕ) → position_from p first xs ≡ Some i
+    → (first ≤ i) × (i < first + length xs)
 position_from-within p first [] i found = absurd cc
 position_from-within p first (x ∷ xs) i found = at (position_from-within p (first + 1) xs i) (cases_Bool (p x))
   where
-    at : (position_from p (first + 1) xs ≡ Some i → (first + 1 ≤ i) × (i < first + 1 + length xs)) → (p x ≡ true) ⊎ (p x ≡ false) → (first ≤ i) × (i < first + length (x ∷ xs))
+    at : (position_from p (first + 1) xs ≡ Some i → (first + 1 ≤ i) × (i < first + 1 + length xs)) → (p x ≡ true) ⊎ (p x ≡ false)
+        → (first ≤ i) × (i < first + length (x ∷ xs))
     at later (inl passes) =
         let same : Some first ≡ Some i = grind (arith, common_steps) in
         let is : first ≡ i = cc in
@@ -121,7 +124,8 @@ pub torn : (old new : Option (List ℕ)) (frames : List (List Batch)) (history d
 torn None None frames history doubt batch opened grows opens are is = tt
 torn None (Some new) frames history doubt batch opened grows opens are is = absurd grows
 torn (Some old) None frames history doubt batch opened grows opens are is = absurd grows
-torn (Some old) (Some new) frames history doubt batch opened grows opens are (inl none) = (opened, inl (opens_after new history doubt none (either_history new frames history doubt are opens)))
+torn (Some old) (Some new) frames history doubt batch opened grows opens are (inl none) =
+    (opened, inl (opens_after new history doubt none (either_history new frames history doubt are opens)))
 torn (Some old) (Some new) frames history doubt batch opened grows opens are (inr one) =
     (opened, subst (λ (d : List Batch). OpensEither new history d) one (either_history new frames history doubt are opens))
 
@@ -204,9 +208,12 @@ untouched_or taken none P (Some old) (Some new) same = inl (none, same)
 -- a journal that was not opened
 pub ends_refused : (why : OpenWhy) (left old new : Option (List ℕ)) → IsRefused old new why → DockEnds (refusal_of why) [] left [] old new
 ends_refused Disk left old new refused =
-    (refl, untouched_or [] refl (λ old new. (history : List Batch) × (batch : Batch) × Opens old history × Spells [] batch × IsDue history batch × OpensEither new history (batch ∷ [])) old new refused.unchanged)
+    (refl, untouched_or [] refl (λ old new. (history : List Batch) × (batch : Batch) × Opens old history × Spells [] batch × IsDue history batch
+        × OpensEither new history (batch ∷ [])) old new refused.unchanged)
 ends_refused NotAJournal left old new refused =
-    (refl, refl, none_opens (λ bytes. ¬ (take 16 bytes ≡ header)) (λ bytes not history. no_header_opens_to_none bytes history not) old new refused.unchanged refused.not_a_journal)
+    (refl, refl, none_opens (λ bytes. ¬ (take 16 bytes ≡ header)) (λ bytes not history. no_header_opens_to_none bytes history not) old new refused.unchanged
+        refused.not_a_journal)
 ends_refused (Damaged at) left old new refused =
-    (refl, refl, none_opens (λ bytes. IsDamagedAt bytes at) (λ bytes is history. damaged_opens_to_none bytes at history is) old new refused.unchanged refused.damaged)
+    (refl, refl, none_opens (λ bytes. IsDamagedAt bytes at) (λ bytes is history. damaged_opens_to_none bytes at history is) old new refused.unchanged
+        refused.damaged)
 ends_refused OpenMemory left old new refused = (refl, refused.unchanged)

@@ -1,6 +1,7 @@
 -- What is answered to a batch that is docked.
 use Rattle.std.specs.Prelude.{◌≡◌, ℕ, ◌+◌, ◌-◌, ◌<◌, ◌≤◌, ◌⊎◌, Option, Some, None, List, [], ◌∷◌, ◌++◌, length, codes, slice_get}
 use Rattle.std.specs.Fmt.{decimal}
+use Rattle.ldar_facts.specs.declared.limits.TheConstants.{MOST_FACTS}
 use Rattle.ldar_facts.specs.declared.batch.Batch.{Batch}
 use Rattle.ldar_facts.specs.Grammar.{Spells}
 use Rattle.ldar_facts.specs.Identity.{identity_of, position_of}
@@ -30,7 +31,7 @@ Stands history batch position kept = (position_of (identity_of batch) history �
 -- a batch is to be added: it is new, and with it the facts are not too many
 pub record IsDue (history : List Batch) (batch : Batch) : Type 0 where
   pub is_new : IsNew history batch
-  pub fits : fact_count history + length batch.facts ≤ 8_000_000
+  pub fits : fact_count history + length batch.facts ≤ MOST_FACTS
 
 -- a batch that is to be added goes behind the others
 pub record Accepts (history : List Batch) (batch : Batch) (position : ℕ) (after : List Batch) : Type 0 where
@@ -45,7 +46,7 @@ Docks history batch (Receipt handheld number position) after =
     (handheld ≡ batch.handheld) × (number ≡ batch.number)
     × ((Stands history batch position batch × (after ≡ history)) ⊎ Accepts history batch position after)
 Docks history batch (Conflict position) after = (kept : Batch) × Stands history batch position kept × ¬ (kept ≡ batch) × (after ≡ history)
-Docks history batch (Full facts) after = IsNew history batch × (facts ≡ fact_count history + length batch.facts) × (8_000_000 < facts) × (after ≡ history)
+Docks history batch (Full facts) after = IsNew history batch × (facts ≡ fact_count history + length batch.facts) × (MOST_FACTS < facts) × (after ≡ history)
 
 -- what is written to an input, from one history to the next: nothing where it is empty, else the line of the reply to its batch
 abbrev pub Answered : List ℕ → List Batch → List ℕ → List Batch → Type 0

@@ -1,5 +1,6 @@
 -- What a run of the program does to its source, its sink and its disk.
 use Rattle.std.specs.Prelude.{◌≡◌, ℕ, ◌<◌, ◌≤◌, ◌⊎◌, Option, Some, None, List, [], ◌∷◌, ◌++◌, length}
+use Rattle.ldar_facts.specs.declared.laws.TheConstants.{LONGEST_BATCH}
 use Rattle.disk_model.specs.Told.{BothTold}
 use Rattle.ldar_ports.specs.Source.{HasEnded}
 use Rattle.ldar_facts.specs.declared.batch.Batch.{Batch}
@@ -57,7 +58,7 @@ DockEnds Memory taken left put old new = (put ≡ []) × Same old new
 DockEnds NoJournal taken left put old new = (taken ≡ []) × (put ≡ []) × BothTold old new (λ old new. (new ≡ old) × ((history : List Batch) → ¬ (Opens old history)))
 DockEnds BadInput taken left put old new =
     (put ≡ []) × BothTold old new (λ old new. (new ≡ old) × (history : List Batch) × Opens old history)
-    × ((HasEnded left × IsBadInput taken) ⊎ (11_785 < length taken))
+    × ((HasEnded left × IsBadInput taken) ⊎ (LONGEST_BATCH < length taken))
 DockEnds _ taken left put old new = ⊥
 
 -- How a command ends: what it takes, puts and leaves. Nothing is touched where the words are no command.

@@ -16,8 +16,8 @@ use crate::input::{batch_in, read_input};
 use crate::reply::{Reply, line};
 use crate::status::Status;
 use disk_model::Disk;
-use ldar_facts::{Batch, Memory};
-use ldar_journal::{Accepted, Journal, MOST_FACTS, OpenWhy, open_accepted, prepare};
+use ldar_facts::{Batch, MOST_FACTS, Memory};
+use ldar_journal::{Accepted, Journal, OpenWhy, open_accepted, prepare};
 use ldar_ports::{Sink, Source, put_all};
 use std::alloc::Global;
 

@@ -1,4 +1,5 @@
 ghost use Rattle.std.specs.Prelude.{◌≡◌, ◌⊎◌, ◌<◌, ◌≤◌, ℕ, List, length, Err, IfOk, IfErr, MatchOption};
+ghost use Rattle.ldar_facts.specs.declared.laws.TheConstants.{LONGEST_BATCH};
 ghost use Rattle.disk_model.specs.Faults.{Rose};
 ghost use Rattle.ldar_ports.specs.Source.{Takes, HasEnded};
 ghost use Rattle.ldar_facts.specs.Grammar.{Spells};
@@ -15,7 +16,7 @@ const INPUT: usize = 11_786;
 /// Takes the input to its end, or until it is longer than any batch.
 pub fn read_input<S: Source>(alloc: Global, input: &mut S) -> Result<Window, Status>
     ensures taken { (taken : List ℕ) × Takes (S.left input.old) taken (S.left input.new)
-        × IfOk result (λ window. (window.bytes ≡ taken) × (HasEnded (S.left input.new) ⊎ (11_785 < length taken))) }
+        × IfOk result (λ window. (window.bytes ≡ taken) × (HasEnded (S.left input.new) ⊎ (LONGEST_BATCH < length taken))) }
     ensures only { IfErr result (λ status. (status ≡ Status.ReadFault) ⊎ (status ≡ Status.Memory)) }
     ensures cause { result ≡ Err Status.ReadFault → Rose (S.faults input.old) (S.faults input.new) }
     ensures never_falls { S.faults input.old ≤ S.faults input.new }

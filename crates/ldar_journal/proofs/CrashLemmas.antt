@@ -1,5 +1,6 @@
 -- What a crash may leave over calls of a disk that follow each other.
-use Rattle.std.proofs.Common.{◌≡◌, ◌⊎◌, inl, inr, ℕ, ◌+◌, ◌<◌, ◌≤◌, ◌^◌, ◌-◌, Option, Some, None, Result, Ok, Err, is_err, is_ok, true, false, IsOk, MatchResult, List, length, refl, sym, ◌∙◌, ap, subst, arith}
+use Rattle.std.proofs.Common.{◌≡◌, ◌⊎◌, inl, inr, ℕ, ◌+◌, ◌<◌, ◌≤◌, ◌^◌, ◌-◌, Option, Some, None, Result, Ok, Err, is_err, is_ok, true, false, IsOk}
+use Rattle.std.proofs.Common.{MatchResult, List, length, refl, sym, ◌∙◌, ap, subst, arith}
 use Rattle.std.proofs.lemmas.Bool.{false≢true}
 use Rattle.disk_model.specs.Disk.{Torn}
 use Rattle.disk_model.specs.Images.{Same, Only, Tears, Elapses, Roomy}

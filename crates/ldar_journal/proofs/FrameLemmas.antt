@@ -1,5 +1,6 @@
 -- What a reader of one frame has found at each of its exits.
-use Rattle.std.proofs.Common.{◌≡◌, ℕ, zero, suc, ◌+◌, ◌/◌, ◌<◌, ◌≤◌, List, [], ◌∷◌, ◌++◌, length, take, drop, get_or, refl, sym, ◌∙◌, ap, ap₂, subst, arith, append_assoc, length-append}
+use Rattle.std.proofs.Common.{◌≡◌, ℕ, zero, suc, ◌+◌, ◌/◌, ◌<◌, ◌≤◌, List, [], ◌∷◌, ◌++◌, length, take, drop, get_or, refl, sym, ◌∙◌, ap, ap₂, subst, arith}
+use Rattle.std.proofs.Common.{append_assoc, length-append}
 use Rattle.std.specs.List.{AllByRecursion}
 use Rattle.std.specs.Int.{w32, to_be_bytes, from_be_bytes}
 use Rattle.std.proofs.lemmas.Grind.{flat_map-append}
@@ -31,10 +32,12 @@ unfolding IsBatch spelling
 is-Spells batch is = record { filled = is; spells = refl }
 
 -- what is left behind some batches of a frame begins with another, where it is not empty
-left_of : (front whole : List Batch) (rest : List ℕ) → PayloadGoesOn front whole rest → 0 < length rest → (b : Batch) × (more : List Batch) × IsBatch b × (whole ≡ front ++ b ∷ more) × (rest ≡ spelling b ++ payload more)
+left_of : (front whole : List Batch) (rest : List ℕ) → PayloadGoesOn front whole rest → 0 < length rest
+    → (b : Batch) × (more : List Batch) × IsBatch b × (whole ≡ front ++ b ∷ more) × (rest ≡ spelling b ++ payload more)
 left_of front whole rest goes_on some = at goes_on.more goes_on.batches goes_on.bytes goes_on.each
   where
-    at : (more : List Batch) → whole ≡ front ++ more → rest ≡ payload more → AllByRecursion IsBatch more → (b : Batch) × (more : List Batch) × IsBatch b × (whole ≡ front ++ b ∷ more) × (rest ≡ spelling b ++ payload more)
+    at : (more : List Batch) → whole ≡ front ++ more → rest ≡ payload more → AllByRecursion IsBatch more
+        → (b : Batch) × (more : List Batch) × IsBatch b × (whole ≡ front ++ b ∷ more) × (rest ≡ spelling b ++ payload more)
     at [] batches bytes each = absurd (omega (arith, ap length bytes))
     at (b ∷ more) batches bytes each = (b, more, each.0, batches, bytes)
 
@@ -52,7 +55,8 @@ pub no_batch : (bytes rest : List ℕ) (front : List Batch) → bytes ≡ payloa
 no_batch bytes rest front whole each none some batches is same =
     let goes_on = payload_goes_on front batches rest each is.each (same ∙ whole) in
     let more = left_of front batches rest goes_on some in
-    let front_is : take (length (spelling more.0)) rest ≡ spelling more.0 = ap (take (length (spelling more.0))) more.4 ∙ take-append_seam (spelling more.0) (payload more.1) in
+    let front_is : take (length (spelling more.0)) rest ≡ spelling more.0 = ap (take (length (spelling more.0))) more.4
+        ∙ take-append_seam (spelling more.0) (payload more.1) in
     none (length (spelling more.0)) more.0 (subst (λ (l : List ℕ). Spells l more.0) (sym front_is) (is-Spells more.0 more.2))
 
 -- no bytes are no payload
@@ -60,14 +64,18 @@ pub nothing : (bytes : List ℕ) → length bytes ≡ 0 → (batches : List Batc
 nothing bytes none batches is same = omega (arith, is.some, (length-payload batches is.each).0, ap length same)
 
 -- one more batch was read from the rest
-pub one_more : (bytes rest after : List ℕ) (items : List Batch) (b : Batch) (used : ℕ) → bytes ≡ payload items ++ rest → take used rest ≡ spelling b → after ≡ drop used rest
+pub one_more : (bytes rest after : List ℕ) (items : List Batch) (b : Batch) (used : ℕ) → bytes ≡ payload items ++ rest → take used rest ≡ spelling b
+    → after ≡ drop used rest
     → bytes ≡ payload (items ++ b ∷ []) ++ after
 one_more bytes rest after items b used whole spells left =
-    let parts : rest ≡ spelling b ++ after = sym (take-append-drop used rest) ∙ ap (λ (l : List ℕ). l ++ drop used rest) spells ∙ ap (λ (l : List ℕ). spelling b ++ l) (sym left) in
-    whole ∙ ap (λ (l : List ℕ). payload items ++ l) parts ∙ sym (append_assoc (payload items) (spelling b) after) ∙ ap (λ (l : List ℕ). l ++ after) (sym (payload-push items b))
+    let parts : rest ≡ spelling b ++ after = sym (take-append-drop used rest) ∙ ap (λ (l : List ℕ). l ++ drop used rest) spells
+        ∙ ap (λ (l : List ℕ). spelling b ++ l) (sym left) in
+    whole ∙ ap (λ (l : List ℕ). payload items ++ l) parts ∙ sym (append_assoc (payload items) (spelling b) after)
+        ∙ ap (λ (l : List ℕ). l ++ after) (sym (payload-push items b))
 
 -- nothing was read, and nothing is left
-pub nothing_left : (bytes rest : List ℕ) (items : List Batch) → bytes ≡ payload items ++ rest → length rest ≡ 0 → length items ≡ 0 → (batches : List Batch) → IsFrame batches → ¬ (payload batches ≡ bytes)
+pub nothing_left : (bytes rest : List ℕ) (items : List Batch) → bytes ≡ payload items ++ rest → length rest ≡ 0 → length items ≡ 0 → (batches : List Batch)
+    → IsFrame batches → ¬ (payload batches ≡ bytes)
 nothing_left bytes rest [] whole none read = nothing bytes (ap length whole ∙ none)
 nothing_left bytes rest (b ∷ items) whole none read = absurd (omega arith)
 
@@ -126,11 +134,13 @@ one_payload_at bytes one other is is_too =
     (fronts one other is.rest is_too.rest (big_endian-one (length one) (length other) (omega (arith, is.fits)) (omega (arith, is_too.fits)) lengths) tails).0
 
 -- the frame of these batches takes its gate, its length and its payload
-pub frame_stands : (bytes found : List ℕ) (batches : List Batch) → IsPayloadAt bytes found → IsFrame batches → payload batches ≡ found → IsFrameOf bytes batches (5 + length found)
+pub frame_stands : (bytes found : List ℕ) (batches : List Batch) → IsPayloadAt bytes found → IsFrame batches → payload batches ≡ found
+    → IsFrameOf bytes batches (5 + length found)
 frame_stands bytes found batches stands is same =
     let used_is : 5 + length found ≡ length (frame batches) = ap (λ (l : List ℕ). 5 + length l) (sym same) ∙ omega arith in
     let whole : bytes ≡ frame batches ++ stands.rest = stands.stands ∙ ap (λ (l : List ℕ). 1 ∷ ((big_endian 4 (length l) ++ l) ++ stands.rest)) (sym same) in
-    let after : drop (5 + length found) bytes ≡ stands.rest = ap₂ (λ (n : ℕ) (l : List ℕ). drop n l) used_is whole ∙ drop-append_seam (frame batches) stands.rest in
+    let after : drop (5 + length found) bytes ≡ stands.rest = ap₂ (λ (n : ℕ) (l : List ℕ). drop n l) used_is whole
+        ∙ drop-append_seam (frame batches) stands.rest in
     record {
       is = is;
       used_is = used_is;
@@ -166,7 +176,8 @@ pub wanted_enough : (bytes more rest : List ℕ) (len wanted : ℕ) → 5 ≤ le
     → (len ≤ 188_560 → 5 + len ≤ wanted) → wanted ≤ length (bytes ++ more) → HasNoFrame (bytes ++ more) → HasNoFrame ((bytes ++ more) ++ rest)
 wanted_enough bytes more rest len wanted long are_bytes len_is fits reaches within none others after is stands =
     let at = payload_of_frame ((bytes ++ more) ++ rest) after others is stands in
-    let same : length (payload others) ≡ len = wanted_payload bytes (more ++ rest) len long are_bytes len_is fits (payload others) (subst (λ (l : List ℕ). IsPayloadAt l (payload others)) (append_assoc bytes more rest) at) in
+    let same : length (payload others) ≡ len = wanted_payload bytes (more ++ rest) len long are_bytes len_is fits (payload others)
+        (subst (λ (l : List ℕ). IsPayloadAt l (payload others)) (append_assoc bytes more rest) at) in
     let small = at.fits in
     let reached : 5 + len ≤ wanted = reaches (omega arith) in
     let size : length (frame others) ≡ 5 + length (payload others) = omega arith in
@@ -178,5 +189,6 @@ IsFrameOf-longer front rest batches used is = record {
   is = is.is;
   used_is = is.used_is;
   within = omega (arith, is.within, length-append front rest);
-  stands = ap (λ (l : List ℕ). l ++ rest) is.stands ∙ append_assoc (frame batches) (drop used front) rest ∙ ap (λ (l : List ℕ). frame batches ++ l) (sym (drop-append-le used front rest is.within));
+  stands = ap (λ (l : List ℕ). l ++ rest) is.stands ∙ append_assoc (frame batches) (drop used front) rest
+      ∙ ap (λ (l : List ℕ). frame batches ++ l) (sym (drop-append-le used front rest is.within));
 }

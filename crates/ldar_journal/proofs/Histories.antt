@@ -1,5 +1,6 @@
 -- What the fronts of a journal's bytes say of the history that the whole opens to.
-use Rattle.std.proofs.Common.{◌≡◌, ◌≢◌, ◌⊎◌, inl, inr, ℕ, ◌+◌, ◌*◌, ◌-◌, ◌<◌, ◌≤◌, true, List, [], ◌∷◌, ◌++◌, length, take, drop, get_or, refl, sym, ◌∙◌, ap, ap₂, arith, append_assoc, length-append, take-add, slice_index, subst, drop-cons, add-one, length-drop}
+use Rattle.std.proofs.Common.{◌≡◌, ◌≢◌, ◌⊎◌, inl, inr, ℕ, ◌+◌, ◌*◌, ◌-◌, ◌<◌, ◌≤◌, true, List, [], ◌∷◌, ◌++◌, length, take, drop, get_or, refl, sym, ◌∙◌, ap}
+use Rattle.std.proofs.Common.{ap₂, arith, append_assoc, length-append, take-add, slice_index, subst, drop-cons, add-one, length-drop}
 use Rattle.std.specs.List.{flat_map, AllByRecursion}
 use Rattle.std.proofs.lemmas.Grind.{flat_map-append, common_steps}
 use Rattle.std.proofs.lemmas.List.{take-append-drop, append_cancel_left, append-nil, length-take-le}
@@ -30,7 +31,8 @@ goes_on : (front whole : List (List Batch)) (x y : List ℕ) (gate : ℕ) (rest 
 goes_on [] whole x y gate rest front_is whole_is ends shut same = record { more = whole; each = whole_is; frames = refl; bytes = same }
 goes_on (f ∷ front) [] x y gate rest front_is whole_is ends shut same = absurd (shut cc)
 goes_on (f ∷ front) (g ∷ whole) x y gate rest front_is whole_is ends shut same =
-    let first = one_frame f g (framed front ++ x) (framed whole ++ y) front_is.0 whole_is.0 (sym (append_assoc (frame f) (framed front) x) ∙ same ∙ append_assoc (frame g) (framed whole) y) in
+    let first = one_frame f g (framed front ++ x) (framed whole ++ y) front_is.0 whole_is.0
+        (sym (append_assoc (frame f) (framed front) x) ∙ same ∙ append_assoc (frame g) (framed whole) y) in
     let next = goes_on front whole x y gate rest front_is.1 whole_is.1 ends shut first.1 in
     record { more = next.more; each = next.each; frames = ap (λ (l : List (List Batch)). l) cc; bytes = next.bytes }
 
@@ -59,13 +61,16 @@ pub at_place : (image : List ℕ) (place : ℕ) → place < length image → dro
 at_place image place within = rw (add-one, drop-cons image place 0) refl
 
 -- a front and what is dropped for it are the whole
-whole_of : (image : List ℕ) (place : ℕ) (frames : List (List Batch)) → take place image ≡ header ++ framed frames → image ≡ header ++ (framed frames ++ drop place image)
+whole_of : (image : List ℕ) (place : ℕ) (frames : List (List Batch)) → take place image ≡ header ++ framed frames
+    → image ≡ header ++ (framed frames ++ drop place image)
 whole_of image place frames spells =
     sym (take-append-drop place image) ∙ ap (λ (l : List ℕ). l ++ drop place image) spells ∙ append_assoc header (framed frames) (drop place image)
 
 -- the batches of some frames, of one more, and of those behind it
-batches_of-between : (front : List (List Batch)) (f : List Batch) (more : List (List Batch)) → batches_of (front ++ f ∷ more) ≡ (batches_of front ++ f) ++ batches_of more
-batches_of-between front f more = flat_map-append (λ (batches : List Batch). batches) front (f ∷ more) ∙ sym (append_assoc (batches_of front) f (batches_of more))
+batches_of-between : (front : List (List Batch)) (f : List Batch) (more : List (List Batch))
+    → batches_of (front ++ f ∷ more) ≡ (batches_of front ++ f) ++ batches_of more
+batches_of-between front f more = flat_map-append (λ (batches : List Batch). batches) front (f ∷ more)
+    ∙ sym (append_assoc (batches_of front) f (batches_of more))
 
 continues_at : (image : List ℕ) (place end : ℕ) (front frames : List (List Batch)) → place ≤ length image → (opens : EndsAt image end frames)
     → (more : List (List Batch)) → AllByRecursion IsFrame more → frames ≡ front ++ more → drop place image ≡ framed more ++ drop end image
@@ -82,7 +87,8 @@ continues_at image place end front frames within opens (f ∷ more) each parts b
       kept = IsKept-front (batches_of front ++ f) (batches_of more) (subst IsKept (ap batches_of parts ∙ batches_of-between front f more) opens.kept);
     })
 
-pub continues : (image : List ℕ) (place end : ℕ) (front frames : List (List Batch)) → place ≤ length image → IsFront (take place image) front → EndsAt image end frames
+pub continues : (image : List ℕ) (place end : ℕ) (front frames : List (List Batch)) → place ≤ length image → IsFront (take place image) front
+    → EndsAt image end frames
     → Continues image place front end frames
 continues image place end front frames within is_front opens =
     let same = append_cancel_left header _ _ (sym (whole_of image place front is_front.spells) ∙ whole_of image end frames opens.front.spells) in
@@ -91,7 +97,8 @@ continues image place end front frames within is_front opens =
     continues_at image place end front frames within opens go.more go.each go.frames go.bytes
 
 -- no frame stands at a closed gate
-pub shut : (image : List ℕ) (place : ℕ) (front batches : List Batch) → place < length image → slice_index image place ≢ 1 → ¬ (IsNextFrame image place front batches)
+pub shut : (image : List ℕ) (place : ℕ) (front batches : List Batch) → place < length image → slice_index image place ≢ 1
+    → ¬ (IsNextFrame image place front batches)
 shut image place front batches within closed next =
     let same = sym (at_place image place within) ∙ next.stands in
     closed cc
@@ -116,23 +123,28 @@ AllByRecursion-push P [] y are is = (is, tt)
 AllByRecursion-push P (x ∷ xs) y are is = (are.0, AllByRecursion-push P xs y are.1 is)
 
 -- a front with one frame more
-pub IsFront-push : (front : List ℕ) (frames : List (List Batch)) (batches : List Batch) → IsFront front frames → IsFrame batches → IsFront (front ++ frame batches) (frames ++ batches ∷ [])
+pub IsFront-push : (front : List ℕ) (frames : List (List Batch)) (batches : List Batch) → IsFront front frames → IsFrame batches
+    → IsFront (front ++ frame batches) (frames ++ batches ∷ [])
 IsFront-push front frames batches is_front is_frame = record {
   each = AllByRecursion-push IsFrame frames batches is_front.each is_frame;
   spells =
       ap (λ (l : List ℕ). l ++ frame batches) is_front.spells ∙ append_assoc header (framed frames) (frame batches)
-      ∙ ap (λ (l : List ℕ). header ++ l) (ap (λ (l : List ℕ). framed frames ++ l) (sym (append-nil (frame batches))) ∙ sym (flat_map-append frame frames (batches ∷ [])));
+      ∙ ap (λ (l : List ℕ). header ++ l) (ap (λ (l : List ℕ). framed frames ++ l) (sym (append-nil (frame batches)))
+          ∙ sym (flat_map-append frame frames (batches ∷ [])));
 }
 
 -- the batches of frames and of one more
 pub batches_of-push : (frames : List (List Batch)) (batches : List Batch) → batches_of (frames ++ batches ∷ []) ≡ batches_of frames ++ batches
-batches_of-push frames batches = flat_map-append (λ (b : List Batch). b) frames (batches ∷ []) ∙ ap (λ (l : List Batch). batches_of frames ++ l) (append-nil batches)
+batches_of-push frames batches = flat_map-append (λ (b : List Batch). b) frames (batches ∷ [])
+    ∙ ap (λ (l : List Batch). batches_of frames ++ l) (append-nil batches)
 
 -- a frame that stands at a place makes the front longer
-pub front_grows : (image : List ℕ) (place used : ℕ) (frames : List (List Batch)) (batches : List Batch) → IsFront (take place image) frames → IsFrameOf (drop place image) batches used
+pub front_grows : (image : List ℕ) (place used : ℕ) (frames : List (List Batch)) (batches : List Batch) → IsFront (take place image) frames
+    → IsFrameOf (drop place image) batches used
     → IsFront (take (place + used) image) (frames ++ batches ∷ [])
 front_grows image place used frames batches is_front stands =
-    let frame_is : take used (drop place image) ≡ frame batches = ap₂ (λ (n : ℕ) (l : List ℕ). take n l) stands.used_is stands.stands ∙ take-append_seam (frame batches) (drop used (drop place image)) in
+    let frame_is : take used (drop place image) ≡ frame batches = ap₂ (λ (n : ℕ) (l : List ℕ). take n l) stands.used_is stands.stands
+        ∙ take-append_seam (frame batches) (drop used (drop place image)) in
     subst (λ (l : List ℕ). IsFront l (frames ++ batches ∷ [])) (ap (λ (l : List ℕ). take place image ++ l) (sym frame_is) ∙ sym (take-add place used image))
     (IsFront-push (take place image) frames batches is_front stands.is)
 
@@ -143,7 +155,8 @@ bad_frame image place used history batches stands not_kept others next =
     let same = (one_frame batches others (drop used (drop place image)) next.rest stands.is next.is (sym stands.stands ∙ next.stands)).0 in
     not_kept (subst (λ (l : List Batch). IsKept (history ++ l)) (sym same) next.kept)
 
-no_next : (image : List ℕ) (place : ℕ) (end : ℕ) (frames front : List (List Batch)) → (place ≡ length image) ⊎ (slice_index image place ≡ 1) → EndsAt image end frames
+no_next : (image : List ℕ) (place : ℕ) (end : ℕ) (frames front : List (List Batch)) → (place ≡ length image) ⊎ (slice_index image place ≡ 1)
+    → EndsAt image end frames
     → ((batches : List Batch) → ¬ (IsNextFrame image place (batches_of front) batches)) → ¬ (Continues image place front end frames)
 no_next image place end frames front (inl at_end) opens bad (ends same is) = omega (arith, opens.within)
 no_next image place end frames front (inr open_gate) opens bad (ends same is) = opens.closed (subst (λ (n : ℕ). slice_index image n ≡ 1) same open_gate)
@@ -166,7 +179,8 @@ no_header_opens_to_none image history no_header opens =
 -- frames are as long as their places say
 pub length-framed : (frames : List (List Batch)) → 16 + length (framed frames) ≡ end_of frames
 length-framed [] = refl
-length-framed (f ∷ frames) = omega (arith, length-framed frames, length-append (frame f) (framed frames), sum_by-append (λ (b : List Batch). 5 + length (payload b)) (f ∷ []) frames)
+length-framed (f ∷ frames) = omega (arith, length-framed frames, length-append (frame f) (framed frames),
+    sum_by-append (λ (b : List Batch). 5 + length (payload b)) (f ∷ []) frames)
 
 -- the gate behind one frame more
 pub end_of-push : (frames : List (List Batch)) (batches : List Batch) → end_of (frames ++ batches ∷ []) ≡ end_of frames + (5 + length (payload batches))
@@ -182,7 +196,8 @@ pub gate_place : (image : List ℕ) (place : ℕ) (frames : List (List Batch)) �
 gate_place image place frames opens = let within = opens.within in IsFront-place image place frames (omega arith) opens.front
 
 -- each frame of an image stands behind those before it
-pub frame_stands_at : (image : List ℕ) (place : ℕ) (before : List (List Batch)) (batches : List Batch) (after : List (List Batch)) → EndsAt image place (before ++ batches ∷ after)
+pub frame_stands_at : (image : List ℕ) (place : ℕ) (before : List (List Batch)) (batches : List Batch) (after : List (List Batch))
+    → EndsAt image place (before ++ batches ∷ after)
     → (rest : List ℕ) × (drop (end_of before) image ≡ frame batches ++ rest)
 frame_stands_at image place before batches after opens =
     let rest = framed after ++ drop place image in
@@ -195,7 +210,8 @@ frame_stands_at image place before batches after opens =
     let long : end_of before ≡ length (header ++ framed before) = omega (arith, length-framed before, length-append header (framed before)) in
     (rest, ap₂ (λ (n : ℕ) (l : List ℕ). drop n l) long parts ∙ drop-append_seam (header ++ framed before) (frame batches ++ rest))
 
-pub frame_stands_in : (image : List ℕ) (before : List (List Batch)) (batches : List Batch) (after : List (List Batch)) → OpensTo image (before ++ batches ∷ after)
+pub frame_stands_in : (image : List ℕ) (before : List (List Batch)) (batches : List Batch) (after : List (List Batch))
+    → OpensTo image (before ++ batches ∷ after)
     → (rest : List ℕ) × (drop (end_of before) image ≡ frame batches ++ rest)
 frame_stands_in image before batches after opens = frame_stands_at image opens.0 before batches after opens.1
 

@@ -1,5 +1,6 @@
 -- Where a batch of an identity stands in a history, and what one more batch changes.
-use Rattle.std.proofs.Common.{◌≡◌, ℕ, ◌+◌, ◌<◌, ◌≤◌, Bool, true, false, ◌&&◌, ◌==◌, not, cond, List, [], ◌∷◌, ◌++◌, length, Some, None, is_some, ◌⊎◌, refl, sym, ◌∙◌, ap₂, inl, inr, subst, arith, length-append}
+use Rattle.std.proofs.Common.{◌≡◌, ℕ, ◌+◌, ◌<◌, ◌≤◌, Bool, true, false, ◌&&◌, ◌==◌, not, cond, List, [], ◌∷◌, ◌++◌, length, Some, None, is_some, ◌⊎◌, refl}
+use Rattle.std.proofs.Common.{sym, ◌∙◌, ap₂, inl, inr, subst, arith, length-append}
 use Rattle.std.specs.List.{list_any, position_from}
 use Rattle.std.specs.Option.{option_or}
 use Rattle.std.proofs.lemmas.Bool.{cases_Bool}
@@ -13,7 +14,8 @@ use Rattle.ldar_facts.specs.Identity.{identity_of, is_of, is_same_identity, iden
 use Rattle.ldar_journal.specs.Image.{fact_count, IsKept}
 
 -- the first place that passes, in a list with one more element
-pub position_from-push : {X : Type 0} (p : X → Bool) (i : ℕ) (xs : List X) (y : X) → position_from p i (xs ++ y ∷ []) ≡ option_or (position_from p i xs) (cond (p y) (Some (i + length xs)) None)
+pub position_from-push : {X : Type 0} (p : X → Bool) (i : ℕ) (xs : List X) (y : X)
+    → position_from p i (xs ++ y ∷ []) ≡ option_or (position_from p i xs) (cond (p y) (Some (i + length xs)) None)
 position_from-push p i [] y = grind (arith, common_steps)
 position_from-push p i (x ∷ xs) y = let rest = position_from-push p (i + 1) xs y in grind (arith, common_steps)
 
@@ -50,7 +52,8 @@ IsKept-twice xs y there kept =
     grind (arith, common_steps)
 
 -- a batch of a new identity is kept where its facts fit
-pub IsKept-push : (xs : List Batch) (y : Batch) → is_some (position_of (identity_of y) xs) ≡ false → IsKept xs → fact_count xs + length y.facts ≤ 8_000_000 → IsKept (xs ++ y ∷ [])
+pub IsKept-push : (xs : List Batch) (y : Batch) → is_some (position_of (identity_of y) xs) ≡ false → IsKept xs → fact_count xs + length y.facts ≤ 8_000_000
+    → IsKept (xs ++ y ∷ [])
 IsKept-push xs y new kept fits = record {
   differ =
       let any = is_some-position_from (is_same_identity y) 1 xs in

@@ -1,5 +1,6 @@
 -- What an append leaves of the bytes of a journal, step by step.
-use Rattle.std.proofs.Common.{◌≡◌, ◌≢◌, ◌⊎◌, inl, inr, ℕ, ◌+◌, ◌*◌, ◌-◌, ◌<◌, ◌≤◌, Option, Result, Ok, Err, OnOk, is_err, false, List, [], ◌∷◌, ◌++◌, length, take, drop, get_or, slice_index, refl, sym, ◌∙◌, ap, ap₂, subst, arith, append_assoc, length-append, length-drop}
+use Rattle.std.proofs.Common.{◌≡◌, ◌≢◌, ◌⊎◌, inl, inr, ℕ, ◌+◌, ◌*◌, ◌-◌, ◌<◌, ◌≤◌, Option, Result, Ok, Err, OnOk, is_err, false, List, [], ◌∷◌, ◌++◌, length}
+use Rattle.std.proofs.Common.{take, drop, get_or, slice_index, refl, sym, ◌∙◌, ap, ap₂, subst, arith, append_assoc, length-append, length-drop}
 use Rattle.std.proofs.lemmas.Bool.{cases_eq, false≢true}
 use Rattle.std.proofs.lemmas.List.Sums.{sum_by-append}
 use Rattle.std.proofs.Math.Seq.{drop-append_seam}
@@ -16,7 +17,8 @@ use Rattle.ldar_journal.specs.FrameAt.{IsFrameOf}
 use Rattle.ldar_journal.specs.Crash.{OnDisk, ComesFrom, LeavesOnly}
 use Rattle.ldar_journal.specs.Gates.{HoldsBehind, WritesBehind, WritesGate}
 use Rattle.ldar_journal.specs.Shelf.{Shelf, behind_gate, IsInDoubt, Stands, IsCounted, IsTorn, IsDoubt, IsShelved, OpensAs, OpensToEither, OpensEither}
-use Rattle.ldar_journal.proofs.CrashLemmas.{ComesFrom-weaker, LeavesOnly-weaker, LeavesOnly-joins, OnDisk-weaker, OnDisk-stable, OnDisk-content, OnDisk-after, OnDisk-fewer, told_image, told_before}
+use Rattle.ldar_journal.proofs.CrashLemmas.{ComesFrom-weaker, LeavesOnly-weaker, LeavesOnly-joins, OnDisk-weaker, OnDisk-stable, OnDisk-content, OnDisk-after}
+use Rattle.ldar_journal.proofs.CrashLemmas.{OnDisk-fewer, told_image, told_before}
 use Rattle.ldar_journal.proofs.FrameLemmas.{AllByRecursion-push}
 use Rattle.ldar_journal.proofs.GateLemmas.{Torn-behind, Torn-gate}
 use Rattle.ldar_journal.proofs.Frames.{length-payload}
@@ -35,7 +37,8 @@ opened bytes place frames batches stands open_gate =
     at_place bytes place stands.within ∙ ap₂ (λ (gate : ℕ) (l : List ℕ). gate ∷ l) open_gate stands.stands
     ∙ ap (λ (l : List ℕ). 1 ∷ (big_endian 4 (length (payload batches)) ++ l)) (append_assoc (payload batches) (0 ∷ []) stands.rest) in
     let after : drop used (drop place bytes) ≡ 0 ∷ stands.rest = ap (drop used) whole ∙ drop-append_seam (frame batches) (0 ∷ stands.rest) in
-    let long : length bytes - place ≡ used + length (0 ∷ stands.rest) = sym (length-drop place bytes) ∙ ap length whole ∙ length-append (frame batches) (0 ∷ stands.rest) in
+    let long : length bytes - place ≡ used + length (0 ∷ stands.rest) = sym (length-drop place bytes) ∙ ap length whole
+        ∙ length-append (frame batches) (0 ∷ stands.rest) in
     let is_frame : IsFrameOf (drop place bytes) batches used = record {
       is = stands.is;
       used_is = refl;
@@ -61,20 +64,23 @@ opened bytes place frames batches stands open_gate =
     zero_is_not_one n zero one = omega arith
 
 -- what opens to frames, or stands in doubt behind them, opens to one of the two
-pub Stands-opens : (bytes : List ℕ) (place : ℕ) (frames : List (List Batch)) (doubt : List Batch) → Stands bytes place frames doubt → OpensToEither bytes frames doubt
+pub Stands-opens : (bytes : List ℕ) (place : ℕ) (frames : List (List Batch)) (doubt : List Batch) → Stands bytes place frames doubt
+    → OpensToEither bytes frames doubt
 Stands-opens bytes place frames [] ends = inl (place, ends)
 Stands-opens bytes place frames (b ∷ doubt) stands = in_doubt (cases_eq (get_or bytes place 0) 1)
   where
     in_doubt : (get_or bytes place 0 ≡ 1) ⊎ (get_or bytes place 0 ≢ 1) → OpensToEither bytes frames (b ∷ doubt)
     in_doubt (inl open_gate) = inr (place + length (behind_gate (b ∷ doubt)), opened bytes place frames (b ∷ doubt) stands open_gate)
-    in_doubt (inr shut) = inl (place, record { within = stands.within; front = stands.front; closed = shut; kept = IsKept-front (batches_of frames) (b ∷ doubt) stands.kept })
+    in_doubt (inr shut) = inl (place, record { within = stands.within; front = stands.front; closed = shut; kept =
+        IsKept-front (batches_of frames) (b ∷ doubt) stands.kept })
 
 -- bytes behind the gate that ends a journal change nothing of its frames
 pub put_behind_stays : (gate : ℕ) (frames : List (List Batch)) (old new : List ℕ) → EndsAt old gate frames → WritesBehind gate old new → EndsAt new gate frames
 put_behind_stays gate frames old new ends puts =
     let put = puts ends.within in
     let front : take gate new ≡ take gate old = take_gate new ∙ ap (take gate) put.front ∙ sym (take_gate old) in
-    let byte : get_or new gate 0 ≡ get_or old gate 0 = sym (get_or-take (gate + 1) new gate 0 (omega arith)) ∙ ap (λ (l : List ℕ). get_or l gate 0) put.front ∙ get_or-take (gate + 1) old gate 0 (omega arith) in
+    let byte : get_or new gate 0 ≡ get_or old gate 0 = sym (get_or-take (gate + 1) new gate 0 (omega arith)) ∙ ap (λ (l : List ℕ). get_or l gate 0) put.front
+        ∙ get_or-take (gate + 1) old gate 0 (omega arith) in
     record {
       within = put.within;
       front = subst (λ (l : List ℕ). IsFront l frames) (sym front) ends.front;
@@ -102,7 +108,8 @@ put_in_doubt gate frames batches is kept old new both sames =
     }
 
 -- a journal with a frame in doubt stands where its frame has a batch
-pub Stands-doubt : (bytes : List ℕ) (place : ℕ) (frames : List (List Batch)) (batches : List Batch) → 0 < length batches → IsInDoubt bytes place frames batches → Stands bytes place frames batches
+pub Stands-doubt : (bytes : List ℕ) (place : ℕ) (frames : List (List Batch)) (batches : List Batch) → 0 < length batches
+    → IsInDoubt bytes place frames batches → Stands bytes place frames batches
 Stands-doubt bytes place frames [] some stands = absurd (omega arith)
 Stands-doubt bytes place frames (b ∷ batches) some stands = stands
 
@@ -112,7 +119,8 @@ Stands-as bytes place frames [] ends = (place, ends)
 Stands-as bytes place frames (b ∷ doubt) stands = Stands-opens bytes place frames (b ∷ doubt) stands
 
 -- bytes that end at a closed gate stand with nothing in doubt
-pub Stands-none : (bytes : List ℕ) (place : ℕ) (frames : List (List Batch)) (doubt : List Batch) → doubt ≡ [] → Stands bytes place frames doubt → EndsAt bytes place frames
+pub Stands-none : (bytes : List ℕ) (place : ℕ) (frames : List (List Batch)) (doubt : List Batch) → doubt ≡ [] → Stands bytes place frames doubt
+    → EndsAt bytes place frames
 Stands-none bytes place frames doubt none stands = subst (λ (d : List Batch). Stands bytes place frames d) none stands
 
 -- with nothing in doubt the bytes open to the frames alone
@@ -120,7 +128,8 @@ pub OpensAs-none : (bytes : List ℕ) (frames : List (List Batch)) (doubt : List
 OpensAs-none bytes frames doubt none opens = subst (λ (d : List Batch). OpensAs bytes frames d) none opens
 
 -- the place of the next gate, with a frame more
-pub IsCounted-push : (place : ℕ) (frames : List (List Batch)) (batches : List Batch) → IsFrame batches → IsKept (batches_of frames ++ batches) → IsCounted place frames
+pub IsCounted-push : (place : ℕ) (frames : List (List Batch)) (batches : List Batch) → IsFrame batches → IsKept (batches_of frames ++ batches)
+    → IsCounted place frames
     → IsCounted (place + length (behind_gate batches)) (frames ++ batches ∷ [])
 IsCounted-push place frames batches is kept counted = record {
   each = AllByRecursion-push IsFrame frames batches counted.each is;
@@ -173,16 +182,19 @@ IsShelved-opened content images place frames ends stable counted = record {
 pub IsShelved-as : (content : Option (List ℕ)) (images : List ℕ → Type 0) (place : ℕ) (frames : List (List Batch)) (doubt : List Batch) (torn : ℕ)
     → IsShelved content images place frames doubt torn → OnDisk content images (λ image. OpensAs image frames doubt)
 IsShelved-as content images place frames doubt torn shelved =
-    OnDisk-weaker (λ image. Stands image place frames doubt) (λ image. OpensAs image frames doubt) (λ image. Stands-as image place frames doubt) content images shelved.stands
+    OnDisk-weaker (λ image. Stands image place frames doubt) (λ image. OpensAs image frames doubt) (λ image. Stands-as image place frames doubt) content
+        images shelved.stands
 
 pub IsShelved-opens : (content : Option (List ℕ)) (images : List ℕ → Type 0) (place : ℕ) (frames : List (List Batch)) (doubt : List Batch) (torn : ℕ)
     → IsShelved content images place frames doubt torn → Told content (λ bytes. OpensToEither bytes frames doubt)
 IsShelved-opens content images place frames doubt torn shelved =
     OnDisk-content (λ image. OpensToEither image frames doubt) content images
-    (OnDisk-weaker (λ image. Stands image place frames doubt) (λ image. OpensToEither image frames doubt) (λ image. Stands-opens image place frames doubt) content images shelved.stands)
+    (OnDisk-weaker (λ image. Stands image place frames doubt) (λ image. OpensToEither image frames doubt) (λ image. Stands-opens image place frames doubt)
+        content images shelved.stands)
 
 -- a settled journal with a frame to append
-pub record IsReady (content : Option (List ℕ)) (images : List ℕ → Type 0) (gate : ℕ) (frames : List (List Batch)) (doubt batches : List Batch) (torn : ℕ) : Type 0 where
+pub record IsReady (content : Option (List ℕ)) (images : List ℕ → Type 0) (gate : ℕ) (frames : List (List Batch)) (doubt batches : List Batch)
+    (torn : ℕ) : Type 0 where
   pub ends : OnDisk content images (λ image. EndsAt image gate frames)
   pub none : doubt ≡ []
   pub in_doubt : IsDoubt frames doubt torn
@@ -195,8 +207,10 @@ abbrev seen : {D : Type 0} → D → List (List Batch) → List Batch → Shelf 
 seen disk frames doubt = record { disk = disk; frames = frames; doubt = doubt }
 
 -- a journal that is seen as settled, with a frame that may be kept
-pub ready : {D : Type 0} (content_of : D → Option (List ℕ)) (images_of : D → List ℕ → Type 0) (disk : D) (gate : ℕ) (frames : List (List Batch)) (doubt batches : List Batch) (torn : ℕ) (as_seen : Shelf D)
-    → seen disk frames doubt ≡ as_seen → IsShelved (content_of disk) (images_of disk) gate frames doubt torn → as_seen.doubt ≡ [] → IsFrame batches → IsKept (batches_of as_seen.frames ++ batches)
+pub ready : {D : Type 0} (content_of : D → Option (List ℕ)) (images_of : D → List ℕ → Type 0) (disk : D) (gate : ℕ) (frames : List (List Batch))
+    (doubt batches : List Batch) (torn : ℕ) (as_seen : Shelf D)
+    → seen disk frames doubt ≡ as_seen → IsShelved (content_of disk) (images_of disk) gate frames doubt torn → as_seen.doubt ≡ [] → IsFrame batches
+        → IsKept (batches_of as_seen.frames ++ batches)
     → IsReady (content_of disk) (images_of disk) gate frames doubt batches torn
 ready content_of images_of disk gate frames doubt batches torn as_seen is_seen shelved settled is kept =
     let none : doubt ≡ [] = ap (λ shelf. shelf.doubt) is_seen ∙ settled in
@@ -266,8 +280,10 @@ module _ {D : Type 0} (clock_of : D → ℕ) (left_of : D → ℕ → List ℕ �
           OnDisk-stable (IsPut gate frames batches) (content_of middle) (images_of middle)
           (Told-both (λ bytes. EndsAt bytes gate frames) (λ bytes. HoldsBehind gate (behind_gate batches) bytes) (content_of middle)
           (OnDisk-content (λ image. EndsAt image gate frames) (content_of middle) (images_of middle) stays)
-          (Told-after (λ bytes. EndsAt bytes gate frames) (λ bytes. HoldsBehind gate (behind_gate batches) bytes) (λ old new. gate < length old → HoldsBehind gate (behind_gate batches) new)
-          (λ old new ends holds. holds ends.within) (content_of old) (content_of middle) (OnDisk-content (λ image. EndsAt image gate frames) (content_of old) (images_of old) is_ready.ends) holds))
+          (Told-after (λ bytes. EndsAt bytes gate frames) (λ bytes. HoldsBehind gate (behind_gate batches) bytes)
+              (λ old new. gate < length old → HoldsBehind gate (behind_gate batches) new)
+          (λ old new ends holds. holds ends.within) (content_of old) (content_of middle)
+              (OnDisk-content (λ image. EndsAt image gate frames) (content_of old) (images_of old) is_ready.ends) holds))
           stable
 
       -- so the frame is in doubt while its gate is opened
@@ -297,13 +313,17 @@ module _ {D : Type 0} (clock_of : D → ℕ) (left_of : D → ℕ → List ℕ �
           → IsShelved (content_of new) (images_of new) (gate + length (behind_gate batches)) (frames ++ batches ∷ []) doubt torn
       IsShelved-appended gates stable_new =
           let gate_is = Told-after (IsPut gate frames batches) (λ bytes. slice_index bytes gate ≡ 1) (λ old new. gate < length old → slice_index new gate ≡ 1)
-          (λ old new is_put is_open. is_open is_put.0.within) (content_of middle) (content_of new) (OnDisk-content (IsPut gate frames batches) (content_of middle) (images_of middle) put) gates in
-          let stands = Told-weaker (λ bytes. IsInDoubt bytes gate frames batches × (slice_index bytes gate ≡ 1)) (λ bytes. Stands bytes (gate + length (behind_gate batches)) (frames ++ batches ∷ []) doubt)
-          (λ bytes both. subst (λ (d : List Batch). Stands bytes (gate + length (behind_gate batches)) (frames ++ batches ∷ []) d) (sym is_ready.none) (opened bytes gate frames batches both.0 both.1))
+          (λ old new is_put is_open. is_open is_put.0.within) (content_of middle) (content_of new)
+              (OnDisk-content (IsPut gate frames batches) (content_of middle) (images_of middle) put) gates in
+          let stands = Told-weaker (λ bytes. IsInDoubt bytes gate frames batches × (slice_index bytes gate ≡ 1))
+              (λ bytes. Stands bytes (gate + length (behind_gate batches)) (frames ++ batches ∷ []) doubt)
+          (λ bytes both. subst (λ (d : List Batch). Stands bytes (gate + length (behind_gate batches)) (frames ++ batches ∷ []) d) (sym is_ready.none)
+              (opened bytes gate frames batches both.0 both.1))
           (content_of new) (Told-both (λ bytes. IsInDoubt bytes gate frames batches) (λ bytes. slice_index bytes gate ≡ 1) (content_of new)
           (OnDisk-content (λ image. IsInDoubt image gate frames batches) (content_of new) (images_of new) in_doubt) gate_is) in
           record {
-            stands = OnDisk-stable (λ image. Stands image (gate + length (behind_gate batches)) (frames ++ batches ∷ []) doubt) (content_of new) (images_of new) stands stable_new;
+            stands = OnDisk-stable (λ image. Stands image (gate + length (behind_gate batches)) (frames ++ batches ∷ []) doubt) (content_of new)
+                (images_of new) stands stable_new;
             counted = IsCounted-push gate frames batches is_ready.is is_ready.kept is_ready.counted;
             in_doubt = IsDoubt-anywhere frames (frames ++ batches ∷ []) doubt torn is_ready.none is_ready.in_doubt;
           }
@@ -317,7 +337,8 @@ module _ {D : Type 0} (clock_of : D → ℕ) (left_of : D → ℕ → List ℕ �
           (λ image from. told_before (OpensToEither image frames batches) (WritesBehind gate) (content_of old) (content_of middle) puts
           (told_image (IsPut gate frames batches) (λ image. OpensToEither image frames batches) (Torn gate 1)
           (λ a b is_put torn. Stands-opens b gate frames batches
-          (Stands-doubt b gate frames batches is_ready.is.some (put_in_doubt gate frames batches is_ready.is is_ready.kept a b is_put (Torn-gate gate a b torn))))
+          (Stands-doubt b gate frames batches is_ready.is.some
+              (put_in_doubt gate frames batches is_ready.is is_ready.kept a b is_put (Torn-gate gate a b torn))))
           (content_of middle) (images_of middle) put image from)) open_leaves)
 
 -- where the frame takes its room, so do its parts
@@ -338,7 +359,8 @@ IsShelved-fewer old new images images' place frames doubt torn shelved same fewe
 }
 
 -- a frame in doubt, where one is
-Stands-some : (bytes : List ℕ) (place : ℕ) (frames : List (List Batch)) (doubt : List Batch) → doubt ≢ [] → Stands bytes place frames doubt → IsInDoubt bytes place frames doubt
+Stands-some : (bytes : List ℕ) (place : ℕ) (frames : List (List Batch)) (doubt : List Batch) → doubt ≢ [] → Stands bytes place frames doubt
+    → IsInDoubt bytes place frames doubt
 Stands-some bytes place frames [] some stands = absurd (some refl)
 Stands-some bytes place frames (b ∷ doubt) some stands = stands
 
@@ -348,17 +370,21 @@ module _ (content : Option (List ℕ)) (images : List ℕ → Type 0) (place : �
   is_torn = IsDoubt-is frames doubt torn shelved.in_doubt some
 
   doubted : Told content (λ bytes. IsInDoubt bytes place frames doubt)
-  doubted = Told-weaker (λ bytes. Stands bytes place frames doubt) (λ bytes. IsInDoubt bytes place frames doubt) (λ bytes. Stands-some bytes place frames doubt some) content
+  doubted = Told-weaker (λ bytes. Stands bytes place frames doubt) (λ bytes. IsInDoubt bytes place frames doubt)
+      (λ bytes. Stands-some bytes place frames doubt some) content
       (OnDisk-content (λ image. Stands image place frames doubt) content images shelved.stands)
 
   -- behind an open gate the frame stands
-  pub IsShelved-stands : Told content (λ bytes. place < length bytes → slice_index bytes place ≡ 1) → IsShelved content images (place + torn) (frames ++ doubt ∷ []) [] 0
+  pub IsShelved-stands : Told content (λ bytes. place < length bytes → slice_index bytes place ≡ 1)
+      → IsShelved content images (place + torn) (frames ++ doubt ∷ []) [] 0
   IsShelved-stands open_gate = rw (is_torn.long) (record {
     stands =
         OnDisk-stable (λ image. EndsAt image (place + length (behind_gate doubt)) (frames ++ doubt ∷ [])) content images
-        (Told-weaker (λ bytes. IsInDoubt bytes place frames doubt × (place < length bytes → slice_index bytes place ≡ 1)) (λ bytes. EndsAt bytes (place + length (behind_gate doubt)) (frames ++ doubt ∷ []))
+        (Told-weaker (λ bytes. IsInDoubt bytes place frames doubt × (place < length bytes → slice_index bytes place ≡ 1))
+            (λ bytes. EndsAt bytes (place + length (behind_gate doubt)) (frames ++ doubt ∷ []))
         (λ bytes both. opened bytes place frames doubt both.0 (both.1 both.0.within)) content
-        (Told-both (λ bytes. IsInDoubt bytes place frames doubt) (λ bytes. place < length bytes → slice_index bytes place ≡ 1) content doubted open_gate)) stable;
+        (Told-both (λ bytes. IsInDoubt bytes place frames doubt) (λ bytes. place < length bytes → slice_index bytes place ≡ 1) content doubted open_gate))
+            stable;
     counted = IsCounted-push place frames doubt is_torn.is is_torn.kept shelved.counted;
     in_doubt = refl;
   })
@@ -387,16 +413,19 @@ pub settle_moments : {D : Type 0} (clock_of : D → ℕ) (left_of : D → ℕ �
 settle_moments clock_of left_of old new content images place frames doubt torn shelved leaves =
     LeavesOnly-weaker clock_of left_of old new images (λ image. Told content (λ _. OpensToEither image frames doubt))
     (λ image now. told_image (λ image. Stands image place frames doubt) (λ image. OpensToEither image frames doubt) (λ a b. a ≡ b)
-    (λ a b stands same. Stands-opens b place frames doubt (subst (λ (l : List ℕ). Stands l place frames doubt) same stands)) content images shelved.stands image (image, now, refl)) leaves
+    (λ a b stands same. Stands-opens b place frames doubt (subst (λ (l : List ℕ). Stands l place frames doubt) same stands)) content images shelved.stands
+        image (image, now, refl)) leaves
 
 -- what opens to frames, or to one more, opens to their batches, or to these and its own
-pub either_history : (bytes : List ℕ) (frames : List (List Batch)) (history doubt : List Batch) → batches_of frames ≡ history → OpensToEither bytes frames doubt → OpensEither bytes history doubt
+pub either_history : (bytes : List ℕ) (frames : List (List Batch)) (history doubt : List Batch) → batches_of frames ≡ history
+    → OpensToEither bytes frames doubt → OpensEither bytes history doubt
 either_history bytes frames history doubt are (inl opens) = inl (frames, are, opens)
 either_history bytes frames history doubt are (inr opens) =
     inr (frames ++ doubt ∷ [], batches_of-push frames doubt ∙ ap (λ (l : List Batch). l ++ doubt) are, opens)
 
 -- bytes that open to frames, or to one more, are not damaged
-pub either_not_damaged : (image : List ℕ) (place : ℕ) (frames : List (List Batch)) (batches : List Batch) → OpensToEither image frames batches → ¬ (IsDamagedAt image place)
+pub either_not_damaged : (image : List ℕ) (place : ℕ) (frames : List (List Batch)) (batches : List Batch) → OpensToEither image frames batches
+    → ¬ (IsDamagedAt image place)
 either_not_damaged image place frames batches (inl opens) damaged = damaged_opens_to_none image place (batches_of frames) damaged (frames, refl, opens)
 either_not_damaged image place frames batches (inr opens) damaged =
     damaged_opens_to_none image place (batches_of (frames ++ batches ∷ [])) damaged (frames ++ batches ∷ [], refl, opens)

@@ -1,5 +1,6 @@
 -- What stands at the front of some bytes of a journal.
 use Rattle.std.specs.Prelude.{◌≡◌, ℕ, ◌<◌, ◌≤◌, List, ◌∷◌, ◌++◌, length, drop}
+use Rattle.ldar_journal.specs.declared.frame.TheConstants.{MOST_PAYLOAD}
 use Rattle.ldar_facts.specs.declared.batch.Batch.{Batch}
 use Rattle.ldar_facts.specs.Fields.{big_endian}
 use Rattle.ldar_journal.specs.Image.{frame, IsFrame}
@@ -7,7 +8,7 @@ use Rattle.ldar_journal.specs.Image.{frame, IsFrame}
 -- an open gate, a length in range, and a payload of that length
 pub record IsPayloadAt (bytes payload : List ℕ) : Type 0 where
   pub some : 0 < length payload
-  pub fits : length payload ≤ 188_560
+  pub fits : length payload ≤ MOST_PAYLOAD
   pub rest : List ℕ
   pub stands : bytes ≡ 1 ∷ (big_endian 4 (length payload) ++ payload ++ rest)
 

@@ -1,6 +1,7 @@
 -- The bytes of a journal, and the history that they open to.
 use Rattle.std.specs.Prelude.{◌≡◌, ◌≢◌, ℕ, ◌+◌, ◌<◌, ◌≤◌, List, ◌∷◌, ◌++◌, length, take, codes, replicate, sum_by, slice_index, IsTrue}
 use Rattle.std.specs.List.{flat_map, AllByRecursion}
+use Rattle.ldar_facts.specs.declared.limits.TheConstants.{MOST_FACTS, FRAME_BATCHES}
 use Rattle.ldar_facts.specs.declared.batch.Batch.{Batch}
 use Rattle.ldar_facts.specs.Fields.{IsFilled, big_endian}
 use Rattle.ldar_facts.specs.Grammar.{batch_fields, spelled}
@@ -29,7 +30,7 @@ frame batches = 1 ∷ (big_endian 4 (length (payload batches)) ++ payload batche
 -- what a frame may hold: 1 to 16 batches
 pub record IsFrame (batches : List Batch) : Type 0 where
   pub some : 0 < length batches
-  pub fits : length batches ≤ 16
+  pub fits : length batches ≤ FRAME_BATCHES
   pub each : AllByRecursion IsBatch batches
 
 -- the batches of frames, one frame after the other
@@ -52,7 +53,7 @@ fact_count history = sum_by (λ batch. length batch.facts) history
 -- what a journal may keep: each identity once, and at most 8,000,000 facts
 pub record IsKept (history : List Batch) : Type 0 where
   pub differ : IsTrue (identities_differ history)
-  pub fits : fact_count history ≤ 8_000_000
+  pub fits : fact_count history ≤ MOST_FACTS
 
 -- the image opens to these frames, the last of which ends at this place, at which a closed gate stands; what follows it is free
 pub record EndsAt (image : List ℕ) (place : ℕ) (frames : List (List Batch)) : Type 0 where

@@ -1,5 +1,6 @@
 -- What is known of the batches that were read.
 use Rattle.std.specs.Prelude.{◌≡◌, ℕ, ◌+◌, ◌≤◌, None, List, [], ◌∷◌, ◌++◌, length, map}
+use Rattle.ldar_facts.specs.declared.limits.TheConstants.{MOST_FACTS}
 use Rattle.batch_positions.specs.Positions.{position_in, PositionsState}
 use Rattle.ldar_facts.specs.declared.batch.Batch.{Batch}
 use Rattle.ldar_facts.specs.declared.identity.Identity.{Identity}
@@ -18,4 +19,4 @@ pub record AddsBatch (old new : PositionsState) (facts : ℕ) (batch : Batch) (m
   pub added : new.identities ≡ old.identities ++ identity_of batch ∷ []
   pub room : new.room + 1 ≡ old.room
   pub count : more ≡ facts + length batch.facts
-  pub fits : more ≤ 8_000_000
+  pub fits : more ≤ MOST_FACTS

@@ -1,4 +1,5 @@
 ghost use Rattle.std.specs.Prelude.{◌≡◌, ℕ, ◌-◌, ◌≤◌, length, slice_get, Some};
+ghost use Rattle.ldar_facts.specs.declared.limits.TheConstants.{MOST_FACTS};
 ghost use Rattle.ldar_facts.specs.Identity.{position_of};
 ghost use Rattle.ldar_journal.specs.Image.{fact_count, IsKept};
 ghost use Rattle.ldar_journal.specs.Known.{IsKnown};
@@ -6,9 +7,6 @@ ghost use Rattle.ldar_journal.specs.Known.{IsKnown};
 use batch_positions::Positions;
 use ldar_facts::{Batch, Identity};
 use std::marker::Model;
-
-/// How many facts a journal may hold.
-pub const MOST_FACTS: u64 = 8_000_000;
 
 /// The batches of a history in order, each identity once, with at most 8,000,000 facts together. Each is found by its identity.
 #[derive(Drop)]
@@ -63,7 +61,7 @@ impl Accepted {
     /// The batches, in order.
     pub fn as_slice(&self) -> &[Batch]
         ensures value { result.now ≡ self.now }
-        ensures in_range { length result.now ≤ 8_000_000 }
+        ensures in_range { length result.now ≤ MOST_FACTS }
     {
         let _ = self.facts;
         self.batches.as_slice()

@@ -5,19 +5,16 @@ ghost use Rattle.ldar_journal.specs.Image.{payload, IsFrame};
 ghost use Rattle.ldar_facts.specs.declared.batch.Batch.{Batch};
 ghost use Rattle.ldar_journal.specs.FrameAt.{IsFrameOf, HasNoFrame, IsPayloadAt};
 
-use ldar_facts::{Batch, Memory, Read, read_batch};
+use ldar_facts::{Batch, FRAME_BATCHES, Memory, Read, read_batch};
 use std::alloc::Global;
 
 /// The most bytes that a frame's payload may have: 16 batches of 11,785 bytes.
-const MOST_PAYLOAD: u32 = 188_560;
-
-/// The most batches of a frame.
-const MOST_BATCHES: usize = 16;
+pub const MOST_PAYLOAD: u32 = 188_560;
 
 /// How many bytes have to be there to see whether a frame stands at their front, as far as they tell. With five bytes
 /// there it is the whole frame's length, if that is in range.
 pub fn bytes_wanted(bytes: &[u8]) -> usize
-    ensures within { result ≤ 188_565 }
+    ensures within { result ≤ MOST_PAYLOAD + 5 }
     ensures enough { 5 ≤ length bytes.now → (more rest : List ℕ) → result ≤ length (bytes.now ++ more)
         → HasNoFrame (bytes.now ++ more) → HasNoFrame ((bytes.now ++ more) ++ rest) }
 {
@@ -75,7 +72,7 @@ fn read_batches(alloc: Global, bytes: &[u8], batches: &mut Vec<Batch>) -> Result
     batches.clear();
     let mut rest = bytes;
     while !rest.is_empty() {
-        if batches.len() == MOST_BATCHES {
+        if batches.len() == FRAME_BATCHES {
             return Ok(false);
         }
         match read_batch(alloc, rest)? {

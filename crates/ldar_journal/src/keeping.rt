@@ -1,13 +1,13 @@
 ghost use Rattle.std.specs.Prelude.{◌≡◌, ◌≢◌, ◌⊎◌, ◌+◌, ◌-◌, ◌<◌, ◌≤◌, [], ◌∷◌, ◌++◌, length, take, None, IfSome, IsNone};
+ghost use Rattle.ldar_facts.specs.declared.limits.TheConstants.{MOST_FACTS};
 ghost use Rattle.batch_positions.specs.Positions.{position_in};
 ghost use Rattle.ldar_facts.specs.Identity.{identity_of};
 ghost use Rattle.ldar_journal.specs.Image.{batches_of, IsKept};
 ghost use Rattle.ldar_journal.specs.Known.{IsKnown, AddsBatch};
 
-use crate::accepted::MOST_FACTS;
 use crate::history::Frames;
 use batch_positions::Positions;
-use ldar_facts::Batch;
+use ldar_facts::{Batch, MOST_FACTS};
 
 /// Adds the batches of one frame more to the identities of these frames, and gives how many facts there are then, unless they
 /// can't all be kept: then the identities stay. It takes no memory.
@@ -40,10 +40,10 @@ pub fn add_frame(
 /// Adds the identity of a batch, and gives how many facts there are then, unless it is there already or there would be too many.
 fn add_batch(positions: &mut Positions, facts: u64, batch: &Batch) -> Option<u64>
     requires roomy { 0 < positions.old.room }
-    requires few { facts ≤ 8_000_000 }
+    requires few { facts ≤ MOST_FACTS }
     ensures added { IfSome result (λ more. AddsBatch positions.old positions.new facts batch.now more) }
     ensures not_kept { IsNone result → (positions.new.identities ≡ positions.old.identities)
-        × ((position_in (identity_of batch.now) positions.old.identities ≢ None) ⊎ (8_000_000 < facts + length batch.now.facts)) }
+        × ((position_in (identity_of batch.now) positions.old.identities ≢ None) ⊎ (MOST_FACTS < facts + length batch.now.facts)) }
 {
     let identity = batch.identity();
     if positions.position(identity).is_some() {

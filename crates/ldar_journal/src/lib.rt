@@ -17,7 +17,7 @@ mod reader;
 mod settling;
 mod window;
 
-pub use accepted::{Accepted, MOST_FACTS};
+pub use accepted::Accepted;
 pub use creation::{CreateError, create};
 pub use journal::{Journal, Torn};
 pub use opening::{OpenError, OpenWhy, open_accepted, open_journal};

@@ -1,5 +1,6 @@
 ghost use Rattle.std.specs.Prelude.{◌≡◌, ◌<◌, ◌≤◌, [], ◌∷◌, ◌++◌, length, IfOk, OnOk};
 ghost use Rattle.std.specs.List.{AllByRecursion};
+ghost use Rattle.ldar_facts.specs.declared.limits.TheConstants.{FRAME_BATCHES};
 ghost use Rattle.ldar_journal.specs.Image.{IsBatch, payload, IsFrame};
 ghost use Rattle.ldar_journal.specs.Shelf.{behind_gate};
 
@@ -56,7 +57,7 @@ impl Frame {
 /// Makes a frame of 1 to 16 batches ready.
 pub fn prepare(alloc: Global, batches: &[Batch]) -> Result<Frame, Memory>
     requires some { 0 < length batches.now }
-    requires fits { length batches.now ≤ 16 }
+    requires fits { length batches.now ≤ FRAME_BATCHES }
     ensures value { IfOk result (λ frame. frame ≡ batches.now) }
 {
     let payload = payload_of(alloc, batches)?;

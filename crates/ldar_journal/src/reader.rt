@@ -1,4 +1,5 @@
 ghost use Rattle.std.specs.Prelude.{◌≡◌, ◌≢◌, ◌<◌, ◌≤◌, [], ◌∷◌, ◌++◌, length, take, map, true, false, Ok, Err, IfOk, OnOk, OnErr, IfErr, MatchResult};
+ghost use Rattle.ldar_facts.specs.declared.limits.TheConstants.{MOST_FACTS};
 ghost use Rattle.disk_model.specs.Faults.{Rose};
 ghost use Rattle.disk_model.specs.Images.{Only};
 ghost use Rattle.disk_model.specs.Keeps.{Keeps};
@@ -86,7 +87,7 @@ impl<D: Disk> Opening<D> {
         ensures frame { result ≡ Ok true → (self.new.frames ≡ self.old.frames ++ batches.new.items ∷ [])
             × (fact_count (batches_of self.old.frames) < fact_count (batches_of self.new.frames)) }
         ensures identities { self.new.identities ≡ map identity_of (batches_of self.new.frames) }
-        ensures few { fact_count (batches_of self.new.frames) ≤ 8_000_000 }
+        ensures few { fact_count (batches_of self.new.frames) ≤ MOST_FACTS }
         ensures ended { result ≡ Ok false → self.new.ended ≡ true }
         ensures others { result ≢ Ok true → self.new.frames ≡ self.old.frames }
         ensures not_a_journal { result ≢ Err OpenWhy.NotAJournal }

@@ -1,8 +1,8 @@
 use crate::{
-    CreateError, Journal, MOST_FACTS, OpenWhy, Torn, create, open_accepted, open_journal, prepare,
+    CreateError, Journal, OpenWhy, Torn, create, open_accepted, open_journal, prepare,
 };
 use disk_model::MemoryDisk;
-use ldar_facts::{Batch, Read, read_batch};
+use ldar_facts::{Batch, MOST_FACTS, Read, read_batch};
 use std::alloc::Global;
 use std::test::Fail;
 

@@ -1,4 +1,5 @@
-use Rattle.std.proofs.Common.{◌≡◌, ◌<◌, ◌≤◌, ◌⊎◌, ◌↔◌, ℕ, zero, suc, true, false, cond, Option, Some, None, List, [], ◌∷◌, ◌++◌, reverse, length, slice_get, take, option_map, option_and_then, refl, sym, ap, ◌∙◌, subst, inl, inr, arith}
+use Rattle.std.proofs.Common.{◌≡◌, ◌<◌, ◌≤◌, ◌⊎◌, ◌↔◌, ℕ, zero, suc, true, false, cond, Option, Some, None, List, [], ◌∷◌, ◌++◌, reverse, length, slice_get}
+use Rattle.std.proofs.Common.{take, option_map, option_and_then, refl, sym, ap, ◌∙◌, subst, inl, inr, arith}
 use Rattle.std.specs.Prelude.{unwrap_or}
 use Rattle.std.proofs.lemmas.Bool.{cases_Bool, false≢true}
 use Rattle.std.proofs.Math.Seq.{take-append_seam}
@@ -44,7 +45,8 @@ module _ (detected : ℕ) (attempts : List ℕ) (stops : List Stop) where
             (kept_place (reverse earlier) (latest ∷ []) c.0 c.1
             (placed earlier c (subst (λ b. cond b (last_counted detected attempts stops earlier) (Some (length earlier, latest)) ≡ Some c) t e)))
         | inr f ↦
-            let this : Some (length earlier, latest) ≡ Some c = subst (λ b. cond b (last_counted detected attempts stops earlier) (Some (length earlier, latest)) ≡ Some c) f e in
+            let this : Some (length earlier, latest) ≡ Some c =
+                subst (λ b. cond b (last_counted detected attempts stops earlier) (Some (length earlier, latest)) ≡ Some c) f e in
             let same : (length earlier, latest) ≡ c = ap (λ o. unwrap_or o c) this in
             rw (reverse_more latest earlier)
             (subst (λ d. slice_get (reverse earlier ++ latest ∷ []) d.0 ≡ Some d.1) same
@@ -90,7 +92,8 @@ module _ (detected : ℕ) (attempts : List ℕ) (stops : List Stop) where
   judged_by_others : (latest : DelayEntry) (earlier : List DelayEntry) → is_ignored detected attempts stops (reverse earlier) latest
       ≡ is_past latest.key.day (due_given detected attempts stops (option_map (λ c. c.1) (last_counted detected attempts stops earlier)))
   judged_by_others latest earlier =
-      ap (λ ds. is_past latest.key.day (due_given detected attempts stops (option_map (λ c. c.1) (last_counted detected attempts stops ds)))) (reverse_twice earlier)
+      ap (λ ds. is_past latest.key.day (due_given detected attempts stops (option_map (λ c. c.1) (last_counted detected attempts stops ds))))
+          (reverse_twice earlier)
 
   -- with one more delay that is ignored, each is that was
   more_ignored : (delays : List DelayEntry) (delay : DelayEntry) → is_ignored detected attempts stops delays delay ≡ true →
@@ -145,14 +148,16 @@ module _ (detected : ℕ) (attempts : List ℕ) (stops : List Stop) where
       rw (reverse_more latest earlier)
       (elim (cases_Bool (is_past latest.key.day (due_given detected attempts stops (option_map (λ c. c.1) (last_counted detected attempts stops earlier))))) [
         | inl t ↦ rw t (given_more (last_counted detected attempts stops earlier) (reverse earlier) latest (judged ∙ t) (given_of earlier))
-        | inr f ↦ rw f (subst (IsLastCounted detected attempts stops (reverse earlier ++ latest ∷ [])) (length-reverse earlier) (is_last (reverse earlier) latest (judged ∙ f)))
+        | inr f ↦ rw f (subst (IsLastCounted detected attempts stops (reverse earlier ++ latest ∷ [])) (length-reverse earlier)
+            (is_last (reverse earlier) latest (judged ∙ f)))
       ])
 
 -- .. of delays in key order
 given_in_order : (detected : ℕ) (attempts : List ℕ) (stops : List Stop) (delays : List DelayEntry) →
     Given detected attempts stops (last_counted detected attempts stops (reverse delays)) delays
 given_in_order detected attempts stops delays =
-    subst (Given detected attempts stops (last_counted detected attempts stops (reverse delays))) (reverse_twice delays) (given_of detected attempts stops (reverse delays))
+    subst (Given detected attempts stops (last_counted detected attempts stops (reverse delays))) (reverse_twice delays)
+        (given_of detected attempts stops (reverse delays))
 
 -- where one counts, not all are ignored
 not_all : (detected : ℕ) (attempts : List ℕ) (stops : List Stop) (delays : List DelayEntry) (place : ℕ) → IsLastCounted detected attempts stops delays place →

@@ -1,4 +1,5 @@
-use Rattle.std.proofs.Common.{◌≡◌, ℕ, Bool, true, false, ◌||◌, ◌&&◌, cond, nat_eq, nat_lt, nat_le, Option, Some, None, List, [], ◌∷◌, slice_get, refl, sym, ap, ◌∙◌, inl, inr, arith}
+use Rattle.std.proofs.Common.{◌≡◌, ℕ, Bool, true, false, ◌||◌, ◌&&◌, cond, nat_eq, nat_lt, nat_le, Option, Some, None, List, [], ◌∷◌, slice_get, refl, sym}
+use Rattle.std.proofs.Common.{ap, ◌∙◌, inl, inr, arith}
 use Rattle.std.specs.List.{list_any, filter_map, cons_option}
 use Rattle.std.specs.Option.{is_some, option_map}
 use Rattle.std.proofs.lemmas.Bool.{cases_lt, lt-ltb, le-ltb, le-leb, leb-true}
@@ -13,7 +14,8 @@ use Rattle.ldar_facts.specs.declared.class.Class.{Class}
 use Rattle.ldar_facts.specs.Facts.{Entry}
 use Rattle.ldar_law.specs.Equipment.{retired_on, component_entered, equipment_of, class_entered, classes_of, unit_entered, member_entered, members_of}
 use Rattle.ldar_law.specs.Force.{class_on}
-use Rattle.ldar_law.specs.RegisterLaws.{enters_component, enters_unit, enters_class, ComponentWhereEntered, UnitWhereEntered, ClassWhereEntered, MembersAreEntered}
+use Rattle.ldar_law.specs.RegisterLaws.{enters_component, enters_unit, enters_class, ComponentWhereEntered, UnitWhereEntered, ClassWhereEntered}
+use Rattle.ldar_law.specs.RegisterLaws.{MembersAreEntered}
 
 some_if : {X : Type 0} (b : Bool) (x : X) → is_some (cond b (Some x) None) ≡ b
 some_if true x = refl
@@ -48,7 +50,8 @@ some_mapped f (Some x) = refl
 
 pub component_where_entered : ComponentWhereEntered
 component_where_entered number facts =
-    let found = first_where_given (λ e. component_entered number (retired_on number facts) e.0.day e.1.body) (λ e. enters_component number e.1.body) (λ e. component_given number (retired_on number facts) e.0.day e.1.body) facts in (
+    let found = first_where_given (λ e. component_entered number (retired_on number facts) e.0.day e.1.body) (λ e. enters_component number e.1.body)
+        (λ e. component_given number (retired_on number facts) e.0.day e.1.body) facts in (
       found,
       λ day. some_mapped (λ item. class_on item (classes_of number facts) day) (equipment_of number facts) ∙ found,
     )
@@ -68,7 +71,8 @@ classes_given : (number day : ℕ) (facts : List Entry) →
     list_any (λ entered. nat_le entered.0.day day) (classes_of number facts) ≡ list_any (λ e. enters_class number e.1.body && nat_le e.0.day day) facts
 classes_given number day [] = refl
 classes_given number day (e ∷ es) =
-    class_given_by day e (class_entered number e.1.body) (enters_class number e.1.body) (classes_of number es) _ (class_given number e.1.body) (classes_given number day es)
+    class_given_by day e (class_entered number e.1.body) (enters_class number e.1.body) (classes_of number es) _ (class_given number e.1.body)
+        (classes_given number day es)
 
 pub class_where_entered : ClassWhereEntered
 class_where_entered number day facts =

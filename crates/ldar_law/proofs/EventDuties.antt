@@ -10,9 +10,11 @@ use Rattle.ldar_facts.specs.declared.key.Key.{Key}
 use Rattle.ldar_law.specs.declared.duty.Duty.{Duty}
 use Rattle.ldar_law.specs.declared.equipment.Equipment.{Equipment}
 use Rattle.ldar_law.specs.declared.event.Event.{Event}
-use Rattle.ldar_law.specs.Duties.{first_monitoring, monthly, quarterly, yearly, planned, weekly, drip, release, evidence, months_after, years_after, window_ends, weeks_after, duties_of}
+use Rattle.ldar_law.specs.Duties.{first_monitoring, monthly, quarterly, yearly, planned, weekly, drip, release, evidence, months_after, years_after}
+use Rattle.ldar_law.specs.Duties.{window_ends, weeks_after, duties_of}
 use Rattle.ldar_law.specs.DutyLaws.{EventDutiesFollowEvents}
-use Rattle.ldar_law.proofs.DutyLemmas.{IsOf, first_form, monthly_form, quarterly_form, yearly_form, planned_form, weekly_form, drip_form, release_form, evidence_form}
+use Rattle.ldar_law.proofs.DutyLemmas.{IsOf, first_form, monthly_form, quarterly_form, yearly_form, planned_form, weekly_form, drip_form, release_form}
+use Rattle.ldar_law.proofs.DutyLemmas.{evidence_form}
 
 -- of this cause
 abbrev Has : ℕ → Duty → Type 0

@@ -6,7 +6,8 @@ use Rattle.ldar_facts.specs.declared.body.FactBody.TheVariants.{Calibration, Pre
 use Rattle.ldar_facts.specs.declared.key.Key.{Key}
 use Rattle.ldar_facts.specs.Facts.{Entry}
 use Rattle.ldar_facts.specs.Named.{tested_instrument, is_numbered}
-use Rattle.ldar_law.specs.Fitness.{is_calibration, is_calibration_within, is_passed_precision, is_drift_past, is_calibrated, is_calibrated_within, is_tested, is_calibrated_before, is_voided_by}
+use Rattle.ldar_law.specs.Fitness.{is_calibration, is_calibration_within, is_passed_precision, is_drift_past, is_calibrated, is_calibrated_within, is_tested}
+use Rattle.ldar_law.specs.Fitness.{is_calibrated_before, is_voided_by}
 use Rattle.ldar_law.specs.ReadingLaws.{FitnessIsOfInstrument}
 use Rattle.ldar_law.specs.Slices.{facts_of_instrument}
 use Rattle.ldar_law.proofs.TestLemmas.{both}
@@ -69,4 +70,5 @@ module _ (facts : List Entry) (key : Key) (instrument : ℕ) where
 
 pub fitness_is_of_instrument : FitnessIsOfInstrument
 fitness_is_of_instrument facts limit key instrument ppm =
-    rw (calibrated_same facts key instrument, within_same facts key instrument (limit + 2000), tested_same facts key instrument, voided_same facts key instrument limit ppm) refl
+    rw (calibrated_same facts key instrument, within_same facts key instrument (limit + 2000), tested_same facts key instrument,
+        voided_same facts key instrument limit ppm) refl

@@ -8,7 +8,8 @@ use Rattle.ldar_facts.specs.declared.body.FactBody.TheVariants.{Unit as UnitFact
 use Rattle.ldar_facts.specs.declared.key.Key.{Key}
 use Rattle.ldar_facts.specs.Facts.{Entry}
 use Rattle.ldar_facts.specs.Named.{component_of, unit_of, is_numbered}
-use Rattle.ldar_law.specs.Equipment.{retires, retired_on, component_entered, class_entered, class_at, unit_entered, member_entered, election_entered, stop_entered}
+use Rattle.ldar_law.specs.Equipment.{retires, retired_on, component_entered, class_entered, class_at, unit_entered, member_entered, election_entered}
+use Rattle.ldar_law.specs.Equipment.{stop_entered}
 use Rattle.ldar_law.specs.Slices.{is_registered}
 use Rattle.ldar_law.specs.RegisterLaws.{HasComponent, HasUnit, OwnFactsSuffice, UnitFactsSuffice, RegisterFactsSuffice}
 
@@ -71,11 +72,13 @@ pub has_component : (number : ℕ) (q : Entry → Bool) → ((e : Entry) → q e
     HasComponent number (filter q facts) facts
 has_component number q silent facts =
     let retired : retired_on number (filter q facts) ≡ retired_on number facts =
-    ap (λ found. option_map (λ e. e.0.day) found) (find_narrowed (λ e. retires number e.1.body) q (λ e. kept (retires number e.1.body) (q e) (λ out. (silent e out).stays)) facts) in
+    ap (λ found. option_map (λ e. e.0.day) found) (find_narrowed (λ e. retires number e.1.body) q
+        (λ e. kept (retires number e.1.body) (q e) (λ out. (silent e out).stays)) facts) in
     record {
       equipment = rw retired
           (ap (λ entered. slice_get entered 0)
-          (filter_map_narrowed (λ e. component_entered number (retired_on number facts) e.0.day e.1.body) q (λ e out. (silent e out).no_component (retired_on number facts) e.0.day) facts));
+          (filter_map_narrowed (λ e. component_entered number (retired_on number facts) e.0.day e.1.body) q
+              (λ e out. (silent e out).no_component (retired_on number facts) e.0.day) facts));
       classes = filter_map_narrowed (class_at number) q (λ e out. rw (silent e out).no_class refl) facts;
     }
 

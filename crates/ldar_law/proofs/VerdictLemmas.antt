@@ -1,4 +1,5 @@
-use Rattle.std.proofs.Common.{◌≡◌, ℕ, ◌≤◌, ◌<◌, true, false, not, nat_lt, Option, Some, None, is_some, List, [], ◌∷◌, ◌++◌, length, ◌+◌, refl, sym, ap, ◌∙◌, inl, inr, subst, arith}
+use Rattle.std.proofs.Common.{◌≡◌, ℕ, ◌≤◌, ◌<◌, true, false, not, nat_lt, Option, Some, None, is_some, List, [], ◌∷◌, ◌++◌, length, ◌+◌, refl, sym, ap, ◌∙◌}
+use Rattle.std.proofs.Common.{inl, inr, subst, arith}
 use Rattle.std.specs.Prelude.{Contains, find}
 use Rattle.std.specs.Option.{option_map}
 use Rattle.std.proofs.lemmas.Bool.{cases_Bool, false≢true}
@@ -16,7 +17,8 @@ use Rattle.ldar_law.specs.declared.verdict.Verdict.TheVariants.{Pass, Denied, Fu
 use Rattle.ldar_law.proofs.Gifts.{cases_Option}
 use Rattle.ldar_law.specs.Judged.{Case}
 use Rattle.ldar_law.specs.Verdicts.{Rule, rules, denial_at, first_denial, facts_with, verdict_by, verdict_on, is_pass, is_ruly, unruly_at}
-use Rattle.ldar_law.specs.DenialLaws.{LeastRuleIsTold, NoRuleDenies, FirstFactIsTold, PassesUndenied, FullUndenied, RulyIsEach, RulyHasNoUnruly, VerdictForgetsOrder}
+use Rattle.ldar_law.specs.DenialLaws.{LeastRuleIsTold, NoRuleDenies, FirstFactIsTold, PassesUndenied, FullUndenied, RulyIsEach, RulyHasNoUnruly}
+use Rattle.ldar_law.specs.DenialLaws.{VerdictForgetsOrder}
 
 -- ---- the least rule
 
@@ -29,7 +31,8 @@ least_of case (x ∷ xs) found other up e among denies =
       | inl denied ↦
           let same : x ≡ found = cc in
           elim among [
-            | inl here ↦ let least : x.number ≤ x.number = omega arith in subst (λ (r : Rule). r.number ≤ other.number) same (subst (λ (r : Rule). x.number ≤ r.number) here least)
+            | inl here ↦ let least : x.number ≤ x.number = omega arith in subst (λ (r : Rule). r.number ≤ other.number) same
+                (subst (λ (r : Rule). x.number ≤ r.number) here least)
             | inr there ↦ let after : nat_lt x.number other.number ≡ true = all_at (λ y. nat_lt x.number y.number ≡ true) xs other up.0 there in
                 let least : x.number ≤ other.number = grind (arith, nat_tests) in subst (λ (r : Rule). r.number ≤ other.number) same least
           ]
@@ -149,7 +152,8 @@ none_given {X = X} {Y = Y} f xs e before x after stands =
     elim (cases_Option (f before x after)) [
       | inl none ↦ none
       | inr some ↦
-          let here : Passes (λ before x after. is_some (f before x after)) xs x = record { before = before; after = after; stands = stands; passes = ap is_some some.1 } in
+          let here : Passes (λ before x after. is_some (f before x after)) xs x =
+              record { before = before; after = after; stands = stands; passes = ap is_some some.1 } in
           let found = (somewhere_decides X (λ before x after. is_some (f before x after)) xs).1 (x, here) in
           absurd (false≢true (sym (ap is_some e) ∙ first_given_finds X Y f xs ∙ found))
     ]

@@ -8,7 +8,7 @@ use Rattle.list_words.specs.Order.{in_order}
 use Rattle.ldar_facts.specs.Facts.{Entry, goes_first, entries_of, facts_of}
 use Rattle.ldar_facts.specs.Identity.{identities_differ}
 use Rattle.ldar_law.specs.declared.verdict.Verdict.TheVariants.{Pass, Denied, Full}
-use Rattle.ldar_law.specs.declared.numbers.TheConstants.{MOST_FACTS}
+use Rattle.ldar_facts.specs.declared.limits.TheConstants.{MOST_FACTS}
 use Rattle.ldar_law.specs.Equipment.{class_at, classes_of}
 use Rattle.ldar_law.specs.Force.{class_by}
 use Rattle.ldar_law.specs.Judged.{Case, register_with}

@@ -1,6 +1,7 @@
 -- The office as a machine: what it answers to a request after a history of accepted batches, and what a fault of the disk leaves in doubt.
 use Rattle.std.specs.Prelude.{◌≡◌, ◌≢◌, ℕ, ◌+◌, ◌-◌, ◌<◌, ◌≤◌, ◌^◌, ◌⊎◌, Bool, true, false, ◌&&◌, if◌then◌else◌, Option, Some, None, is_none, List, [], ◌∷◌, ◌++◌, length, slice_get, IsTrue}
 use Rattle.std.specs.List.{AllByRecursion}
+use Rattle.ldar_facts.specs.declared.limits.TheConstants.{FRAME_BATCHES}
 use Rattle.ldar_facts.specs.declared.batch.Batch.{Batch}
 use Rattle.ldar_facts.specs.Identity.{identity_of, position_of}
 use Rattle.ldar_law.specs.declared.request.Request.{Request}
@@ -197,7 +198,7 @@ pub record IsOfCall (before : ℕ) (end : Moment) (turn : Turn) : Type 0 where
 -- a group of 1 to 16 turns from one moment to the next
 pub record GroupStep (start : Moment) (turns : List Turn) (end : Moment) : Type 0 where
   pub some : turns ≢ []
-  pub fits : length turns ≤ 16
+  pub fits : length turns ≤ FRAME_BATCHES
   pub steps : Steps start.state turns end.state
   pub before : ℕ
   pub count : (start.faults ≤ before) × (before ≤ end.faults)

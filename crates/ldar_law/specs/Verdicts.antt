@@ -6,7 +6,7 @@ use Rattle.ldar_facts.specs.declared.batch.Batch.{Batch}
 use Rattle.ldar_facts.specs.Facts.{Entry, entries_of, facts_of}
 use Rattle.ldar_law.specs.declared.verdict.Verdict.{Verdict}
 use Rattle.ldar_law.specs.declared.verdict.Verdict.TheVariants.{Pass, Denied, Full}
-use Rattle.ldar_law.specs.declared.numbers.TheConstants.{MOST_FACTS}
+use Rattle.ldar_facts.specs.declared.limits.TheConstants.{MOST_FACTS}
 use Rattle.ldar_law.specs.Judged.{Case, case_of}
 use Rattle.ldar_law.specs.Denials as denials
 

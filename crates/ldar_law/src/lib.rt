@@ -48,7 +48,7 @@ pub use leak_definition::limit;
 pub use months::{has_leak_in, is_clean, is_clean_twice, is_clean_twice_from, is_quarterly};
 pub use numbers::{
     ATTEMPT_DAYS, EVENT_DAYS, FIRST_DAYS, GAS_MARGIN, LAST_FACT_DAY, LISTED_DAYS, MOST_COMPONENTS,
-    MOST_FACTS, NOTICE_DAYS, REPAIR_DAYS, VERIFICATION_DAYS,
+    NOTICE_DAYS, REPAIR_DAYS, VERIFICATION_DAYS,
 };
 pub use paragraphs::paragraph;
 pub use quarter::{is_in_quarter, judging_day, month_in_quarter, quarter_start};

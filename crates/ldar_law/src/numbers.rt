@@ -1,5 +1,7 @@
 //! The numbers of the rule that recur, each under one name.
 
+use ldar_days::LAST_STARTUP;
+
 /// A first attempt at a repair is made within so many days of the detection (40 CFR 60.482-2a(c)(2), 60.482-7a(d)(2)).
 pub const ATTEMPT_DAYS: u32 = 5;
 
@@ -29,11 +31,8 @@ pub const NOTICE_DAYS: u32 = 90;
 /// (40 CFR 60.485a(b)(1)).
 pub const GAS_MARGIN: u32 = 2_000;
 
-/// 2097-12-31, the last day of a fact, so that each process unit has quarters (our own rule).
-pub const LAST_FACT_DAY: u32 = 46_751;
-
-/// The office holds so many facts at most (our own rule).
-pub const MOST_FACTS: u64 = 8_000_000;
+/// The last day of a fact, so that each process unit has quarters (our own rule).
+pub const LAST_FACT_DAY: u32 = LAST_STARTUP;
 
 /// Components have numbers from 1 up to this (our own rule).
 pub const MOST_COMPONENTS: u32 = 60_000;

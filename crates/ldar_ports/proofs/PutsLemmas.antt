@@ -25,7 +25,13 @@ pub rest_more : (bytes rest : List ℕ) (put : List Piece) (all n stamp : ℕ) �
     → bytes ≡ bytes_of (put ++ piece_of (take n rest) stamp ∷ []) ++ take (all - n) (drop n rest)
 rest_more bytes rest put all n stamp is_all was =
     let whole : length (drop n rest) ≤ all - n = omega (arith, length-drop n rest) in
-    rw (flat_map-append (λ (piece : Piece). piece.bytes) put (piece_of (take n rest) stamp ∷ []), append-nil (take n rest), take_all (all - n) (drop n rest) whole, append_assoc (bytes_of put) (take n rest) (drop n rest), take-append-drop n rest) was
+    rw (
+      flat_map-append (λ (piece : Piece). piece.bytes) put (piece_of (take n rest) stamp ∷ []),
+      append-nil (take n rest),
+      take_all (all - n) (drop n rest) whole,
+      append_assoc (bytes_of put) (take n rest) (drop n rest),
+      take-append-drop n rest,
+    ) was
 
 -- a front of some bytes that is not empty has a byte
 pub front_has_some : (n : ℕ) (bytes : List ℕ) → n ≤ length bytes → 0 < n → 0 < length (take n bytes)

@@ -66,6 +66,23 @@ fn each_piece_has_the_clock_of_its_disk(rt: HostRuntime) -> Result<(), Fail> {
     Ok(())
 }
 
+// A piece of so many bytes alike.
+fn piece(alloc: Global, byte: u8, count: usize) -> Result<Vec<u8>, Memory> {
+    Ok(vec![in alloc; byte; count]?)
+}
+
+#[test]
+fn much_is_taken_at_once_though_the_windows_end_is_near(rt: HostRuntime) -> Result<(), Fail> {
+    let pieces = vec![in rt.alloc(); piece(rt.alloc(), 1, 5_000)?, piece(rt.alloc(), 2, 4_096)?]?;
+    let mut source = ListSource::new(rt.alloc(), &pieces, &[])?;
+    let mut window = Window::new(rt.alloc(), 6_000)?;
+    assert_eq!(rt; window.take_from(&mut source), Ok(5_000));
+    window.drop_front(4_000);
+    assert_eq!(rt; window.take_from(&mut source), Ok(4_096));
+    assert_eq!(rt; window.bytes().get(999..1_001), Some([1, 2].as_slice()));
+    Ok(())
+}
+
 #[test]
 fn a_window_is_filled_and_emptied(rt: HostRuntime) -> Result<(), Fail> {
     let mut source = source(rt.alloc(), &[2])?;

@@ -7,8 +7,12 @@ use crate::{Memory, Source, SourceFault};
 use std::alloc::Global;
 use std::marker::Model;
 
+/// With fewer bytes of room behind what is in hand, this is moved to the front before more is taken.
+const LITTLE_ROOM: usize = 4_096;
+
 /// Bytes taken from a source and not yet used, in a buffer of fixed size. Only its making wants
-/// memory. Bytes are moved only where the end of the buffer is reached.
+/// memory. Bytes are moved only where the end of the buffer is near, once for each time that some
+/// were used.
 #[derive(Drop)]
 pub struct Window {
     buffer: Vec<u8>,
@@ -127,8 +131,8 @@ fn take_behind<S: Source>(
     source.take(&mut buffer[at..])
 }
 
-// Moves the bytes between two places to the front, where there is no room behind them, and says
-// where they stand.
+// Moves the bytes between two places to the front, where there is little room behind them, and says
+// where they stand. Bytes that stand at the front already are not moved.
 fn make_room(buffer: &mut Vec<u8>, start: usize, end: usize) -> (usize, usize)
     requires ordered { start ≤ end }
     requires in_range { end ≤ length buffer.old.items }
@@ -139,7 +143,8 @@ fn make_room(buffer: &mut Vec<u8>, start: usize, end: usize) -> (usize, usize)
         ≡ drop start (take end buffer.old.items) }
     ensures room { end - start < length buffer.old.items → result.1 < length buffer.new.items }
 {
-    if end < buffer.len() {
+    let room = buffer.len() - end;
+    if room >= LITTLE_ROOM || (start == 0 && room > 0) {
         return (start, end);
     }
     buffer.copy_within(start..end, 0);

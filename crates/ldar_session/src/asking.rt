@@ -9,7 +9,7 @@ ghost use Rattle.ldar_session.specs.Served.{Served, Stretch, items_of};
 
 use crate::Memory;
 use crate::ended::Ended;
-use crate::group::MOST_AT_ONCE;
+use ldar_facts::FRAME_BATCHES;
 use ldar_law::{Reply, Request};
 use ldar_ports::{Sink, put_all};
 use office_book::Office;
@@ -23,7 +23,7 @@ pub fn serve<O: Office, K: Sink>(
     requests: &[Request],
 ) -> Result<(), Ended>
     requires some { 0 < length requests.now }
-    requires fits { length requests.now ≤ MOST_AT_ONCE }
+    requires fits { length requests.now ≤ FRAME_BATCHES }
     requires alike { MayShareFrame requests.now }
     ensures talk { (items : List (List ℕ)) → AsksEach items requests.now →
         (served : List Served) × (unsaid : List ℕ)
@@ -48,7 +48,7 @@ pub fn serve<O: Office, K: Sink>(
 /// Asks an office at once. Where memory is wanting, nothing is asked.
 fn ask<O: Office>(alloc: Global, office: &mut O, requests: &[Request]) -> Result<Vec<Reply>, Memory>
     requires some { 0 < length requests.now }
-    requires fits { length requests.now ≤ MOST_AT_ONCE }
+    requires fits { length requests.now ≤ FRAME_BATCHES }
     requires alike { MayShareFrame requests.now }
     ensures value { IfOk result (λ replies. (call : Call) × O.led office.old (call ∷ []) office.new
         × (requests_of call ≡ requests.now) × (replies_of call ≡ replies.items)

@@ -8,7 +8,8 @@ ghost use Rattle.ldar_session.specs.Served.{Served, Stretch, items_of};
 
 use crate::asking::serve;
 use crate::ended::{Ended, MOST_ANSWERS};
-use crate::group::{Front, Group, MOST_AT_ONCE, front_of};
+use crate::group::{Front, Group, front_of};
+use ldar_facts::FRAME_BATCHES;
 use ldar_ports::{Sink, Source, Window};
 use office_book::Office;
 use std::alloc::Global;
@@ -40,7 +41,7 @@ pub fn dock<O: Office, S: Source, K: Sink>(
     let mut answers = 0;
     let mut before = 0;
     while answers < MOST_ANSWERS {
-        let most = MOST_AT_ONCE.min(MOST_ANSWERS - answers);
+        let most = FRAME_BATCHES.min(MOST_ANSWERS - answers);
         let group = match next_group(alloc, source, &mut window, before, most) {
             Ok(group) => group,
             Err(ended) => return ended,

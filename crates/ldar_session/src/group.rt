@@ -6,12 +6,9 @@ ghost use Rattle.ldar_session.specs.Batches.{IsGroup, StandInFront, NoneJoins};
 ghost use Rattle.ldar_session.specs.Dock.{IsFront};
 
 use crate::Memory;
-use ldar_facts::{Batch, Read, read_batch};
+use ldar_facts::{Batch, FRAME_BATCHES, Read, read_batch};
 use ldar_law::Request;
 use std::alloc::Global;
-
-/// The most requests that are asked at once.
-pub const MOST_AT_ONCE: usize = 16;
 
 /// Batches that are asked at once, and in how many bytes they stand.
 #[derive(Drop)]
@@ -59,7 +56,7 @@ fn group_from(
     ensures value { IfOk result (λ group. IsGroup bytes.now most group.requests.items group.used) }
 {
     let is_alone = batch.handheld == 0;
-    let mut requests = Vec::with_capacity(alloc, MOST_AT_ONCE)?;
+    let mut requests = Vec::with_capacity(alloc, FRAME_BATCHES)?;
     requests.push(Request::Sync(batch))?;
     let mut group = Group { requests, used };
     if is_alone {

@@ -1,7 +1,9 @@
 -- What the events of the months before a month tell decides whether it is a quarterly one.
-use Rattle.std.proofs.Common.{◌≡◌, ℕ, ◌+◌, ◌-◌, ◌<◌, ◌≤◌, Bool, true, false, not, ◌&&◌, ◌||◌, nat_lt, nat_le, Option, Some, None, IfSome, List, [], ◌∷◌, ◌++◌, take, drop, refl, sym, ap, ◌∙◌, inl, inr, arith}
+use Rattle.std.proofs.Common.{◌≡◌, ℕ, ◌+◌, ◌-◌, ◌<◌, ◌≤◌, Bool, true, false, not, ◌&&◌, ◌||◌, nat_lt, nat_le, Option, Some, None, IfSome, List, [], ◌∷◌, ◌++◌}
+use Rattle.std.proofs.Common.{take, drop, refl, sym, ap, ◌∙◌, inl, inr, arith}
 use Rattle.std.specs.List.{AllByRecursion}
-use Rattle.std.proofs.lemmas.Bool.{cases_lt, false≢true, not-true, and_parts, and_from, and_right, or_cases, or_from, or_left, leb-true, le-leb, lt-leb, ltb-true, lt-ltb, eqb-true, ne_eqb, not_from_false}
+use Rattle.std.proofs.lemmas.Bool.{cases_lt, false≢true, not-true, and_parts, and_from, and_right, or_cases, or_from, or_left, leb-true, le-leb, lt-leb}
+use Rattle.std.proofs.lemmas.Bool.{ltb-true, lt-ltb, eqb-true, ne_eqb, not_from_false}
 use Rattle.std.proofs.lemmas.List.{take-append-drop}
 use Rattle.std.proofs.lemmas.List.Folds.{list_any-append}
 use Rattle.ldar_days.specs.Calendar.{month_of}

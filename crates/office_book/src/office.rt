@@ -1,5 +1,6 @@
 ghost use Rattle.std.specs.Prelude.{◌≡◌, ◌<◌, ◌≤◌, ◌≢◌, [], ◌∷◌, ◌++◌, ℕ, List, length, map, OnOk, OnErr};
 ghost use Rattle.std.specs.List.{AllByRecursion};
+ghost use Rattle.ldar_facts.specs.declared.limits.TheConstants.{FRAME_BATCHES};
 ghost use Rattle.ldar_law.specs.Machine.{Call, Turn, GroupStep};
 ghost use Rattle.office_book.specs.Asking.{requests_of, replies_of, MayShareFrame, HasRule};
 
@@ -35,7 +36,7 @@ pub trait Office: Drop {
         replies: &mut Vec<Reply>,
     ) -> Result<(), Memory>
         requires some { 0 < length requests.now }
-        requires fits { length requests.now ≤ 16 }
+        requires fits { length requests.now ≤ FRAME_BATCHES }
         requires alike { MayShareFrame requests.now }
         ensures value { OnOk result ((call : Call) × led self.old (call ∷ []) self.new
             × (requests_of call ≡ requests.now) × (replies.new.items ≡ replies.old.items ++ replies_of call)

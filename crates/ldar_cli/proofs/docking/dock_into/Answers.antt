@@ -19,7 +19,8 @@ ended_empty : {Ended : Type 0} (l : List ℕ) → l ≡ [] → Ended ⊎ (11_785
 ended_empty l none (inl ended) = ended
 ended_empty l none (inr long) = let len = ap length none in absurd (omega (arith, len, long))
 
-bad_or_long : {Ended : Type 0} (l : List ℕ) → 0 < length l → ((batch : Batch) → ¬ (Spells l batch)) → Ended ⊎ (11_785 < length l) → (Ended × IsBadInput l) ⊎ (11_785 < length l)
+bad_or_long : {Ended : Type 0} (l : List ℕ) → 0 < length l → ((batch : Batch) → ¬ (Spells l batch)) → Ended ⊎ (11_785 < length l)
+    → (Ended × IsBadInput l) ⊎ (11_785 < length l)
 bad_or_long l some none (inl ended) = inl (ended, record { some = some; no_batch = none })
 bad_or_long l some none (inr long) = inr long
 
@@ -45,7 +46,8 @@ returns-in-Err-clause-ends g c =
       [],
       taken.1,
       Puts-none (g.K.Sink.pieces c.args.output.now),
-      ends_early c.in-Err.status taken.0 (g.S.Source.left c.read_input.new.input) (g.D.Disk.content c.args.journal.now.disk) c.args.accepted.now c.in-Err.ensures.only c.requires.opens,
+      ends_early c.in-Err.status taken.0 (g.S.Source.left c.read_input.new.input) (g.D.Disk.content c.args.journal.now.disk) c.args.accepted.now
+          c.in-Err.ensures.only c.requires.opens,
     )
 
 pub returns-in-Ok-None-clause-ends : goal.returns-in-Ok-None-clause-ends
@@ -54,7 +56,8 @@ returns-in-Ok-None-clause-ends g c =
     let bytes : c.bytes-bytes.result.now ≡ taken.0 = c.bytes-bytes.ensures.value ∙ taken.2.0 in
     let some : 0 < length c.bytes-bytes.result.now = grind (arith, nat_tests, c.if-is_empty.ensures) in
     let none : (batch : Batch) → ¬ (Spells c.bytes-bytes.result.now batch) =
-    subst (λ (found : Option Batch). MatchOption found ((batch : Batch) → ¬ (Spells c.bytes-bytes.result.now batch)) (λ batch. Spells c.bytes-bytes.result.now batch)) c.in-Ok-None.field-0-is c.in-Ok-None.ensures in (
+    subst (λ (found : Option Batch). MatchOption found ((batch : Batch) → ¬ (Spells c.bytes-bytes.result.now batch))
+        (λ batch. Spells c.bytes-bytes.result.now batch)) c.in-Ok-None.field-0-is c.in-Ok-None.ensures in (
       taken.0,
       [],
       taken.1,
@@ -62,7 +65,8 @@ returns-in-Ok-None-clause-ends g c =
       (
         refl,
         ends_bad (g.D.Disk.content c.args.journal.now.disk) c.args.accepted.now c.requires.opens,
-        bad_or_long taken.0 (subst (λ (l : List ℕ). 0 < length l) bytes some) (subst (λ (l : List ℕ). (batch : Batch) → ¬ (Spells l batch)) bytes none) taken.2.1,
+        bad_or_long taken.0 (subst (λ (l : List ℕ). 0 < length l) bytes some) (subst (λ (l : List ℕ). (batch : Batch) → ¬ (Spells l batch)) bytes none)
+            taken.2.1,
       ),
     )
 
@@ -71,12 +75,14 @@ returns-in-Err-keep-clause-ends g c =
     let taken = c.in-Ok.ensures.taken in
     let bytes : c.bytes-bytes.result.now ≡ taken.0 = c.bytes-bytes.ensures.value ∙ taken.2.0 in
     let is : Spells c.bytes-bytes.result.now c.in-Ok-Some.batch =
-    subst (λ (found : Option Batch). MatchOption found ((batch : Batch) → ¬ (Spells c.bytes-bytes.result.now batch)) (λ batch. Spells c.bytes-bytes.result.now batch)) c.in-Ok-Some.field-0-is c.in-Ok-Some.ensures in (
+    subst (λ (found : Option Batch). MatchOption found ((batch : Batch) → ¬ (Spells c.bytes-bytes.result.now batch))
+        (λ batch. Spells c.bytes-bytes.result.now batch)) c.in-Ok-Some.field-0-is c.in-Ok-Some.ensures in (
       taken.0,
       [],
       taken.1,
       Puts-none (g.K.Sink.pieces c.args.output.now),
-      ends_after_fault c.in-Err-keep.status taken.0 (g.S.Source.left c.read_input.new.input) (g.D.Disk.content c.args.journal.now.disk) (g.D.Disk.content c.keep.new.journal.disk)
+      ends_after_fault c.in-Err-keep.status taken.0 (g.S.Source.left c.read_input.new.input) (g.D.Disk.content c.args.journal.now.disk)
+          (g.D.Disk.content c.keep.new.journal.disk)
           c.args.accepted.now c.in-Ok-Some.batch (subst (λ (l : List ℕ). Spells l c.in-Ok-Some.batch) bytes is) c.in-Err-keep.ensures.after_fault,
     )
 
@@ -85,7 +91,8 @@ returns-in-Ok-put_all-clause-ends g c =
     let taken = c.in-Ok.ensures.taken in
     let bytes : c.bytes-bytes.result.now ≡ taken.0 = c.bytes-bytes.ensures.value ∙ taken.2.0 in
     let spelled : Spells c.bytes-bytes.result.now c.in-Ok-Some.batch =
-    subst (λ (found : Option Batch). MatchOption found ((batch : Batch) → ¬ (Spells c.bytes-bytes.result.now batch)) (λ batch. Spells c.bytes-bytes.result.now batch)) c.in-Ok-Some.field-0-is c.in-Ok-Some.ensures in
+    subst (λ (found : Option Batch). MatchOption found ((batch : Batch) → ¬ (Spells c.bytes-bytes.result.now batch))
+        (λ batch. Spells c.bytes-bytes.result.now batch)) c.in-Ok-Some.field-0-is c.in-Ok-Some.ensures in
     let is : Spells taken.0 c.in-Ok-Some.batch = subst (λ (l : List ℕ). Spells l c.in-Ok-Some.batch) bytes spelled in
     let put = c.in-Ok-put_all.ensures.puts in
     let all : string_bytes c.in-Ok-keep.line ≡ bytes_of put.0 =
@@ -96,7 +103,8 @@ returns-in-Ok-put_all-clause-ends g c =
       put.2,
       (
         HasEnded-batch (g.S.Source.left c.read_input.new.input) taken.0 c.in-Ok-Some.batch is taken.2.1,
-        ends_done taken.0 (bytes_of put.0) (string_bytes c.in-Ok-keep.line) (g.D.Disk.content c.args.journal.now.disk) (g.D.Disk.content c.keep.new.journal.disk)
+        ends_done taken.0 (bytes_of put.0) (string_bytes c.in-Ok-keep.line) (g.D.Disk.content c.args.journal.now.disk)
+            (g.D.Disk.content c.keep.new.journal.disk)
             c.args.accepted.now c.in-Ok-Some.batch is c.in-Ok-keep.ensures.value all,
       ),
     )
@@ -106,7 +114,8 @@ returns-clause-ends g c =
     let taken = c.in-Ok.ensures.taken in
     let bytes : c.bytes-bytes.result.now ≡ taken.0 = c.bytes-bytes.ensures.value ∙ taken.2.0 in
     let spelled : Spells c.bytes-bytes.result.now c.in-Ok-Some.batch =
-    subst (λ (found : Option Batch). MatchOption found ((batch : Batch) → ¬ (Spells c.bytes-bytes.result.now batch)) (λ batch. Spells c.bytes-bytes.result.now batch)) c.in-Ok-Some.field-0-is c.in-Ok-Some.ensures in
+    subst (λ (found : Option Batch). MatchOption found ((batch : Batch) → ¬ (Spells c.bytes-bytes.result.now batch))
+        (λ batch. Spells c.bytes-bytes.result.now batch)) c.in-Ok-Some.field-0-is c.in-Ok-Some.ensures in
     let is : Spells taken.0 c.in-Ok-Some.batch = subst (λ (l : List ℕ). Spells l c.in-Ok-Some.batch) bytes spelled in
     let put = c.in-Err-put_all.ensures.puts in
     let front : string_bytes c.in-Ok-keep.line ≡ bytes_of put.0 ++ put.1 = sym c.as_bytes.ensures.value ∙ put.3 in (
@@ -116,7 +125,8 @@ returns-clause-ends g c =
       put.2,
       (
         HasEnded-batch (g.S.Source.left c.read_input.new.input) taken.0 c.in-Ok-Some.batch is taken.2.1,
-        ends_unsaid taken.0 (bytes_of put.0) put.1 (string_bytes c.in-Ok-keep.line) (g.D.Disk.content c.args.journal.now.disk) (g.D.Disk.content c.keep.new.journal.disk)
+        ends_unsaid taken.0 (bytes_of put.0) put.1 (string_bytes c.in-Ok-keep.line) (g.D.Disk.content c.args.journal.now.disk)
+            (g.D.Disk.content c.keep.new.journal.disk)
             c.args.accepted.now c.in-Ok-Some.batch is c.in-Ok-keep.ensures.value front,
       ),
     )

@@ -11,7 +11,8 @@ returns-in-None-clause-ends g c = (
   [],
   Takes-none (g.S.Source.left c.args.input.now),
   Puts-none (g.K.Sink.pieces c.args.output.now),
-  subst (λ (command : Option Command). Ends command Usage [] (g.S.Source.left c.args.input.now) [] (g.D.Disk.content c.args.disk) (g.D.Disk.content c.args.disk))
+  subst (λ (command : Option Command). Ends command Usage [] (g.S.Source.left c.args.input.now) [] (g.D.Disk.content c.args.disk)
+      (g.D.Disk.content c.args.disk))
       c.in-None.ensures.value (refl, refl, refl, refl),
 )
 
@@ -21,6 +22,7 @@ returns-in-Some-Init-clause-ends g c = (
   [],
   Takes-none (g.S.Source.left c.args.input.now),
   Puts-none (g.K.Sink.pieces c.args.output.now),
-  subst (λ (command : Option Command). Ends command c.init-status.result [] (g.S.Source.left c.args.input.now) [] (g.D.Disk.content c.args.disk) (g.D.Disk.content c.init-status.new.disk))
+  subst (λ (command : Option Command). Ends command c.init-status.result [] (g.S.Source.left c.args.input.now) [] (g.D.Disk.content c.args.disk)
+      (g.D.Disk.content c.init-status.new.disk))
       (sym (ap Some c.in-Some-Init.field-0-is) ∙ c.in-Some-Init.ensures.value) (refl, refl, c.init-status.ensures.ends),
 )

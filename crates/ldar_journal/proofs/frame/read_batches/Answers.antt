@@ -5,9 +5,10 @@ use Rattle.ldar_journal.specs.Image.{IsBatch}
 use Rattle.ldar_journal.proofs.FrameLemmas.{AllByRecursion-push, Spells-is, too_many, no_batch, one_more, nothing_left}
 use Rattle.ldar_journal.proofs.frame.read_batches.Goals as goal
 
-pub returns-then-len-eq-MOST_BATCHES : goal.returns-then-len-eq-MOST_BATCHES
-returns-then-len-eq-MOST_BATCHES c =
-    too_many c.args.bytes.now c.loop-rest.rest.now c.loop-rest.batches.items c.loop-rest.invariant.whole c.loop-rest.invariant.each (omega (arith, c.loop-rest.batches.ok.0)) (grind (arith, nat_tests))
+pub returns-then-len-eq-FRAME_BATCHES : goal.returns-then-len-eq-FRAME_BATCHES
+returns-then-len-eq-FRAME_BATCHES c =
+    too_many c.args.bytes.now c.loop-rest.rest.now c.loop-rest.batches.items c.loop-rest.invariant.whole c.loop-rest.invariant.each
+        (omega (arith, c.loop-rest.batches.ok.0)) (grind (arith, nat_tests))
 
 pub loop-rest-preserved : goal.loop-rest-preserved
 loop-rest-preserved c =
@@ -16,7 +17,8 @@ loop-rest-preserved c =
     let items = c.loop-rest.batches.items in
     let pushed : c.push.new.self.items ≡ items ++ c.in-Whole.batch ∷ [] = c.in_ok-push-in-Whole.ensures.items in
     rw pushed (record {
-      whole = one_more c.args.bytes.now rest c.split_at.result.1.now items c.in-Whole.batch c.in-Whole.used c.loop-rest.invariant.whole spells.1 c.split_at.ensures.back;
+      whole = one_more c.args.bytes.now rest c.split_at.result.1.now items c.in-Whole.batch c.in-Whole.used c.loop-rest.invariant.whole spells.1
+          c.split_at.ensures.back;
       each = AllByRecursion-push IsBatch items c.in-Whole.batch c.loop-rest.invariant.each spells.0;
       fits = omega (arith, length-append items (c.in-Whole.batch ∷ []), c.loop-rest.batches.ok.0);
     })
@@ -24,12 +26,14 @@ loop-rest-preserved c =
 pub returns-in-Short : goal.returns-in-Short
 returns-in-Short c =
     let none : HasNoBatch c.loop-rest.rest.now = (rw c.in-Short.is at c.in_ok-batch.ensures.short).1 in
-    no_batch c.args.bytes.now c.loop-rest.rest.now c.loop-rest.batches.items c.loop-rest.invariant.whole c.loop-rest.invariant.each none (grind (arith, nat_tests))
+    no_batch c.args.bytes.now c.loop-rest.rest.now c.loop-rest.batches.items c.loop-rest.invariant.whole c.loop-rest.invariant.each none
+        (grind (arith, nat_tests))
 
 pub returns-in-Bad : goal.returns-in-Bad
 returns-in-Bad c =
     let none : HasNoBatch c.loop-rest.rest.now = (rw c.in-Bad.is at c.in_ok-batch.ensures.bad).1 in
-    no_batch c.args.bytes.now c.loop-rest.rest.now c.loop-rest.batches.items c.loop-rest.invariant.whole c.loop-rest.invariant.each none (grind (arith, nat_tests))
+    no_batch c.args.bytes.now c.loop-rest.rest.now c.loop-rest.batches.items c.loop-rest.invariant.whole c.loop-rest.invariant.each none
+        (grind (arith, nat_tests))
 
 pub returns-then-is_empty : goal.returns-then-is_empty
 returns-then-is_empty c =

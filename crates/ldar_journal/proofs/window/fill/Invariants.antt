@@ -8,7 +8,8 @@ use Rattle.ldar_journal.proofs.window.fill.Given as goal
 abbrev pub invariant-loop-window : goal.invariant-loop-window
 invariant-loop-window g l = record {
   more : (more : List ℕ) × (l.window ≡ record { bytes = l.fn.window.bytes ++ more; size = l.fn.window.size });
-  ahead : BothTold (g.D.Disk.content l.fn.disk) (g.D.Disk.content l.disk) (λ old new. IsAhead l.place l.fn.window.bytes old → IsAhead l.place l.window.bytes old);
+  ahead : BothTold (g.D.Disk.content l.fn.disk) (g.D.Disk.content l.disk)
+      (λ old new. IsAhead l.place l.fn.window.bytes old → IsAhead l.place l.window.bytes old);
   reads : OnlyReads g.D.Disk.content g.D.Disk.images g.D.Disk.left g.D.Disk.clock l.fn.disk l.disk;
   keeps : Keeps g.D.Disk.clock g.D.Disk.name g.D.Disk.faults l.fn.disk l.disk;
 }

@@ -17,29 +17,43 @@ use Rattle.ldar_law.specs.Texts.{due_line, tag_line, delayed_line, route_line, m
 use Rattle.ldar_law.proofs.examples.views.no_such_thing.Goals as goal
 
 pub returns-clause-unit : goal.returns-clause-unit
-unfolding digits first_day month_of month_length first_quarter last_whole until first_monitoring monthly quarterly yearly planned weekly drip release evidence duties_of events_in has_leak_in is_clean is_clean_twice_from is_quarterly mark_of month_cells delay_of routes_of shown good_streak skips_run quarters is_skipped spans_of tag_of due_line tag_line delayed_line route_line month_line delay_line stop_line
+unfolding digits first_day month_of month_length first_quarter last_whole until first_monitoring monthly quarterly yearly planned weekly drip release evidence
+    duties_of events_in has_leak_in is_clean is_clean_twice_from is_quarterly mark_of month_cells delay_of routes_of shown good_streak skips_run quarters
+    is_skipped spans_of tag_of due_line tag_line delayed_line route_line month_line delay_line stop_line
 returns-clause-unit c = refl
 
 pub returns-clause-unit_not_yet : goal.returns-clause-unit_not_yet
-unfolding digits first_day month_of month_length first_quarter last_whole until first_monitoring monthly quarterly yearly planned weekly drip release evidence duties_of events_in has_leak_in is_clean is_clean_twice_from is_quarterly mark_of month_cells delay_of routes_of shown good_streak skips_run quarters is_skipped spans_of tag_of due_line tag_line delayed_line route_line month_line delay_line stop_line
+unfolding digits first_day month_of month_length first_quarter last_whole until first_monitoring monthly quarterly yearly planned weekly drip release evidence
+    duties_of events_in has_leak_in is_clean is_clean_twice_from is_quarterly mark_of month_cells delay_of routes_of shown good_streak skips_run quarters
+    is_skipped spans_of tag_of due_line tag_line delayed_line route_line month_line delay_line stop_line
 returns-clause-unit_not_yet c = refl
 
 pub returns-clause-stops : goal.returns-clause-stops
-unfolding digits first_day month_of month_length first_quarter last_whole until first_monitoring monthly quarterly yearly planned weekly drip release evidence duties_of events_in has_leak_in is_clean is_clean_twice_from is_quarterly mark_of month_cells delay_of routes_of shown good_streak skips_run quarters is_skipped spans_of tag_of due_line tag_line delayed_line route_line month_line delay_line stop_line
+unfolding digits first_day month_of month_length first_quarter last_whole until first_monitoring monthly quarterly yearly planned weekly drip release evidence
+    duties_of events_in has_leak_in is_clean is_clean_twice_from is_quarterly mark_of month_cells delay_of routes_of shown good_streak skips_run quarters
+    is_skipped spans_of tag_of due_line tag_line delayed_line route_line month_line delay_line stop_line
 returns-clause-stops c = refl
 
 pub returns-clause-quarter_0 : goal.returns-clause-quarter_0
-unfolding digits first_day month_of month_length first_quarter last_whole until first_monitoring monthly quarterly yearly planned weekly drip release evidence duties_of events_in has_leak_in is_clean is_clean_twice_from is_quarterly mark_of month_cells delay_of routes_of shown good_streak skips_run quarters is_skipped spans_of tag_of due_line tag_line delayed_line route_line month_line delay_line stop_line
+unfolding digits first_day month_of month_length first_quarter last_whole until first_monitoring monthly quarterly yearly planned weekly drip release evidence
+    duties_of events_in has_leak_in is_clean is_clean_twice_from is_quarterly mark_of month_cells delay_of routes_of shown good_streak skips_run quarters
+    is_skipped spans_of tag_of due_line tag_line delayed_line route_line month_line delay_line stop_line
 returns-clause-quarter_0 c = refl
 
 pub returns-clause-quarter_not_yet : goal.returns-clause-quarter_not_yet
-unfolding digits first_day month_of month_length first_quarter last_whole until first_monitoring monthly quarterly yearly planned weekly drip release evidence duties_of events_in has_leak_in is_clean is_clean_twice_from is_quarterly mark_of month_cells delay_of routes_of shown good_streak skips_run quarters is_skipped spans_of tag_of due_line tag_line delayed_line route_line month_line delay_line stop_line
+unfolding digits first_day month_of month_length first_quarter last_whole until first_monitoring monthly quarterly yearly planned weekly drip release evidence
+    duties_of events_in has_leak_in is_clean is_clean_twice_from is_quarterly mark_of month_cells delay_of routes_of shown good_streak skips_run quarters
+    is_skipped spans_of tag_of due_line tag_line delayed_line route_line month_line delay_line stop_line
 returns-clause-quarter_not_yet c = refl
 
 pub returns-clause-half_0 : goal.returns-clause-half_0
-unfolding digits first_day month_of month_length first_quarter last_whole until first_monitoring monthly quarterly yearly planned weekly drip release evidence duties_of events_in has_leak_in is_clean is_clean_twice_from is_quarterly mark_of month_cells delay_of routes_of shown good_streak skips_run quarters is_skipped spans_of tag_of due_line tag_line delayed_line route_line month_line delay_line stop_line
+unfolding digits first_day month_of month_length first_quarter last_whole until first_monitoring monthly quarterly yearly planned weekly drip release evidence
+    duties_of events_in has_leak_in is_clean is_clean_twice_from is_quarterly mark_of month_cells delay_of routes_of shown good_streak skips_run quarters
+    is_skipped spans_of tag_of due_line tag_line delayed_line route_line month_line delay_line stop_line
 returns-clause-half_0 c = refl
 
 pub returns-clause-half_not_yet : goal.returns-clause-half_not_yet
-unfolding digits first_day month_of month_length first_quarter last_whole until first_monitoring monthly quarterly yearly planned weekly drip release evidence duties_of events_in has_leak_in is_clean is_clean_twice_from is_quarterly mark_of month_cells delay_of routes_of shown good_streak skips_run quarters is_skipped spans_of tag_of due_line tag_line delayed_line route_line month_line delay_line stop_line
+unfolding digits first_day month_of month_length first_quarter last_whole until first_monitoring monthly quarterly yearly planned weekly drip release evidence
+    duties_of events_in has_leak_in is_clean is_clean_twice_from is_quarterly mark_of month_cells delay_of routes_of shown good_streak skips_run quarters
+    is_skipped spans_of tag_of due_line tag_line delayed_line route_line month_line delay_line stop_line
 returns-clause-half_not_yet c = refl

@@ -17,5 +17,7 @@ use Rattle.ldar_law.specs.Texts.{due_line, tag_line, delayed_line, route_line, m
 use Rattle.ldar_law.proofs.examples.views.report_of_a_delay.Goals as goal
 
 pub returns : goal.returns
-unfolding digits first_day month_of month_length first_quarter last_whole until first_monitoring monthly quarterly yearly planned weekly drip release evidence duties_of events_in has_leak_in is_clean is_clean_twice_from is_quarterly mark_of month_cells delay_of routes_of shown good_streak skips_run quarters is_skipped spans_of tag_of due_line tag_line delayed_line route_line month_line delay_line stop_line
+unfolding digits first_day month_of month_length first_quarter last_whole until first_monitoring monthly quarterly yearly planned weekly drip release evidence
+    duties_of events_in has_leak_in is_clean is_clean_twice_from is_quarterly mark_of month_cells delay_of routes_of shown good_streak skips_run quarters
+    is_skipped spans_of tag_of due_line tag_line delayed_line route_line month_line delay_line stop_line
 returns c = refl

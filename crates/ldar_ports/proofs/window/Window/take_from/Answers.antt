@@ -14,5 +14,6 @@ returns-clause-taken g c =
       take c.in_ok-n.n (drop end new),
       length-take-le c.in_ok-n.n (drop end new) fits,
       call.taken,
-      window_of-more old.buffer.items c.make_room-start.new.buffer.items new old.start old.end c.make_room-start.result.0 end c.in_ok-n.n c.args.self.now c.self.view_is room.size room.value room.ordered room.in_range call.size call.before,
+      window_of-more old.buffer.items c.make_room-start.new.buffer.items new old.start old.end c.make_room-start.result.0 end c.in_ok-n.n c.args.self.now
+          c.self.view_is room.size room.value room.ordered room.in_range call.size call.before,
     )

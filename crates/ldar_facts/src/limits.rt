@@ -1,0 +1,7 @@
+//! Limits that several crates keep, each under one name (our own rules).
+
+/// The office holds so many facts at most.
+pub const MOST_FACTS: u64 = 8_000_000;
+
+/// So many batches stand in one frame of the journal at most, and are asked of the office at once.
+pub const FRAME_BATCHES: usize = 16;
