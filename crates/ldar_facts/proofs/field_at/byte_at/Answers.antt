@@ -12,7 +12,8 @@ returns-then-not-lies-clause-read c =
     let digits : List ℕ = [] in
     let is : value_from 0 (get_or bytes at 0 ∷ digits) ≡ get_or bytes at 0 = omega arith in
     rw (c.wrong_at.ensures, c.from-then-not-lies.ensures, c.from-then-not-lies-2.ensures)
-    (none (get_or bytes at 0) digits (drop (at + 1) bytes) (drop at bytes) ((c.args.least, c.args.most) ∷ []) (get_or bytes at 0) (drop_more bytes at 0 (omega arith)) is cc)
+    (none (get_or bytes at 0) digits (drop (at + 1) bytes) (drop at bytes) ((c.args.least, c.args.most) ∷ [])
+    (get_or bytes at 0) (drop_more bytes at 0 (omega arith)) is cc)
 
 pub returns-clause-read : goal.returns-clause-read
 returns-clause-read c =

@@ -11,7 +11,8 @@ returns-then-not-lies c =
     let digits : List ℕ = get_or bytes (at + 1) 0 ∷ get_or bytes (at + 2) 0 ∷ get_or bytes (at + 3) 0 ∷ [] in
     let is : value_from 0 (get_or bytes at 0 ∷ digits) ≡ c.from_be_bytes-number.result = omega arith in
     rw c.wrong_at.ensures
-    (none (get_or bytes at 0) digits (drop (at + 4) bytes) (drop at bytes) ((c.args.least, c.args.most) ∷ []) (c.from_be_bytes-number.result) (four_stand bytes at (omega arith)) is cc)
+    (none (get_or bytes at 0) digits (drop (at + 4) bytes) (drop at bytes) ((c.args.least, c.args.most) ∷ [])
+    (c.from_be_bytes-number.result) (four_stand bytes at (omega arith)) is cc)
 
 pub returns : goal.returns
 returns c =

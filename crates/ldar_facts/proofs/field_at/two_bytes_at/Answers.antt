@@ -11,7 +11,8 @@ returns-then-not-lies-clause-read c =
     let digits : List ℕ = get_or bytes (at + 1) 0 ∷ [] in
     let is : value_from 0 (get_or bytes at 0 ∷ digits) ≡ c.from_be_bytes-number.result = omega arith in
     rw (c.wrong_at.ensures, c.from-then-not-lies.ensures, c.from-then-not-lies-2.ensures)
-    (none (get_or bytes at 0) digits (drop (at + 2) bytes) (drop at bytes) ((c.args.least, c.args.most) ∷ []) (c.from_be_bytes-number.result) (two_stand bytes at (omega arith)) is cc)
+    (none (get_or bytes at 0) digits (drop (at + 2) bytes) (drop at bytes) ((c.args.least, c.args.most) ∷ [])
+    (c.from_be_bytes-number.result) (two_stand bytes at (omega arith)) is cc)
 
 pub returns-clause-read : goal.returns-clause-read
 returns-clause-read c =
