@@ -2,7 +2,8 @@
 """Measures the opening of a journal by the real program, beside a plain Rust program (journal.rs).
 
 Journals of FACTS facts are made, in batches of one fact and of 512, and opened by `dock` with an empty input.
-rt and rustc have to be on the path. usage: journal.py [FACTS..]     100000 200000 400000 if left out
+rt and rustc have to be on the path. usage: journal.py [--beside PROGRAM] [FACTS..]
+FACTS: 100000 200000 400000 if left out. PROGRAM: another build of ldar, of an earlier commit say, measured in the same run.
 """
 import pathlib
 import struct
@@ -11,7 +12,9 @@ import sys
 import tempfile
 import time
 
-SIZES = [int(word) for word in sys.argv[1:]] or [100_000, 200_000, 400_000]
+WORDS = sys.argv[1:]
+BESIDE = pathlib.Path(WORDS[1]).resolve() if WORDS[:1] == ["--beside"] else None
+SIZES = [int(word) for word in (WORDS[2:] if BESIDE else WORDS)] or [100_000, 200_000, 400_000]
 RUNS = 3
 
 here = pathlib.Path(__file__).parent
@@ -56,17 +59,18 @@ def main():
         subprocess.run(["rustc", "-O", "--edition", "2021", "-o", rust, here / "journal.rs"], check=True)
         empty = pathlib.Path(folder) / "empty"
         journal(empty, 0, 1)
-        _, base = measured([program, empty, "dock"])
-        print(f"{'facts':>8} {'a batch':>8} {'seconds':>8} {'Rust':>8} {'ratio':>6} {'bytes a fact':>13} {'Rust':>6}")
+        programs = [("ours", [program], ["dock"])] + ([("other", [BESIDE], ["dock"])] if BESIDE else []) + [("Rust", [rust], [])]
+        bases = {name: measured([*before, empty, *after])[1] for name, before, after in programs}
+        print(f"{'facts':>8} {'a batch':>8}" + "".join(f" {name + ' s':>9} {'ratio':>6} {'B a fact':>9}" for name, _, _ in programs))
         for facts in SIZES:
             for count in (1, 512):
                 path = pathlib.Path(folder) / "journal"
                 journal(path, facts, count)
-                ours, memory = measured([program, path, "dock"])
-                theirs, plain = measured([rust, path])
-                held = facts // count * count
-                print(f"{facts:8} {count:8} {ours:8.3f} {theirs:8.3f} {ours / theirs:6.2f} "
-                      f"{(memory - base) * 1024 / held:13.0f} {(plain - base) * 1024 / held:6.0f}")
+                told = {name: measured([*before, path, *after]) for name, before, after in programs}
+                plain = told["Rust"][0]
+                print(f"{facts:8} {count:8}" + "".join(
+                    f" {took:9.3f} {took / plain:6.2f} {(memory - bases[name]) * 1024 / (facts // count * count):9.0f}"
+                    for name, (took, memory) in told.items()))
 
 
 main()
