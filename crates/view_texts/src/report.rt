@@ -16,6 +16,9 @@ use std::alloc::Global;
 /// How many months a half has.
 const MONTHS: usize = 6;
 
+/// How many numbers a month has.
+const COLUMNS: usize = 6;
+
 /// A text with the first line of a report.
 fn begun(alloc: Global, name: &str, report: &Report) -> Result<String, Memory>
     ensures value { IfOk result (λ text. string_bytes text
@@ -36,7 +39,7 @@ fn put_month(text: &mut String, first: Month, cells: &[u32], place: usize) -> Re
     let month = MonthText {
         number: first.number() + place as u32,
     };
-    let at = MONTHS * place;
+    let at = COLUMNS * place;
     let (valves, late_valves) = (cells[at], cells[at + 1]);
     let (pumps, late_pumps) = (cells[at + 2], cells[at + 3]);
     let (compressors, late_compressors) = (cells[at + 4], cells[at + 5]);
