@@ -1,5 +1,5 @@
 -- What views show, byte for byte: a first line that names the view, its lines, and a last line that counts these.
-use Rattle.std.specs.Prelude.{ℕ, ◌+◌, ◌-◌, ◌*◌, nat_le, nat_eq, if◌then◌else◌, Bool, Option, Some, None, List, [], ◌∷◌, ◌++◌, length, codes, slice_index_or}
+use Rattle.std.specs.Prelude.{ℕ, ◌+◌, ◌-◌, ◌*◌, nat_le, if◌then◌else◌, Bool, Option, Some, None, List, [], ◌∷◌, ◌++◌, length, codes, slice_index_or}
 use Rattle.std.specs.List.{flat_map}
 use Rattle.std.specs.Fmt.{decimal}
 use Rattle.list_words.specs.Ranges.{until}
@@ -36,9 +36,12 @@ until_text Shutdown = codes "shutdown"
 until_text WhileIsolated = codes "isolated"
 until_text NoDate = codes "purge"
 
--- the ground of a delay: its letter in 40 CFR 60.482-9a, or that the delay was withdrawn
+-- the grounds of delays in order, from 0: that the delay was withdrawn, then the letters of 40 CFR 60.482-9a
+abbrev pub grounds : List (List ℕ)
+grounds = codes "withdrawn" ∷ codes "a" ∷ codes "b" ∷ codes "c" ∷ codes "d" ∷ codes "e" ∷ []
+
 abbrev pub ground_text : DelayEntry → List ℕ
-ground_text delay = if nat_eq delay.ground 0 then codes "withdrawn" else (96 + delay.ground) ∷ []
+ground_text delay = slice_index_or grounds delay.ground []
 
 -- the causes of duties in order, from 1
 abbrev pub causes : List (List ℕ)

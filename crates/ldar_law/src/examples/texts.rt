@@ -11,7 +11,7 @@ ghost use Rattle.ldar_law.specs.Delays.{delay_entered};
 ghost use Rattle.ldar_law.specs.Replies.{reply_text, HasRule};
 ghost use Rattle.ldar_law.specs.Short.{date, key};
 ghost use Rattle.ldar_law.specs.SmallReport.{delay_entry, filed_months, met_by, small_tag};
-ghost use Rattle.ldar_law.specs.Texts.{delays_text, due_text, percent_text, report_text, route_text, tags_text};
+ghost use Rattle.ldar_law.specs.Texts.{delays_text, due_text, ground_text, percent_text, report_text, route_text, tags_text};
 ghost use Rattle.ldar_law.specs.Verdicts.{paragraph_of};
 
 /// The lines of replies.
@@ -137,8 +137,9 @@ pub fn report_of_all_numbers()
         ≡ codes "report CRUDE unit 1 half 8 as of 2024-03-31\n2023-10 valves 1 2 pumps 3 4 compressors 5 6\n2023-11 valves 7 8 pumps 9 10 compressors 11 12\n2023-12 valves 13 14 pumps 15 16 compressors 17 18\n2024-01 valves 19 20 pumps 21 22 compressors 23 24\n2024-02 valves 25 26 pumps 27 28 compressors 29 30\n2024-03 valves 31 32 pumps 33 34 compressors 35 36\nend 6\n" }
 {}
 
-/// A delay that nobody signed, with no expected day.
+/// A delay that nobody signed, with no expected day; and a number that is no ground has no word.
 pub fn delay_of_nobody()
-    ensures { delays_text 1 (date 2024 3 2) (record { component = 1; detected = date 2024 2 20; delay = delay_entered (key (date 2024 3 1) 600) 2 0 None; until = WhileIsolated; closed = None } ∷ [])
+    ensures no_ground { ground_text (delay_entry 6) ≡ [] }
+    ensures signer { delays_text 1 (date 2024 3 2) (record { component = 1; detected = date 2024 2 20; delay = delay_entered (key (date 2024 3 1) 600) 2 0 None; until = WhileIsolated; closed = None } ∷ [])
         ≡ codes "delays 1 2024-03-02\n1 detected 2024-02-20 ground b signer 0 expected - until isolated\nend 1\n" }
 {}

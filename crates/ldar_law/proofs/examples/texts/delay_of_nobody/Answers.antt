@@ -4,6 +4,6 @@ use Rattle.ldar_days.specs.Calendar.{first_day, month_of}
 use Rattle.ldar_law.specs.Texts.{delayed_line}
 use Rattle.ldar_law.proofs.examples.texts.delay_of_nobody.Goals as goal
 
-pub returns : goal.returns
+pub returns-clause-signer : goal.returns-clause-signer
 unfolding digits first_day month_of delayed_line
-returns c = refl
+returns-clause-signer c = refl

@@ -1,0 +1,5 @@
+use Rattle.std.proofs.Common.{append_assoc}
+use Rattle.view_texts.proofs.percent.line.Goals as goal
+
+pub returns : goal.returns
+returns c = record { value = simp append_assoc (simp append_assoc at c.format.ensures.ok) }

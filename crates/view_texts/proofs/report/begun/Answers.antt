@@ -1,0 +1,14 @@
+use Rattle.std.proofs.Common.{[], ◌∷◌, codes}
+use Rattle.std.specs.Fmt.{decimal}
+use Rattle.std.specs.Prelude.{string_bytes}
+use Rattle.ldar_days.specs.Texts.{day_text}
+use Rattle.ldar_law.specs.Texts.{end_of_line}
+use Rattle.view_texts.proofs.TextLemmas.{line_made}
+use Rattle.view_texts.proofs.report.begun.Goals as goal
+
+pub returns : goal.returns
+returns c = record {
+  value = line_made c.format.result (λ text. string_bytes text) (codes "report ") (
+    c.args.name.now ∷ codes " unit " ∷ decimal c.args.report.now.unit ∷ codes " half " ∷ decimal c.args.report.now.half
+    ∷ codes " as of " ∷ day_text c.args.report.now.day ∷ end_of_line ∷ []) c.format.ensures.ok;
+}
