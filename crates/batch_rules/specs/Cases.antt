@@ -8,7 +8,7 @@ use Rattle.ldar_facts.specs.Stated.{Stated}
 use Rattle.ldar_law.specs.Judged.{Case, register_with}
 use Rattle.batch_rules.specs.declared.known.Known.{Known}
 use Rattle.batch_rules.specs.Known.{batch_of, register_at}
-use Rattle.batch_rules.specs.Passed.{IsPassed}
+use Rattle.batch_rules.specs.Passed.{ArePassed}
 use Rattle.batch_rules.specs.Standings.{standing_by}
 
 -- a fact of a batch, by its place there from 0, with what is known before it and by the whole batch
@@ -29,8 +29,8 @@ unfoldable pub standing_asked : Case → Option (Kind × Class)
 standing_asked case = standing_by case.known case.entry.0.day case.entry.1.body
 
 -- what is true inside every case
-pub record IsSound (fact : Stated) (index : ℕ) (known whole : Known) (standing : Option (Kind × Class)) (unit : Option ℕ) : Type 0 where
+pub record IsSound (fact : Stated) (index : ℕ) (known whole : Known) (standing : Option (Kind × Class)) (asked_before : List (ℕ × ℕ)) : Type 0 where
   pub few : length known.front.now ≤ 512
   pub whole_few : length whole.front.now ≤ 512
   pub asked : standing ≡ standing_asked (case_at fact index known whole)
-  pub passed : IsPassed (case_at fact index known whole) unit
+  pub passed : ArePassed (register_at whole) asked_before

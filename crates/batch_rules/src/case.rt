@@ -2,6 +2,7 @@ ghost use Rattle.std.specs.Prelude.{◌≡◌, ◌≤◌, false, IsTrue, length}
 
 use crate::asked::Standing;
 use crate::known::Known;
+use crate::passed::Passed;
 use ldar_days::Day;
 use ldar_facts::{Fact, FactBody};
 use std::marker::Model;
@@ -18,8 +19,8 @@ pub struct Case<'a> {
     whole: Known<'a>,
     /// The kind of the component that it asks for, and its class on the fact's day.
     asked: Standing,
-    /// The process unit of which the rule on difficult valves was asked for its day, and let an earlier fact pass.
-    passed: Option<u8>,
+    /// Where the rule on difficult valves was asked before, and let earlier facts pass.
+    passed: &'a Passed,
 }
 
 impl<'a> Model for Case<'a> {
@@ -30,13 +31,13 @@ impl<'a> Model for Case<'a> {
 
     ghost view = { λ c. case_at c.fact.now c.index c.known c.whole };
 
-    ghost invariant = { λ c. IsSound c.fact.now c.index c.known c.whole c.asked c.passed };
+    ghost invariant = { λ c. IsSound c.fact.now c.index c.known c.whole c.asked c.passed.now };
 }
 
 impl<'a> Case<'a> {
     ghost use Rattle.batch_rules.specs.Known.{register_at};
     ghost use Rattle.batch_rules.specs.Cases.{case_at, standing_asked};
-    ghost use Rattle.batch_rules.specs.Passed.{is_reached, IsPassed};
+    ghost use Rattle.batch_rules.specs.Passed.{is_reached, ArePassed};
 
     /// A fact at a place of its batch.
     pub fn new(
@@ -44,11 +45,11 @@ impl<'a> Case<'a> {
         index: usize,
         known: Known<'a>,
         whole: Known<'a>,
-        passed: Option<u8>,
+        passed: &'a Passed,
     ) -> Case<'a>
         requires few { length known.front.now ≤ 512 }
         requires whole_few { length whole.front.now ≤ 512 }
-        requires passed { IsPassed (case_at fact.now index known whole) passed }
+        requires passed { ArePassed (register_at whole) passed.now }
         ensures value { result ≡ case_at fact.now index known.entry whole.entry }
     {
         let asked = known.asked(fact);
@@ -96,10 +97,7 @@ impl<'a> Case<'a> {
     pub fn is_passed(&self, unit: u8) -> bool
         ensures passed { IsTrue result → is_reached self.now unit ≡ false }
     {
-        match self.passed {
-            Some(passed) => passed == unit,
-            None => false,
-        }
+        self.passed.has(unit, self.day())
     }
 
     /// What is known by the facts before it.

@@ -1,4 +1,4 @@
-ghost use Rattle.std.specs.Prelude.{◌≡◌, ◌+◌, ◌<◌, ◌≤◌, ◌^◌, if◌then◌else◌, None, List, length};
+ghost use Rattle.std.specs.Prelude.{◌≡◌, ◌+◌, ◌<◌, ◌≤◌, ◌^◌, if◌then◌else◌, None, IfSome, List, length};
 ghost use Rattle.ldar_facts.specs.declared.limits.TheConstants.{MOST_FACTS};
 ghost use Rattle.ldar_facts.specs.declared.batch.Batch.{Batch as FactBatch};
 ghost use Rattle.ldar_facts.specs.Facts.{facts_of};
@@ -7,11 +7,12 @@ ghost use Rattle.ldar_law.specs.Slices.{is_registered as says_registered, regist
 ghost use Rattle.ldar_law.specs.Verdicts.{denial_after, least_rule as least, verdict_by, verdict_on};
 ghost use Rattle.batch_rules.specs.Cases.{case_in};
 ghost use Rattle.batch_rules.specs.Known.{batch_of, register_at, register_by};
-ghost use Rattle.batch_rules.specs.Passed.{ArePassed};
+ghost use Rattle.batch_rules.specs.Passed.{ArePassed, IsPassed};
 
 use crate::case::Case;
-use crate::difficult::{Passed, passed_after, passed_on};
+use crate::difficult::newly_asked;
 use crate::known::Known;
+use crate::passed::Passed;
 use crate::rules::least_rule;
 use component_register::Register;
 use ldar_facts::{Batch, Fact, FactBody, MOST_FACTS};
@@ -29,26 +30,26 @@ fn reach_after(reach: usize, index: usize, body: &FactBody) -> usize
     }
 }
 
-/// The least rule that denies a fact, and what the rule on difficult valves was asked last, where the fact passes.
+/// The least rule that denies a fact, and the unit of which the rule on difficult valves was asked anew, where the fact
+/// passes.
 fn judged<'a>(
     whole: &Known<'a>,
     fact: &'a Fact,
     index: usize,
     reach: usize,
-    passed: &Passed,
-) -> (Option<u8>, Passed)
+    passed: &'a Passed,
+) -> (Option<u8>, Option<u8>)
     requires few { length whole.now.front.now ≤ 512 }
     requires within { reach ≤ length whole.now.front.now }
     requires known { register_by whole.now reach ≡ register_by whole.now index }
     requires passed { ArePassed (register_at whole.now) passed.now }
     ensures rule { result.0 ≡ least (case_in (facts_in whole.now.register.now) (batch_of whole.now) index fact.now) }
-    ensures passed { result.0 ≡ None → ArePassed (register_at whole.now) result.1 }
+    ensures passed { result.0 ≡ None → IfSome result.1 (λ unit. IsPassed (register_at whole.now) (unit, fact.now.day)) }
 {
-    let unit = passed_on(passed, fact.day);
-    let case = Case::new(fact, index, whole.up_to(reach), *whole, unit);
+    let case = Case::new(fact, index, whole.up_to(reach), *whole, passed);
     match least_rule(&case) {
         Some(rule) => (Some(rule), None),
-        None => (None, passed_after(&case, passed)),
+        None => (None, newly_asked(&case)),
     }
 }
 
@@ -65,14 +66,14 @@ fn first_denial(register: &Register, batch: &Batch) -> Option<(u16, u8)>
     };
     // Behind the last entry in the register nothing has to be looked through.
     let mut reach = 0;
-    let mut passed = None;
+    let mut passed = Passed::new();
     for index in 0..facts.len() {
         let fact = &facts[index];
         let (rule, asked) = judged(&whole, fact, index, reach, &passed);
         if let Some(rule) = rule {
             return Some((index as u16 + 1, rule));
         }
-        passed = asked;
+        passed.add(asked, fact.day);
         reach = reach_after(reach, index, &fact.body);
     }
     None

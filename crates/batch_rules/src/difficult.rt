@@ -1,14 +1,13 @@
 //! The rule on valves that are difficult to monitor (40 CFR 60.482-7a(h)(2)(ii)).
 
-ghost use Rattle.std.specs.Prelude.{◌≡◌, ◌&&◌, false};
+ghost use Rattle.std.specs.Prelude.{◌≡◌, ◌&&◌, false, IfSome};
 ghost use Rattle.ldar_law.specs.Denials as law;
 ghost use Rattle.ldar_law.specs.Kinds as kinds;
 ghost use Rattle.ldar_law.specs.Standing as standing;
-ghost use Rattle.batch_rules.specs.Passed.{ArePassed, asked_on};
+ghost use Rattle.batch_rules.specs.Passed.{IsPassed};
 
 use crate::case::Case;
 use crate::valves::share_known;
-use ldar_days::Day;
 use ldar_facts::{Class, FactBody, Kind};
 use ldar_law::{is_difficult_designated, is_valve};
 
@@ -72,27 +71,13 @@ pub fn too_many_difficult(case: &Case) -> bool
     }
 }
 
-/// The unit and the day of which the rule was asked last, and let a fact pass.
-pub type Passed = Option<(u8, Day)>;
-
-/// The unit of which the rule was asked, if it was on this day.
-pub fn passed_on(passed: &Passed, day: Day) -> Option<u8>
-    ensures value { result ≡ asked_on passed.now day }
-{
-    match *passed {
-        Some((unit, asked)) => { if asked == day { Some(unit) } else { None } }
-        None => None,
-    }
-}
-
-/// What was asked last, where a fact that passes has come too.
-pub fn passed_after(case: &Case, passed: &Passed) -> Passed
+/// The unit of which the rule was asked for a fact that passes, if no earlier fact had answered for it.
+pub fn newly_asked(case: &Case) -> Option<u8>
     requires passes { law.too_many_difficult case.now ≡ false }
-    requires before { ArePassed case.now.whole passed.now }
-    ensures after { ArePassed case.now.whole result }
+    ensures passed { IfSome result (λ unit. IsPassed case.now.whole (unit, case.now.entry.0.day)) }
 {
     match unit_with_one_more(case) {
-        Some(unit) => Some((unit, case.day())),
-        None => *passed,
+        Some(unit) if !case.is_passed(unit) => Some(unit),
+        _ => None,
     }
 }

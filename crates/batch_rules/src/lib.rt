@@ -10,6 +10,7 @@ mod difficult;
 mod elections;
 mod entries;
 mod known;
+mod passed;
 mod rules;
 mod share;
 mod table;

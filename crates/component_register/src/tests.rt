@@ -41,6 +41,26 @@ fn add_new(
     Ok(())
 }
 
+/// A register with room for three entries, of which the first two come; none where these are no entries of their own.
+fn two_of_three(alloc: Global, entries: &[(Key, Fact); 3]) -> Result<Option<Register>, Memory> {
+    let [first, second, third] = *entries;
+    let mut register = Register::new(alloc);
+    register.reserve(&[first.1, second.1, third.1])?;
+    if !is_registered(&first.1.body)
+        || !is_registered(&second.1.body)
+        || is_seen(&[first], &second.0)
+        || !is_first(&register, &first.1.body)
+    {
+        return Ok(None);
+    }
+    register.insert(first.0, first.1);
+    if !is_first(&register, &second.1.body) {
+        return Ok(None);
+    }
+    register.insert(second.0, second.1);
+    Ok(Some(register))
+}
+
 /// Whether a fact enters no number for the second time.
 fn is_first(register: &Register, body: &FactBody) -> bool
     ensures { IsTrue result → IsFirstOfNumber body.now (facts_in register.now) }
@@ -266,5 +286,20 @@ fn nothing_is_known_of_numbers_that_were_not_entered(rt: HostRuntime) -> Result<
     assert!(rt; register.class_on(7, day).is_none());
     assert_eq!(rt; register.class_key(7, day), Some(entries[1].0));
     assert!(rt; register.class_key(8, day).is_none());
+    Ok(())
+}
+
+#[test]
+fn room_is_made_for_three_entries_at_once(rt: HostRuntime) -> Result<(), Fail> {
+    let alloc = rt.alloc();
+    let day = Day::of_number(18_293).ok_or("day")?;
+    let entries = [
+        at(0, 1, valve(day, 7, 2)),
+        at(0, 2, made_heavy(day)),
+        at(0, 3, retired(day)),
+    ];
+    let register = two_of_three(alloc, &entries)?.ok_or("entries")?;
+    assert_eq!(rt; register.class_on(7, day), Some(plain(Service::Heavy)));
+    assert_eq!(rt; register.component(7), Some(seven(day, None)));
     Ok(())
 }

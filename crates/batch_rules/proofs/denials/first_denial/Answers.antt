@@ -1,4 +1,4 @@
-use Rattle.std.proofs.Common.{◌≡◌, ◌+◌, ◌<◌, ◌≤◌, cond, None, Some, List, length, get_or, sym, ap, ◌∙◌, subst}
+use Rattle.std.proofs.Common.{◌≡◌, ℕ, ◌+◌, ◌<◌, ◌≤◌, cond, None, Some, List, length, get_or, sym, ap, ◌∙◌, subst, arith}
 use Rattle.ldar_facts.specs.declared.batch.Batch.{Batch}
 use Rattle.ldar_facts.specs.Stated.{Stated}
 use Rattle.fact_store.specs.Kept.{facts_in}
@@ -7,7 +7,9 @@ use Rattle.ldar_law.specs.Verdicts.{least_rule}
 use Rattle.batch_rules.specs.declared.known.Known.{Known}
 use Rattle.batch_rules.proofs.DenialLemmas.{denied_here, passed_here, denial_past, nothing_else}
 use Rattle.batch_rules.specs.Cases.{case_in}
-use Rattle.batch_rules.specs.Known.{register_by}
+use Rattle.batch_rules.specs.Known.{register_at, register_by}
+use Rattle.batch_rules.specs.Passed.{ArePassed, with_asked}
+use Rattle.batch_rules.proofs.PassedLemmas.{passed_with, length-with_asked}
 use Rattle.batch_rules.proofs.ShareSteps.{reach_stays, reach_within}
 use Rattle.batch_rules.proofs.denials.first_denial.Goals as goal
 
@@ -42,11 +44,16 @@ loop-index-preserved c =
     let none : c.judged-rule.result.0 ≡ None = nothing_else c.judged-rule.result.0 c.in_default.not-Some in
     let least = case ∙ sym c.judged-rule.ensures.rule ∙ none in
     let entered : is_registered c.fact.inside.body ≡ is_registered fact.body = ap (λ s. is_registered s.body) c.fact.view_is in
+    let added = c.add.ensures.value ∙ ap (λ (s : Stated). with_asked c.judged-rule.result.1 s.day c.loop-index.passed) c.fact.view_is in
     let reach = c.reach_after-reach.ensures.value ∙ ap (λ b. cond b (i + 1) c.loop-index.reach) entered in
     record {
       so_far = c.loop-index.invariant.so_far ∙ passed_here held batch i fact within is least;
       within = subst (λ n. n ≤ i + 1) (sym reach) (reach_within (is_registered fact.body) i c.loop-index.reach c.loop-index.invariant.within);
-      passed = c.judged-rule.ensures.passed none;
+      passed = subst (ArePassed (register_at whole)) (sym added)
+          (passed_with (register_at whole) c.judged-rule.result.1 fact.day c.loop-index.passed c.loop-index.invariant.passed
+          (c.judged-rule.ensures.passed none));
+      few = subst (λ (xs : List (ℕ × ℕ)). length xs ≤ i + 1) (sym added)
+          (omega (arith, length-with_asked c.judged-rule.result.1 fact.day c.loop-index.passed, c.loop-index.invariant.few));
       known = ap (register_by whole) reach
           ∙ reach_stays 0 0 whole i fact c.loop-index-test.true c.index-facts-index.is c.loop-index.reach c.loop-index.invariant.known;
     }

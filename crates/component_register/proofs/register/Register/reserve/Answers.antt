@@ -12,14 +12,16 @@ pub invariant_of-self : goal.invariant_of-self
 invariant_of-self c =
     let inside = c.self.inside in
     let slots = c.make_slots.new.slots.items in
-    let first = sound_slots inside.store inside.slots.items inside.units.items inside.classes.items inside.rosters.items c.self.invariant slots c.make_slots.ensures.adds in
+    let first = sound_slots inside.store inside.slots.items inside.units.items inside.classes.items inside.rosters.items c.self.invariant slots
+        c.make_slots.ensures.adds in
     first
 
 pub invariant_of-self-in_err-make_units : goal.invariant_of-self-in_err-make_units
 invariant_of-self-in_err-make_units c =
     let inside = c.self.inside in
     let slots = c.make_slots.new.slots.items in
-    let first = sound_slots inside.store inside.slots.items inside.units.items inside.classes.items inside.rosters.items c.self.invariant slots c.make_slots.ensures.adds in
+    let first = sound_slots inside.store inside.slots.items inside.units.items inside.classes.items inside.rosters.items c.self.invariant slots
+        c.make_slots.ensures.adds in
     let units = c.make_units.new.units.items in
     let second = sound_units inside.store slots inside.units.items inside.classes.items inside.rosters.items first units c.make_units.ensures.adds in
     second
@@ -28,7 +30,8 @@ pub invariant_of-self-in_err-make_rooms : goal.invariant_of-self-in_err-make_roo
 invariant_of-self-in_err-make_rooms c =
     let inside = c.self.inside in
     let slots = c.make_slots.new.slots.items in
-    let first = sound_slots inside.store inside.slots.items inside.units.items inside.classes.items inside.rosters.items c.self.invariant slots c.make_slots.ensures.adds in
+    let first = sound_slots inside.store inside.slots.items inside.units.items inside.classes.items inside.rosters.items c.self.invariant slots
+        c.make_slots.ensures.adds in
     let units = c.make_units.new.units.items in
     let second = sound_units inside.store slots inside.units.items inside.classes.items inside.rosters.items first units c.make_units.ensures.adds in
     let classes = c.make_rooms.new.lists.items in
@@ -39,7 +42,8 @@ pub invariant_of-self-in_err-make_rooms-2 : goal.invariant_of-self-in_err-make_r
 invariant_of-self-in_err-make_rooms-2 c =
     let inside = c.self.inside in
     let slots = c.make_slots.new.slots.items in
-    let first = sound_slots inside.store inside.slots.items inside.units.items inside.classes.items inside.rosters.items c.self.invariant slots c.make_slots.ensures.adds in
+    let first = sound_slots inside.store inside.slots.items inside.units.items inside.classes.items inside.rosters.items c.self.invariant slots
+        c.make_slots.ensures.adds in
     let units = c.make_units.new.units.items in
     let second = sound_units inside.store slots inside.units.items inside.classes.items inside.rosters.items first units c.make_units.ensures.adds in
     let classes = c.make_rooms.new.lists.items in
@@ -52,7 +56,8 @@ pub invariant_of-self-in_err-reserve : goal.invariant_of-self-in_err-reserve
 invariant_of-self-in_err-reserve c =
     let inside = c.self.inside in
     let slots = c.make_slots.new.slots.items in
-    let first = sound_slots inside.store inside.slots.items inside.units.items inside.classes.items inside.rosters.items c.self.invariant slots c.make_slots.ensures.adds in
+    let first = sound_slots inside.store inside.slots.items inside.units.items inside.classes.items inside.rosters.items c.self.invariant slots
+        c.make_slots.ensures.adds in
     let units = c.make_units.new.units.items in
     let second = sound_units inside.store slots inside.units.items inside.classes.items inside.rosters.items first units c.make_units.ensures.adds in
     let classes = c.make_rooms.new.lists.items in
@@ -65,7 +70,8 @@ pub invariant_of-self-2 : goal.invariant_of-self-2
 invariant_of-self-2 c =
     let inside = c.self.inside in
     let slots = c.make_slots.new.slots.items in
-    let first = sound_slots inside.store inside.slots.items inside.units.items inside.classes.items inside.rosters.items c.self.invariant slots c.make_slots.ensures.adds in
+    let first = sound_slots inside.store inside.slots.items inside.units.items inside.classes.items inside.rosters.items c.self.invariant slots
+        c.make_slots.ensures.adds in
     let units = c.make_units.new.units.items in
     let second = sound_units inside.store slots inside.units.items inside.classes.items inside.rosters.items first units c.make_units.ensures.adds in
     let classes = c.make_rooms.new.lists.items in
