@@ -55,17 +55,20 @@ none_follows bytes at front byte back len splits stops begins =
     absurd cc
 
 module _ (bytes : List ℕ) (are : IsBytes bytes) where
+  -- a batch that was read leaves no more bytes than there were
   pub rest_within : (b : Batch) (rest : List ℕ) → batch.read bytes ≡ Ok (b, rest) → length rest ≤ length bytes
   rest_within b rest e =
       let p = batch.reads.found bytes b rest are e in
       omega (arith, ap length p.2, length-append (batch.text p.0) rest)
 
+  -- a reading that stopped did so within the bytes
   pub stop_within : (stop : Stop) → batch.read bytes ≡ Err stop → IsWithin (length bytes) stop
   stop_within Short e = tt
   stop_within (Wrong left) e =
       let w = batch.reads.wrong bytes left are e in
       omega (arith, w.left_is, ap length w.splits, length-append w.front (w.byte ∷ w.back))
 
+  -- the bytes in front of those that are left spell the batch that was read
   whole_spells : (b : Batch) (rest : List ℕ) → batch.read bytes ≡ Ok (b, rest) → Spells (take (length bytes - length rest) bytes) b
   whole_spells b rest e =
       let p = batch.reads.found bytes b rest are e in
@@ -74,14 +77,17 @@ module _ (bytes : List ℕ) (are : IsBytes bytes) where
       ∙ take_at (batch.text p.0) rest (length bytes - length rest) used in
       rw front (subst (Spells (batch.text p.0)) p.1 (spells p.0))
 
+  -- where reading stopped, no front of the bytes spells a batch
   no_batch : (stop : Stop) → batch.read bytes ≡ Err stop → HasNoBatch bytes
   no_batch stop e used b is = let read = read_front bytes used b is in absurd cc
 
+  -- bytes that are short begin a batch
   short_begins : batch.read bytes ≡ Err Short → Begins bytes
   short_begins e =
       let p = batch.reads.short bytes are e in
       (batch.value p.0, p.1, rw p.2 (spells p.0))
 
+  -- the place at which reading stopped is the first wrong one
   first_wrong : (left : ℕ) → batch.read bytes ≡ Err (Wrong left) → IsFirstWrongPlace bytes (length bytes - left)
   first_wrong left e =
       let w = batch.reads.wrong bytes left are e in
@@ -98,23 +104,27 @@ module _ (bytes : List ℕ) (are : IsBytes bytes) where
 -- ---- the clauses, of the answer by a reading
 
 module _ (bytes : List ℕ) (are : IsBytes bytes) where
+  -- the answer whole: the bytes up to its place spell its batch
   pub whole : (reading : Outcome Batch) → batch.read bytes ≡ reading
       → IfWhole (read_of (length bytes) reading) (λ b used. (used ≤ length bytes) × Spells (take used bytes) b)
   whole (Ok found) e = (omega arith, whole_spells bytes are found.0 found.1 e)
   whole (Err Short) e = tt
   whole (Err (Wrong left)) e = tt
 
+  -- the answer short: the bytes begin a batch, and no front of them is one
   pub short : (reading : Outcome Batch) → batch.read bytes ≡ reading → OnShort (read_of (length bytes) reading) (Begins bytes × HasNoBatch bytes)
   short (Ok found) e = tt
   short (Err Short) e = (short_begins bytes are e, no_batch bytes are Short e)
   short (Err (Wrong left)) e = tt
 
+  -- the answer bad: its place is the first wrong one, and no front of the bytes is a batch
   pub bad : (reading : Outcome Batch) → batch.read bytes ≡ reading
       → IfBad (read_of (length bytes) reading) (λ at. IsFirstWrongPlace bytes at × HasNoBatch bytes)
   bad (Ok found) e = tt
   bad (Err Short) e = tt
   bad (Err (Wrong left)) e = (first_wrong bytes are left e, no_batch bytes are (Wrong left) e)
 
+-- where a front of the bytes spells a batch, that batch is read
 pub found : (bytes : List ℕ) (b : Batch) (used : ℕ) → used ≤ length bytes → Spells (take used bytes) b
     → read_of (length bytes) (batch.read bytes) ≡ reads.Whole b used
 found bytes b used fit is =

@@ -21,6 +21,7 @@ pub record IsKind (form : Form FactBody) (kind : ℕ) : Type 0 where
   pub filled : (p : form.Path) → AllByRecursion IsFilled (body_fields (form.value p))
   pub text : (p : form.Path) → form.text p ≡ spelled (body_fields (form.value p))
 
+-- a process unit's bytes are those of kind 1
 unit_fact : IsKind forms.unit_fact 1
 unfolding forms.unit_fact
 unit_fact = record {
@@ -29,6 +30,7 @@ unit_fact = record {
   text = λ p. rw (field.unit.text p.0, field.flag.text p.1.0, field.unit_name.text p.1.1.0);
 }
 
+-- a component's bytes are those of kind 2
 component_fact : IsKind forms.component_fact 2
 unfolding forms.component_fact
 component_fact = record {
@@ -48,6 +50,7 @@ component_fact = record {
   );
 }
 
+-- a class's bytes are those of kind 3
 class_fact : IsKind forms.class_fact 3
 unfolding forms.class_fact
 class_fact = record {
@@ -56,6 +59,7 @@ class_fact = record {
   text = λ p. rw (field.component.text p.0, field.class.text p.1.0, append-nil);
 }
 
+-- a retirement's bytes are those of kind 4
 retire : IsKind forms.retire 4
 unfolding forms.retire
 retire = record {
@@ -64,6 +68,7 @@ retire = record {
   text = λ p. rw (field.component.text p.0);
 }
 
+-- an election's bytes are those of kind 5
 election : IsKind forms.election 5
 unfolding forms.election
 election = record {
@@ -72,6 +77,7 @@ election = record {
   text = λ p. rw (field.unit.text p.0, field.mode.text p.1.0, field.day.text p.1.1.0);
 }
 
+-- a shutdown's bytes are those of kind 6
 shutdown : IsKind forms.shutdown 6
 unfolding forms.shutdown
 shutdown = record {
@@ -80,6 +86,7 @@ shutdown = record {
   text = λ p. rw (field.unit.text p.0, field.shutdown_length.text p.1.0);
 }
 
+-- a calibration's bytes are those of kind 7
 calibration : IsKind forms.calibration 7
 unfolding forms.calibration
 calibration = record {
@@ -88,6 +95,7 @@ calibration = record {
   text = λ p. rw (field.instrument.text p.0, field.known_value.text p.1.0);
 }
 
+-- a precision test's bytes are those of kind 8
 precision : IsKind forms.precision 8
 unfolding forms.precision
 precision = record {
@@ -96,6 +104,7 @@ precision = record {
   text = λ p. rw (field.instrument.text p.0, field.known_value.text p.1.0, field.readings.text p.1.1.0, append-nil);
 }
 
+-- a drift assessment's bytes are those of kind 9
 drift : IsKind forms.drift 9
 unfolding forms.drift
 drift = record {
@@ -104,6 +113,7 @@ drift = record {
   text = λ p. rw (field.instrument.text p.0, field.known_value.text p.1.0, field.readings.text p.1.1.0, append-nil);
 }
 
+-- a reading's bytes are those of kind 10
 reading : IsKind forms.reading 10
 unfolding forms.reading
 reading = record {
@@ -128,6 +138,7 @@ reading = record {
   );
 }
 
+-- a visual inspection's bytes are those of kind 11
 visual : IsKind forms.visual 11
 unfolding forms.visual
 visual = record {
@@ -136,6 +147,7 @@ visual = record {
   text = λ p. rw (field.component.text p.0, field.state.text p.1.0);
 }
 
+-- an attempt's bytes are those of kind 12
 attempt : IsKind forms.attempt 12
 unfolding forms.attempt
 attempt = record {
@@ -144,6 +156,7 @@ attempt = record {
   text = λ p. rw (field.component.text p.0, field.flag.text p.1.0);
 }
 
+-- a delay's bytes are those of kind 13
 delay : IsKind forms.delay 13
 unfolding forms.delay
 delay = record {
@@ -155,6 +168,7 @@ delay = record {
   text = λ p. rw (field.component.text p.0, field.delay_ground.text p.1.0, field.number_or_none.text p.1.1.0, field.day_or_none.text p.1.1.1.0);
 }
 
+-- a release's bytes are those of kind 14
 release : IsKind forms.release 14
 unfolding forms.release
 release = record {
@@ -163,6 +177,7 @@ release = record {
   text = λ p. rw (field.component.text p.0);
 }
 
+-- an indication's bytes are those of kind 15
 indication : IsKind forms.indication 15
 unfolding forms.indication
 indication = record {
@@ -186,6 +201,7 @@ or_later kind n form later le here there = go (kind == n) refl
         let is = there (omega arith) in
         record { number = is.number; filled = is.filled; text = is.text }
 
+-- the form of each kind has the bytes of that kind
 pub body : (kind : ℕ) → IsAmong kind fact_kinds → IsKind (forms.body kind) kind
 unfolding forms.body
 body kind among =
@@ -207,6 +223,7 @@ body kind among =
 
 -- ---- each fact is read
 
+-- what a fact may say has a way through the form of its kind
 pub path : (b : FactBody) → AllByRecursion IsFilled (body_fields b) → (p : (forms.body (body_number b)).Path) × ((forms.body (body_number b)).value p ≡ b)
 unfolding forms.body forms.unit_fact forms.component_fact forms.class_fact forms.retire forms.election forms.shutdown forms.calibration forms.precision
     forms.drift forms.reading forms.visual forms.attempt forms.delay forms.release forms.indication

@@ -11,6 +11,7 @@ use Rattle.ldar_facts.specs.FactForms as forms
 abbrev pub with_front : List Stated → Outcome (List Stated) → Outcome (List Stated)
 with_front front read = read then λ x. Ok (front ++ x.0, x.1)
 
+-- a fact in front of what follows is one behind the front
 regrouped : (front : List Stated) (fact : Stated) (read : Outcome (List Stated))
     → with_front front (read then λ x. Ok (fact ∷ x.0, x.1)) ≡ with_front (front ++ fact ∷ []) read
 regrouped front fact (Ok x) = ap (λ (facts : List Stated). Ok (facts, x.1)) (simp append_assoc)

@@ -15,12 +15,15 @@ use Rattle.ldar_facts.proofs.BodyTies as kind
 
 -- ---- a fact
 
+-- a fact of this day and minute that says this
 abbrev pub stated : ℕ → ℕ → FactBody → Stated
 stated day minute body = record { day = day; minute = minute; body = body }
 
+-- facts with the same day, minute and body are the same
 pub same_stated : (d d' m m' : ℕ) (b b' : FactBody) → d ≡ d' → m ≡ m' → b ≡ b' → stated d m b ≡ stated d' m' b'
 same_stated d d' m m' b b' x y z = cc
 
+-- each filled fact has a way through the form of a fact
 fact_path : (fact : Stated) → AllByRecursion IsFilled (fact_fields fact) → (p : (forms.fact).Path) × ((forms.fact).value p ≡ fact)
 unfolding forms.fact
 fact_path fact h =
@@ -30,6 +33,7 @@ fact_path fact h =
     let b = subst (λ j. (q : (forms.body j).Path) × ((forms.body j).value q ≡ fact.body)) (sym k.1) (kind.path fact.body h.1.1.1) in
     ((k.0, (d.0, (m.0, (b.0, tt)))), same_stated _ fact.day _ fact.minute _ fact.body d.1 m.1 b.1)
 
+-- the form of a fact has the bytes of its fields
 pub fact : AreFields forms.fact fact_fields
 unfolding forms.fact
 fact = record {
@@ -45,28 +49,34 @@ fact = record {
 
 -- ---- so many facts
 
+-- so many facts are read as so many
 pub facts-length : (n : ℕ) (p : (forms.facts n).Path) → length ((forms.facts n).value p) ≡ n
 unfolding forms.facts
 facts-length zero p = refl
 facts-length (suc n) p = ap suc (facts-length n p.1.0)
 
+-- fields behind others are spelled behind them
 pub spelled-append : (xs ys : List Field) → spelled (xs ++ ys) ≡ spelled xs ++ spelled ys
 spelled-append xs ys = flat_map-append bytes_of xs ys
 
+-- filled fields behind filled fields are filled
 pub filled-append : (xs ys : List Field) → AllByRecursion IsFilled xs → AllByRecursion IsFilled ys → AllByRecursion IsFilled (xs ++ ys)
 filled-append [] ys h k = k
 filled-append (x ∷ xs) ys h k = (h.0, filled-append xs ys h.1 k)
 
+-- where all fields are filled, the first and the others are
 pub filled-front : (xs ys : List Field) → AllByRecursion IsFilled (xs ++ ys) → AllByRecursion IsFilled xs × AllByRecursion IsFilled ys
 filled-front [] ys h = (tt, h)
 filled-front (x ∷ xs) ys h = let rest = filled-front xs ys h.1 in ((h.0, rest.0), rest.1)
 
+-- the facts of a way have filled fields
 facts-filled : (n : ℕ) (p : (forms.facts n).Path) → AllByRecursion IsFilled (flat_map fact_fields ((forms.facts n).value p))
 unfolding forms.facts
 facts-filled zero p = tt
 facts-filled (suc n) p = filled-append (fact_fields ((forms.fact).value p.0)) (flat_map fact_fields ((forms.facts n).value p.1.0)) (fact.filled p.0)
     (facts-filled n p.1.0)
 
+-- the bytes of facts are those of their fields
 facts-text : (n : ℕ) (p : (forms.facts n).Path) → (forms.facts n).text p ≡ spelled (flat_map fact_fields ((forms.facts n).value p))
 unfolding forms.facts
 facts-text zero p = refl
@@ -74,6 +84,7 @@ facts-text (suc n) p =
     rw (append-nil, fact.text p.0, facts-text n p.1.0)
     (sym (spelled-append (fact_fields ((forms.fact).value p.0)) (flat_map fact_fields ((forms.facts n).value p.1.0))))
 
+-- filled facts have a way through the form of so many facts
 facts-path : (facts : List Stated) → AllByRecursion IsFilled (flat_map fact_fields facts)
     → (p : (forms.facts (length facts)).Path) × ((forms.facts (length facts)).value p ≡ facts)
 unfolding forms.facts
@@ -86,12 +97,14 @@ facts-path (first ∷ facts) h =
 
 -- ---- a batch
 
+-- the batch of a way has filled fields
 batch_filled : (p : (forms.batch).Path) → AllByRecursion IsFilled (batch_fields ((forms.batch).value p))
 unfolding forms.batch forms.head
 batch_filled p =
     let count = p.0.1.1.1.0 in
     ((omega arith, omega arith), (p.0.1.0.1, (p.0.1.1.0.1, (rw (facts-length count.0 p.1.0) count.1, facts-filled count.0 p.1.0))))
 
+-- the bytes of a batch are those of its fields
 batch_text : (p : (forms.batch).Path) → (forms.batch).text p ≡ spelled (batch_fields ((forms.batch).value p))
 unfolding forms.batch forms.head
 batch_text p =
@@ -99,12 +112,14 @@ batch_text p =
     let letter : p.0.0.0 ≡ 66 = omega (arith, p.0.0.1) in
     rw (letter, append-nil, facts-text count.0 p.1.0, facts-length count.0 p.1.0)
 
+-- a batch with filled fields has a way through the form of a batch
 batch_path : (batch : Batch) → AllByRecursion IsFilled (batch_fields batch) → (p : (forms.batch).Path) × ((forms.batch).value p ≡ batch)
 unfolding forms.batch forms.head
 batch_path batch h =
     let q = facts-path batch.facts h.1.1.1.1 in
     ((((66, h.0), ((batch.handheld, h.1.0), ((batch.number, h.1.1.0), ((length batch.facts, h.1.1.1.0), tt)))), (q.0, tt)), rw q.1)
 
+-- the form of a batch has the bytes of its fields
 pub batch : AreFields forms.batch batch_fields
 batch = record { filled = batch_filled; text = batch_text; path = batch_path }
 

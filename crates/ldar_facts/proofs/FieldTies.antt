@@ -32,81 +32,100 @@ pub record IsField {A : Type 0} (form : Form A) (field : A → Field) : Type 0 w
 
 -- ---- numbers
 
+-- a component's number
 pub component : IsField forms.component fields.component
 unfolding forms.component
 component = record { filled = λ p. p.1; text = λ p. refl; path = λ n among. ((n, among), refl) }
 
+-- a process unit's number
 pub unit : IsField forms.unit fields.unit
 unfolding forms.unit
 unit = record { filled = λ p. p.1; text = λ p. refl; path = λ n among. ((n, among), refl) }
 
+-- an instrument's number
 pub instrument : IsField forms.instrument fields.instrument
 unfolding forms.instrument
 instrument = record { filled = λ p. p.1; text = λ p. refl; path = λ n among. ((n, among), refl) }
 
+-- the number of an instrument or a person, or 0
 pub number_or_none : IsField forms.number_or_none fields.number_or_none
 unfolding forms.number_or_none
 number_or_none = record { filled = λ p. p.1; text = λ p. refl; path = λ n among. ((n, among), refl) }
 
+-- a concentration that was read
 pub concentration : IsField forms.concentration fields.concentration
 unfolding forms.concentration
 concentration = record { filled = λ p. p.1; text = λ p. refl; path = λ n among. ((n, among), refl) }
 
+-- the concentration of a gas
 pub known_value : IsField forms.known_value fields.known_value
 unfolding forms.known_value
 known_value = record { filled = λ p. p.1; text = λ p. refl; path = λ n among. ((n, among), refl) }
 
+-- a day
 pub day : IsField forms.day (number 2 fields.days)
 unfolding forms.day
 day = record { filled = λ p. p.1; text = λ p. refl; path = λ n among. ((n, among), refl) }
 
+-- a minute
 pub minute : IsField forms.minute (number 2 fields.minutes)
 unfolding forms.minute
 minute = record { filled = λ p. p.1; text = λ p. refl; path = λ n among. ((n, among), refl) }
 
+-- the kind of a fact
 pub fact_kind : IsField forms.fact_kind (number 1 fields.fact_kinds)
 unfolding forms.fact_kind
 fact_kind = record { filled = λ p. p.1; text = λ p. refl; path = λ n among. ((n, among), refl) }
 
+-- a month of a quarter
 pub month : IsField forms.month (number 1 fields.months)
 unfolding forms.month
 month = record { filled = λ p. p.1; text = λ p. refl; path = λ n among. ((n, among), refl) }
 
+-- a programme of skip periods
 pub mode : IsField forms.mode (number 1 fields.modes)
 unfolding forms.mode
 mode = record { filled = λ p. p.1; text = λ p. refl; path = λ n among. ((n, among), refl) }
 
+-- the days of a shutdown
 pub shutdown_length : IsField forms.shutdown_length (number 2 fields.shutdown_lengths)
 unfolding forms.shutdown_length
 shutdown_length = record { filled = λ p. p.1; text = λ p. refl; path = λ n among. ((n, among), refl) }
 
+-- the ground of a delay
 pub delay_ground : IsField forms.delay_ground (number 1 fields.grounds)
 unfolding forms.delay_ground
 delay_ground = record { filled = λ p. p.1; text = λ p. refl; path = λ n among. ((n, among), refl) }
 
+-- the months of a plan, for each designation
 pub plan : (d : Designation) → IsField (forms.plan d) (number 1 (fields.plans d))
 unfolding forms.plan
 plan d = record { filled = λ p. p.1; text = λ p. refl; path = λ n among. ((n, among), refl) }
 
 -- ---- names
 
+-- a process unit's name in its twelve bytes
 pub unit_name : IsField name_form name
 unit_name = record { filled = λ p. (name_text p).0; text = λ p. (name_text p).1; path = name_path }
 
 -- ---- numbers that stand for something: there and back
 
+-- the number of no and of yes
 abbrev flag_number : Bool → ℕ
 flag_number b = if b then 1 else 0
 
+-- the number of what a flag's number stands for is that number
 flag_is : (n : ℕ) → IsAmong n fields.flags → flag_number (n == 1) ≡ n
 flag_is zero h = refl
 flag_is (suc zero) h = refl
 flag_is (suc (suc n)) h = absurd (omega (arith, h))
 
+-- the number of no or yes stands for it
 is_flag : (x : Bool) → (flag_number x == 1) ≡ x
 is_flag false = refl
 is_flag true = refl
 
+-- no or yes
 pub flag : IsField forms.flag fields.flag
 unfolding forms.flag
 flag = record {
@@ -115,6 +134,7 @@ flag = record {
   path = λ x among. (((flag_number x, among), tt), is_flag x);
 }
 
+-- the number of what a kind's number stands for is that number
 kind_is : (n : ℕ) → IsAmong n fields.component_kinds → fields.kind_number (forms.kind_of n) ≡ n
 kind_is zero h = absurd (omega (arith, h))
 kind_is (suc zero) h = refl
@@ -123,12 +143,14 @@ kind_is (suc (suc (suc zero))) h = refl
 kind_is (suc (suc (suc (suc zero)))) h = refl
 kind_is (suc (suc (suc (suc (suc n))))) h = absurd (omega (arith, h))
 
+-- a kind's number stands for it
 is_kind : (x : Kind) → forms.kind_of (fields.kind_number x) ≡ x
 is_kind Valve = refl
 is_kind Pump = refl
 is_kind Compressor = refl
 is_kind Relief = refl
 
+-- what a component is
 pub kind : IsField forms.kind (λ x. number 1 fields.component_kinds (fields.kind_number x))
 unfolding forms.kind
 kind = record {
@@ -137,6 +159,7 @@ kind = record {
   path = λ x among. (((fields.kind_number x, among), tt), is_kind x);
 }
 
+-- the number of what a service's number stands for is that number
 service_is : (n : ℕ) → IsAmong n fields.services → fields.service_number (forms.service_of n) ≡ n
 service_is zero h = absurd (omega (arith, h))
 service_is (suc zero) h = refl
@@ -146,6 +169,7 @@ service_is (suc (suc (suc (suc zero)))) h = refl
 service_is (suc (suc (suc (suc (suc zero))))) h = refl
 service_is (suc (suc (suc (suc (suc (suc n)))))) h = absurd (omega (arith, h))
 
+-- a service's number stands for it
 is_service : (x : Service) → forms.service_of (fields.service_number x) ≡ x
 is_service Gas = refl
 is_service Light = refl
@@ -153,6 +177,7 @@ is_service Heavy = refl
 is_service Vacuum = refl
 is_service Under300 = refl
 
+-- what flows through a component
 pub service : IsField forms.service (λ x. number 1 fields.services (fields.service_number x))
 unfolding forms.service
 service = record {
@@ -161,6 +186,7 @@ service = record {
   path = λ x among. (((fields.service_number x, among), tt), is_service x);
 }
 
+-- the number of what a designation's number stands for is that number
 designation_is : (n : ℕ) → IsAmong n fields.designations → fields.designation_number (forms.designation_of n) ≡ n
 designation_is zero h = refl
 designation_is (suc zero) h = refl
@@ -168,12 +194,14 @@ designation_is (suc (suc zero)) h = refl
 designation_is (suc (suc (suc zero))) h = refl
 designation_is (suc (suc (suc (suc n)))) h = absurd (omega (arith, h))
 
+-- a designation's number stands for it
 is_designation : (x : Designation) → forms.designation_of (fields.designation_number x) ≡ x
 is_designation Plain = refl
 is_designation Nde = refl
 is_designation Unsafe = refl
 is_designation Difficult = refl
 
+-- how a component is designated
 pub designation : IsField forms.designation (λ x. number 1 fields.designations (fields.designation_number x))
 unfolding forms.designation
 designation = record {
@@ -182,16 +210,19 @@ designation = record {
   path = λ x among. (((fields.designation_number x, among), tt), is_designation x);
 }
 
+-- the number of what a purpose's number stands for is that number
 purpose_is : (n : ℕ) → IsAmong n fields.purposes → fields.purpose_number (forms.purpose_of n) ≡ n
 purpose_is zero h = absurd (omega (arith, h))
 purpose_is (suc zero) h = refl
 purpose_is (suc (suc zero)) h = refl
 purpose_is (suc (suc (suc n))) h = absurd (omega (arith, h))
 
+-- a purpose's number stands for it
 is_purpose : (x : Purpose) → forms.purpose_of (fields.purpose_number x) ≡ x
 is_purpose Routine = refl
 is_purpose FollowUp = refl
 
+-- why a reading was taken
 pub purpose : IsField forms.purpose (λ x. number 1 fields.purposes (fields.purpose_number x))
 unfolding forms.purpose
 purpose = record {
@@ -200,17 +231,20 @@ purpose = record {
   path = λ x among. (((fields.purpose_number x, among), tt), is_purpose x);
 }
 
+-- the number of what a state's number stands for is that number
 state_is : (n : ℕ) → IsAmong n fields.visual_states → fields.state_number (forms.state_of n) ≡ n
 state_is zero h = refl
 state_is (suc zero) h = refl
 state_is (suc (suc zero)) h = refl
 state_is (suc (suc (suc n))) h = absurd (omega (arith, h))
 
+-- a state's number stands for it
 is_state : (x : VisualState) → forms.state_of (fields.state_number x) ≡ x
 is_state Dry = refl
 is_state Drips = refl
 is_state Designated = refl
 
+-- what a visual inspection found
 pub state : IsField forms.state (λ x. number 1 fields.visual_states (fields.state_number x))
 unfolding forms.state
 state = record {
@@ -219,16 +253,19 @@ state = record {
   path = λ x among. (((fields.state_number x, among), tt), is_state x);
 }
 
+-- the number of what a sort's number stands for is that number
 sort_is : (n : ℕ) → IsAmong n fields.sorts → fields.sort_number (forms.sort_of n) ≡ n
 sort_is zero h = absurd (omega (arith, h))
 sort_is (suc zero) h = refl
 sort_is (suc (suc zero)) h = refl
 sort_is (suc (suc (suc n))) h = absurd (omega (arith, h))
 
+-- a sort's number stands for it
 is_sort : (x : Sort) → forms.sort_of (fields.sort_number x) ≡ x
 is_sort Sensor = refl
 is_sort Evidence = refl
 
+-- what an indication speaks of
 pub sort : IsField forms.sort (λ x. number 1 fields.sorts (fields.sort_number x))
 unfolding forms.sort
 sort = record {
@@ -239,16 +276,19 @@ sort = record {
 
 -- ---- a day or none
 
+-- a number for a day or none fills the field with what it stands for
 expected_filled : (n : ℕ) → IsAmong n fields.days_or_none → IsFilled (fields.day_or_none (forms.expected_of n)) ×
     (big_endian 2 n ≡ bytes_of (fields.day_or_none (forms.expected_of n)))
 expected_filled n (inl none) = let is : n ≡ 0 = omega (arith, none) in rw is ((omega arith, omega arith), refl)
 expected_filled n (inr is_day) = let positive : (n ≡ 0) → ⊥ = λ is. omega (arith, is_day) in rw (ne_eqb n 0 positive) (is_day, refl)
 
+-- each day, and none, has a number
 expected_path : (o : Option ℕ) → IsFilled (fields.day_or_none o) → (p : (forms.day_or_none).Path) × ((forms.day_or_none).value p ≡ o)
 unfolding forms.day_or_none
 expected_path None filled = (((0, inl filled), tt), refl)
 expected_path (Some day) filled = let positive : (day ≡ 0) → ⊥ = λ is. omega (arith, filled) in (((day, inr filled), tt), rw (ne_eqb day 0 positive) refl)
 
+-- a day, or none
 pub day_or_none : IsField forms.day_or_none fields.day_or_none
 unfolding forms.day_or_none
 day_or_none = record {
@@ -265,12 +305,15 @@ pub record AreFields {A : Type 0} (form : Form A) (fields : A → List Field) : 
   pub text : (p : form.Path) → form.text p ≡ spelled (fields (form.value p))
   pub path : (a : A) → AllByRecursion IsFilled (fields a) → (p : form.Path) × (form.value p ≡ a)
 
+-- the class of these four
 abbrev class_with : Service → Designation → ℕ → ℕ → Class
 class_with s d p m = record { service = s; designation = d; plan = p; month = m }
 
+-- classes with the same four fields are the same
 same_class : (s s' : Service) (d d' : Designation) (p p' m m' : ℕ) → s ≡ s' → d ≡ d' → p ≡ p' → m ≡ m' → class_with s d p m ≡ class_with s' d' p' m'
 same_class s s' d d' p p' m m' a b c e = cc
 
+-- the class of a component
 pub class : AreFields forms.class fields.class_fields
 unfolding forms.class
 class = record {
@@ -284,6 +327,7 @@ class = record {
       ((s.0, (d.0, (l.0, (m.0, tt)))), same_class _ c.service _ c.designation _ c.plan _ c.month s.1 d.1 l.1 m.1);
 }
 
+-- three readings
 pub readings : AreFields forms.readings fields.readings_fields
 unfolding forms.readings
 readings = record {

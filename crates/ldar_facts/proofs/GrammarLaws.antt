@@ -20,12 +20,15 @@ use Rattle.ldar_facts.proofs.FactTies.{spelled-append, filled-front}
 
 -- ---- spellings
 
+-- some bytes spell at most one batch
 pub one_batch : (bytes : List ℕ) (b other : Batch) → Spells bytes b → Spells bytes other → b ≡ other
 one_batch bytes b other is is_other = (ok_pair (b, []) (other, []) (sym (read_again bytes b [] is) ∙ read_again bytes other [] is_other)).0
 
+-- a batch has one spelling
 pub one_spelling : (bytes other : List ℕ) (b : Batch) → Spells bytes b → Spells other b → bytes ≡ other
 one_spelling bytes other b is is_other = is.spells ∙ sym is_other.spells
 
+-- no spelling of a batch is a proper front of another
 pub no_proper_front : (bytes more : List ℕ) (b other : Batch) → Spells bytes b → Spells (bytes ++ more) other → more ≡ []
 no_proper_front bytes more b other is is_other =
     let whole : batch.read (bytes ++ more) ≡ Ok (other, []) = subst (λ l. batch.read l ≡ Ok (other, [])) (append-nil (bytes ++ more))
@@ -34,6 +37,7 @@ no_proper_front bytes more b other is is_other =
 
 -- ---- lengths
 
+-- a name stands in twelve bytes
 name_length : (name : List ℕ) → IsName name → length (spelled_name name) ≡ 12
 name_length name is = omega (arith, is.fits, length-append name (replicate (12 - length name) 0), length-replicate {A = ℕ} (12 - length name) 0)
 
@@ -60,9 +64,11 @@ body_length (Delay c reason signer (Some day)) h = (omega arith, omega arith)
 body_length (Release c) h = (omega arith, omega arith)
 body_length (Indication c sort present) h = (omega arith, omega arith)
 
+-- a fact has 7 to 23 bytes
 pub fact_length : (fact : Stated) → IsFact fact → (7 ≤ length (spelled (fact_fields fact))) × (length (spelled (fact_fields fact)) ≤ 23)
 fact_length fact h = let body = body_length fact.body h.1.1.1 in (omega (arith, body.0), omega (arith, body.1))
 
+-- so many facts have 7 to 23 times as many bytes
 facts_length : (facts : List Stated) → AllByRecursion IsFilled (flat_map fact_fields facts)
     → (7 * length facts ≤ length (spelled (flat_map fact_fields facts))) × (length (spelled (flat_map fact_fields facts)) ≤ 23 * length facts)
 facts_length [] h = (omega arith, omega arith)
@@ -104,6 +110,7 @@ not_before bytes at other is is_other lt =
     (subst Begins (sym (take-append-drop (at + 1) (take other bytes))) is_other.before) in
     is.after (subst Begins front begins)
 
+-- there is at most one first wrong place
 pub one_wrong_place : (bytes : List ℕ) (at other : ℕ) → IsFirstWrongPlace bytes at → IsFirstWrongPlace bytes other → at ≡ other
 one_wrong_place bytes at other is is_other =
     elim (cases_lt at other) [

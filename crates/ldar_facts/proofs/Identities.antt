@@ -18,6 +18,7 @@ all_fail : {X : Type 0} (p : X → Bool) (xs : List X) → list_any p xs ≡ fal
 all_fail p [] none = tt
 all_fail p (x ∷ xs) none = let parts = or_parts (p x) (list_any p xs) none in (parts.0, all_fail p xs parts.1)
 
+-- where each fails the test, none passes it
 none_passes : {X : Type 0} (p : X → Bool) (xs : List X) → AllByRecursion (λ x. p x ≡ false) xs → list_any p xs ≡ false
 none_passes p [] all = refl
 none_passes p (x ∷ xs) all = rw all.0 (none_passes p xs all.1)
@@ -30,12 +31,14 @@ distinct_identities (batch ∷ batches) differ =
     let parts = and_parts (not (list_any (is_same_identity batch) batches)) (identities_differ batches) differ in
     (all_fail (is_same_identity batch) batches (not-true (list_any (is_same_identity batch) batches) parts.0), distinct_identities batches parts.1)
 
+-- and back
 identities_distinct : (history : List Batch) → IsDistinct is_same_identity history → IsTrue (identities_differ history)
 identities_distinct [] distinct = refl
 identities_distinct (batch ∷ batches) distinct =
     rw (none_passes (is_same_identity batch) batches (IsDistinct-head is_same_identity batch batches distinct))
     (identities_distinct batches (IsDistinct-tail is_same_identity batch batches distinct))
 
+-- having the same identity does not depend on the order of the two
 identity_flips : (a b : Batch) → is_same_identity a b ≡ is_same_identity b a
 identity_flips a b = rw (nat_eq_equiv.symm a.handheld b.handheld, nat_eq_equiv.symm a.number b.number) refl
 
@@ -50,6 +53,7 @@ pub record Comes (batch : Batch) (index : ℕ) (entry : Entry) : Type 0 where
   pub number : entry.0.number ≡ batch.number
   pub behind : index ≤ entry.0.index
 
+-- the entries of facts come from their batch, from their index on
 pub entries_come : (batch : Batch) (index : ℕ) (facts : List Stated) → AllByRecursion (Comes batch index) (entries_from batch index facts)
 entries_come batch index [] = tt
 entries_come batch index (fact ∷ facts) = (

@@ -28,6 +28,7 @@ strict_earlier key =
       transitive = λ x y z e f. ap is_lt (key_cmp_total.trans (key x) (key y) (key z) (less_is _ e) (less_is _ f));
     }
 
+-- going first is a strict order
 pub strict_goes_first : IsStrictOrder goes_first
 strict_goes_first = strict_earlier (λ e. e.0)
 
@@ -43,6 +44,7 @@ apart_answer Greater Greater e differ = cc
 pub apart_keys : (a b : Key) → ¬ (key_cmp a b ≡ Equal) → (is_earlier a b || is_earlier b a) ≡ true
 apart_keys a b differ = apart_answer (key_cmp a b) (key_cmp b a) (key_cmp_total.antisymm a b) differ
 
+-- of two opposite answers one of which is less, the first is not equal
 answer_apart : (o p : Ordering) → o ≡ ordering_reverse p → (is_lt o || is_lt p) ≡ true → is_eq o ≡ false
 answer_apart Less p e apart = refl
 answer_apart Equal Less e apart = cc
@@ -54,11 +56,13 @@ answer_apart Greater p e apart = refl
 pub no_tie : (a b : Key) → (is_earlier a b || is_earlier b a) ≡ true → is_eq (key_cmp a b) ≡ false
 no_tie a b apart = answer_apart (key_cmp a b) (key_cmp b a) (key_cmp_total.antisymm a b) apart
 
+-- what two comparisons call equal, each does
 then_tied : (o p : Ordering) → ordering_then o p ≡ Equal → (o ≡ Equal) × (p ≡ Equal)
 then_tied Less p e = cc
 then_tied Equal p e = (refl, e)
 then_tied Greater p e = cc
 
+-- numbers that compare as equal are equal
 nat_tied : (x y : ℕ) → nat_cmp x y ≡ Equal → x ≡ y
 nat_tied x y e = subst (λ o. MatchOrdering o (x < y) (x ≡ y) (y < x)) e (ranked x y (nat_cmp x y) refl)
 
@@ -70,6 +74,7 @@ pub record Tied (a b : Key) : Type 0 where
   pub number : a.number ≡ b.number
   pub index : a.index ≡ b.index
 
+-- keys that compare as equal are the same
 pub tied_keys : (a b : Key) → key_cmp a b ≡ Equal → Tied a b
 tied_keys a b e =
     let days = then_tied (nat_cmp a.day b.day) _ e in

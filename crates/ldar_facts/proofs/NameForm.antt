@@ -14,6 +14,7 @@ use Rattle.ldar_facts.specs.Letters.{letters, letters_or_zero, letter, zeros, en
 
 -- ---- letters are the bytes of names
 
+-- a byte among the letters may stand in a name
 is_letter : (b : ℕ) → IsAmong b letters → is_name_byte b ≡ true
 is_letter b (inl hyphen) =
     let is : b ≡ 45 = omega arith in
@@ -25,6 +26,7 @@ is_letter b (inr (inr capital)) =
     or_right (b == 45 || (nat_le 48 b && nat_le b 57)) (nat_le 65 b && nat_le b 90)
     (and_from (nat_le 65 b) (nat_le b 90) (le-leb 65 b capital.0) (le-leb b 90 capital.1))
 
+-- a byte that may stand in a name is among the letters
 among_letters : (b : ℕ) → is_name_byte b ≡ true → IsAmong b letters
 among_letters b h =
     elim (or_cases (b == 45 || (nat_le 48 b && nat_le b 57)) (nat_le 65 b && nat_le b 90) h) [
@@ -36,6 +38,7 @@ among_letters b h =
       | inr capital ↦ let d = and_parts (nat_le 65 b) (nat_le b 90) capital in inr (inr (leb-true 65 b d.0, leb-true b 90 d.1))
     ]
 
+-- a letter is a byte and not zero
 letters-pos : (b : ℕ) → IsAmong b letters → (0 < b) × (b < 256)
 letters-pos b (inl h) = (omega (arith, h.0), omega (arith, h.1))
 letters-pos b (inr (inl h)) = (omega (arith, h.0), omega (arith, h.1))
@@ -47,6 +50,7 @@ one_byte b lt = omega arith
 
 -- ---- what is read is a name in its twelve bytes
 
+-- so many zero bytes are spelled as so many zeros
 zeros_text : (more : ℕ) (p : (zeros more).Path) → (zeros more).text p ≡ replicate more 0
 unfolding zeros
 zeros_text zero p = refl
@@ -62,11 +66,13 @@ pub record BeginsName (more : ℕ) (name : List ℕ) : Type 0 where
 abbrev Completes : ℕ → List ℕ → List ℕ → List ℕ → Type 0
 Completes more name whole text = IsName whole × (name ++ text ≡ spelled_name whole)
 
+-- the beginning of a name is itself a name, which zero bytes complete
 is_whole : (more : ℕ) (name : List ℕ) → BeginsName more name → Completes more name name (replicate more 0)
 is_whole more name h =
     let room : more ≡ 12 - length name = omega (arith, h.room) in
     (record { some = h.some; fits = omega (arith, h.room); letters = h.letters }, rw room)
 
+-- with a letter behind it, the beginning of a name goes on
 longer : (more : ℕ) (name : List ℕ) (b : ℕ) → BeginsName (suc more) name → is_name_byte b ≡ true → BeginsName more (name ++ b ∷ [])
 longer more name b h letter =
     let len : length (name ++ b ∷ []) ≡ length name + 1 = length-append name (b ∷ []) in
@@ -77,6 +83,7 @@ longer more name b h letter =
           (and_from (is_name_byte b) true letter refl);
     }
 
+-- a letter or zero that is not zero is a letter
 nonzero_letter : (b : ℕ) → IsAmong b letters_or_zero → (b == 0) ≡ false → IsAmong b letters
 nonzero_letter b (inl h) not_zero = let is : b ≡ 0 = omega arith in absurd (eqb-false b 0 not_zero is)
 nonzero_letter b (inr h) not_zero = h
@@ -97,6 +104,7 @@ step_text more name b begins among rest false e q =
     let whole = rest (longer more name b begins (is_letter b letter)) q in
     (whole.0, rw one (sym (append_assoc name (b ∷ []) ((behind more (name ++ b ∷ [])).text q)) ∙ whole.1))
 
+-- what is read behind the beginning of a name completes it
 behind_text : (more : ℕ) (name : List ℕ) → BeginsName more name → (p : (behind more name).Path)
     → Completes more name ((behind more name).value p) ((behind more name).text p)
 unfolding behind
@@ -116,6 +124,7 @@ name_text p =
 
 -- ---- each name is read
 
+-- zero bytes have one way
 zeros_path : (more : ℕ) → (zeros more).Path
 unfolding zeros
 zeros_path zero = tt
@@ -127,6 +136,7 @@ pub either_path : {A : Type 0} (first second : Form A) (test : Bool) (a : A) →
 either_path first second true a e p is = absurd cc
 either_path first second false a e p is = (p, is)
 
+-- each rest of a name is read behind its beginning
 behind_path : (more : ℕ) (name rest : List ℕ) → length rest ≤ more → list_all is_name_byte rest ≡ true
     → (p : (behind more name).Path) × ((behind more name).value p ≡ name ++ rest)
 unfolding behind
@@ -143,6 +153,7 @@ behind_path (suc more) name (b ∷ rest) fit h =
     (q.1 ∙ append_assoc name (b ∷ []) rest) in
     (((b, inr letter), p.0), p.1)
 
+-- letters, 1 to 12, are read as a name
 first_path : (name : List ℕ) → 0 < length name → length name ≤ 12 → list_all is_name_byte name ≡ true → (p : name_form.Path) × (name_form.value p ≡ name)
 unfolding name_form
 first_path [] some fit h = absurd (omega (arith, some))
@@ -151,5 +162,6 @@ first_path (b ∷ rest) some fit h =
     let q = behind_path 11 (b ∷ []) rest (omega (arith, fit)) parts.1 in
     (((b, among_letters b parts.0), q.0), q.1)
 
+-- each name has a way through the form of a name
 pub name_path : (name : List ℕ) → IsName name → (p : name_form.Path) × (name_form.value p ≡ name)
 name_path name is = first_path name is.some is.fits is.letters

@@ -11,36 +11,44 @@ use Rattle.ldar_facts.specs.Letters.{letters_or_zero, zeros, ended, behind, name
 use Rattle.ldar_facts.proofs.NameForm.{name_text}
 
 module _ (count i : ℕ) (lt : i < count) (bytes : List ℕ) where
+  -- one more is left than behind this one
   left : count - i ≡ suc (count - (i + 1))
   left = omega arith
 
+  -- no zero byte: the reading of zeros stops
   pub zeros_stop : (stop : Stop) → number_from 1 ((0, 0) ∷ []) 0 bytes ≡ Err stop → (zeros (count - i)).read bytes ≡ Err stop
   unfolding zeros
   zeros_stop stop e = rw (left, e)
 
+  -- a zero byte: the others are left to read
   pub zeros_step : (b : ℕ) (rest : List ℕ) → number_from 1 ((0, 0) ∷ []) 0 bytes ≡ Ok (b, rest)
       → (zeros (count - i)).read bytes ≡ (zeros (count - (i + 1))).read rest
   unfolding zeros
   zeros_step b rest e = rw (left, e)
 
+  -- neither a letter nor zero: the reading of a name stops
   pub behind_stop : (name : List ℕ) (stop : Stop) → number_from 1 letters_or_zero 0 bytes ≡ Err stop → (behind (count - i) name).read bytes ≡ Err stop
   unfolding behind
   behind_stop name stop e = rw (left, e)
 
+  -- a zero byte: the name ends there
   pub behind_zero : (name : List ℕ) (b : ℕ) (rest : List ℕ) → b ≡ 0 → number_from 1 letters_or_zero 0 bytes ≡ Ok (b, rest)
       → (behind (count - i) name).read bytes ≡ (ended (count - (i + 1)) name).read rest
   unfolding behind
   behind_zero name b rest is e = rw (left, e, eq-eqb b 0 is)
 
+  -- a letter: the name goes on with it
   pub behind_letter : (name : List ℕ) (b : ℕ) (rest : List ℕ) → (b ≡ 0 → ⊥) → number_from 1 letters_or_zero 0 bytes ≡ Ok (b, rest)
       → (behind (count - i) name).read bytes ≡ (behind (count - (i + 1)) (name ++ b ∷ [])).read rest
   unfolding behind
   behind_letter name b rest is_not e = rw (left, e, ne_eqb b 0 is_not)
 
+-- all zero bytes were read
 pub zeros_end : (count i : ℕ) (bytes : List ℕ) → count ≤ i → (zeros (count - i)).read bytes ≡ Ok (tt, bytes)
 unfolding zeros
 zeros_end count i bytes le = let is : count - i ≡ 0 = omega arith in rw is
 
+-- all bytes of a name were read
 pub behind_end : (count i : ℕ) (name bytes : List ℕ) → count ≤ i → (behind (count - i) name).read bytes ≡ Ok (name, bytes)
 unfolding behind
 behind_end count i name bytes le = let is : count - i ≡ 0 = omega arith in rw is
@@ -65,14 +73,17 @@ same_name bytes None name is given = absurd cc
 -- a zero byte behind so many letters
 module _ (len : ℕ) (lt : len < 12) (name bytes old rest : List ℕ) (b : ℕ) (so_far : (behind (12 - len) name).read old ≡ name_form.read bytes)
     (is : b ≡ 0) (read : number_from 1 letters_or_zero 0 old ≡ Ok (b, rest)) where
+  -- what is left to read is the name that ends here
   after_zero : name_form.read bytes ≡ (ended (11 - len) name).read rest
   after_zero =
       let more : 12 - (len + 1) ≡ 11 - len = omega arith in
       sym so_far ∙ behind_zero 12 len lt old name b rest is read ∙ ap (λ k. (ended k name).read rest) more
 
+  -- with zero bytes behind them, they are the name
   pub zeros_follow : (z : Unit {0}) (after : List ℕ) → (zeros (11 - len)).read rest ≡ Ok (z, after) → name_form.read bytes ≡ Ok (name, after)
   zeros_follow z after e = after_zero ∙ ap (λ r. r then λ x. Ok (name, x.1)) e
 
+  -- where the zero bytes stop the reading, there is no name
   pub zeros_fail : (stop : Stop) → (zeros (11 - len)).read rest ≡ Err stop → name_form.read bytes ≡ Err stop
   zeros_fail stop e = after_zero ∙ ap (λ r. r then λ x. Ok (name, x.1)) e
 

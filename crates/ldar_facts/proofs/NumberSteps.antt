@@ -13,6 +13,7 @@ abbrev pub value_from : ℕ → List ℕ → ℕ
 value_from n [] = n
 value_from n (b ∷ digits) = value_from (n * 256 + b) digits
 
+-- what goes on with these digits begins with that number
 value_in : (digits : List ℕ) (n : ℕ) → IsBytes digits → IsIn (256 ^ length digits) n (value_from n digits)
 value_in [] n are = record { low = omega arith; high = omega arith }
 value_in (b ∷ digits) n are = rw pow-suc

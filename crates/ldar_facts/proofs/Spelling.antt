@@ -21,6 +21,7 @@ pub record IsWritten (batch : Batch) (count : ℕ) (bytes : List ℕ) : Type 0 w
   pub items : bytes ≡ spelled (head_fields batch) ++ spelled (flat_map fact_fields (take count batch.facts))
   pub filled : AllByRecursion IsFilled (flat_map fact_fields (take count batch.facts))
 
+-- one fact more has its fields behind the others
 more_fields : (facts : List Stated) (i : ℕ) (fact : Stated) → i < length facts → fact ≡ get_or facts i fact
     → flat_map fact_fields (take (i + 1) facts) ≡ flat_map fact_fields (take i facts) ++ fact_fields fact
 more_fields facts i fact lt is =

@@ -35,6 +35,7 @@ read_so x = Ok x
 pub ok_pair : {A : Type 0} (x y : A × List ℕ) → read_so x ≡ read_so y → (x.0 ≡ y.0) × (x.1 ≡ y.1)
 ok_pair {A = A} x y e = let same : x ≡ y = cc in (ap (λ (p : A × List ℕ). p.0) same, ap (λ (p : A × List ℕ). p.1) same)
 
+-- such a value is read rightly
 pub done_reads : {A : Type 0} (a : A) → Reads {P = Unit {0}} (λ p. a) (λ p. []) (λ bytes. Ok (a, bytes))
 done_reads a = record {
   some = tt;
@@ -74,6 +75,7 @@ module _ {A B : Type 0} (first : Form A) (next : A → Form B) where
   abbrev pub read : List ℕ → Outcome B
   read bytes = first.read bytes then λ x. (next x.0).read x.1
 
+  -- what is read has a way
   leads : (bytes : List ℕ) (b : B) (rest : List ℕ) → read bytes ≡ Ok (b, rest) → (p : Both) × (value p ≡ b)
   leads bytes b rest e =
       let step = then_ok (first.read bytes) (λ x. (next x.0).read x.1) (b, rest) e in
@@ -82,6 +84,7 @@ module _ {A B : Type 0} (first : Form A) (next : A → Form B) where
       let q = (next (first.value p.0)).reads.leads step.0.1 b rest follows in
       ((p.0, q.0), q.1)
 
+  -- of bytes, it stands there
   found : (bytes : List ℕ) (b : B) (rest : List ℕ) → IsBytes bytes → read bytes ≡ Ok (b, rest) → (p : Both) × (value p ≡ b) × (bytes ≡ text p ++ rest)
   found bytes b rest are e =
       let step = then_ok (first.read bytes) (λ x. (next x.0).read x.1) (b, rest) e in
@@ -91,6 +94,7 @@ module _ {A B : Type 0} (first : Form A) (next : A → Form B) where
       let q = (next (first.value p.0)).reads.found behind b rest (IsBytes-behind bytes (first.text p.0) behind p.2 are) follows in
       ((p.0, q.0), q.1, p.2 ∙ ap (λ l. first.text p.0 ++ l) q.2 ∙ sym (append_assoc (first.text p.0) ((next (first.value p.0)).text q.0) rest))
 
+  -- what stands there is read
   again : (p : Both) (rest : List ℕ) → read (text p ++ rest) ≡ Ok (value p, rest)
   again p rest =
       let front = first.text p.0 in
@@ -112,6 +116,7 @@ module _ {A B : Type 0} (first : Form A) (next : A → Form B) where
       → (first.text p ++ rest) ++ more ≡ first.text p ++ (next (first.value p)).text q
   continued rest more p q begins = append_assoc (first.text p) rest more ∙ ap (λ l. first.text p ++ l) begins
 
+  -- what is short begins a text of both
   short : (bytes : List ℕ) → IsBytes bytes → read bytes ≡ Err Short → (q : Both) × (more : List ℕ) × (bytes ++ more ≡ text q)
   short bytes are e =
       elim (then_err (first.read bytes) (λ x. (next x.0).read x.1) Short e) [
@@ -124,6 +129,7 @@ module _ {A B : Type 0} (first : Form A) (next : A → Form B) where
             ((p.0, q.0), q.1, ap (λ l. l ++ q.1) p.2 ∙ continued behind q.1 p.0 q.0 q.2)
       ]
 
+  -- what is wrong is so at the first wrong place
   wrong : (bytes : List ℕ) (left : ℕ) → IsBytes bytes → read bytes ≡ Err (Wrong left) → IsWrong text read bytes left
   wrong bytes left are e =
       elim (then_err (first.read bytes) (λ x. (next x.0).read x.1) (Wrong left) e) [
@@ -164,6 +170,7 @@ module _ {A B : Type 0} (first : Form A) (next : A → Form B) where
             }
       ]
 
+  -- both together are read rightly
   pub both_read : Reads value text read
   both_read = record {
     some = (first.reads.some, (next (first.value first.reads.some)).reads.some);
@@ -175,6 +182,7 @@ module _ {A B : Type 0} (first : Form A) (next : A → Form B) where
   }
 
 infixl 10 ◌>>=◌
+-- a form, and behind it the one that its value decides
 abbrev pub ◌>>=◌ : {A B : Type 0} → Form A → (A → Form B) → Form B
 first >>= next = record {
   Path = Both first next;
@@ -206,6 +214,7 @@ module _ {A : Type 0} (first second : Form A) where
   abbrev pub either_read : Bool → List ℕ → Outcome A
   either_read test bytes = if test then first.read bytes else second.read bytes
 
+  -- the one that the test picks is read rightly
   pub either_reads : (test : Bool) → Reads (either_value test) (either_text test) (either_read test)
   either_reads true = first.reads
   either_reads false = second.reads

@@ -151,6 +151,7 @@ day_or_none = do
 
 -- ---- several fields
 
+-- the ranges of a plan's months fit a byte, for each designation
 pub plans_proper : (d : Designation) → IsTrue (is_proper 1 (fields.plans d))
 plans_proper Plain = refl
 plans_proper Nde = refl

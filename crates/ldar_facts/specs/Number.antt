@@ -37,6 +37,7 @@ among_cons range [] n (inl here) = here
 among_cons range [] n (inr there) = absurd there
 among_cons range (other ∷ ranges) n h = h
 
+-- a number of some ranges lies in the first or in the others
 among_cases : (range : ℕ × ℕ) (ranges : List (ℕ × ℕ)) (n : ℕ) → IsAmong n (range ∷ ranges) → ((range.0 ≤ n) × (n ≤ range.1)) ⊎ IsAmong n ranges
 among_cases range [] n h = inl h
 among_cases range (other ∷ ranges) n h = h
@@ -48,11 +49,13 @@ pub record IsIn (p n v : ℕ) : Type 0 where
   pub low : n * p ≤ v
   pub high : v < n * p + p
 
+-- what begins with a number and a digit begins with the number
 pub block_up : (p n b v : ℕ) → b < 256 → IsIn p (n * 256 + b) v → IsIn (p * 256) n v
 block_up p n b v lt h =
     let most : (b + 1) * p ≤ 256 * p = mul-le (b + 1) p 256 p (omega arith) (omega arith) in
     record { low = omega (arith, h.low); high = omega (arith, most, h.high) }
 
+-- what begins with a number begins with it and the next digit
 block_down : (p n v : ℕ) → 0 < p → IsIn (p * 256) n v → IsIn p (n * 256 + v / p % 256) v
 block_down p n v pos h =
     let low : n * 256 ≤ v / p = le-div (n * 256) v p pos (omega (arith, h.low)) in
@@ -60,6 +63,7 @@ block_down p n v pos h =
     let is : n * 256 + v / p % 256 ≡ v / p = omega arith in
     rw is (record { low = omega arith; high = omega arith })
 
+-- the next digit of what begins so is that digit
 digit_of : (p n b v : ℕ) → 0 < p → b < 256 → IsIn p (n * 256 + b) v → v / p % 256 ≡ b
 digit_of p n b v pos lt h =
     let is : v / p ≡ n * 256 + b = div-eq_of_lt-le p (omega (arith, h.low)) (omega (arith, h.high)) in
@@ -67,6 +71,7 @@ digit_of p n b v pos lt h =
 
 -- ---- which beginnings the ranges let pass
 
+-- a range that lets a beginning pass has a number that begins so
 some_in_range : (p n : ℕ) (range : ℕ × ℕ) → 0 < p → n * p ≤ range.1 → range.0 ≤ n * p + (p - 1) → range.0 ≤ range.1
     → (v : ℕ) × (range.0 ≤ v) × (v ≤ range.1) × IsIn p n v
 some_in_range p n range pos low high fit =
@@ -79,6 +84,7 @@ some_in_range p n range pos low high fit =
 abbrev pub AreRanges : List (ℕ × ℕ) → Type 0
 AreRanges ranges = IsTrue (list_all (λ range. nat_le range.0 range.1) ranges)
 
+-- so many bytes hold something
 pow_pos : (more : ℕ) → 0 < 256 ^ more
 pow_pos more = one-le-pow more 256 (omega arith)
 
@@ -112,9 +118,11 @@ may_be-from more n v (range ∷ ranges) among is_in =
 
 -- ---- reading
 
+-- a reading that stopped so
 abbrev stops_so : {A : Type 0} → Stop → Outcome A
 stops_so stop = Err stop
 
+-- readings that stopped at a wrong place alike left the same bytes
 left_of : {A : Type 0} {m n : ℕ} → stops_so {A = A} (Wrong m) ≡ stops_so (Wrong n) → n ≡ m
 left_of e = cc
 
@@ -123,9 +131,11 @@ module _ (ranges : List (ℕ × ℕ)) (are_ranges : AreRanges ranges) where
   abbrev Rest : ℕ → ℕ → Type 0
   Rest more n = (v : ℕ) × IsAmong v ranges × IsIn (256 ^ more) n v
 
+  -- the bytes of the rest of a number
   abbrev text : (more n : ℕ) → Rest more n → List ℕ
   text more n p = big_endian more p.0
 
+  -- how the rest of a number is read
   abbrev read : (more n : ℕ) → List ℕ → Outcome ℕ
   read more n bytes = number_from more ranges n bytes
 
@@ -146,6 +156,7 @@ module _ (ranges : List (ℕ × ℕ)) (are_ranges : AreRanges ranges) where
   first_is_byte : (b : ℕ) (bytes : List ℕ) → IsBytes (b ∷ bytes) → b < 256
   first_is_byte b bytes are = are 0
 
+  -- what is read is a number of the ranges, and stands there
   found : (more n : ℕ) → may_be more ranges n ≡ true → (bytes : List ℕ) (a : ℕ) (rest : List ℕ) → IsBytes bytes → read more n bytes ≡ Ok (a, rest)
       → (p : Rest more n) × (p.0 ≡ a) × (bytes ≡ text more n p ++ rest)
   unfolding number_from
@@ -167,6 +178,7 @@ module _ (ranges : List (ℕ × ℕ)) (are_ranges : AreRanges ranges) where
             absurd cc
       ]
 
+  -- what stands there is read
   again : (more n : ℕ) (p : Rest more n) (rest : List ℕ) → read more n (text more n p ++ rest) ≡ Ok (p.0, rest)
   unfolding number_from
   again zero n p rest = let same : n ≡ p.0 = omega (arith, p.2.low, p.2.high) in ap (λ v. Ok (v, rest)) same
@@ -177,6 +189,7 @@ module _ (ranges : List (ℕ × ℕ)) (are_ranges : AreRanges ranges) where
       let passes = may_be-from more (n * 256 + b) p.0 ranges p.1 narrow in
       rw passes (again more (n * 256 + b) (p.0, p.1, narrow) rest)
 
+  -- what is short begins a number of the ranges
   short : (more n : ℕ) → may_be more ranges n ≡ true → (bytes : List ℕ) → IsBytes bytes → read more n bytes ≡ Err Short
       → (p : Rest more n) × (rest : List ℕ) × (bytes ++ rest ≡ text more n p)
   unfolding number_from
@@ -197,6 +210,7 @@ module _ (ranges : List (ℕ × ℕ)) (are_ranges : AreRanges ranges) where
             absurd cc
       ]
 
+  -- what is wrong is so at the first wrong place
   wrong : (more n : ℕ) → may_be more ranges n ≡ true → (bytes : List ℕ) (left : ℕ) → IsBytes bytes → read more n bytes ≡ Err (Wrong left)
       → IsWrong (text more n) (read more n) bytes left
   unfolding number_from
@@ -243,6 +257,7 @@ module _ (ranges : List (ℕ × ℕ)) (are_ranges : AreRanges ranges) where
 abbrev pub among : List (ℕ × ℕ) → ℕ → Bool
 among ranges n = list_any (λ range. nat_le range.0 n && nat_le n range.1) ranges
 
+-- what passes the test lies among the ranges
 pub is_among : (ranges : List (ℕ × ℕ)) (n : ℕ) → among ranges n ≡ true → IsAmong n ranges
 is_among [] n h = absurd cc
 is_among (range ∷ ranges) n h =
@@ -251,6 +266,7 @@ is_among (range ∷ ranges) n h =
       | inr there ↦ among_cons range ranges n (inr (is_among ranges n there))
     ]
 
+-- with no byte to come, what may be among the ranges is
 pub may_be-among : (ranges : List (ℕ × ℕ)) (n : ℕ) → may_be 0 ranges n ≡ true → among ranges n ≡ true
 may_be-among [] n h = h
 may_be-among (range ∷ ranges) n h =
@@ -263,10 +279,12 @@ may_be-among (range ∷ ranges) n h =
       | inr there ↦ or_right (nat_le range.0 n && nat_le n range.1) (among ranges n) (may_be-among ranges n there)
     ]
 
+-- a value where reading may stop was read behind a test that passed
 pub no_value : {A : Type 0} (test : Bool) (next : Outcome A) (stop : Stop) (x : A × List ℕ) → cond test next (Err stop) ≡ Ok x → (test ≡ true) × (next ≡ Ok x)
 no_value true next stop x e = (refl, e)
 no_value false next stop x e = absurd cc
 
+-- a number that is read lies among the ranges
 pub read_among : (more : ℕ) (ranges : List (ℕ × ℕ)) (n : ℕ) (bytes : List ℕ) (v : ℕ) (rest : List ℕ) → 0 < more
     → number_from more ranges n bytes ≡ Ok (v, rest) → IsAmong v ranges
 unfolding number_from
@@ -291,6 +309,7 @@ abbrev pub is_proper : ℕ → List (ℕ × ℕ) → Bool
 is_proper width [] = false
 is_proper width (range ∷ ranges) = nat_lt 0 width && list_all (is_proper_range width) (range ∷ ranges)
 
+-- proper ranges have a number each
 are_ranges : (width : ℕ) (ranges : List (ℕ × ℕ)) → IsTrue (list_all (is_proper_range width) ranges) → AreRanges ranges
 are_ranges width [] h = refl
 are_ranges width (range ∷ ranges) h =
@@ -298,6 +317,7 @@ are_ranges width (range ∷ ranges) h =
     let parts = and_parts (nat_le range.0 range.1) (nat_lt range.1 (256 ^ width)) each.0 in
     and_from (nat_le range.0 range.1) (list_all (λ range. nat_le range.0 range.1) ranges) parts.0 (are_ranges width ranges each.1)
 
+-- a number of proper ranges fits their bytes
 fits : (width : ℕ) (ranges : List (ℕ × ℕ)) (v : ℕ) → IsTrue (list_all (is_proper_range width) ranges) → IsAmong v ranges → v < 256 ^ width
 fits width [] v h among = absurd among
 fits width (range ∷ ranges) v h among =
@@ -308,10 +328,12 @@ fits width (range ∷ ranges) v h among =
       | inr there ↦ fits width ranges v each.1 there
     ]
 
+-- where ranges are proper, each is
 each_proper : (width : ℕ) (ranges : List (ℕ × ℕ)) → IsTrue (is_proper width ranges) → IsTrue (list_all (is_proper_range width) ranges)
 each_proper width [] h = absurd cc
 each_proper width (range ∷ ranges) h = (and_parts (nat_lt 0 width) (list_all (is_proper_range width) (range ∷ ranges)) h).1
 
+-- proper ranges are of one byte at least
 wide : (width : ℕ) (ranges : List (ℕ × ℕ)) → IsTrue (is_proper width ranges) → 0 < width
 wide width [] h = absurd cc
 wide width (range ∷ ranges) h = ltb-true 0 width (and_parts (nat_lt 0 width) (list_all (is_proper_range width) (range ∷ ranges)) h).0
@@ -325,6 +347,7 @@ some_among width (range ∷ ranges) h =
     (range.0, among_cons range ranges range.0 (inl (omega arith, leb-true _ _ parts.0)))
 
 module _ (width : ℕ) (ranges : List (ℕ × ℕ)) (proper : IsTrue (is_proper width ranges)) where
+  -- a number of the ranges
   abbrev One : Type 0
   One = (v : ℕ) × IsAmong v ranges
 
@@ -332,11 +355,13 @@ module _ (width : ℕ) (ranges : List (ℕ × ℕ)) (proper : IsTrue (is_proper 
   in_width : (p : One) → IsIn (256 ^ width) 0 p.0
   in_width p = let fit = fits width ranges p.0 (each_proper width ranges proper) p.1 in record { low = omega arith; high = omega arith }
 
+  -- before the first digit the ranges let some number pass
   any_begin : may_be width ranges 0 ≡ true
   any_begin =
       let v = some_among width ranges proper in
       may_be-from width 0 v.0 ranges v.1 (in_width v)
 
+  -- a number in so many bytes is read rightly
   pub number_reads : Reads {P = One} (λ p. p.0) (λ p. big_endian width p.0) (number_from width ranges 0)
   number_reads =
       let are = are_ranges width ranges (each_proper width ranges proper) in

@@ -129,7 +129,21 @@ pub(crate) fn name_at(bytes: &[u8], at: usize) -> Result<Name, Stop>
     requires { at + 12 ≤ length bytes.now }
     ensures { Takes name_form.read result (drop at bytes.now) (drop (at + 12) bytes.now) }
 {
-    Cursor::new(bytes_from(bytes, at)).name()
+    let mut padded = [0u8; 12];
+    padded.copy_from_slice(&bytes[at..at + 12]);
+    match Name::of_padded(padded) {
+        Some(name) => Ok(name),
+        None => name_by_letters(bytes_from(bytes, at)),
+    }
+}
+
+/// The name of a process unit in front of some bytes, read letter by letter, so that its first wrong place is found.
+#[cold]
+fn name_by_letters(bytes: &[u8]) -> Result<Name, Stop>
+    requires { 12 ≤ length bytes.now }
+    ensures { Takes name_form.read result bytes.now (drop 12 bytes.now) }
+{
+    Cursor::new(bytes).name()
 }
 
 /// What a component is, at a place.

@@ -1,4 +1,4 @@
-ghost use Rattle.std.specs.Prelude.{◌≡◌, IsNone, IfSome};
+ghost use Rattle.std.specs.Prelude.{◌≡◌, ◌≤◌, ◌==◌, IsNone, IfSome};
 ghost use Rattle.std.specs.List.{list_all};
 ghost use Rattle.ldar_facts.specs.Name.{IsName, is_name_byte, spelled_name};
 
@@ -42,6 +42,20 @@ impl Name {
         })
     }
 
+    /// The name in these twelve bytes, with zero bytes behind it, if one stands there.
+    pub(crate) fn of_padded(padded: [u8; 12]) -> Option<Name>
+        ensures { IfSome result (λ name. IsName name × (padded ≡ spelled_name name)) }
+    {
+        let len = front_len(&padded);
+        if len == 0 || !are_letters(&padded[..len]) || !are_zeros(&padded[len..]) {
+            return None;
+        }
+        Some(Name {
+            bytes: padded,
+            len: len as u8,
+        })
+    }
+
     /// The bytes of the name, as text.
     pub fn as_bytes(&self) -> &[u8]
         ensures value { result.now ≡ self.now }
@@ -65,4 +79,23 @@ fn are_letters(bytes: &[u8]) -> bool
     bytes
         .iter()
         .all(|b| matches!(*b, b'-' | b'0'..=b'9' | b'A'..=b'Z'))
+}
+
+/// How many bytes stand before the first zero byte.
+fn front_len(padded: &[u8; 12]) -> usize
+    ensures { result ≤ 12 }
+{
+    for len in 0..12 {
+        if padded[len] == 0 {
+            return len;
+        }
+    }
+    12
+}
+
+/// Whether each byte is zero.
+fn are_zeros(bytes: &[u8]) -> bool
+    ensures { result ≡ list_all (λ b. b == 0) bytes.now }
+{
+    bytes.iter().all(|b| *b == 0)
 }

@@ -9,6 +9,7 @@ abbrev Kept : List ℕ → List ℕ → Type 0
 Kept bytes name =
     (length (take (length name) bytes) ≡ length name) × (bytes ≡ spelled_name (take (length name) bytes)) × IsName (take (length name) bytes)
 
+-- a name in its twelve bytes is kept so
 kept : (name : List ℕ) → IsName name → Kept (spelled_name name) name
 kept name is_name =
     let front = take-append_seam name (replicate (12 - length name) 0) in

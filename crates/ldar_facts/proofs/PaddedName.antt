@@ -1,0 +1,44 @@
+-- A name in its twelve bytes, looked at as a whole: letters, and zero bytes behind them.
+use Rattle.std.proofs.Common.{◌≡◌, ℕ, ◌+◌, ◌-◌, ◌<◌, ◌≤◌, true, List, [], ◌∷◌, ◌++◌, length, take, drop, replicate, Ok, refl, sym, ap, ◌∙◌, arith}
+use Rattle.std.specs.Prelude.{◌==◌}
+use Rattle.std.specs.List.{list_all}
+use Rattle.std.proofs.lemmas.Bool.{eqb-true, and_parts}
+use Rattle.std.proofs.lemmas.List.{drop-drop, take-append-drop, length-drop, length-take-le, take_all}
+use Rattle.ldar_facts.specs.Name.{IsName, is_name_byte, spelled_name}
+use Rattle.ldar_facts.specs.Letters.{name_form}
+use Rattle.ldar_facts.proofs.NameForm.{name_text, name_path}
+
+-- bytes that are all zero are so many zeros
+all_zeros : (bytes : List ℕ) → list_all (λ b. b == 0) bytes ≡ true → bytes ≡ replicate (length bytes) 0
+all_zeros [] h = refl
+all_zeros (b ∷ bytes) h =
+    let parts = and_parts (b == 0) (list_all (λ b. b == 0) bytes) h in
+    let is : b ≡ 0 = eqb-true b 0 parts.0 in
+    rw is (ap (λ l. 0 ∷ l) (all_zeros bytes parts.1))
+
+-- letters at the front of twelve bytes, and zero bytes behind them, are a name in its twelve bytes
+pub padded_name : (len : ℕ) (bytes : List ℕ) → length bytes ≡ 12 → 0 < len → len ≤ 12 → list_all is_name_byte (take len bytes) ≡ true
+    → list_all (λ b. b == 0) (take (12 - len) (drop len bytes)) ≡ true
+    → (length (take len bytes) ≡ len) × (bytes ≡ spelled_name (take len bytes)) × IsName (take len bytes)
+padded_name len bytes twelve some fits letters zeros =
+    let behind = length-drop len bytes in
+    let long : length (take len bytes) ≡ len = length-take-le len bytes (omega (arith, twelve, fits)) in
+    let left : length (drop len bytes) ≡ 12 - length (take len bytes) = omega (arith, behind, long, twelve) in
+    let all : take (12 - len) (drop len bytes) ≡ drop len bytes = take_all (12 - len) (drop len bytes) (omega (arith, behind, twelve)) in
+    ( long
+    , sym (take-append-drop len bytes)
+    ∙ ap (λ l. take len bytes ++ l) (all_zeros (drop len bytes) (rw all at zeros) ∙ ap (λ n. replicate n 0) left)
+    , record { some = omega (arith, long, some); fits = omega (arith, long, fits); letters = letters }
+    )
+
+-- a name in its twelve bytes at a place is read
+pub name_stands : (at : ℕ) (bytes name : List ℕ) → IsName name → take 12 (drop at bytes) ≡ spelled_name name
+    → name_form.read (drop at bytes) ≡ Ok (name, drop (at + 12) bytes)
+name_stands at bytes name is stands =
+    let p = name_path name is in
+    let text = (name_text p.0).1 in
+    let splits : drop at bytes ≡ name_form.text p.0 ++ drop (at + 12) bytes =
+    sym (take-append-drop 12 (drop at bytes))
+    ∙ ap (λ l. l ++ drop 12 (drop at bytes)) (stands ∙ ap spelled_name (sym p.1) ∙ sym text)
+    ∙ ap (λ l. name_form.text p.0 ++ l) (drop-drop 12 at bytes) in
+    ap name_form.read splits ∙ name_form.reads.again p.0 (drop (at + 12) bytes) ∙ ap (λ n. Ok (n, drop (at + 12) bytes)) p.1
