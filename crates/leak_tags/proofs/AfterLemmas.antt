@@ -95,7 +95,8 @@ some_more p (e ∷ after) v =
     ∙ or_regroup (p e (after ++ v ∷ [])) (some_after (λ x rest. p x (rest ++ v ∷ [])) after) (p v [])
 
 -- what does not look at the front
-pub somewhere_is_after : (p : Event → List Event → Bool) (front events : List Event) → somewhere_from (λ _ e after. p e after) front events ≡ some_after p events
+pub somewhere_is_after : (p : Event → List Event → Bool) (front events : List Event) →
+    somewhere_from (λ _ e after. p e after) front events ≡ some_after p events
 somewhere_is_after p front [] = refl
 somewhere_is_after p front (e ∷ after) = ap (λ b. p e after || b) (somewhere_is_after p (front ++ e ∷ []) after)
 
@@ -147,7 +148,9 @@ pub since_more : (p : Event → Bool) (events : List Event) (v : Event) → sinc
 since_more p events v =
     some_more (λ e after. p e && not (list_any (λ x. is_leak x.what) after)) events v
     ∙ ap (λ b. b || (p v && true))
-    (some_same (λ e after. p e && not (list_any (λ x. is_leak x.what) (after ++ v ∷ []))) (λ e after. not (is_leak v.what) && (p e && not (list_any (λ x. is_leak x.what) after)))
+    (some_same
+        (λ e after. p e && not (list_any (λ x. is_leak x.what) (after ++ v ∷ [])))
+        (λ e after. not (is_leak v.what) && (p e && not (list_any (λ x. is_leak x.what) after)))
         (λ e after.
             ap (λ b. p e && not b) (any_more (λ x. is_leak x.what) after v)
             ∙ passes_before (p e) (list_any (λ x. is_leak x.what) after) (is_leak v.what))

@@ -42,7 +42,8 @@ none_leaks (e ∷ after) last month all later =
     (ap (λ b. (is_leak e.what && b) && nat_le (month_of e.key.day) month) below ∙ ap (λ b. b && nat_le (month_of e.key.day) month) (and_false (is_leak e.what)))
     (none_leaks after last month all.1 later)
 
-none_leak : (events : List Event) (last month : ℕ) → AllByRecursion (λ e. month_of e.key.day ≤ last) events → last < month → has_leak_in events month month ≡ false
+none_leak : (events : List Event) (last month : ℕ) → AllByRecursion (λ e. month_of e.key.day ≤ last) events → last < month →
+    has_leak_in events month month ≡ false
 unfolding has_leak_in
 none_leak events last month all later = none_leaks events last month all later
 

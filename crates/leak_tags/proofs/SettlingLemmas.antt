@@ -22,15 +22,16 @@ use Rattle.leak_tags.proofs.ToldLemmas.{Sums}
 pub sums_open : (kind : Kind) (is_sort : Happening → Bool) (events : List Event) → Sums (some_open kind is_sort events)
 sums_open kind is_sort events =
     let here : Event → List Event → Bool = λ e after. (is_leak e.what && is_sort e.what) && not (law.is_settled kind e after) in
+    let seen : (Bool → ℕ → Bool) → Event → List Event → Bool = λ p e after. p (law.has_delay_between e after) e.key.day in
     record {
       same = λ p q agree.
-          some_same (λ e after. here e after && p (law.has_delay_between e after) e.key.day) (λ e after. here e after && q (law.has_delay_between e after) e.key.day)
+          some_same (λ e after. here e after && seen p e after) (λ e after. here e after && seen q e after)
           (λ e after. ap (λ b. here e after && b) (agree (law.has_delay_between e after) e.key.day)) events;
       either = λ p q.
-          some_same (λ e after. here e after && (p (law.has_delay_between e after) e.key.day || q (law.has_delay_between e after) e.key.day))
-          (λ e after. (here e after && p (law.has_delay_between e after) e.key.day) || (here e after && q (law.has_delay_between e after) e.key.day))
-          (λ e after. and_over (here e after) (p (law.has_delay_between e after) e.key.day) (q (law.has_delay_between e after) e.key.day)) events
-          ∙ some_or (λ e after. here e after && p (law.has_delay_between e after) e.key.day) (λ e after. here e after && q (law.has_delay_between e after) e.key.day) events;
+          some_same (λ e after. here e after && (seen p e after || seen q e after))
+          (λ e after. (here e after && seen p e after) || (here e after && seen q e after))
+          (λ e after. and_over (here e after) (seen p e after) (seen q e after)) events
+          ∙ some_or (λ e after. here e after && seen p e after) (λ e after. here e after && seen q e after) events;
       none = some_same (λ e after. here e after && false) (λ _ _. false) (λ e after. and_false (here e after)) events ∙ some_none events;
     }
 
@@ -77,15 +78,18 @@ module _ (kind : Kind) (is_sort : Happening → Bool) (events : List Event) (v :
       ∙ ap (λ b. b || ((of_sort v && true) && p false v.key.day))
       (some_at events
           (λ e after. (of_sort e && not (law.is_settled kind e (after ++ v ∷ []))) && p (law.has_delay_between e (after ++ v ∷ [])) e.key.day)
-          (λ e after. (of_sort e && not (law.is_settled kind e after)) && (not (all || (late && law.has_delay_between e after)) && p (comes_to e.key.day || law.has_delay_between e after) e.key.day))
+          (λ e after. (of_sort e && not (law.is_settled kind e after))
+          && (not (all || (late && law.has_delay_between e after)) && p (comes_to e.key.day || law.has_delay_between e after) e.key.day))
           (λ before e after at.
               ap (λ b. (of_sort e && not b) && p (law.has_delay_between e (after ++ v ∷ [])) e.key.day) (settled_more kind e after v)
               ∙ ap (λ b. (of_sort e && not (law.is_settled kind e after || law.settles kind e after v)) && p b e.key.day) (delay_more e after v)
               ∙ where_so (of_sort e) (law.is_settled kind e after) (law.settles kind e after v) (all || (late && law.has_delay_between e after))
               (p (comes_to e.key.day || law.has_delay_between e after) e.key.day) (fits before e after at)
-              ∙ regroup (of_sort e) (law.is_settled kind e after) (all || (late && law.has_delay_between e after)) (p (comes_to e.key.day || law.has_delay_between e after) e.key.day))
+              ∙ regroup (of_sort e) (law.is_settled kind e after) (all || (late && law.has_delay_between e after))
+              (p (comes_to e.key.day || law.has_delay_between e after) e.key.day))
           [] events refl)
-      ∙ ap (λ b. some_open kind is_sort events (λ l from. not (all || (late && l)) && p (comes_to from || l) from) || (b && p false v.key.day)) (and_true (of_sort v))
+      ∙ ap (λ b. some_open kind is_sort events (λ l from. not (all || (late && l)) && p (comes_to from || l) from) || (b && p false v.key.day))
+      (and_true (of_sort v))
 
 -- ---- sorts
 
@@ -195,7 +199,8 @@ by_reading bl dr cp at vp dl ws rt =
     ∙ settles_one (bl && at) (((vp && bl) && ws) && dl) rt
 
 -- a drip
-by_drip : (bl dr cp at vp dl ws rt : Bool) → settles_by true true false bl dr cp at vp dl ws rt ≡ (((rt || (bl && at)) || (dr && at)) || (((vp && bl) && ws) && dl))
+by_drip : (bl dr cp at vp dl ws rt : Bool) → settles_by true true false bl dr cp at vp dl ws rt
+    ≡ (((rt || (bl && at)) || (dr && at)) || (((vp && bl) && ws) && dl))
 by_drip bl dr cp at vp dl ws rt =
     ap (λ y. ((((bl && at) || (dr && at)) || false) || y) || rt) (sort_late (vp && bl) dl ws)
     ∙ settles_two (bl && at) (dr && at) (((vp && bl) && ws) && dl) rt
@@ -208,35 +213,47 @@ by_sensor bl dr cp at vp dl ws rt =
 
 module _ (kind : Kind) (v : Event) (attempted second : Bool) (e : Event) (after : List Event)
   (attempt_is : law.is_attempted after ≡ attempted) (second_is : law.was_below after v ≡ second) where
+  -- what settles it, by what is asked of the sort and of the event
+  abbrev settles_so : Bool → Bool → Bool → Bool
+  settles_so rd lk sn =
+      settles_by rd lk sn (is_below v.what) (is_dry v.what) (is_complete v.what) attempted (law.is_valve_or_pump kind) (law.has_delay_between e after) second
+      (is_retire v.what)
+
+  -- .. as the second of two readings, where it is delayed
+  abbrev settles_late : Bool
+  settles_late = (law.is_valve_or_pump kind && is_below v.what && second) && law.has_delay_between e after
+
   -- what settles it, by its sort
   settles_is : (rd lk sn : Bool) → is_reading_or_drip e.what ≡ rd → is_look e.what ≡ lk → is_sensor e.what ≡ sn →
-      law.settles kind e after v
-      ≡ settles_by rd lk sn (is_below v.what) (is_dry v.what) (is_complete v.what) attempted (law.is_valve_or_pump kind) (law.has_delay_between e after) second (is_retire v.what)
+      law.settles kind e after v ≡ settles_so rd lk sn
   settles_is rd lk sn of_rd of_lk of_sn = rw (of_rd, of_lk, of_sn, attempt_is, second_is) refl
 
   -- a reading that is a leak
   pub reading_settled : is_reading e.what ≡ true → law.settles kind e after v
-      ≡ ((is_retire v.what || (is_below v.what && attempted)) || ((law.is_valve_or_pump kind && is_below v.what && second) && law.has_delay_between e after))
+      ≡ ((is_retire v.what || (is_below v.what && attempted)) || settles_late)
   reading_settled of_sort =
       let is = reading_is e.what of_sort in
       settles_is true false false is.0 is.1 is.2
-      ∙ by_reading (is_below v.what) (is_dry v.what) (is_complete v.what) attempted (law.is_valve_or_pump kind) (law.has_delay_between e after) second (is_retire v.what)
+      ∙ by_reading (is_below v.what) (is_dry v.what) (is_complete v.what) attempted (law.is_valve_or_pump kind) (law.has_delay_between e after) second
+      (is_retire v.what)
 
   -- drips
   pub drip_settled : is_look e.what ≡ true → law.settles kind e after v
-      ≡ (((is_retire v.what || (is_below v.what && attempted)) || (is_dry v.what && attempted)) || ((law.is_valve_or_pump kind && is_below v.what && second) && law.has_delay_between e after))
+      ≡ (((is_retire v.what || (is_below v.what && attempted)) || (is_dry v.what && attempted)) || settles_late)
   drip_settled of_sort =
       let is = drip_is e.what of_sort in
       settles_is true true false is.0 is.1 is.2
-      ∙ by_drip (is_below v.what) (is_dry v.what) (is_complete v.what) attempted (law.is_valve_or_pump kind) (law.has_delay_between e after) second (is_retire v.what)
+      ∙ by_drip (is_below v.what) (is_dry v.what) (is_complete v.what) attempted (law.is_valve_or_pump kind) (law.has_delay_between e after) second
+      (is_retire v.what)
 
   -- what a sensor told
   pub sensor_settled : is_sensor e.what ≡ true → law.settles kind e after v
-      ≡ ((is_retire v.what || is_complete v.what) || ((law.is_valve_or_pump kind && is_below v.what && second) && law.has_delay_between e after))
+      ≡ ((is_retire v.what || is_complete v.what) || settles_late)
   sensor_settled of_sort =
       let is = sensor_is e.what of_sort in
       settles_is false false true is.0 is.1 is.2
-      ∙ by_sensor (is_below v.what) (is_dry v.what) (is_complete v.what) attempted (law.is_valve_or_pump kind) (law.has_delay_between e after) second (is_retire v.what)
+      ∙ by_sensor (is_below v.what) (is_dry v.what) (is_complete v.what) attempted (law.is_valve_or_pump kind) (law.has_delay_between e after) second
+      (is_retire v.what)
 
 -- ---- since the last leak
 
@@ -248,12 +265,14 @@ attempted_is events = somewhere_is_after (λ e after. is_attempt e.what && not (
 pub was_below_is : (events : List Event) (later : Event) →
     law.was_below events later ≡ since_leak (λ e. is_below e.what && nat_eq (month_of e.key.day + 1) (month_of later.key.day)) events
 was_below_is events later =
-    somewhere_is_after (λ e after. is_below e.what && nat_eq (month_of e.key.day + 1) (month_of later.key.day) && not (list_any (λ x. is_leak x.what) after)) [] events
+    somewhere_is_after
+    (λ e after. is_below e.what && nat_eq (month_of e.key.day + 1) (month_of later.key.day) && not (list_any (λ x. is_leak x.what) after)) [] events
 
 -- an attempt since a leak of a list is one since its last leak
 pub attempted_since : (before : List Event) (e : Event) (after : List Event) → is_leak e.what ≡ true →
     law.is_attempted after ≡ since_leak (λ x. is_attempt x.what) (before ++ e ∷ after)
-attempted_since before e after leaks = attempted_is after ∙ sym (since_that_leak (λ x. is_attempt x.what) before e after leaks (leak_is_no_attempt e.what leaks))
+attempted_since before e after leaks =
+    attempted_is after ∙ sym (since_that_leak (λ x. is_attempt x.what) before e after leaks (leak_is_no_attempt e.what leaks))
 
 -- .. and so is a reading
 pub below_since : (before : List Event) (e : Event) (after : List Event) (later : Event) → is_leak e.what ≡ true → is_below e.what ≡ false →

@@ -48,7 +48,8 @@ second_with last now month before by le pos = elim (cases_eq month now) [
   | inl same ↦
       let at : nat_eq month now ≡ true = eq-eqb month now same in
       let past : nat_eq (now + 1) month ≡ false = ne_eqb (now + 1) month (λ e. omega (arith, e, same)) in
-      rw (at, past) (or_false (if nat_eq month last then before else nat_eq (month - 1) last) ∙ ap (λ n. if nat_eq n last then before else nat_eq (n - 1) last) same)
+      rw (at, past) (or_false (if nat_eq month last then before else nat_eq (month - 1) last)
+      ∙ ap (λ n. if nat_eq n last then before else nat_eq (n - 1) last) same)
   | inr differs ↦
       let later : now < month = omega (arith, differs, le) in
       let at : nat_eq month now ≡ false = ne_eqb month now differs in
@@ -117,7 +118,8 @@ sort_more kind is_sort events v all late fits leaks today le told =
 
 module _ (kind : Kind) (leaks : OpenLeaks) (today : ℕ) (events : List Event) (v : Event) (tells : Tells kind leaks today events) (le : today ≤ v.key.day) where
   -- an attempt since a leak among them
-  attempt_is : (before : List Event) (e : Event) (after : List Event) → before ++ e ∷ after ≡ events → is_leak e.what ≡ true → law.is_attempted after ≡ leaks.attempted
+  attempt_is : (before : List Event) (e : Event) (after : List Event) → before ++ e ∷ after ≡ events → is_leak e.what ≡ true →
+      law.is_attempted after ≡ leaks.attempted
   attempt_is before e after at leak =
       attempted_since before e after leak ∙ ap (since_leak (λ x. is_attempt x.what)) at ∙ tells.attempted
 
@@ -137,20 +139,24 @@ module _ (kind : Kind) (leaks : OpenLeaks) (today : ℕ) (events : List Event) (
   tells_more apart = record {
     readings = sort_more kind is_reading events v (settles_readings leaks v) (settles_delayed kind leaks v)
         (λ before e after at sorts. let parts = and_parts (is_leak e.what) (is_reading e.what) sorts in
-        reading_settled kind v leaks.attempted (is_second leaks.below (month_of v.key.day)) e after (attempt_is before e after at parts.0) (second_is before e after at parts.0) parts.1)
+        reading_settled kind v leaks.attempted (is_second leaks.below (month_of v.key.day)) e after
+        (attempt_is before e after at parts.0) (second_is before e after at parts.0) parts.1)
         leaks.readings today le tells.readings;
     drips = sort_more kind is_look events v (settles_drips leaks v) (settles_delayed kind leaks v)
         (λ before e after at sorts. let parts = and_parts (is_leak e.what) (is_look e.what) sorts in
-        drip_settled kind v leaks.attempted (is_second leaks.below (month_of v.key.day)) e after (attempt_is before e after at parts.0) (second_is before e after at parts.0) parts.1)
+        drip_settled kind v leaks.attempted (is_second leaks.below (month_of v.key.day)) e after
+        (attempt_is before e after at parts.0) (second_is before e after at parts.0) parts.1)
         leaks.drips today le tells.drips;
     sensors = sort_more kind is_sensor events v (settles_sensors v) (settles_delayed kind leaks v)
         (λ before e after at sorts. let parts = and_parts (is_leak e.what) (is_sensor e.what) sorts in
-        sensor_settled kind v leaks.attempted (is_second leaks.below (month_of v.key.day)) e after (attempt_is before e after at parts.0) (second_is before e after at parts.0) parts.1)
+        sensor_settled kind v leaks.attempted (is_second leaks.below (month_of v.key.day)) e after
+        (attempt_is before e after at parts.0) (second_is before e after at parts.0) parts.1)
         leaks.sensors today le tells.sensors;
     attempted = since_more (λ e. is_attempt e.what) events v ∙ ap (λ b. (not (is_leak v.what) && b) || is_attempt v.what) tells.attempted;
     below = λ month at.
         since_more (λ e. is_below e.what && nat_eq (month_of e.key.day + 1) month) events v
-        ∙ months_more (is_leak v.what) (is_below v.what) (since_leak (λ e. is_below e.what && nat_eq (month_of e.key.day + 1) month) events) leaks.below (month_of v.key.day) month apart
+        ∙ months_more (is_leak v.what) (is_below v.what) (since_leak (λ e. is_below e.what && nat_eq (month_of e.key.day + 1) month) events)
+        leaks.below (month_of v.key.day) month apart
         (omega (arith, tells.months, month_rises today v.key.day le)) at (month_low v.key.day)
         (tells.below month (omega (arith, at, month_rises today v.key.day le)));
     months = last_by (is_leak v.what) (is_below v.what) leaks.below (month_of v.key.day) (omega (arith, tells.months, month_rises today v.key.day le));
@@ -187,11 +193,14 @@ spread false false true true = refl
 spread false false false true = refl
 
 -- some leak is unsettled where the open leaks have one
-pub unsettled_is : (kind : Kind) (leaks : OpenLeaks) (today : ℕ) (events : List Event) → Tells kind leaks today events → law.is_unsettled kind events ≡ is_open leaks
+pub unsettled_is : (kind : Kind) (leaks : OpenLeaks) (today : ℕ) (events : List Event) → Tells kind leaks today events →
+    law.is_unsettled kind events ≡ is_open leaks
 unsettled_is kind leaks today events tells =
-    let open_of : (Happening → Bool) → Event → List Event → Bool = λ is_sort e after. ((is_leak e.what && is_sort e.what) && not (law.is_settled kind e after)) && true in
+    let open_of : (Happening → Bool) → Event → List Event → Bool =
+    λ is_sort e after. ((is_leak e.what && is_sort e.what) && not (law.is_settled kind e after)) && true in
     somewhere_is_after (λ e after. is_leak e.what && not (law.is_settled kind e after)) [] events
-    ∙ some_same (λ e after. is_leak e.what && not (law.is_settled kind e after)) (λ e after. (open_of is_reading e after || open_of is_look e after) || open_of is_sensor e after)
+    ∙ some_same (λ e after. is_leak e.what && not (law.is_settled kind e after))
+    (λ e after. (open_of is_reading e after || open_of is_look e after) || open_of is_sensor e after)
     (λ e after.
         ap (λ b. b && not (law.is_settled kind e after)) (one_of_sorts e.what)
         ∙ spread (is_leak e.what && is_reading e.what) (is_leak e.what && is_look e.what) (is_leak e.what && is_sensor e.what) (law.is_settled kind e after))

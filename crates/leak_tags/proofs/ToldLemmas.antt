@@ -111,7 +111,8 @@ none_reached None t day le = refl
 none_reached (Some days) t day le = elim (cases_Bool (nat_le t (days.first + REPAIR_DAYS))) [
   | inl by ↦ rw by refl
   | inr past ↦
-      let later : nat_le day (days.first + REPAIR_DAYS) ≡ false = lt-leb day (days.first + REPAIR_DAYS) (omega (arith, le, leb-false t (days.first + REPAIR_DAYS) past)) in
+      let later : nat_le day (days.first + REPAIR_DAYS) ≡ false =
+      lt-leb day (days.first + REPAIR_DAYS) (omega (arith, le, leb-false t (days.first + REPAIR_DAYS) past)) in
       rw (past, later) refl
 ]
 
@@ -121,7 +122,8 @@ all_missed None t day le = refl
 all_missed (Some days) t day le = elim (cases_Bool (nat_le t (days.first + REPAIR_DAYS))) [
   | inl by ↦ rw by refl
   | inr past ↦
-      let later : nat_le day (days.first + REPAIR_DAYS) ≡ false = lt-leb day (days.first + REPAIR_DAYS) (omega (arith, le, leb-false t (days.first + REPAIR_DAYS) past)) in
+      let later : nat_le day (days.first + REPAIR_DAYS) ≡ false =
+      lt-leb day (days.first + REPAIR_DAYS) (omega (arith, le, leb-false t (days.first + REPAIR_DAYS) past)) in
       rw (past, later) refl
 ]
 
@@ -150,7 +152,8 @@ told_reached some leaks today t sums le told true = record {
       ∙ sums.none
       ∙ sym (none_reached leaks.waiting t day at);
   missed = λ day at.
-      sums.same (λ l from. not (nat_le t (from + REPAIR_DAYS) || l) && not (nat_le day (from + REPAIR_DAYS))) (λ l from. not l && not (nat_le t (from + REPAIR_DAYS)))
+      sums.same (λ l from. not (nat_le t (from + REPAIR_DAYS) || l) && not (nat_le day (from + REPAIR_DAYS)))
+      (λ l from. not l && not (nat_le t (from + REPAIR_DAYS)))
       (λ l from. missed_still t day (from + REPAIR_DAYS) l at)
       ∙ told.missed t le
       ∙ all_missed leaks.waiting t day at;
@@ -230,7 +233,8 @@ waiting_is None today h = refl
 waiting_is (Some days) today h = elim (cases_Bool (nat_le today (days.last + REPAIR_DAYS))) [
   | inl by ↦ rw by refl
   | inr past ↦
-      let later : nat_le today (days.first + REPAIR_DAYS) ≡ false = lt-leb today (days.first + REPAIR_DAYS) (omega (arith, h.0, leb-false today (days.last + REPAIR_DAYS) past)) in
+      let later : nat_le today (days.first + REPAIR_DAYS) ≡ false =
+      lt-leb today (days.first + REPAIR_DAYS) (omega (arith, h.0, leb-false today (days.last + REPAIR_DAYS) past)) in
       rw (past, later) refl
 ]
 

@@ -144,10 +144,12 @@ module _ (kind : Kind) (leaks : OpenLeaks) (events : List Event) (i : ℕ) (at :
   span_some leak stands opens attempted closed removable attempted_is closed_is removable_is =
       let some : law.opens kind (take i events) e ≡ true = opens_is ∙ opens in
       let closing : law.closing_of kind (take i events) e (drop (i + 1) events) ≡ closed =
-      ap (λ front. option_map (λ x. x.key) (first_from (λ f x _. law.closes kind f x) front (drop (i + 1) events))) (sym (front_is events i e within is)) ∙ sym closed_is in
+      ap (λ front. option_map (λ x. x.key) (first_from (λ f x _. law.closes kind f x) front (drop (i + 1) events))) (sym (front_is events i e within is))
+      ∙ sym closed_is in
       ap (λ x. law.span_at kind events (take i events) x (drop (i + 1) events)) (stands_same events i e leak stands is within)
       ∙ rw some (
-        ap (λ x. tag x (law.closing_of kind (take i events) e (drop (i + 1) events)) (law.is_removable kind events (law.closing_of kind (take i events) e (drop (i + 1) events)))) (sym attempted_is)
+        ap (λ x. tag x (law.closing_of kind (take i events) e (drop (i + 1) events))
+        (law.is_removable kind events (law.closing_of kind (take i events) e (drop (i + 1) events)))) (sym attempted_is)
         ∙ ap (λ x. tag attempted x (law.is_removable kind events x)) closing
         ∙ ap (tag attempted closed) (sym removable_is)
       )

@@ -17,12 +17,16 @@ returns-then-not-is_leak c =
       | then-not-is_leak-via-then-not-is_leak w ↦ and_left (is_leak e.what) (not (is_open leaks)) (sym w.if-not-is_leak.ensures.value)
       | then-not-is_leak-via-else-not-is_leak+then-is_open w ↦ and_right (is_leak e.what) (not (is_open leaks)) (ap not (sym w.if-is_open.ensures.value))
     ] in
-    record { value = λ leak stands. sym (span_none c.args.kind leaks c.args.events.now c.args.place c.requires.leaks e c.requires.in_range c.index-events-place.is leak stands opens) }
+    record {
+      value = λ leak stands.
+          sym (span_none c.args.kind leaks c.args.events.now c.args.place c.requires.leaks e c.requires.in_range c.index-events-place.is leak stands opens);
+    }
 
 pub closing_from-closed-requires : goal.closing_from-closed-requires
 closing_from-closed-requires c = record {
   leaks = subst (λ (x : OpenLeaks). IsAt c.args.kind x c.args.events.now (c.args.place + 1)) (sym c.with.ensures.value)
-      (at_next c.args.kind c.args.leaks c.args.events.now c.args.place c.requires.leaks c.index-events-place.result c.requires.in_range c.index-events-place.is);
+      (at_next c.args.kind c.args.leaks c.args.events.now c.args.place c.requires.leaks c.index-events-place.result c.requires.in_range
+      c.index-events-place.is);
 }
 
 pub returns : goal.returns
