@@ -1,6 +1,13 @@
 //! The tags of a component: from the time from which a leak is known until nothing is left unsettled (40 CFR 60.486a(b)).
 #![tactic(auto)]
 
+mod below_months;
+mod clean_months;
+mod leaks;
+mod next_attempt;
+mod open_leaks;
+mod plain;
+mod rising;
 mod settling;
 mod spans;
 

@@ -1,3 +1,4 @@
+use crate::plain::spans_by_search;
 use crate::spans_of;
 use ldar_days::Day;
 use ldar_facts::{Key, Kind};
@@ -5,214 +6,355 @@ use ldar_law::{Event, Happening, Span};
 use std::alloc::Global;
 use std::test::Fail;
 
-/// 2024-02-20, the day of each leak here.
-fn leak_day() -> Result<Day, Fail> {
-    Ok(Day::of_number(19_773).ok_or("day")?)
-}
+/// 2024-02-20, the day of the first leak in most of these.
+const FEBRUARY: u32 = 19_773;
 
-/// A key so many days after another day.
-fn key(from: Day, days: u32) -> Key {
-    Key {
-        day: from.plus_days(days),
-        minute: 600,
-        handheld: 7,
-        number: 12,
-        index: 0,
-    }
-}
+/// 2023-12-10.
+const DECEMBER: u32 = 19_701;
 
-/// A counting routine reading of so many parts per million, with a leak definition of 500.
-fn read(from: Day, days: u32, ppm: u32) -> Event {
-    Event {
-        key: key(from, days),
-        what: Happening::Read {
-            ppm,
-            background: 0,
-            routine: true,
-            counts: true,
-            below: ppm < 500,
-            leak: 500 <= ppm,
-        },
-    }
-}
-
-/// An attempt at a repair.
-fn attempt(from: Day, days: u32) -> Event {
-    Event {
-        key: key(from, days),
-        what: Happening::Attempt { complete: false },
+/// A reading of so many parts per million, with a leak definition of 500.
+fn read(ppm: u32) -> Happening {
+    Happening::Read {
+        ppm,
+        background: 0,
+        routine: true,
+        counts: true,
+        below: ppm < 500,
+        leak: 500 <= ppm,
     }
 }
 
 /// A delay of the ground of the rule's paragraph.
-fn delay(from: Day, days: u32, ground: u8) -> Event {
-    Event {
-        key: key(from, days),
-        what: Happening::Delay {
-            ground,
-            signer: 9,
-            expected: None,
-        },
+fn delay(ground: u8) -> Happening {
+    Happening::Delay {
+        ground,
+        signer: 9,
+        expected: None,
     }
 }
 
 /// A visual inspection of a pump, which designates drips as a leak or is dry.
-fn look(from: Day, days: u32, designated: bool) -> Event {
-    Event {
-        key: key(from, days),
-        what: Happening::Look {
-            drips: designated,
-            designated,
-            leak: designated,
-        },
+fn look(designated: bool) -> Happening {
+    Happening::Look {
+        drips: designated,
+        designated,
+        leak: designated,
     }
 }
 
-/// Whether the events have just this tag, of a valve.
-fn has_tag(alloc: Global, events: &[Event], tag: Span) -> Result<bool, Fail> {
-    let spans = spans_of(alloc, Kind::Valve, events)?;
-    Ok(spans.as_slice() == [tag].as_slice())
+/// What a letter stands for: a leak and a reading below the leak definition (`L`, `b`), drips and a dry look
+/// (`d`, `y`), what a sensor tells (`S`), an attempt, not complete or complete (`A`, `C`), a delay for want of a
+/// shutdown and one by isolation (`D`, `I`), and going out of service (`R`).
+fn happening(letter: u8) -> Happening {
+    match letter {
+        b'L' => read(700),
+        b'b' => read(20),
+        b'd' => look(true),
+        b'y' => look(false),
+        b'S' => Happening::Sensor {
+            present: true,
+            leak: true,
+        },
+        b'A' => Happening::Attempt { complete: false },
+        b'C' => Happening::Attempt { complete: true },
+        b'D' => delay(1),
+        b'I' => delay(2),
+        _ => Happening::Retire,
+    }
+}
+
+/// A key so many days after a day.
+fn key(from: u32, days: u32) -> Result<Key, Fail> {
+    Ok(Key {
+        day: Day::of_number(from).ok_or("day")?.plus_days(days),
+        minute: 600,
+        handheld: 7,
+        number: 12,
+        index: 0,
+    })
+}
+
+/// The events of these days after a day.
+fn events_of(alloc: Global, from: u32, told: &[(u32, u8)]) -> Result<Vec<Event>, Fail> {
+    let mut events = Vec::new(alloc);
+    for (days, letter) in told {
+        events.push(Event {
+            key: key(from, *days)?,
+            what: happening(*letter),
+        })?;
+    }
+    Ok(events)
+}
+
+/// The days of a tag after a day: its detection, first attempt and closing, and whether it may come off.
+fn text_of(alloc: Global, from: u32, span: &Span) -> Result<String, Fail> {
+    let detected = span.detected.day.number().saturating_sub(from);
+    let mut text = format!(in alloc; "{detected}")?;
+    if let Some(day) = span.attempted {
+        let days = day.number().saturating_sub(from);
+        text = format!(in alloc; "{text} attempted {days}")?;
+    }
+    if let Some(closed) = span.closed {
+        let days = closed.day.number().saturating_sub(from);
+        text = format!(in alloc; "{text} closed {days}")?;
+    }
+    if span.removable {
+        text = format!(in alloc; "{text} removable")?;
+    }
+    Ok(text)
+}
+
+/// The tags of these events, by the walk, which the search finds too.
+fn tags_of(alloc: Global, kind: Kind, from: u32, told: &[(u32, u8)]) -> Result<String, Fail> {
+    let events = events_of(alloc, from, told)?;
+    let spans = spans_of(alloc, kind, &events)?;
+    let searched = spans_by_search(alloc, kind, &events)?;
+    if spans.as_slice() != searched.as_slice() {
+        return Err(Fail::from("the search"));
+    }
+    let mut text = String::new(alloc);
+    for span in &spans {
+        let tag = text_of(alloc, from, span)?;
+        text = format!(in alloc; "{text}{tag}; ")?;
+    }
+    Ok(text)
 }
 
 #[test]
-fn a_reading_settles_after_an_attempt(rt: HostRuntime) -> Result<(), Fail> {
-    let leak = leak_day()?;
-    let events = [
-        read(leak, 0, 700),
-        read(leak, 2, 20),
-        attempt(leak, 3),
-        read(leak, 4, 700),
-        read(leak, 5, 20),
-        attempt(leak, 6),
-        read(leak, 7, 20),
+fn a_tag_closes_when_nothing_is_unsettled(rt: HostRuntime) -> Result<(), Fail> {
+    let alloc = rt.alloc();
+    let cases: [(Kind, &[(u32, u8)], &str); 16] = [
+        (Kind::Valve, &[], ""),
+        // March and April are clean.
+        (
+            Kind::Valve,
+            &[(0, b'L'), (2, b'A'), (15, b'b'), (42, b'b')],
+            "0 attempted 2 closed 15 removable; ",
+        ),
+        // A leak after the attempt: another attempt is wanted.
+        (
+            Kind::Valve,
+            &[(0, b'L'), (1, b'A'), (2, b'L'), (3, b'b'), (4, b'A'), (5, b'b')],
+            "0 attempted 1 closed 5; ",
+        ),
+        // A leak while a tag is open opens no other; April and May are clean, after both closings.
+        (
+            Kind::Valve,
+            &[
+                (0, b'L'),
+                (2, b'A'),
+                (15, b'b'),
+                (20, b'L'),
+                (21, b'L'),
+                (22, b'A'),
+                (23, b'b'),
+                (70, b'b'),
+                (100, b'b'),
+                (101, b'A'),
+            ],
+            "0 attempted 2 closed 15 removable; 20 attempted 22 closed 23 removable; ",
+        ),
+        (Kind::Pump, &[(0, b'd'), (2, b'y')], "0; "),
+        (
+            Kind::Pump,
+            &[(0, b'd'), (1, b'A'), (2, b'y')],
+            "0 attempted 1 closed 2 removable; ",
+        ),
+        // A dry look settles the drips and not the reading.
+        (
+            Kind::Pump,
+            &[(0, b'L'), (1, b'd'), (2, b'A'), (3, b'y')],
+            "0 attempted 2; ",
+        ),
+        (
+            Kind::Pump,
+            &[(0, b'L'), (1, b'd'), (2, b'A'), (3, b'y'), (4, b'b')],
+            "0 attempted 2 closed 4 removable; ",
+        ),
+        (
+            Kind::Compressor,
+            &[(0, b'S'), (1, b'A'), (2, b'b')],
+            "0 attempted 1; ",
+        ),
+        (
+            Kind::Compressor,
+            &[(0, b'S'), (1, b'C')],
+            "0 attempted 1 closed 1 removable; ",
+        ),
+        // The attempt comes after both detections.
+        (
+            Kind::Valve,
+            &[(0, b'L'), (3, b'R'), (5, b'L'), (9, b'A')],
+            "0 attempted 9 closed 3; 5 attempted 9; ",
+        ),
+        // Days that fall, for which there is the search alone.
+        (
+            Kind::Valve,
+            &[(5, b'L'), (0, b'A'), (6, b'b')],
+            "5 attempted 0 closed 6; ",
+        ),
+        // Delays by another ground, and of another kind of equipment.
+        (
+            Kind::Valve,
+            &[(0, b'L'), (1, b'I'), (19, b'b'), (50, b'b')],
+            "0; ",
+        ),
+        (
+            Kind::Compressor,
+            &[(0, b'L'), (1, b'D'), (19, b'b'), (50, b'b')],
+            "0; ",
+        ),
+        // The drips of day 44 are settled with those of day 40.
+        (
+            Kind::Pump,
+            &[
+                (40, b'd'),
+                (41, b'y'),
+                (42, b'A'),
+                (43, b'A'),
+                (44, b'd'),
+                (45, b'y'),
+                (46, b'A'),
+                (47, b'b'),
+                (90, b'd'),
+            ],
+            "40 attempted 42 closed 47 removable; 90; ",
+        ),
+        (Kind::Pump, &[(0, b'b'), (1, b'y'), (2, b'A')], ""),
     ];
-    let tag = Span {
-        detected: key(leak, 0),
-        attempted: Some(leak.plus_days(3)),
-        closed: Some(key(leak, 7)),
-        removable: false,
-    };
-    assert!(rt; has_tag(rt.alloc(), &events, tag)?);
-    Ok(())
-}
-
-#[test]
-fn a_valve_has_a_second_tag_after_the_first(rt: HostRuntime) -> Result<(), Fail> {
-    let leak = leak_day()?;
-    let events = [
-        read(leak, 0, 620),
-        attempt(leak, 2),
-        read(leak, 15, 20),
-        // A leak while a tag is open opens no other.
-        read(leak, 20, 500),
-        read(leak, 21, 900),
-        attempt(leak, 22),
-        read(leak, 23, 499),
-        read(leak, 70, 20),
-        read(leak, 100, 20),
-        attempt(leak, 101),
-    ];
-    // April and May are clean, after both closings.
-    let first = Span {
-        detected: key(leak, 0),
-        attempted: Some(leak.plus_days(2)),
-        closed: Some(key(leak, 15)),
-        removable: true,
-    };
-    let second = Span {
-        detected: key(leak, 20),
-        attempted: Some(leak.plus_days(22)),
-        closed: Some(key(leak, 23)),
-        removable: true,
-    };
-    let spans = spans_of(rt.alloc(), Kind::Valve, &events)?;
-    assert_eq!(rt; spans.as_slice(), [first, second].as_slice());
+    for (kind, told, tags) in cases {
+        assert_eq!(rt; tags_of(alloc, kind, FEBRUARY, told)?.as_str(), tags);
+    }
     Ok(())
 }
 
 #[test]
 fn two_readings_settle_a_delayed_leak(rt: HostRuntime) -> Result<(), Fail> {
-    let leak = leak_day()?;
-    // The ground of the delay, and whether the second reading closes the tag.
-    for (ground, closes) in [(3, true), (2, false)] {
-        let events = [
-            read(leak, 0, 700),
-            delay(leak, 1, ground),
-            read(leak, 19, 20),
-            read(leak, 50, 20),
-        ];
-        let tag = Span {
-            detected: key(leak, 0),
-            attempted: None,
-            closed: if closes { Some(key(leak, 50)) } else { None },
-            removable: false,
-        };
-        assert!(rt; has_tag(rt.alloc(), &events, tag)?);
+    let alloc = rt.alloc();
+    // Readings of March and April 2024, or of December 2023, January and February 2024.
+    let cases: [(u32, &[(u32, u8)], &str); 9] = [
+        (
+            FEBRUARY,
+            &[(0, b'L'), (15, b'D'), (19, b'b'), (50, b'b')],
+            "0 closed 50; ",
+        ),
+        (
+            FEBRUARY,
+            &[(0, b'L'), (16, b'D'), (19, b'b'), (50, b'b')],
+            "0; ",
+        ),
+        // The first reading may come before the delay, and a month may have several.
+        (
+            FEBRUARY,
+            &[(0, b'L'), (11, b'b'), (12, b'b'), (15, b'D'), (50, b'b')],
+            "0 closed 50; ",
+        ),
+        (
+            FEBRUARY,
+            &[(0, b'L'), (15, b'D'), (19, b'b'), (20, b'b')],
+            "0; ",
+        ),
+        // A leak between the readings.
+        (
+            FEBRUARY,
+            &[(0, b'L'), (1, b'D'), (19, b'b'), (45, b'L'), (50, b'b')],
+            "0; ",
+        ),
+        // The delay reaches the second leak, and the first wants an attempt.
+        (
+            FEBRUARY,
+            &[(0, b'L'), (10, b'L'), (20, b'D'), (22, b'b'), (50, b'b'), (51, b'A'), (52, b'b')],
+            "0 attempted 51 closed 52; ",
+        ),
+        // What a sensor told is delayed as well.
+        (
+            FEBRUARY,
+            &[(0, b'S'), (1, b'D'), (19, b'b'), (50, b'b')],
+            "0 closed 50; ",
+        ),
+        // Over a year's end, where January and February are clean.
+        (
+            DECEMBER,
+            &[(0, b'L'), (1, b'D'), (5, b'b'), (40, b'b'), (60, b'b')],
+            "0 closed 40 removable; ",
+        ),
+        (
+            DECEMBER,
+            &[(0, b'L'), (1, b'D'), (5, b'b'), (60, b'b')],
+            "0; ",
+        ),
+    ];
+    for (from, told, tags) in cases {
+        assert_eq!(rt; tags_of(alloc, Kind::Valve, from, told)?.as_str(), tags);
     }
     Ok(())
 }
 
 #[test]
-fn two_clean_months_make_a_tag_removable(rt: HostRuntime) -> Result<(), Fail> {
-    let leak = leak_day()?;
-    let events = [
-        read(leak, 0, 620),
-        attempt(leak, 2),
-        read(leak, 15, 20),
-        read(leak, 42, 20),
-    ];
+fn a_leak_that_nobody_repairs_is_one_tag(rt: HostRuntime) -> Result<(), Fail> {
+    let alloc = rt.alloc();
+    let mut told = Vec::new(alloc);
+    for days in 0..505 {
+        told.push((days, b'L'))?;
+    }
+    let events = events_of(alloc, FEBRUARY, &told)?;
+    let spans = spans_of(alloc, Kind::Valve, &events)?;
     let tag = Span {
-        detected: key(leak, 0),
-        attempted: Some(leak.plus_days(2)),
-        closed: Some(key(leak, 15)),
-        removable: true,
-    };
-    assert!(rt; has_tag(rt.alloc(), &events, tag)?);
-    Ok(())
-}
-
-#[test]
-fn drips_of_a_pump_have_a_tag_each(rt: HostRuntime) -> Result<(), Fail> {
-    let leak = leak_day()?;
-    let events = [
-        read(leak, 0, 20),
-        look(leak, 1, false),
-        look(leak, 2, true),
-        read(leak, 3, 20),
-        attempt(leak, 4),
-        look(leak, 5, false),
-        read(leak, 6, 20),
-        look(leak, 7, false),
-        look(leak, 40, true),
-        look(leak, 41, false),
-        attempt(leak, 42),
-        attempt(leak, 43),
-        look(leak, 44, true),
-        look(leak, 45, false),
-        attempt(leak, 46),
-        read(leak, 47, 20),
-        look(leak, 90, true),
-    ];
-    let first = Span {
-        detected: key(leak, 2),
-        attempted: Some(leak.plus_days(4)),
-        closed: Some(key(leak, 5)),
-        removable: true,
-    };
-    // The drips of day 44 are settled with those of day 40, and by an attempt that follows them.
-    let second = Span {
-        detected: key(leak, 40),
-        attempted: Some(leak.plus_days(42)),
-        closed: Some(key(leak, 47)),
-        removable: true,
-    };
-    let third = Span {
-        detected: key(leak, 90),
+        detected: key(FEBRUARY, 0)?,
         attempted: None,
         closed: None,
         removable: false,
     };
-    let spans = spans_of(rt.alloc(), Kind::Pump, &events)?;
-    assert_eq!(rt; spans.as_slice(), [first, second, third].as_slice());
+    assert!(rt; spans.as_slice() == [tag].as_slice());
+    Ok(())
+}
+
+#[test]
+fn two_thousand_events_have_a_thousand_tags(rt: HostRuntime) -> Result<(), Fail> {
+    let alloc = rt.alloc();
+    let mut told = Vec::new(alloc);
+    for days in 0..1000 {
+        told.push((days, b'L'))?;
+        told.push((days, b'R'))?;
+    }
+    told.push((1_000, b'A'))?;
+    let events = events_of(alloc, FEBRUARY, &told)?;
+    let spans = spans_of(alloc, Kind::Valve, &events)?;
+    let last = key(FEBRUARY, 1_000)?.day;
+    assert_eq!(rt; spans.len(), 1_000);
+    for span in &spans {
+        assert!(rt; span.attempted == Some(last) && span.closed == Some(span.detected));
+    }
+    Ok(())
+}
+
+#[test]
+fn an_event_that_is_both_is_searched_for(rt: HostRuntime) -> Result<(), Fail> {
+    let alloc = rt.alloc();
+    let both = Happening::Read {
+        ppm: 500,
+        background: 0,
+        routine: true,
+        counts: true,
+        below: true,
+        leak: true,
+    };
+    let events = [
+        Event {
+            key: key(FEBRUARY, 0)?,
+            what: both,
+        },
+        Event {
+            key: key(FEBRUARY, 1)?,
+            what: delay(1),
+        },
+        Event {
+            key: key(FEBRUARY, 20)?,
+            what: read(20),
+        },
+    ];
+    // A leak is no first reading for itself.
+    let spans = spans_of(alloc, Kind::Valve, &events)?;
+    assert!(rt; spans.len() == 1 && spans[0].closed.is_none());
     Ok(())
 }

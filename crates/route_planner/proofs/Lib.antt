@@ -1,3 +1,5 @@
+mod CoverLemmas
+mod LeastLemmas
 mod RouteLemmas
 mod Sorted
 mod VisitLemmas

@@ -12,7 +12,8 @@ use Rattle.ldar_law.proofs.WeakOrder.{InOrder, IsWeakOrder, put_keeps}
 
 -- What a sort gives is the list in order, where what ties is the same.
 module _ {X : Type 0} (before : X → X → Bool) (order : IsStrictWeakOrder before) where
-  weak : IsWeakOrder before
+  -- the order is a weak one
+  pub weak : IsWeakOrder before
   weak = record {
     asymmetric = order.one_way;
     carries = λ x y z e f. elim (cases_Bool (before x z)) [
@@ -102,3 +103,11 @@ module _ {X : Type 0} (before : X → X → Bool) (order : IsStrictWeakOrder bef
     sorted_is_in_order xs ys moved up =
         one_list ys (in_order before xs) (from_sorted ys up) (each_in_order xs)
         (λ z. sum_by-IsPermutation (one z) xs ys moved ∙ sym (sum_by-IsPermutation (one z) xs (in_order before xs) (in_order_permutes before xs)))
+
+    -- lists with the same elements are one list in order
+    pub permuted_in_order : (xs ys : List X) → IsPermutation xs ys → in_order before xs ≡ in_order before ys
+    permuted_in_order xs ys moved =
+        one_list (in_order before xs) (in_order before ys) (each_in_order xs) (each_in_order ys) (λ z.
+        sum_by-IsPermutation (one z) xs (in_order before xs) (in_order_permutes before xs)
+        ∙ sym (sum_by-IsPermutation (one z) xs ys moved)
+        ∙ sym (sum_by-IsPermutation (one z) ys (in_order before ys) (in_order_permutes before ys)))

@@ -17,7 +17,8 @@ use Rattle.route_planner.proofs.Sorted.{sorted_is_in_order}
 visit_cmp_total : IsTotalOrder visit_cmp
 visit_cmp_total = then_total (on_total (λ v. v.due) nat_cmp_total) (on_total (λ v. v.component) nat_cmp_total)
 
-goes_first_order : IsStrictWeakOrder goes_first
+-- visits stand in a weak order
+pub goes_first_order : IsStrictWeakOrder goes_first
 goes_first_order = ranks_by visit_cmp_total (λ v. v)
 
 -- of two pairs of numbers the first is less, or the first is the same and the second is less
@@ -30,7 +31,8 @@ less_is a b = elim (cases_Bool (nat_lt a b)) [
   | inr f ↦ elim (cases_Bool (nat_eq a b)) [ inl e ↦ rw (f, e) refl | inr n ↦ rw (f, n) refl ]
 ]
 
-goes_first_is : (a b : Visit) → goes_first a b ≡ pair_less a.due b.due a.component b.component
+-- .. by their days and then by their components
+pub goes_first_is : (a b : Visit) → goes_first a b ≡ pair_less a.due b.due a.component b.component
 goes_first_is a b = elim (cases_Bool (nat_lt a.due b.due)) [
   | inl t ↦ rw t refl
   | inr f ↦ elim (cases_Bool (nat_eq a.due b.due)) [
@@ -64,11 +66,11 @@ pair_same a b c d one two =
     (same, not_less c d up down)
 
 -- the visit of a day to a component
-abbrev visit_on : ℕ → ℕ → Visit
+abbrev pub visit_on : ℕ → ℕ → Visit
 visit_on due component = record { due = due; component = component }
 
 -- two visits of which neither goes first are the same
-visit_same : (a b : Visit) → goes_first a b ≡ false → goes_first b a ≡ false → a ≡ b
+pub visit_same : (a b : Visit) → goes_first a b ≡ false → goes_first b a ≡ false → a ≡ b
 visit_same a b one two =
     let fields = pair_same a.due b.due a.component b.component (sym (goes_first_is a b) ∙ one) (sym (goes_first_is b a) ∙ two) in
     ap (λ due. visit_on due a.component) fields.0 ∙ ap (visit_on b.due) fields.1

@@ -1,10 +1,11 @@
 -- Visits: what the planner makes of duties.
-use Rattle.std.specs.Prelude.{ℕ, Bool, nat_eq, is_none, if◌then◌else◌, List, [], ◌∷◌, ◌++◌, filter, map}
-use Rattle.std.specs.List.{list_any}
+use Rattle.std.specs.Prelude.{◌≡◌, ℕ, ◌+◌, ◌≤◌, Bool, nat_eq, nat_lt, is_none, if◌then◌else◌, Option, Some, None, List, [], ◌∷◌, ◌++◌, Contains, filter, map, length, slice_index_or}
+use Rattle.std.specs.List.{AllByRecursion, list_any}
 use Rattle.std.specs.Ordering.{is_lt, nat_cmp, then_cmp, on}
 use Rattle.std.specs.declared.cmp.Ordering.{Ordering}
 use Rattle.ldar_law.specs.declared.duty.Duty.{Duty}
 use Rattle.ldar_law.specs.declared.route.Route.{Route}
+use Rattle.route_planner.specs.declared.visits.TheConstants.{NUMBERS}
 use Rattle.route_planner.specs.declared.visits.Visit.{Visit}
 
 -- the visit that a duty asks for
@@ -26,6 +27,28 @@ goes_first a b = is_lt (visit_cmp a b)
 -- the component at the end, unless it is there already
 abbrev pub with_visit : List ℕ → Visit → List ℕ
 with_visit stops visit = if list_any (λ stop. nat_eq stop visit.component) stops then stops else stops ++ visit.component ∷ []
+
+-- the earlier of a day that may be known and another
+abbrev pub earlier_of : Option ℕ → ℕ → ℕ
+earlier_of None day = day
+earlier_of (Some due) day = if nat_lt day due then day else due
+
+-- a day is known that is not later than this one
+abbrev pub IsBy : Option ℕ → ℕ → Type 0
+IsBy None day = ⊥
+IsBy (Some due) day = due ≤ day
+
+-- the least due days of visits, by the number of their component
+pub record TellsLeast (days : List (Option ℕ)) (visits : List Visit) : Type 0 where
+  pub size : length days ≡ NUMBERS
+  pub least : AllByRecursion (λ v. IsBy (slice_index_or days v.component None) v.due) visits
+  pub asked : (number due : ℕ) → slice_index_or days number None ≡ Some due → Contains visits (record { due = due; component = number })
+
+-- the visits on days, by number
+abbrev pub visits_from : ℕ → List (Option ℕ) → List Visit
+visits_from number [] = []
+visits_from number (None ∷ days) = visits_from (number + 1) days
+visits_from number (Some due ∷ days) = record { due = due; component = number } ∷ visits_from (number + 1) days
 
 -- the route through these components
 abbrev pub route_through : List ℕ → Route

@@ -127,6 +127,13 @@ fn a_component_is_a_stop_once(rt: HostRuntime) -> Result<(), Fail> {
             done(2, "2024-03-08")?,
             "60000 1 / ",
         ),
+        // The first number and the last.
+        (
+            open(u16::MAX, "2024-03-10")?,
+            open(0, "2024-03-10")?,
+            open(u16::MAX, "2024-03-09")?,
+            "65535 0 / ",
+        ),
         (
             done(1, "2024-03-10")?,
             done(2, "2024-03-10")?,
