@@ -1,35 +1,34 @@
-ghost use Rattle.std.specs.Prelude.{◌≡◌, option_map};
+ghost use Rattle.std.specs.Prelude.{◌≡◌, ℕ, List, option_map};
+ghost use Rattle.ldar_law.specs.declared.delay.Stop.{Stop as SomeStop};
 ghost use Rattle.ldar_law.specs.Delays as law;
+ghost use Rattle.delay_of_repair.specs.Ends.{AreEnds};
 
-use crate::shutdowns::{end_of_first, end_of_second};
+use crate::shutdowns::Ends;
 use ldar_days::Day;
-use ldar_law::{DelayEntry, Stop, Until, repair_by};
+use ldar_law::{DelayEntry, Until, repair_by};
 
 /// The due day that a delay of this ground gives, entered on this day.
-fn due_by(detected: Day, attempts: &[Day], stops: &[Stop], why: u8, day: Day) -> Until
-    ensures value { result ≡ law.due_by detected attempts.now stops.now why day }
+fn due_by(detected: Day, ends: &Ends, why: u8, day: Day) -> Until
+    ensures value { (attempts : List ℕ) (stops : List SomeStop) → AreEnds detected attempts stops ends.now
+        → result ≡ law.due_by detected attempts stops why day }
 {
     match why {
         0 => Until::Date(repair_by(detected).max(day)),
-        1 => end_of_first(detected, attempts, stops),
+        1 => ends.first,
         2 => Until::WhileIsolated,
         3 => Until::NoDate,
         4 => Until::Date(detected.plus_months(6)),
-        _ => end_of_second(detected, attempts, stops),
+        _ => ends.second,
     }
 }
 
 /// The due day that the last counted delay gives, and the fifteenth day where there is none.
-pub fn due_given(
-    detected: Day,
-    attempts: &[Day],
-    stops: &[Stop],
-    last: &Option<(usize, DelayEntry)>,
-) -> Until
-    ensures value { result ≡ law.due_given detected attempts.now stops.now (option_map (λ c. c.1) last.now) }
+pub fn due_given(detected: Day, ends: &Ends, last: &Option<(usize, DelayEntry)>) -> Until
+    ensures value { (attempts : List ℕ) (stops : List SomeStop) → AreEnds detected attempts stops ends.now
+        → result ≡ law.due_given detected attempts stops (option_map (λ c. c.1) last.now) }
 {
     match *last {
         None => Until::Date(repair_by(detected)),
-        Some((_, delay)) => due_by(detected, attempts, stops, delay.ground, delay.key.day),
+        Some((_, delay)) => due_by(detected, ends, delay.ground, delay.key.day),
     }
 }

@@ -5,7 +5,7 @@ mod delays;
 mod grounds;
 mod shutdowns;
 
-pub use delays::{counted, repair_due};
+pub use delays::{Repair, counted, repair_due, repair_of};
 
 #[cfg(test)]
 mod tests;

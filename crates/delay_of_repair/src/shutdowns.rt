@@ -1,5 +1,6 @@
 ghost use Rattle.std.specs.Prelude.{◌≡◌, slice_get, drop};
 ghost use Rattle.ldar_law.specs.Delays as law;
+ghost use Rattle.delay_of_repair.specs.Ends.{AreEnds};
 
 use ldar_days::Day;
 use ldar_law::{Stop, Until, VERIFICATION_DAYS};
@@ -14,7 +15,7 @@ fn has_attempt_in(attempts: &[Day], stop: &Stop) -> bool
 }
 
 /// The end of a shutdown.
-pub fn end_of(attempts: &[Day], stop: &Stop) -> Day
+fn end_of(attempts: &[Day], stop: &Stop) -> Day
     ensures value { result ≡ law.end_of attempts.now stop.now }
 {
     if has_attempt_in(attempts, stop) {
@@ -53,7 +54,7 @@ fn end_at(detected: Day, attempts: &[Day], stops: &[Stop], place: usize) -> Unti
 }
 
 /// The end of the first shutdown that begins after the detection, once it is known.
-pub fn end_of_first(detected: Day, attempts: &[Day], stops: &[Stop]) -> Until
+fn end_of_first(detected: Day, attempts: &[Day], stops: &[Stop]) -> Until
     ensures value { result ≡ law.end_of_first attempts.now (law.stops_after detected stops.now) }
 {
     end_at(detected, attempts, stops, 0)
@@ -61,7 +62,7 @@ pub fn end_of_first(detected: Day, attempts: &[Day], stops: &[Stop]) -> Until
 
 /// The end of the second shutdown that begins after the detection, or of the third where the second begins
 /// sooner than six months after the first began, once it is known.
-pub fn end_of_second(detected: Day, attempts: &[Day], stops: &[Stop]) -> Until
+fn end_of_second(detected: Day, attempts: &[Day], stops: &[Stop]) -> Until
     ensures value { result ≡ law.end_of_second attempts.now (law.stops_after detected stops.now) }
 {
     let Some(first) = stop_after(detected, stops, 0) else {
@@ -74,5 +75,26 @@ pub fn end_of_second(detected: Day, attempts: &[Day], stops: &[Stop]) -> Until
         end_at(detected, attempts, stops, 2)
     } else {
         Until::Date(end_of(attempts, &second))
+    }
+}
+
+/// The ends of the shutdowns that may delay a repair, each found once.
+#[derive(Clone, Copy)]
+pub struct Ends {
+    /// That of the first shutdown after the detection (40 CFR 60.482-9a(a)).
+    pub first: Until,
+    /// That of the second, or of the third where the second comes too soon (40 CFR 60.482-9a(e)).
+    pub second: Until,
+}
+
+impl Ends {
+    /// The ends after a detection.
+    pub fn after(detected: Day, attempts: &[Day], stops: &[Stop]) -> Ends
+        ensures value { AreEnds detected attempts.now stops.now result }
+    {
+        Ends {
+            first: end_of_first(detected, attempts, stops),
+            second: end_of_second(detected, attempts, stops),
+        }
     }
 }

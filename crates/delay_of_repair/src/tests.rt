@@ -1,4 +1,4 @@
-use crate::{counted, repair_due};
+use crate::{Repair, counted, repair_due, repair_of};
 use ldar_days::Day;
 use ldar_facts::Key;
 use ldar_law::{DelayEntry, Stop, Until};
@@ -118,6 +118,11 @@ fn a_delay_past_the_due_day_is_ignored(rt: HostRuntime) -> Result<(), Fail> {
         date("2024-03-06")?
     );
     assert_eq!(rt; counted(day("2024-02-20")?, &none, &[], &[]), None);
+    let neither = Repair {
+        due: date("2024-03-06")?,
+        counted: None,
+    };
+    assert_eq!(rt; repair_of(day("2024-02-20")?, &none, &[], &[]), neither);
     Ok(())
 }
 
@@ -211,6 +216,11 @@ fn the_last_delay_that_counts_decides(rt: HostRuntime) -> Result<(), Fail> {
             Some(place),
             "then on {entered}"
         );
+        let both = Repair {
+            due: until,
+            counted: Some(place),
+        };
+        assert_eq!(rt; repair_of(day("2024-02-20")?, &delays, &[], &stops), both);
     }
     Ok(())
 }

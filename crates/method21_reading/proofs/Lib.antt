@@ -1,3 +1,6 @@
+pub mod ApartLemmas
 pub mod EventLemmas
 pub mod FitnessLemmas
+pub mod FrontLemmas
+pub mod LaterLemmas
 pub mod NextCalibration

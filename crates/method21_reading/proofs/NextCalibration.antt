@@ -63,8 +63,8 @@ pub nearest_of_all : (next : Option Key) (later : Key) → (is_before next later
 nearest_of_all next later = sym (or_false (is_before next later))
 
 -- the next calibration alone says what lies between
-pub voided_same : (facts : List Entry) (next : Option Key) (key : Key) (instrument limit ppm : ℕ) →
-    ((later : Key) → is_calibrated_before facts key instrument later ≡ is_before next later) →
-    find (is_voided_until next key instrument limit ppm) facts ≡ find (is_voided_by facts key instrument limit ppm) facts
-voided_same facts next key instrument limit ppm says =
-    find_agree (is_voided_until next key instrument limit ppm) (is_voided_by facts key instrument limit ppm) (λ e. rw (says e.0) refl) facts
+pub voided_same : (calibrations drifts : List Entry) (next : Option Key) (key : Key) (instrument limit ppm : ℕ) →
+    ((later : Key) → is_calibrated_before calibrations key instrument later ≡ is_before next later) →
+    find (is_voided_until next key instrument limit ppm) drifts ≡ find (is_voided_by calibrations key instrument limit ppm) drifts
+voided_same calibrations drifts next key instrument limit ppm says =
+    find_agree (is_voided_until next key instrument limit ppm) (is_voided_by calibrations key instrument limit ppm) (λ e. rw (says e.0) refl) drifts

@@ -1,1 +1,3 @@
+pub mod Instruments
+pub mod Parts
 pub mod Readings

@@ -8,7 +8,7 @@ use crate::precision::sum_of;
 use ldar_facts::{Fact, FactBody, Key, precedes};
 
 /// Whether the mean of three readings lies more than 10 percent below the known value (40 CFR 60.485a(b)(2)).
-fn has_drifted(value: u32, readings: (u32, u32, u32)) -> bool
+pub fn has_drifted(value: u32, readings: (u32, u32, u32)) -> bool
     ensures value { result ≡ law.has_drifted value (law.sum_of readings) }
 {
     let known = 3 * u64::from(value);
@@ -88,14 +88,15 @@ fn first_voiding(
 /// The first drift assessment of the day after a reading below the leak definition that voids it, with no
 /// calibration between them (40 CFR 60.485a(b)(2)).
 pub fn voiding_drift(
-    facts: &[(Key, Fact)],
+    calibrations: &[(Key, Fact)],
+    drifts: &[(Key, Fact)],
     key: &Key,
     instrument: u16,
     limit: u32,
     ppm: u32,
 ) -> Option<Key>
-    ensures value { result ≡ option_map (λ e. e.0) (find (law.is_voided_by facts.now key.now instrument limit ppm) facts.now) }
+    ensures value { result ≡ option_map (λ e. e.0) (find (law.is_voided_by calibrations.now key.now instrument limit ppm) drifts.now) }
 {
-    let next = next_calibration(facts, key, instrument);
-    first_voiding(facts, &next, key, instrument, limit, ppm)
+    let next = next_calibration(calibrations, key, instrument);
+    first_voiding(drifts, &next, key, instrument, limit, ppm)
 }

@@ -1,9 +1,13 @@
 ghost use Rattle.std.specs.Prelude.{◌≡◌, ◌++◌, OnOk, IfOk};
 ghost use Rattle.std.specs.Option.{option_to_list};
+ghost use Rattle.list_words.specs.Order.{Ascends};
+ghost use Rattle.ldar_facts.specs.Facts.{is_earlier};
 ghost use Rattle.ldar_law.specs.Events as law;
+ghost use Rattle.ldar_law.specs.Standing as standing;
 ghost use Rattle.method21_reading.specs.Readings.{AreEventsAmongAll};
 
 use crate::happening::happening;
+use ldar_days::Day;
 use ldar_facts::{Class, Fact, FactBody, Key, Memory};
 use ldar_law::{Equipment, Event, Fitness, Happening};
 use std::alloc::Global;
@@ -18,6 +22,7 @@ pub fn events_of(
     facts: &[(Key, Fact)],
     fitness: &[Fitness],
 ) -> Result<Vec<Event>, Memory>
+    requires ordered { Ascends (λ a b. is_earlier a.0 b.0) classes.now }
     ensures value { IfOk result (λ events. events.items ≡ law.events_with equipment.now classes.now facts.now fitness.now) }
     ensures of_all { IfOk result (λ events. AreEventsAmongAll equipment.now classes.now facts.now fitness.now events.items) }
 {
@@ -38,11 +43,23 @@ pub fn event_of(
     e: &(Key, Fact),
     fitness: &Fitness,
 ) -> Option<Event>
+    requires ordered { Ascends (λ a b. is_earlier a.0 b.0) classes.now }
     ensures value { result ≡ law.event_of equipment.now classes.now e.now fitness.now }
 {
     match judged(equipment, classes, e, fitness) {
         Some(what) => Some(Event { key: e.0, what }),
         None => None,
+    }
+}
+
+/// The component as it is entered, but with the class in force on a day, found by halving.
+fn standing_on(equipment: &Equipment, classes: &[(Key, Class)], day: Day) -> Equipment
+    requires ordered { Ascends (λ a b. is_earlier a.0 b.0) classes.now }
+    ensures value { result ≡ standing.standing_on equipment.now classes.now day }
+{
+    Equipment {
+        class: equipment.ordered_class_on(classes, day),
+        ..*equipment
     }
 }
 
@@ -53,10 +70,11 @@ fn judged(
     e: &(Key, Fact),
     fitness: &Fitness,
 ) -> Option<Happening>
+    requires ordered { Ascends (λ a b. is_earlier a.0 b.0) classes.now }
     ensures value { result ≡ law.happening equipment.now classes.now e.now.0.day fitness.now e.now.1.body }
 {
     let day = e.0.day;
-    let item = equipment.standing_on(classes, day);
+    let item = standing_on(equipment, classes, day);
     happening(&item, day, fitness, &e.1.body)
 }
 
@@ -68,6 +86,7 @@ fn push_event(
     e: &(Key, Fact),
     fitness: &Fitness,
 ) -> Result<(), Memory>
+    requires ordered { Ascends (λ a b. is_earlier a.0 b.0) classes.now }
     ensures taken { OnOk result (events.new.items ≡ events.old.items ++ option_to_list (law.event_of equipment.now classes.now e.now fitness.now)) }
 {
     if let Some(what) = judged(equipment, classes, e, fitness) {

@@ -2,9 +2,11 @@ ghost use Rattle.std.specs.Prelude.{◌≡◌};
 ghost use Rattle.list_words.specs.Order.{Ascends};
 ghost use Rattle.ldar_facts.specs.Facts.{goes_first};
 ghost use Rattle.ldar_law.specs.Fitness.{fitness_of};
+ghost use Rattle.method21_reading.specs.Instruments.{fitness_apart};
 ghost use Rattle.method21_reading.specs.Readings.{fitness_by, IsFitnessAmongAll};
 
 use crate::calibration::{is_calibrated, is_calibrated_within};
+use crate::day::facts_on;
 use crate::drift::voiding_drift;
 use crate::precision::is_tested;
 use ldar_facts::{Fact, FactBody, Key};
@@ -13,7 +15,8 @@ use ldar_law::{Fitness, GAS_MARGIN};
 /// Whether a reading with this key may be used, judged by a leak definition in parts per million by volume, and the
 /// first reason why not (40 CFR 60.485a(b); EPA Method 21, sections 8.1.2 and 10.1). The facts of its instrument
 /// are in key order (`are_in_key_order` of `ldar_law` is the test); facts of others among them have no effect. A fact
-/// that is no reading has no calibration.
+/// that is no reading has no calibration. The facts of the reading's day are found by halving; for many readings of an
+/// instrument see `Instrument`.
 pub fn fit(reading: &Fact, key: &Key, limit: u32, instrument: &[(Key, Fact)]) -> Fitness
     requires ordered { Ascends goes_first instrument.now }
     ensures value { result ≡ fitness_by limit instrument.now key.now reading.now.body }
@@ -31,23 +34,37 @@ pub fn fit(reading: &Fact, key: &Key, limit: u32, instrument: &[(Key, Fact)]) ->
 
 /// Whether a reading of so many parts per million with this instrument may be used.
 fn judged(facts: &[(Key, Fact)], limit: u32, key: &Key, instrument: u16, ppm: u32) -> Fitness
+    requires ordered { Ascends goes_first facts.now }
     ensures value { result ≡ fitness_of facts.now limit key.now instrument ppm }
 {
-    if !is_calibrated(facts, key, instrument) {
+    let today = facts_on(facts, key.day);
+    judged_apart(today, facts, today, limit, key, instrument, ppm)
+}
+
+/// The same by calibrations, precision tests and drift assessments that stand apart.
+pub fn judged_apart(
+    calibrations: &[(Key, Fact)],
+    tests: &[(Key, Fact)],
+    drifts: &[(Key, Fact)],
+    limit: u32,
+    key: &Key,
+    instrument: u16,
+    ppm: u32,
+) -> Fitness
+    requires ordered { Ascends goes_first tests.now }
+    ensures value { result ≡ fitness_apart calibrations.now tests.now drifts.now limit key.now instrument ppm }
+{
+    if !is_calibrated(calibrations, key, instrument) {
         return Fitness::NoCalibration;
     }
-    if !is_calibrated_within(
-        facts,
-        key,
-        instrument,
-        u64::from(limit) + u64::from(GAS_MARGIN),
-    ) {
+    let most = u64::from(limit) + u64::from(GAS_MARGIN);
+    if !is_calibrated_within(calibrations, key, instrument, most) {
         return Fitness::GasTooHigh;
     }
-    if !is_tested(facts, key, instrument) {
+    if !is_tested(tests, key, instrument) {
         return Fitness::NoPrecision;
     }
-    match voiding_drift(facts, key, instrument, limit, ppm) {
+    match voiding_drift(calibrations, drifts, key, instrument, limit, ppm) {
         Some(drift) => Fitness::Voided { drift },
         None => Fitness::Fit,
     }

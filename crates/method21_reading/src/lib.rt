@@ -2,14 +2,18 @@
 #![tactic(auto)]
 
 mod calibration;
+mod day;
 mod drift;
 mod events;
 mod fitness;
 mod happening;
+mod instrument;
+mod part;
 mod precision;
 
 pub use events::{event_of, events_of};
 pub use fitness::fit;
+pub use instrument::Instrument;
 pub use ldar_law::limit;
 
 #[cfg(test)]

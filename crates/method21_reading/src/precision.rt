@@ -1,5 +1,9 @@
-ghost use Rattle.std.specs.Prelude.{◌≡◌, nat_le};
+ghost use Rattle.std.specs.Prelude.{◌≡◌, nat_le, false, option_map};
+ghost use Rattle.std.specs.Option.{option_map_or};
+ghost use Rattle.list_words.specs.Order.{Ascends};
+ghost use Rattle.list_words.specs.Words.{last_such};
 ghost use Rattle.ldar_days.specs.Calendar.{later_by};
+ghost use Rattle.ldar_facts.specs.Facts.{goes_first, is_earlier};
 ghost use Rattle.ldar_law.specs.Fitness as law;
 
 use ldar_days::Day;
@@ -13,7 +17,7 @@ pub fn sum_of(readings: (u32, u32, u32)) -> u64
 }
 
 /// Whether the mean of three readings lies within 10 percent of the known value (EPA Method 21, section 8.1.2).
-fn is_precise(value: u32, readings: (u32, u32, u32)) -> bool
+pub fn is_precise(value: u32, readings: (u32, u32, u32)) -> bool
     ensures value { result ≡ law.is_precise value (law.sum_of readings) }
 {
     let known = 3 * u64::from(value);
@@ -35,16 +39,15 @@ fn is_passed_precision(instrument: u16, body: &FactBody) -> bool
     }
 }
 
-/// Whether some precision test that was passed is earlier than the reading with this key, and three months old at
-/// most (EPA Method 21, section 8.1.2).
-pub fn is_tested(facts: &[(Key, Fact)], key: &Key, instrument: u16) -> bool
-    ensures value { result ≡ law.is_tested facts.now key.now instrument }
+/// The day of the last precision test of the instrument that was passed.
+fn last_passed(facts: &[(Key, Fact)], instrument: u16) -> Option<Day>
+    ensures value { result ≡ option_map (λ e. e.0.day) (last_such (λ e. law.is_passed_precision instrument e.1.body) facts.now) }
 {
-    facts.iter().any(|e| {
-        is_passed_precision(instrument, &e.1.body)
-            && precedes(&e.0, key)
-            && is_within_three_months(key.day, e.0.day)
-    })
+    facts
+        .iter()
+        .rev()
+        .find(|e| is_passed_precision(instrument, &e.1.body))
+        .map(|e| e.0.day)
 }
 
 /// Whether a day is at most three months after another.
@@ -52,4 +55,25 @@ fn is_within_three_months(day: Day, tested: Day) -> bool
     ensures value { result ≡ nat_le day (later_by 3 tested) }
 {
     day <= tested.plus_months(3)
+}
+
+/// Whether a precision test, if there was one, is three months old at most on a day.
+fn is_recent(tested: Option<Day>, day: Day) -> bool
+    ensures value { result ≡ option_map_or (λ tested. nat_le day (later_by 3 tested)) tested false }
+{
+    match tested {
+        Some(tested) => is_within_three_months(day, tested),
+        None => false,
+    }
+}
+
+/// Whether some precision test that was passed is earlier than the reading with this key, and three months old at
+/// most (EPA Method 21, section 8.1.2). The last one before the reading decides: of facts in key order, those before
+/// the reading are found by halving, and from there back to that test they are looked at.
+pub fn is_tested(facts: &[(Key, Fact)], key: &Key, instrument: u16) -> bool
+    requires ordered { Ascends goes_first facts.now }
+    ensures value { result ≡ law.is_tested facts.now key.now instrument }
+{
+    let count = facts.partition_point(|e| precedes(&e.0, key));
+    is_recent(last_passed(&facts[..count], instrument), key.day)
 }

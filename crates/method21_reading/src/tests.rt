@@ -1,8 +1,10 @@
 ghost use Rattle.std.specs.Prelude.{◌≡◌, ◌≤◌};
+ghost use Rattle.list_words.specs.Order.{Ascends};
+ghost use Rattle.ldar_facts.specs.Facts.{is_earlier};
 ghost use Rattle.ldar_facts.specs.declared.class.Designation.TheVariants.{Plain};
 ghost use Rattle.ldar_facts.specs.Fields.{IsFact};
 
-use crate::{events_of, fit, limit};
+use crate::{Instrument, events_of, fit, limit};
 use ldar_days::Day;
 use ldar_facts::{
     Class, Designation, Fact, FactBody, Key, Kind, Purpose, Service, Sort, VisualState,
@@ -18,7 +20,9 @@ fn day(text: &str) -> Result<Day, Fail> {
 }
 
 /// A key at a minute of a day.
-fn key(day: Day, minute: u16) -> Key {
+fn key(day: Day, minute: u16) -> Key
+    ensures { result ≡ record { day = day; minute = minute; handheld = 1; number = 1; index = 0 } }
+{
     Key {
         day,
         minute,
@@ -90,13 +94,25 @@ fn reading(day: Day, ppm: u16) -> (Key, Fact) {
     at(day, 600, body)
 }
 
-/// The fitness of a reading at a minute of a day, by a leak definition of 500, among facts in key order.
-fn judged(day: Day, minute: u16, ppm: u16, facts: &[(Key, Fact)]) -> Result<Fitness, Fail> {
+/// The fitness of a reading at a minute of a day, by a leak definition of 500, among facts in key order: that which the
+/// instrument, made ready, tells too.
+fn judged(
+    alloc: Global,
+    day: Day,
+    minute: u16,
+    ppm: u16,
+    facts: &[(Key, Fact)],
+) -> Result<Fitness, Fail> {
+    let mut told: Option<Fitness> = None;
     if are_in_key_order(facts) {
-        return Ok(fit(&reading(day, ppm).1, &key(day, minute), 500, facts));
+        let (reading, key) = (reading(day, ppm).1, key(day, minute));
+        let alone = fit(&reading, &key, 500, facts);
+        let instrument = Instrument::new(alloc, facts)?;
+        if instrument.fit(&reading, &key, 500) == alone {
+            told = Some(alone);
+        }
     }
-    let out_of_order: Option<Fitness> = None;
-    Ok(out_of_order.ok_or("out of order")?)
+    Ok(told.ok_or("out of order, or told otherwise")?)
 }
 
 /// A class with no designation.
@@ -175,7 +191,7 @@ fn a_gas_is_2_000_above_the_leak_definition_at_most(rt: HostRuntime) -> Result<(
     for (calibrated, minute, gas, fitness) in cases {
         let facts = [tested, calibration(calibrated, minute, gas)];
         assert_eq!(rt;
-            judged(read, 600, 20, &facts)?,
+            judged(rt.alloc(), read, 600, 20, &facts)?,
             fitness,
             "{gas} at {minute}"
         );
@@ -217,10 +233,36 @@ fn a_precision_test_holds_for_three_months(rt: HostRuntime) -> Result<(), Fail> 
             [calibrated, test]
         };
         assert_eq!(rt;
-            judged(read, 600, 20, &facts)?,
+            judged(rt.alloc(), read, 600, 20, &facts)?,
             fitness,
             "tested on {tested}"
         );
+    }
+    Ok(())
+}
+
+#[test]
+fn the_last_passed_precision_test_of_the_instrument_decides(rt: HostRuntime) -> Result<(), Fail> {
+    let read = day("2024-06-20")?;
+    let (exact, off) = ((500, 500, 500), (700, 500, 500));
+    let (early, late) = (day("2024-01-02")?, day("2024-05-02")?);
+    let other = FactBody::Precision {
+        instrument: 2,
+        value: 500,
+        readings: (500, 500, 500),
+    };
+    let calibrated = calibration(read, 300, 500);
+    let cases = [
+        // The first test is too old, and the second was failed or is another instrument's.
+        (precision(early, exact), precision(late, exact), Fitness::Fit),
+        (precision(early, exact), precision(late, off), Fitness::NoPrecision),
+        (precision(early, exact), at(late, 0, other), Fitness::NoPrecision),
+        (precision(late, exact), at(day("2024-05-03")?, 0, other), Fitness::Fit),
+        (precision(late, exact), precision(day("2024-05-03")?, off), Fitness::Fit),
+    ];
+    for (first, second, fitness) in cases {
+        let facts = [first, second, calibrated];
+        assert_eq!(rt; judged(rt.alloc(), read, 600, 20, &facts)?, fitness);
     }
     Ok(())
 }
@@ -248,17 +290,17 @@ fn a_drift_voids_the_readings_that_could_be_leaks(rt: HostRuntime) -> Result<(),
             calibration(read, 300, 500),
             drift(read, 900, readings),
         ];
-        assert_eq!(rt; judged(read, 600, ppm, &facts)?, fitness, "{ppm}");
+        assert_eq!(rt; judged(rt.alloc(), read, 600, ppm, &facts)?, fitness, "{ppm}");
         // A drift before the reading, or on the next day, voids nothing.
         let early = [
             tested,
             calibration(read, 300, 500),
             drift(read, 599, readings),
         ];
-        assert_eq!(rt; judged(read, 600, ppm, &early)?, Fitness::Fit, "{ppm}");
+        assert_eq!(rt; judged(rt.alloc(), read, 600, ppm, &early)?, Fitness::Fit, "{ppm}");
         let next = drift(day("2024-02-21")?, 900, readings);
         let late = [tested, calibration(read, 300, 500), next];
-        assert_eq!(rt; judged(read, 600, ppm, &late)?, Fitness::Fit, "{ppm}");
+        assert_eq!(rt; judged(rt.alloc(), read, 600, ppm, &late)?, Fitness::Fit, "{ppm}");
     }
     Ok(())
 }
@@ -291,7 +333,7 @@ fn a_new_calibration_parts_the_drifts_of_a_day(rt: HostRuntime) -> Result<(), Fa
     ];
     for (minute, ppm, fitness) in cases {
         assert_eq!(rt;
-            judged(read, minute, ppm, &facts)?,
+            judged(rt.alloc(), read, minute, ppm, &facts)?,
             fitness,
             "{ppm} at {minute}"
         );
@@ -426,8 +468,8 @@ fn other_facts_are_events_as_they_stand(rt: HostRuntime) -> Result<(), Fail> {
 #[test]
 fn a_reading_counts_by_its_own_day_and_fitness(rt: HostRuntime) -> Result<(), Fail> {
     let alloc = rt.alloc();
-    let first = day("2024-02-20")?;
-    let second = day("2024-03-20")?;
+    // 2024-02-20 and 2024-03-20.
+    let (first, second) = (Day::at(19_773), Day::at(19_802));
     let mut item = component(day("2024-02-21")?, Kind::Valve, false, plain(Service::Gas));
     let retire = at(second, 0, FactBody::Retire { component: 1 });
     let facts = [reading(first, 700), retire, reading(second, 700)];
@@ -474,7 +516,9 @@ fn two_readings(
     classes: &[(Key, Class)],
     facts: &[(Key, Fact)],
     fitness: &[Fitness],
-) -> Result<(Happening, Happening), Fail> {
+) -> Result<(Happening, Happening), Fail>
+    requires ordered { Ascends (λ a b. is_earlier a.0 b.0) classes.now }
+{
     let events = events_of(alloc, item, classes, facts, fitness)?;
     let first = events.first().ok_or("no event")?.what;
     let last = events.last().ok_or("no event")?.what;

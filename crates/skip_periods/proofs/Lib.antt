@@ -1,2 +1,5 @@
+pub mod ElectionLemmas
+pub mod PassLemmas
 pub mod ReadingLemmas
+pub mod SeenLemmas
 pub mod StreakLemmas

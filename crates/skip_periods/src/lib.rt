@@ -1,14 +1,17 @@
 //! Percent of valves leaking in a quarter, and the quarters that are skipped (40 CFR 60.483-2a, 60.485a(h)).
 #![tactic(auto)]
 
+mod marks;
 mod percent;
 mod programme;
 mod readings;
+mod seen;
 mod streak;
 
 pub use ldar_law::{Mark, Tally};
+pub use marks::marks_to;
 pub use percent::mark;
-pub use programme::skipped;
+pub use programme::{all_skipped, skipped};
 
 #[cfg(test)]
 mod tests;

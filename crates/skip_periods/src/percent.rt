@@ -1,11 +1,17 @@
-ghost use Rattle.std.specs.Prelude.{◌≡◌, ◌≤◌, false, []};
+ghost use Rattle.std.specs.Prelude.{◌≡◌, ◌≤◌, ◌&&◌, ◌||◌, false, [], ℕ, nat_lt, min, is_none};
+ghost use Rattle.list_words.specs.Order.{Ascends};
+ghost use Rattle.ldar_facts.specs.Facts.{is_earlier};
+ghost use Rattle.ldar_facts.specs.Named.{is_numbered as says_numbered};
+ghost use Rattle.ldar_law.specs.Duties as duties;
 ghost use Rattle.ldar_law.specs.Percent as law;
 ghost use Rattle.ldar_law.specs.declared.numbers.TheConstants.{LAST_FACT_DAY};
 
 use crate::readings::{has_routine_in, is_found_leaking, is_read};
-use ldar_days::Day;
+use ldar_days::{Day, quarter_of};
 use ldar_facts::{Class, Key};
-use ldar_law::{Equipment, Event, Mark, is_in_quarter, judging_day};
+use ldar_law::{
+    Equipment, Event, Mark, Regime, is_in_quarter, is_nde_designated, judging_day,
+};
 
 /// Whether the component is a valve that is counted in the quarter, as a view of the day has it.
 fn is_counted(
@@ -17,10 +23,28 @@ fn is_counted(
 ) -> bool
     requires startup { startup ≤ LAST_FACT_DAY }
     requires quarter { 1 ≤ quarter }
+    requires ordered { Ascends (λ a b. is_earlier a.0 b.0) classes.now }
     ensures value { result ≡ law.is_counted item.now classes.now startup [] false quarter day }
 {
-    let judged_on = judging_day(startup, quarter, day);
-    item.is_under_valve_rules(classes, judged_on) && !item.is_nde(classes, judged_on)
+    let class = item.ordered_class_on(classes, judging_day(startup, quarter, day));
+    Regime::of(item.kind, class.service).are_valve_rules() && !is_nde_designated(class.designation)
+}
+
+/// Whether the first monitoring of the component was due before the day and was not made (our own rule).
+fn is_overdue(
+    item: &Equipment,
+    classes: &[(Key, Class)],
+    startup: Day,
+    events: &[Event],
+    day: Day,
+) -> bool
+    ensures value { result ≡ (duties.is_first_owed item.now classes.now startup (min (duties.first_due item.now) day)
+        && nat_lt (duties.first_due item.now) day && is_none (duties.routine_in events.now item.now.begin (duties.first_due item.now))) }
+{
+    let due = item.first_due();
+    item.is_first_owed(classes, startup, due.min(day))
+        && due < day
+        && !has_routine_in(events, item.begin, due)
 }
 
 /// Whether it begins in the quarter and its first monitoring was missed by the day (our own rule).
@@ -35,16 +59,56 @@ fn is_first_missed(
     requires startup { startup ≤ LAST_FACT_DAY }
     ensures value { result ≡ law.is_first_missed item.now classes.now startup events.now false quarter day }
 {
-    let due = item.first_due();
-    is_in_quarter(startup, quarter, item.begin)
-        && item.is_first_owed(classes, startup, due.min(day))
-        && due < day
-        && !has_routine_in(events, item.begin, due)
+    is_in_quarter(startup, quarter, item.begin) && is_overdue(item, classes, startup, events, day)
+}
+
+/// The quarter in which the component begins, where its first monitoring was missed by the day (our own rule).
+pub fn missed_quarter(
+    item: &Equipment,
+    classes: &[(Key, Class)],
+    startup: Day,
+    events: &[Event],
+    day: Day,
+) -> Option<u16>
+    requires startup { startup ≤ LAST_FACT_DAY }
+    ensures value { (quarter : ℕ) → says_numbered result quarter ≡ law.is_first_missed item.now classes.now startup events.now false quarter day }
+{
+    if is_overdue(item, classes, startup, events, day) {
+        quarter_of(startup, item.begin.month())
+    } else {
+        None
+    }
+}
+
+/// What a component adds to the counts of a quarter, by what is seen of it in the quarter.
+pub fn mark_seen(
+    item: &Equipment,
+    classes: &[(Key, Class)],
+    startup: Day,
+    seen: Mark,
+    delayed: bool,
+    missed: bool,
+    quarter: u16,
+    day: Day,
+) -> Mark
+    requires startup { startup ≤ LAST_FACT_DAY }
+    requires quarter { 1 ≤ quarter }
+    requires ordered { Ascends (λ a b. is_earlier a.0 b.0) classes.now }
+    ensures leaking { result.leaking
+        ≡ (law.is_counted item.now classes.now startup [] false quarter day && (seen.leaking || delayed || missed)) }
+    ensures monitored { result.monitored
+        ≡ (law.is_counted item.now classes.now startup [] false quarter day && (seen.monitored || delayed || missed)) }
+{
+    let counted = is_counted(item, classes, startup, quarter, day);
+    Mark {
+        leaking: counted && (seen.leaking || delayed || missed),
+        monitored: counted && (seen.monitored || delayed || missed),
+    }
 }
 
 /// What a component adds to the counts of a quarter (40 CFR 60.485a(h)), as a view of the day has it. The classes
-/// and the events are those of the component in key order; `delayed` says whether the repair of some leak that is
-/// open on the day, or on the quarter's last day where that is earlier, is delayed.
+/// and the events are those of the component, the classes in key order; `delayed` says whether the repair of some leak
+/// that is open on the day, or on the quarter's last day where that is earlier, is delayed.
 #[tactic(auto, unfolding(ldar_law::specs::Percent::mark_of))]
 pub fn mark(
     equipment: &Equipment,
@@ -57,12 +121,13 @@ pub fn mark(
 ) -> Mark
     requires startup { startup ≤ LAST_FACT_DAY }
     requires quarter { 1 ≤ quarter }
+    requires ordered { Ascends (λ a b. is_earlier a.0 b.0) classes.now }
     ensures value { result ≡ law.mark_of equipment.now classes.now startup events.now delayed quarter day }
 {
-    let counted = is_counted(equipment, classes, startup, quarter, day);
+    let seen = Mark {
+        leaking: is_found_leaking(startup, events, quarter),
+        monitored: is_read(startup, events, quarter),
+    };
     let missed = is_first_missed(equipment, classes, startup, events, quarter, day);
-    Mark {
-        leaking: counted && (is_found_leaking(startup, events, quarter) || delayed || missed),
-        monitored: counted && (is_read(startup, events, quarter) || delayed || missed),
-    }
+    mark_seen(equipment, classes, startup, seen, delayed, missed, quarter, day)
 }

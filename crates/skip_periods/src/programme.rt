@@ -1,7 +1,9 @@
-ghost use Rattle.std.specs.Prelude.{◌≡◌, ◌-◌, ◌≤◌, false, nat_le, length, slice_get, option_map};
+ghost use Rattle.std.specs.Prelude.{◌≡◌, ◌-◌, ◌≤◌, false, nat_le, length, slice_get, option_map, IfOk};
 ghost use Rattle.std.specs.Option.{option_map_or};
+ghost use Rattle.list_words.specs.Order.{Ascends};
 ghost use Rattle.list_words.specs.Words.{last_such};
 ghost use Rattle.ldar_days.specs.Quarters.{quarter_first};
+ghost use Rattle.ldar_facts.specs.Facts.{is_earlier};
 ghost use Rattle.ldar_law.specs.Percent.{is_good};
 ghost use Rattle.ldar_law.specs.Skips as law;
 ghost use Rattle.ldar_law.specs.declared.numbers.TheConstants.{LAST_FACT_DAY};
@@ -9,7 +11,9 @@ ghost use Rattle.skip_periods.specs.Streaks.{Tells};
 
 use crate::streak::{Streak, longer};
 use ldar_days::{Day, quarter_first};
+use ldar_facts::Memory;
 use ldar_law::{ElectionEntry, Tally};
+use std::alloc::Global;
 
 /// The mode of the last election by a day, of elections in key order.
 fn mode_by(elections: &[ElectionEntry], day: Day) -> Option<u8>
@@ -30,6 +34,19 @@ fn mode_on(elections: &[ElectionEntry], day: Day) -> u8
     match mode_by(elections, day) {
         Some(mode) => mode,
         None => 0,
+    }
+}
+
+/// The same, found by halving, where the elections are known to be in key order.
+fn ordered_mode_on(elections: &[ElectionEntry], day: Day) -> u8
+    requires ordered { Ascends (λ a b. is_earlier a.key b.key) elections.now }
+    ensures value { result ≡ law.mode_on elections.now day }
+{
+    let count = elections.partition_point(|e| e.key.day <= day);
+    if count == 0 {
+        0
+    } else {
+        elections[count - 1].mode
     }
 }
 
@@ -93,4 +110,31 @@ pub fn skipped(tallies: &[Tally], elections: &[ElectionEntry], startup: Day, qua
 {
     let streak = streak_before(tallies, elections, startup, quarter);
     is_skipped_after(elections, startup, quarter, streak)
+}
+
+/// Which quarters of a process unit are skipped, from the first to one (our own rule, after 40 CFR 60.483-2a(b)): entry 0
+/// is what `skipped` says of quarter 1, and each quarter is looked at once. The tallies are those of its quarters from
+/// quarter 1 on, of which one that is not there is not good; the elections are in key order. An error: no memory for
+/// the answers.
+pub fn all_skipped(
+    alloc: Global,
+    tallies: &[Tally],
+    elections: &[ElectionEntry],
+    startup: Day,
+    quarter: u16,
+) -> Result<Vec<bool>, Memory>
+    requires startup { startup ≤ LAST_FACT_DAY }
+    requires ordered { Ascends (λ a b. is_earlier a.key b.key) elections.now }
+    ensures value { IfOk result (λ skipped. skipped.items ≡ law.skipped_to tallies.now elections.now startup quarter) }
+{
+    let mut all = Vec::with_capacity(alloc, usize::from(quarter))?;
+    let mut streak = Streak { skips: 0, good: 0 };
+    for past in 0..quarter {
+        let number = past + 1;
+        let mode = ordered_mode_on(elections, quarter_first(startup, number));
+        let is_skipped = skips_after(mode, streak);
+        all.push(is_skipped)?;
+        streak = longer(streak, is_skipped, was_good(tallies, number));
+    }
+    Ok(all)
 }

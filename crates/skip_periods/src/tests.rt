@@ -1,10 +1,11 @@
-ghost use Rattle.std.specs.Prelude.{◌≤◌};
+ghost use Rattle.std.specs.Prelude.{◌≡◌, ◌≤◌};
 ghost use Rattle.ldar_law.specs.declared.numbers.TheConstants.{LAST_FACT_DAY};
 
-use crate::{Mark, Tally, mark, skipped};
+use crate::{Mark, Tally, all_skipped, mark, marks_to, skipped};
 use ldar_days::Day;
 use ldar_facts::{Class, Designation, Key, Kind, Service};
 use ldar_law::{ElectionEntry, Equipment, Event, Happening};
+use std::alloc::Global;
 use std::test::Fail;
 
 /// A day by its text.
@@ -21,7 +22,9 @@ fn startup() -> Day
 }
 
 /// A key at the first minute of a day.
-fn key(day: Day) -> Key {
+fn key(day: Day) -> Key
+    ensures { result ≡ record { day = day; minute = 0; handheld = 1; number = 1; index = 0 } }
+{
     Key {
         day,
         minute: 0,
@@ -206,5 +209,117 @@ fn a_missed_first_monitoring_counts(rt: HostRuntime) -> Result<(), Fail> {
         mark(&new, &[], startup(), &[], false, 18, after),
         UNCOUNTED
     );
+    Ok(())
+}
+
+/// The places of what holds, counted from 1.
+fn numbers_of(alloc: Global, all: &[bool]) -> Result<Vec<usize>, Fail> {
+    let mut numbers = Vec::new(alloc);
+    for (place, holds) in all.iter().enumerate() {
+        if *holds {
+            numbers.push(place.saturating_add(1))?;
+        }
+    }
+    Ok(numbers)
+}
+
+#[test]
+fn a_walk_over_the_quarters_skips_as_each_alone(rt: HostRuntime) -> Result<(), Fail> {
+    let alloc = rt.alloc();
+    // Mode 3 on 2021-07-01, which is elected away on 2021-10-01, and mode 1 on 2024-07-01.
+    let three = [ElectionEntry {
+        key: key(Day::at(18_809)),
+        mode: 3,
+    }];
+    let ended = [
+        ElectionEntry {
+            key: key(Day::at(18_809)),
+            mode: 3,
+        },
+        ElectionEntry {
+            key: key(Day::at(18_901)),
+            mode: 0,
+        },
+    ];
+    let one = [ElectionEntry {
+        key: key(Day::at(19_905)),
+        mode: 1,
+    }];
+    let five = good_quarters(&[1, 2, 3, 4, 5]);
+    let six = good_quarters(&[1, 2, 3, 4, 5, 9]);
+    let late = good_quarters(&[16, 17, 19]);
+    let found = all_skipped(alloc, &five, &three, startup(), 20)?;
+    assert_eq!(rt; numbers_of(alloc, &found)?.as_slice(), [6, 7, 8].as_slice());
+    let found = all_skipped(alloc, &six, &three, startup(), 20)?;
+    assert_eq!(rt; numbers_of(alloc, &found)?.as_slice(), [6, 7, 8, 10, 11, 12].as_slice());
+    let found = all_skipped(alloc, &five, &ended, startup(), 20)?;
+    assert_eq!(rt; numbers_of(alloc, &found)?.as_slice(), [6].as_slice());
+    let found = all_skipped(alloc, &late, &one, startup(), 20)?;
+    assert_eq!(rt; numbers_of(alloc, &found)?.as_slice(), [18, 20].as_slice());
+    // A unit has up to 368 quarters; none of those behind the last counts is good.
+    let found = all_skipped(alloc, &six, &three, startup(), 368)?;
+    assert_eq!(rt; found.len(), 368);
+    assert_eq!(rt; numbers_of(alloc, &found)?.as_slice(), [6, 7, 8, 10, 11, 12].as_slice());
+    Ok(())
+}
+
+#[test]
+fn a_walk_over_the_events_marks_as_each_quarter_alone(rt: HostRuntime) -> Result<(), Fail> {
+    let alloc = rt.alloc();
+    let view = day("2024-09-30")?;
+    let item = valve(day("2020-01-15")?, Designation::Plain);
+    let sealed = [(
+        key(day("2024-07-01")?),
+        Class {
+            designation: Designation::Nde,
+            ..item.class
+        },
+    )];
+    // In quarters 15, 16 and 18, and the repair is delayed in quarter 17.
+    let events = [
+        reads(day("2023-12-31")?, true),
+        reads(day("2024-01-01")?, false),
+        reads(day("2024-07-05")?, false),
+        reads(day("2024-07-20")?, true),
+    ];
+    let mut delayed = [false; 17];
+    delayed[16] = true;
+    let cases = [
+        (14, UNCOUNTED, UNCOUNTED),
+        (15, FOUND, FOUND),
+        (16, CLEAN, CLEAN),
+        (17, FOUND, FOUND),
+        (18, FOUND, UNCOUNTED),
+        (19, UNCOUNTED, UNCOUNTED),
+    ];
+    let marks = marks_to(alloc, &item, &[], startup(), &events, &delayed, 368, view)?;
+    let kept = marks_to(alloc, &item, &sealed, startup(), &events, &delayed, 368, view)?;
+    assert_eq!(rt; (marks.len(), kept.len()), (368, 368));
+    for (quarter, expected, under_class) in cases {
+        assert_eq!(rt; marks.get(quarter - 1), Some(&expected), "quarter {quarter}");
+        assert_eq!(rt; kept.get(quarter - 1), Some(&under_class), "quarter {quarter}");
+    }
+    for place in 0..368u16 {
+        let at = usize::from(place);
+        let alone = mark(&item, &sealed, startup(), &events, place == 16, place + 1, view);
+        assert_eq!(rt; kept.get(at), Some(&alone), "quarter after {place}");
+    }
+    Ok(())
+}
+
+#[test]
+fn a_walk_counts_a_missed_first_monitoring_once(rt: HostRuntime) -> Result<(), Fail> {
+    let alloc = rt.alloc();
+    let new = valve(day("2024-04-10")?, Designation::Plain);
+    let (due, after) = (day("2024-05-10")?, day("2024-05-11")?);
+    let in_time = marks_to(alloc, &new, &[], startup(), &[], &[], 18, due)?;
+    let missed = marks_to(alloc, &new, &[], startup(), &[], &[], 18, after)?;
+    for place in 0..18 {
+        let expected = if place == 16 { FOUND } else { UNCOUNTED };
+        assert_eq!(rt; in_time.get(place), Some(&UNCOUNTED), "quarter after {place}");
+        assert_eq!(rt; missed.get(place), Some(&expected), "quarter after {place}");
+    }
+    let none = marks_to(alloc, &new, &[], startup(), &[], &[], 0, after)?;
+    assert_eq!(rt; none.len(), 0);
     Ok(())
 }

@@ -1,9 +1,0 @@
-use Rattle.delay_of_repair.proofs.CountedLemmas.{none_where_ignored, found_last}
-use Rattle.delay_of_repair.proofs.delays.counted.Goals as goal
-
-pub returns-clause-none : goal.returns-clause-none
-returns-clause-none c =
-    none_where_ignored c.args.detected c.args.attempts.now c.args.stops.now c.args.delays.now c.counted_place.result c.counted_place.ensures.value
-
-pub returns-clause-found : goal.returns-clause-found
-returns-clause-found c = found_last c.args.detected c.args.attempts.now c.args.stops.now c.args.delays.now c.counted_place.result c.counted_place.ensures.value

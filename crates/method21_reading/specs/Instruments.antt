@@ -1,0 +1,49 @@
+-- What of an instrument's facts judges readings, each sort apart, and readings judged by these sorts (40 CFR 60.485a(b)).
+use Rattle.std.specs.Prelude.{◌≡◌, ℕ, ◌+◌, Bool, true, false, not, nat_eq, if◌then◌else◌, List, filter, find}
+use Rattle.ldar_facts.specs.declared.body.FactBody.{FactBody}
+use Rattle.ldar_facts.specs.declared.body.FactBody.TheVariants.{Calibration, Precision, Drift}
+use Rattle.ldar_facts.specs.declared.key.Key.{Key}
+use Rattle.ldar_facts.specs.Facts.{Entry}
+use Rattle.ldar_law.specs.declared.fitness.Fitness.{Fitness}
+use Rattle.ldar_law.specs.declared.fitness.Fitness.TheVariants.{NoCalibration, GasTooHigh, NoPrecision}
+use Rattle.ldar_law.specs.declared.numbers.TheConstants.{GAS_MARGIN}
+use Rattle.ldar_law.specs.Fitness.{sum_of, is_precise, has_drifted, is_calibrated, is_calibrated_within, is_tested, is_voided_by, unless_voided}
+
+-- a calibration
+abbrev pub is_calibrating : FactBody → Bool
+is_calibrating (Calibration of gas) = true
+is_calibrating _ = false
+
+-- a precision test that was passed
+abbrev pub is_passed_test : FactBody → Bool
+is_passed_test (Precision of value readings) = is_precise value (sum_of readings)
+is_passed_test _ = false
+
+-- a drift assessment that found the instrument more than 10 percent below the known value
+abbrev pub is_failed_drift : FactBody → Bool
+is_failed_drift (Drift of value readings) = has_drifted value (sum_of readings)
+is_failed_drift _ = false
+
+-- the facts of these sorts, each in key order
+pub record Apart : Type 0 where
+  pub calibrations : List Entry
+  pub tests : List Entry
+  pub drifts : List Entry
+
+-- they are those among some facts
+pub record AreThoseOf (facts : List Entry) (apart : Apart) : Type 0 where
+  pub calibrations : apart.calibrations ≡ filter (λ e. is_calibrating e.1.body) facts
+  pub tests : apart.tests ≡ filter (λ e. is_passed_test e.1.body) facts
+  pub drifts : apart.drifts ≡ filter (λ e. is_failed_drift e.1.body) facts
+
+-- the fact is of the day
+abbrev pub is_of_day : ℕ → Entry → Bool
+is_of_day day e = nat_eq e.0.day day
+
+-- the fitness of a reading, judged by calibrations, precision tests and drift assessments that stand apart
+abbrev pub fitness_apart : (calibrations tests drifts : List Entry) → ℕ → Key → ℕ → ℕ → Fitness
+fitness_apart calibrations tests drifts limit key instrument ppm =
+    if not (is_calibrated calibrations key instrument) then NoCalibration
+    else if not (is_calibrated_within calibrations key instrument (limit + GAS_MARGIN)) then GasTooHigh
+    else if not (is_tested tests key instrument) then NoPrecision
+    else unless_voided (find (is_voided_by calibrations key instrument limit ppm) drifts)

@@ -1,0 +1,131 @@
+-- What is seen of a component, one event after the other, and the marks that it gives.
+use Rattle.std.proofs.Common.{◌≡◌, ◌≢◌, ℕ, ◌+◌, ◌-◌, ◌<◌, ◌≤◌, ◌/◌, Bool, true, false, ◌&&◌, ◌||◌, nat_eq, nat_lt, Option, Some, None, List, [], take, length, set, get_or, replicate, refl, sym, ap, ◌∙◌, inl, inr, arith}
+use Rattle.std.specs.List.{list_any}
+use Rattle.std.proofs.lemmas.Bool.{cases_Bool, cases_eq, ne_eqb, eq-eqb}
+use Rattle.std.proofs.lemmas.List.{get_or_default, get_or-set_same, get_or-set_other, length-set, get_or-replicate, length-replicate}
+use Rattle.std.proofs.lemmas.List.Folds.{list_any_more}
+use Rattle.ldar_days.specs.Calendar.{month_of}
+use Rattle.ldar_days.specs.Quarters.{quarter_of, first_quarter}
+use Rattle.ldar_facts.specs.declared.class.Class.{Class}
+use Rattle.ldar_facts.specs.declared.key.Key.{Key}
+use Rattle.ldar_facts.specs.Named.{is_numbered}
+use Rattle.ldar_law.specs.declared.equipment.Equipment.{Equipment}
+use Rattle.ldar_law.specs.declared.event.Event.{Event}
+use Rattle.ldar_law.specs.declared.tally.Mark.{Mark}
+use Rattle.ldar_law.specs.Happenings.{is_routine, is_routine_leak}
+use Rattle.ldar_law.specs.Percent.{is_in_quarter, is_counted, is_first_missed, mark_of}
+use Rattle.skip_periods.specs.Seen.{seen_in, seen_with, AreSeen, LooksAt, mark_for}
+
+-- a mark is its two answers
+same_mark : (m : Mark) (a b : Bool) → m.leaking ≡ a → m.monitored ≡ b → m ≡ record { leaking = a; monitored = b }
+same_mark m a b leaks monitors = rw (sym leaks, sym monitors) refl
+
+-- what does not lie in the quarter adds nothing
+adds_nothing : (a b : Bool) → a ≡ (a || (b && false))
+adds_nothing true b = refl
+adds_nothing false true = refl
+adds_nothing false false = refl
+
+-- .. and what lies in it adds itself
+adds_itself : (a b : Bool) → (a || b) ≡ (a || (b && true))
+adds_itself true b = refl
+adds_itself false true = refl
+adds_itself false false = refl
+
+-- an event of another quarter shows nothing
+shows_nothing : (startup quarter : ℕ) (e : Event) (m : Mark) → is_in_quarter startup quarter e.key.day ≡ false → m ≡ seen_with startup e quarter m
+shows_nothing startup quarter e m other =
+    same_mark m _ _
+    (adds_nothing m.leaking (is_routine_leak e.what) ∙ ap (λ b. m.leaking || (is_routine_leak e.what && b)) (sym other))
+    (adds_nothing m.monitored (is_routine e.what) ∙ ap (λ b. m.monitored || (is_routine e.what && b)) (sym other))
+
+-- one of the quarter shows what it is
+shows_itself : (startup quarter : ℕ) (e : Event) (m new : Mark) → is_in_quarter startup quarter e.key.day ≡ true →
+    new.leaking ≡ (m.leaking || is_routine_leak e.what) → new.monitored ≡ (m.monitored || is_routine e.what) → new ≡ seen_with startup e quarter m
+shows_itself startup quarter e m new here leaks monitors =
+    same_mark new _ _
+    (leaks ∙ adds_itself m.leaking (is_routine_leak e.what) ∙ ap (λ b. m.leaking || (is_routine_leak e.what && b)) (sym here))
+    (monitors ∙ adds_itself m.monitored (is_routine e.what) ∙ ap (λ b. m.monitored || (is_routine e.what && b)) (sym here))
+
+module _ (startup : ℕ) (e : Event) (seen : List Mark) where
+  -- an event before the first quarter
+  pub looks_before : (all : (q : ℕ) → is_in_quarter startup q e.key.day ≡ false) → LooksAt startup e seen seen
+  looks_before all = record {
+    count = refl;
+    each = λ k d within. shows_nothing startup (k + 1) e (get_or seen k d) (all (k + 1));
+  }
+
+  -- .. or behind the last
+  pub looks_behind : (place : ℕ) → length seen ≤ place → ((q : ℕ) → is_in_quarter startup q e.key.day ≡ nat_eq (place + 1) q) → LooksAt startup e seen seen
+  looks_behind place past lies = record {
+    count = refl;
+    each = λ k d within. shows_nothing startup (k + 1) e (get_or seen k d) (lies (k + 1) ∙ ne_eqb (place + 1) (k + 1) (λ same. absurd (omega (arith, same))));
+  }
+
+  -- .. or in one of them
+  pub looks_within : (place : ℕ) (old new : Mark) → place < length seen → ((q : ℕ) → is_in_quarter startup q e.key.day ≡ nat_eq (place + 1) q) →
+      old ≡ get_or seen place old → new.leaking ≡ (old.leaking || is_routine_leak e.what) → new.monitored ≡ (old.monitored || is_routine e.what) →
+      LooksAt startup e seen (set seen place new)
+  looks_within place old new within lies stands leaks monitors = record {
+    count = length-set seen place new;
+    each = λ k d inside. elim (cases_eq k place) [
+      | inl same ↦
+          rw same
+          (get_or-set_same seen place new d within
+          ∙ shows_itself startup (place + 1) e old new (lies (place + 1) ∙ eq-eqb (place + 1) (place + 1) refl) leaks monitors
+          ∙ ap (seen_with startup e (place + 1)) (stands ∙ get_or_default seen place old d within))
+      | inr other ↦
+          get_or-set_other seen place k new d other
+          ∙ shows_nothing startup (k + 1) e (get_or seen k d) (lies (k + 1) ∙ ne_eqb (place + 1) (k + 1) (λ same. other (omega (arith, same))))
+    ];
+  }
+
+-- quarters are counted from 1
+numbered_from_one : (startup month quarter : ℕ) → Some quarter ≡ quarter_of startup month → 1 ≤ quarter
+numbered_from_one startup month quarter e =
+    elim (cases_Bool (nat_lt month (first_quarter startup))) [
+      | inl early ↦ let none : Some quarter ≡ None = rw early at e in cc
+      | inr on ↦
+          let some : Some quarter ≡ Some ((month - first_quarter startup) / 3 + 1) = rw on at e in
+          let is : quarter ≡ (month - first_quarter startup) / 3 + 1 = cc in
+          omega (arith, is)
+    ]
+
+-- an event lies in the quarter that is found for its month, whose entry stands one place before its number
+pub lies_in : (startup : ℕ) (e : Event) (month quarter place : ℕ) (found : Option ℕ) → month ≡ month_of e.key.day → found ≡ quarter_of startup month →
+    found ≡ Some quarter → place ≡ quarter - 1 → (q : ℕ) → is_in_quarter startup q e.key.day ≡ nat_eq (place + 1) q
+lies_in startup e month quarter place found month_is found_is is place_is q =
+    let on : place + 1 ≡ quarter = omega (arith, place_is, numbered_from_one startup month quarter (sym is ∙ found_is)) in
+    ap (λ m. is_numbered (quarter_of startup m) q) (sym month_is) ∙ ap (λ o. is_numbered o q) (sym found_is ∙ is) ∙ ap (λ n. nat_eq n q) (sym on)
+
+-- nothing is seen without an event
+pub seen_none : (startup quarter : ℕ) (events : List Event) → AreSeen startup (take 0 events) quarter (replicate quarter (record { leaking = false; monitored = false }))
+seen_none startup quarter events = record {
+  count = length-replicate quarter _;
+  each = λ k d within. get_or-replicate quarter k _ d within;
+}
+
+-- one event after the other
+pub seen_more : (startup quarter : ℕ) (events : List Event) (i : ℕ) (e : Event) (old new : List Mark) → i < length events → e ≡ get_or events i e →
+    AreSeen startup (take i events) quarter old → LooksAt startup e old new → AreSeen startup (take (i + 1) events) quarter new
+seen_more startup quarter events i e old new within stands seen looks = record {
+  count = looks.count ∙ seen.count;
+  each = λ k d inside.
+      looks.each k d (omega (arith, seen.count, inside))
+      ∙ ap (seen_with startup e (k + 1)) (seen.each k d inside)
+      ∙ ap (λ x. seen_with startup x (k + 1) (seen_in startup (take i events) (k + 1))) stands
+      ∙ sym (same_mark (seen_in startup (take (i + 1) events) (k + 1)) _ _
+      (list_any_more (λ x. is_routine_leak x.what && is_in_quarter startup (k + 1) x.key.day) events i e within)
+      (list_any_more (λ x. is_routine x.what && is_in_quarter startup (k + 1) x.key.day) events i e within));
+}
+
+-- the mark of what is seen
+pub mark_is : (item : Equipment) (classes : List (Key × Class)) (startup : ℕ) (events : List Event) (delayed : List Bool) (day quarter : ℕ) (seen mark : Mark)
+    (is_delayed is_missed : Bool) → seen ≡ seen_in startup events quarter → is_delayed ≡ get_or delayed (quarter - 1) false →
+    is_missed ≡ is_first_missed item classes startup events false quarter day →
+    mark.leaking ≡ (is_counted item classes startup [] false quarter day && (seen.leaking || is_delayed || is_missed)) →
+    mark.monitored ≡ (is_counted item classes startup [] false quarter day && (seen.monitored || is_delayed || is_missed)) →
+    mark ≡ mark_for item classes startup events delayed day quarter
+unfolding mark_of
+mark_is item classes startup events delayed day quarter seen mark is_delayed is_missed seen_is delayed_is missed_is leaks monitors =
+    same_mark mark _ _ (leaks ∙ rw (seen_is, delayed_is, missed_is) refl) (monitors ∙ rw (seen_is, delayed_is, missed_is) refl)

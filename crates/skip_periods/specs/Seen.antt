@@ -1,0 +1,39 @@
+-- What is seen of a component in each quarter from the first to one, and its marks for them (40 CFR 60.485a(h)).
+use Rattle.std.specs.Prelude.{◌≡◌, ℕ, ◌+◌, ◌-◌, ◌<◌, Bool, false, ◌&&◌, ◌||◌, List, length, slice_index_or}
+use Rattle.std.specs.List.{list_any}
+use Rattle.ldar_facts.specs.declared.class.Class.{Class}
+use Rattle.ldar_facts.specs.declared.key.Key.{Key}
+use Rattle.ldar_law.specs.declared.equipment.Equipment.{Equipment}
+use Rattle.ldar_law.specs.declared.event.Event.{Event}
+use Rattle.ldar_law.specs.declared.tally.Mark.{Mark}
+use Rattle.ldar_law.specs.Happenings.{is_routine, is_routine_leak}
+use Rattle.ldar_law.specs.Percent.{is_in_quarter, mark_of}
+
+-- it was found leaking in the quarter, and it was monitored in it
+abbrev pub seen_in : ℕ → List Event → ℕ → Mark
+seen_in startup events quarter = record {
+  leaking = list_any (λ e. is_routine_leak e.what && is_in_quarter startup quarter e.key.day) events;
+  monitored = list_any (λ e. is_routine e.what && is_in_quarter startup quarter e.key.day) events;
+}
+
+-- .. with one event more
+abbrev pub seen_with : ℕ → Event → ℕ → Mark → Mark
+seen_with startup e quarter mark = record {
+  leaking = mark.leaking || (is_routine_leak e.what && is_in_quarter startup quarter e.key.day);
+  monitored = mark.monitored || (is_routine e.what && is_in_quarter startup quarter e.key.day);
+}
+
+-- these are what is seen in the quarters, from the first to one
+pub record AreSeen (startup : ℕ) (events : List Event) (quarter : ℕ) (seen : List Mark) : Type 0 where
+  pub count : length seen ≡ quarter
+  pub each : (k : ℕ) (d : Mark) → k < quarter → slice_index_or seen k d ≡ seen_in startup events (k + 1)
+
+-- one event more is looked at
+pub record LooksAt (startup : ℕ) (e : Event) (old new : List Mark) : Type 0 where
+  pub count : length new ≡ length old
+  pub each : (k : ℕ) (d : Mark) → k < length old → slice_index_or new k d ≡ seen_with startup e (k + 1) (slice_index_or old k d)
+
+-- the component's mark for a quarter, which is delayed as the list says; beyond the list nothing is delayed
+abbrev pub mark_for : Equipment → List (Key × Class) → ℕ → List Event → List Bool → ℕ → ℕ → Mark
+mark_for item classes startup events delayed day quarter =
+    mark_of item classes startup events (slice_index_or delayed (quarter - 1) false) quarter day

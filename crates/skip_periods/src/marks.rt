@@ -1,0 +1,76 @@
+ghost use Rattle.std.specs.Prelude.{◌≡◌, ◌≤◌, ◌-◌, false, map, slice_index_or, IfOk};
+ghost use Rattle.list_words.specs.Order.{Ascends};
+ghost use Rattle.list_words.specs.Ranges.{from_to};
+ghost use Rattle.ldar_facts.specs.Facts.{is_earlier};
+ghost use Rattle.ldar_facts.specs.Named.{is_numbered as says_numbered};
+ghost use Rattle.ldar_law.specs.declared.numbers.TheConstants.{LAST_FACT_DAY};
+ghost use Rattle.skip_periods.specs.Seen.{mark_for};
+
+use crate::percent::{mark_seen, missed_quarter};
+use crate::seen::seen_to;
+use ldar_days::Day;
+use ldar_facts::{Class, Key, Memory};
+use ldar_law::{Equipment, Event, Mark};
+use std::alloc::Global;
+
+/// Whether the list says that a quarter is delayed.
+fn is_delayed_in(delayed: &[bool], quarter: u16) -> bool
+    requires quarter { 1 ≤ quarter }
+    ensures value { result ≡ slice_index_or delayed.now (quarter - 1) false }
+{
+    match delayed.get(usize::from(quarter - 1)) {
+        Some(is_delayed) => *is_delayed,
+        None => false,
+    }
+}
+
+/// Whether this is the number of the quarter.
+fn is_numbered(number: Option<u16>, quarter: u16) -> bool
+    ensures value { result ≡ says_numbered number quarter }
+{
+    match number {
+        Some(number) => number == quarter,
+        None => false,
+    }
+}
+
+/// What a component adds to the counts of each quarter from the first to one (40 CFR 60.485a(h)), as a view of the day
+/// has it: entry 0 is the mark for quarter 1. The classes and the events are those of the component, the classes in key
+/// order; `delayed` says of each quarter, from the first on, what `mark` is told of it. The events are walked over once,
+/// whatever the number of quarters. An error: no memory for the marks.
+pub fn marks_to(
+    alloc: Global,
+    equipment: &Equipment,
+    classes: &[(Key, Class)],
+    startup: Day,
+    events: &[Event],
+    delayed: &[bool],
+    quarter: u16,
+    day: Day,
+) -> Result<Vec<Mark>, Memory>
+    requires startup { startup ≤ LAST_FACT_DAY }
+    requires ordered { Ascends (λ a b. is_earlier a.0 b.0) classes.now }
+    ensures value { IfOk result (λ marks. marks.items
+        ≡ map (mark_for equipment.now classes.now startup events.now delayed.now day) (from_to 1 quarter)) }
+{
+    let seen = seen_to(alloc, startup, events, quarter)?;
+    let missed = missed_quarter(equipment, classes, startup, events, day);
+    let mut marks = Vec::with_capacity(alloc, usize::from(quarter))?;
+    for past in 0..quarter {
+        let number = past + 1;
+        let is_delayed = is_delayed_in(delayed, number);
+        let is_missed = is_numbered(missed, number);
+        let mark = mark_seen(
+            equipment,
+            classes,
+            startup,
+            seen[usize::from(past)],
+            is_delayed,
+            is_missed,
+            number,
+            day,
+        );
+        marks.push(mark)?;
+    }
+    Ok(marks)
+}

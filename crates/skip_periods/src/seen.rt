@@ -1,0 +1,64 @@
+//! What is seen of a component in each quarter from the first to one: one walk over its events, in whatever order.
+
+ghost use Rattle.std.specs.Prelude.{◌≡◌, ◌≤◌, ◌||◌, false, IfOk, replicate};
+ghost use Rattle.ldar_law.specs.Happenings as happenings;
+ghost use Rattle.ldar_law.specs.declared.numbers.TheConstants.{LAST_FACT_DAY};
+ghost use Rattle.skip_periods.specs.Seen.{AreSeen, LooksAt};
+
+use ldar_days::{Day, quarter_of};
+use ldar_facts::Memory;
+use ldar_law::{Event, Mark};
+use std::alloc::Global;
+
+/// So many quarters in which nothing is seen.
+fn unseen(alloc: Global, quarter: u16) -> Result<Vec<Mark>, Memory>
+    ensures value { IfOk result (λ seen. seen.items ≡ replicate quarter (record { leaking = false; monitored = false })) }
+{
+    let nothing = Mark {
+        leaking: false,
+        monitored: false,
+    };
+    vec![in alloc; nothing; usize::from(quarter)]
+}
+
+/// What is seen in a quarter, with an event of it.
+fn seen_with(mark: Mark, e: &Event) -> Mark
+    ensures leaking { result.leaking ≡ (mark.leaking || happenings.is_routine_leak e.now.what) }
+    ensures monitored { result.monitored ≡ (mark.monitored || happenings.is_routine e.now.what) }
+{
+    Mark {
+        leaking: mark.leaking || e.what.is_routine_leak(),
+        monitored: mark.monitored || e.what.is_routine(),
+    }
+}
+
+/// Looks at an event, which says something of its quarter only.
+fn look_at(seen: &mut Vec<Mark>, startup: Day, e: &Event)
+    requires startup { startup ≤ LAST_FACT_DAY }
+    ensures value { LooksAt startup e.now seen.old.items seen.new.items }
+{
+    let Some(quarter) = quarter_of(startup, e.key.day.month()) else {
+        return;
+    };
+    let place = usize::from(quarter - 1);
+    if place < seen.len() {
+        seen[place] = seen_with(seen[place], e);
+    }
+}
+
+/// What is seen of a component in each quarter, from the first to one.
+pub fn seen_to(
+    alloc: Global,
+    startup: Day,
+    events: &[Event],
+    quarter: u16,
+) -> Result<Vec<Mark>, Memory>
+    requires startup { startup ≤ LAST_FACT_DAY }
+    ensures value { IfOk result (λ seen. AreSeen startup events.now quarter seen.items) }
+{
+    let mut seen = unseen(alloc, quarter)?;
+    for e in events {
+        look_at(&mut seen, startup, e);
+    }
+    Ok(seen)
+}
