@@ -9,11 +9,13 @@ use Rattle.ldar_law.specs.declared.event.Event.{Event}
 use Rattle.ldar_law.specs.declared.event.Happening.{Happening}
 use Rattle.ldar_law.specs.declared.event.Happening.TheVariants.{Read, Look, Attempt, Delay, Release, Sensor, Evidence, Retire}
 use Rattle.ldar_law.specs.declared.numbers.TheConstants.{REPAIR_DAYS}
-use Rattle.ldar_law.specs.Happenings.{is_leak, is_reading_or_drip, is_look, is_sensor, is_below, is_dry, is_attempt, is_complete, delays_with_reading, is_retire}
+use Rattle.ldar_law.specs.Happenings.{is_leak, is_reading_or_drip, is_look, is_sensor, is_below, is_dry, is_attempt, is_complete, delays_with_reading}
+use Rattle.ldar_law.specs.Happenings.{is_retire}
 use Rattle.ldar_law.specs.Settling as law
 use Rattle.leak_tags.specs.OpenLeaks.{is_reading}
 use Rattle.leak_tags.specs.Telling.{some_after, since_leak, some_open}
-use Rattle.leak_tags.proofs.AfterLemmas.{and_true, and_false, and_over, or_swap, some_same, some_at, some_or, some_none, some_more, somewhere_is_after, somewhere_before, any_more, since_that_leak}
+use Rattle.leak_tags.proofs.AfterLemmas.{and_true, and_false, and_over, or_swap, some_same, some_at, some_or, some_none, some_more, somewhere_is_after}
+use Rattle.leak_tags.proofs.AfterLemmas.{somewhere_before, any_more, since_that_leak}
 use Rattle.leak_tags.proofs.ToldLemmas.{Sums}
 
 -- ---- some open leak

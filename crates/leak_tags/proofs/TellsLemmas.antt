@@ -1,5 +1,6 @@
 -- What open leaks tell of events, with one event more, and whether some leak is unsettled.
-use Rattle.std.proofs.Common.{◌≡◌, ℕ, ◌+◌, ◌-◌, ◌<◌, ◌≤◌, Bool, true, false, not, ◌&&◌, ◌||◌, nat_eq, nat_le, List, [], ◌∷◌, ◌++◌, refl, sym, ap, subst, ◌∙◌, inl, inr, arith}
+use Rattle.std.proofs.Common.{◌≡◌, ℕ, ◌+◌, ◌-◌, ◌<◌, ◌≤◌, Bool, true, false, not, ◌&&◌, ◌||◌, nat_eq, nat_le, List, [], ◌∷◌, ◌++◌, refl, sym, ap, subst, ◌∙◌}
+use Rattle.std.proofs.Common.{inl, inr, arith}
 use Rattle.std.specs.Prelude.{if◌then◌else◌}
 use Rattle.std.specs.List.{AllByRecursion, list_any}
 use Rattle.std.proofs.lemmas.Bool.{cases_Bool, cases_eq, and_parts, and_cases, and_left, or_left, or_right, eq-eqb, ne_eqb, true≢false, false≢true}
@@ -15,7 +16,8 @@ use Rattle.ldar_law.specs.Settling as law
 use Rattle.leak_tags.specs.declared.below_months.BelowMonths.{BelowMonths}
 use Rattle.leak_tags.specs.declared.leaks.Leaks.{Leaks}
 use Rattle.leak_tags.specs.declared.open_leaks.OpenLeaks.{OpenLeaks}
-use Rattle.leak_tags.specs.OpenLeaks.{no_leaks, has_leaks, leaks_with, settled, reached, no_months, is_second, months_with, is_reading, none_open, is_open, settles_readings, settles_drips, settles_sensors, settles_delayed, with_event}
+use Rattle.leak_tags.specs.OpenLeaks.{no_leaks, has_leaks, leaks_with, settled, reached, no_months, is_second, months_with, is_reading, none_open, is_open}
+use Rattle.leak_tags.specs.OpenLeaks.{settles_readings, settles_drips, settles_sensors, settles_delayed, with_event}
 use Rattle.leak_tags.specs.Telling.{some_after, since_leak, some_open, Told, Tells}
 use Rattle.leak_tags.proofs.AfterLemmas.{or_false, some_same, some_or, somewhere_is_after, since_more}
 use Rattle.leak_tags.proofs.SettlingLemmas.{sums_open, open_more, one_of_sorts, reading_settled, drip_settled, sensor_settled, attempted_since, below_since}

@@ -1,5 +1,6 @@
 -- A reading is judged alike by all facts of its instrument and by those that matter, each sort apart.
-use Rattle.std.proofs.Common.{◌≡◌, ℕ, ◌+◌, ◌≤◌, ◌<◌, Bool, true, false, not, ◌&&◌, nat_eq, nat_lt, nat_le, Option, Some, None, List, length, take, drop, find, filter, get_or, option_map, refl, sym, ap, ◌∙◌, inl, inr, arith}
+use Rattle.std.proofs.Common.{◌≡◌, ℕ, ◌+◌, ◌≤◌, ◌<◌, Bool, true, false, not, ◌&&◌, nat_eq, nat_lt, nat_le, Option, Some, None, List, length, take, drop, find}
+use Rattle.std.proofs.Common.{filter, get_or, option_map, refl, sym, ap, ◌∙◌, inl, inr, arith}
 use Rattle.std.specs.List.{list_any}
 use Rattle.std.specs.List.Sorted.{IsPartitionPoint}
 use Rattle.std.specs.Option.{option_map_or}
@@ -14,7 +15,8 @@ use Rattle.ldar_facts.specs.declared.body.FactBody.TheVariants.{Calibration, Pre
 use Rattle.ldar_facts.specs.declared.key.Key.{Key}
 use Rattle.ldar_facts.specs.Facts.{Entry, is_earlier, goes_first}
 use Rattle.ldar_facts.proofs.Cuts.{earlier_day}
-use Rattle.ldar_law.specs.Fitness.{is_calibration, is_calibration_within, is_passed_precision, is_drift_past, is_calibrated, is_calibrated_within, is_tested, is_calibrated_before, is_voided_by, fitness_of, unless_voided}
+use Rattle.ldar_law.specs.Fitness.{is_calibration, is_calibration_within, is_passed_precision, is_drift_past, is_calibrated, is_calibrated_within, is_tested}
+use Rattle.ldar_law.specs.Fitness.{is_calibrated_before, is_voided_by, fitness_of, unless_voided}
 use Rattle.ldar_law.specs.declared.numbers.TheConstants.{GAS_MARGIN}
 use Rattle.ldar_law.proofs.TestLemmas.{both}
 use Rattle.method21_reading.specs.Instruments.{is_calibrating, is_passed_test, is_failed_drift, Apart, AreThoseOf, is_of_day, fitness_apart}

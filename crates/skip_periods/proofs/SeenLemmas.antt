@@ -1,5 +1,6 @@
 -- What is seen of a component, one event after the other, and the marks that it gives.
-use Rattle.std.proofs.Common.{◌≡◌, ◌≢◌, ℕ, ◌+◌, ◌-◌, ◌<◌, ◌≤◌, ◌/◌, Bool, true, false, ◌&&◌, ◌||◌, nat_eq, nat_lt, Option, Some, None, List, [], take, length, set, get_or, replicate, refl, sym, ap, ◌∙◌, inl, inr, arith}
+use Rattle.std.proofs.Common.{◌≡◌, ◌≢◌, ℕ, ◌+◌, ◌-◌, ◌<◌, ◌≤◌, ◌/◌, Bool, true, false, ◌&&◌, ◌||◌, nat_eq, nat_lt, Option, Some, None, List, [], take, length}
+use Rattle.std.proofs.Common.{set, get_or, replicate, refl, sym, ap, ◌∙◌, inl, inr, arith}
 use Rattle.std.specs.List.{list_any}
 use Rattle.std.proofs.lemmas.Bool.{cases_Bool, cases_eq, ne_eqb, eq-eqb}
 use Rattle.std.proofs.lemmas.List.{get_or_default, get_or-set_same, get_or-set_other, length-set, get_or-replicate, length-replicate}
@@ -99,7 +100,8 @@ lies_in startup e month quarter place found month_is found_is is place_is q =
     ap (λ m. is_numbered (quarter_of startup m) q) (sym month_is) ∙ ap (λ o. is_numbered o q) (sym found_is ∙ is) ∙ ap (λ n. nat_eq n q) (sym on)
 
 -- nothing is seen without an event
-pub seen_none : (startup quarter : ℕ) (events : List Event) → AreSeen startup (take 0 events) quarter (replicate quarter (record { leaking = false; monitored = false }))
+pub seen_none : (startup quarter : ℕ) (events : List Event) → AreSeen startup (take 0 events) quarter
+    (replicate quarter (record { leaking = false; monitored = false }))
 seen_none startup quarter events = record {
   count = length-replicate quarter _;
   each = λ k d within. get_or-replicate quarter k _ d within;
