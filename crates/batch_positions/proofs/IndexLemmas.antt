@@ -111,7 +111,7 @@ AreRuns-push entries e runs last above = record {
 
     rise : (p q : ℕ) (x y : Entry) → IsInRun y.handheld x → y.late ≡ false → p < q
         → (at_position entries p ≡ Some x) ⊎ ((p ≡ suc (length entries)) × (x ≡ e))
-            → (at_position entries q ≡ Some y) ⊎ ((q ≡ suc (length entries)) × (y ≡ e)) → x.number < y.number
+        → (at_position entries q ≡ Some y) ⊎ ((q ≡ suc (length entries)) × (y ≡ e)) → x.number < y.number
     rise p q x y in_run y_run below (inl here) (inl there) = runs.rise p q x y here there in_run y_run below
     rise p q x y in_run y_run below (inl here) (inr end) =
         let e_run : e.late ≡ false = ap (λ (z : Entry). z.late) (sym end.1) ∙ y_run in
@@ -126,7 +126,7 @@ AreApart-push entries e apart new = λ p q x y here there same. by p q x y same 
   where
     by : (p q : ℕ) (x y : Entry) → identity_at x ≡ identity_at y
         → (at_position entries p ≡ Some x) ⊎ ((p ≡ suc (length entries)) × (x ≡ e))
-            → (at_position entries q ≡ Some y) ⊎ ((q ≡ suc (length entries)) × (y ≡ e)) → p ≡ q
+        → (at_position entries q ≡ Some y) ⊎ ((q ≡ suc (length entries)) × (y ≡ e)) → p ≡ q
     by p q x y same (inl here) (inl there) = apart p q x y here there same
     by p q x y same (inl here) (inr end) = absurd (new p x here (same ∙ ap identity_at end.1))
     by p q x y same (inr end) (inl there) = absurd (new q y there (sym same ∙ ap identity_at end.1))
@@ -144,7 +144,7 @@ lates_of-push at (x ∷ entries) e = by x.late (lates_of-push (at + 1) entries e
     by : (late : Bool) → lates_of (at + 1) (entries ++ e ∷ []) ≡ lates_of (at + 1) entries ++ if_late e.late e (at + 1 + length entries)
         → cond late (record { identity = identity_at x; position = at } ∷ lates_of (at + 1) (entries ++ e ∷ [])) (lates_of (at + 1) (entries ++ e ∷ []))
         ≡ cond late (record { identity = identity_at x; position = at } ∷ lates_of (at + 1) entries) (lates_of (at + 1) entries) ++ if_late e.late e
-            (at + suc (length entries))
+        (at + suc (length entries))
     by true rest =
         let place : at + 1 + length entries ≡ at + suc (length entries) = omega arith in
         ap (λ (l : List Late). record { identity = identity_at x; position = at } ∷ l) (rest ∙ ap (λ n. lates_of (at + 1) entries ++ if_late e.late e n) place)
@@ -177,12 +177,16 @@ lates_of-stand at (x ∷ entries) i late found = by x.late i found (λ j. lates_
     by : (b : Bool) (i : ℕ) → slice_get (cond b (record { identity = identity_at x; position = at } ∷ lates_of (at + 1) entries) (lates_of (at + 1) entries))
         i ≡ Some late
         → ((j : ℕ) → slice_get (lates_of (at + 1) entries) j ≡ Some late
-            → (k : ℕ) × (y : Entry) × (slice_get entries k ≡ Some y) × (late ≡ record { identity = identity_at y; position = at + 1 + k }))
+        → (k : ℕ) × (y : Entry) × (slice_get entries k ≡ Some y) × (late ≡ record { identity = identity_at y; position = at + 1 + k }))
         → (k : ℕ) × (y : Entry) × (slice_get (x ∷ entries) k ≡ Some y) × (late ≡ record { identity = identity_at y; position = at + k })
     by true zero there rest =
-        let place : at ≡ at + 0 = omega arith in
-        (0, x, refl, sym (same_Some (record { identity = identity_at x; position = at }) late there)
-            ∙ ap (λ n. record { identity = identity_at x; position = n }) place)
+        let place : at ≡ at + 0 = omega arith in (
+          0,
+          x,
+          refl,
+          sym (same_Some (record { identity = identity_at x; position = at }) late there)
+              ∙ ap (λ n. record { identity = identity_at x; position = n }) place,
+        )
     by true (suc i) there rest = behind (rest i there)
     by false i there rest = behind (rest i there)
 
@@ -193,9 +197,11 @@ lates_of-have at [] k x here late = absurd cc
 lates_of-have at (y ∷ entries) zero x here late =
     let same : y ≡ x = same_Some y x here in
     let y_late : y.late ≡ true = ap (λ (e : Entry). e.late) same ∙ late in
-    let place : at ≡ at + 0 = omega arith in
-    (0, rw y_late (ap (λ (e : Entry). Some (record { identity = identity_at e; position = at })) same
-        ∙ ap (λ n. Some (record { identity = identity_at x; position = n })) place))
+    let place : at ≡ at + 0 = omega arith in (
+      0,
+      rw y_late (ap (λ (e : Entry). Some (record { identity = identity_at e; position = at })) same
+          ∙ ap (λ n. Some (record { identity = identity_at x; position = n })) place),
+    )
 lates_of-have at (y ∷ entries) (suc k) x here late =
     let found = lates_of-have (at + 1) entries k x here late in
     let place : at + 1 + k ≡ at + suc k = omega arith in
@@ -203,7 +209,7 @@ lates_of-have at (y ∷ entries) (suc k) x here late =
   where
     by : (b : Bool) (i : ℕ) → slice_get (lates_of (at + 1) entries) i ≡ Some (record { identity = identity_at x; position = at + suc k })
         → (i : ℕ) × (slice_get (cond b (record { identity = identity_at y; position = at } ∷ lates_of (at + 1) entries) (lates_of (at + 1) entries)) i ≡ Some
-            (record { identity = identity_at x; position = at + suc k }))
+        (record { identity = identity_at x; position = at + suc k }))
     by true i there = (suc i, there)
     by false i there = (i, there)
 
@@ -224,7 +230,7 @@ pub goes_on : (entries : List Entry) (heads : List ℕ) (lates : List Late) (e :
     → slice_get heads e.handheld ≡ Some e.earlier
     → ((last : Entry) → at_position entries e.earlier ≡ Some last → last.number < e.number)
     → ((at : ℕ) (x : Entry) → at_position entries at ≡ Some x → identity_at x ≢ identity_at e)
-        → IsIndexed (entries ++ e ∷ []) (set heads e.handheld (length entries + 1)) lates
+    → IsIndexed (entries ++ e ∷ []) (set heads e.handheld (length entries + 1)) lates
 goes_on entries heads lates e index in_run head above new = record {
   runs = AreRuns-push entries e index.runs (λ run. index.ends.last e.handheld e.earlier head) (λ run. above);
   apart = AreApart-push entries e index.apart new;
@@ -414,7 +420,7 @@ pub is_new : (entries : List Entry) (identity : Identity) → position_in identi
 is_new entries identity none zero x here same = absurd cc
 is_new entries identity none (suc k) x here same =
     none-position_from identity 1 (map identity_at entries) none k identity
-        (slice_get-map identity_at entries k ∙ ap (option_map identity_at) here ∙ ap Some same) refl
+    (slice_get-map identity_at entries k ∙ ap (option_map identity_at) here ∙ ap Some same) refl
 
 -- what a look-up among the late ones finds, where none is in a run
 pub late_position : (entries : List Entry) (heads : List ℕ) (lates : List Late) (identity : Identity) (found : Option ℕ) → IsIndexed entries heads lates
@@ -432,7 +438,7 @@ late_position entries heads lates identity None index no_run some none = sym (po
 late_position entries heads lates identity (Some position) index no_run some none =
     let found = some position refl in
     let stands = lates_of-stand 1 entries found.0 (record { identity = identity; position = position })
-        (ap (λ (l : List Late). slice_get l found.0) (sym index.late) ∙ found.1) in
+    (ap (λ (l : List Late). slice_get l found.0) (sym index.late) ∙ found.1) in
     let place : position ≡ 1 + stands.0 = ap (λ (l : Late). l.position) stands.3 in
     let at_place : suc stands.0 ≡ position = omega arith in
     let same : identity_at stands.1 ≡ identity = sym (ap (λ (l : Late). l.identity) stands.3) in
@@ -485,7 +491,7 @@ pub room_goes_on : (entries : List Entry) (room fresh late_room : ℕ) (e : Entr
     → IsRoomy (entries ++ e ∷ []) (room - 1) (fresh + 1) late_room
 room_goes_on entries room fresh late_room e roomy in_run some =
     let count : runs_among (fresh + 1) (entries ++ e ∷ []) ≡ runs_among fresh entries + 1 = runs_among-push fresh entries e roomy.within
-        ∙ ap (λ (b : Bool). runs_among fresh entries + cond b 0 1) in_run in
+    ∙ ap (λ (b : Bool). runs_among fresh entries + cond b 0 1) in_run in
     record { within = omega (arith, roomy.within, length-append entries (e ∷ [])); room = omega (arith, roomy.room) }
 
 -- .. and one that comes late takes room of both
@@ -494,7 +500,7 @@ pub room_comes_late : (entries : List Entry) (room fresh late_room late_room' : 
     → IsRoomy (entries ++ e ∷ []) (room - 1) (fresh + 1) late_room'
 room_comes_late entries room fresh late_room late_room' e roomy late some takes =
     let count : runs_among (fresh + 1) (entries ++ e ∷ []) ≡ runs_among fresh entries + 0 = runs_among-push fresh entries e roomy.within
-        ∙ ap (λ (b : Bool). runs_among fresh entries + cond b 0 1) late in
+    ∙ ap (λ (b : Bool). runs_among fresh entries + cond b 0 1) late in
     record { within = omega (arith, roomy.within, length-append entries (e ∷ [])); room = omega (arith, roomy.room) }
 
 -- none of the last none is in a run
@@ -514,7 +520,7 @@ room_goes_back front room (suc n) late_room late_room' e roomy gives =
     let within : n ≤ length front = omega (arith, roomy.within, length-append front (e ∷ [])) in
     let same : suc n ≡ n + 1 = omega arith in
     let count : runs_among (suc n) (front ++ e ∷ []) ≡ runs_among n front + cond e.late 0 1 = ap (λ k. runs_among k (front ++ e ∷ [])) same
-        ∙ runs_among-push n front e within in
+    ∙ runs_among-push n front e within in
     let one : min (suc n) 1 ≡ 1 = omega arith in
     let before : suc n - 1 ≡ n = omega arith in
     rw (one, before) (by e.late within count gives)
@@ -538,7 +544,7 @@ pub starts : (entries : List Entry) (heads : List ℕ) (lates : List Late) → e
     → IsIndexed entries heads lates
 starts entries heads lates no_entry zeros no_late =
     rw (no_entry, zeros, no_late) (nothing_indexed (replicate 65_536 0) (length-replicate {A = ℕ} 65_536 0)
-        (λ handheld link. slice_get-replicate 65_536 handheld link))
+    (λ handheld link. slice_get-replicate 65_536 handheld link))
 
 pub pushed_on : (entries entries' : List Entry) (heads heads' : List ℕ) (lates : List Late) (identity : Identity) (e : Entry) (head position : ℕ)
     → IsIndexed entries heads lates

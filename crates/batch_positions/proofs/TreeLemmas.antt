@@ -129,27 +129,30 @@ SetsChild-lates place path child old new sets = record { same = sets.same; late 
   where
     late_of : (at : ℕ) (node : Node) → at_position old at ≡ Some node → (at ≡ place) ⊎ (at ≡ place → ⊥)
         → (after : Node) × (at_position new at ≡ Some after) × (after.late ≡ node.late)
-    late_of at node here (inl same) =
-        (with_child path child node, ap (at_position new) same
-            ∙ sets.changed node (ap (at_position old) (sym same) ∙ here), late-put (eqb (path % 2) 1) child node)
+    late_of at node here (inl same) = (
+      with_child path child node,
+      ap (at_position new) same
+          ∙ sets.changed node (ap (at_position old) (sym same) ∙ here),
+      late-put (eqb (path % 2) 1) child node,
+    )
     late_of at node here (inr other) = (node, sets.others at other ∙ here, refl)
 
 -- what a written child leaves of the children: each stays, or is the one that was written over
 pub SetsChild-child : (place path child : ℕ) (old new : List Node) → SetsChild place path child old new → (other at : ℕ) (node : Node)
     → at_position old at ≡ Some node
     → ((after : Node) × (at_position new at ≡ Some after) × (child_of other after ≡ child_of other node))
-        ⊎ ((at ≡ place) × (child_of other node ≡ child_of path node))
+    ⊎ ((at ≡ place) × (child_of other node ≡ child_of path node))
 SetsChild-child place path child old new sets other at node here = by (cases_eq at place)
   where
     here_by : (at ≡ place) → (child_of other (with_child path child node) ≡ child_of other node) ⊎ (child_of other node ≡ child_of path node)
         → ((after : Node) × (at_position new at ≡ Some after) × (child_of other after ≡ child_of other node))
-            ⊎ ((at ≡ place) × (child_of other node ≡ child_of path node))
+        ⊎ ((at ≡ place) × (child_of other node ≡ child_of path node))
     here_by same (inl stays) = inl (with_child path child node, ap (at_position new) same ∙ sets.changed node (ap (at_position old) (sym same) ∙ here), stays)
     here_by same (inr over) = inr (same, over)
 
     by : (at ≡ place) ⊎ (at ≡ place → ⊥)
         → ((after : Node) × (at_position new at ≡ Some after) × (child_of other after ≡ child_of other node))
-            ⊎ ((at ≡ place) × (child_of other node ≡ child_of path node))
+        ⊎ ((at ≡ place) × (child_of other node ≡ child_of path node))
     by (inl same) = here_by same (on_side-other (eqb (other % 2) 1) (eqb (path % 2) 1) child node)
     by (inr differs) = inl (node, sets.others at differs ∙ here, refl)
 
@@ -171,7 +174,7 @@ hangs path rest end place old new next some within ends goes_on sets = record {
   where
     keeps_by : (other at : ℕ) (node : Node) → at_position old at ≡ Some node → at < child_of other node → child_of other node ≤ length old
         → ((after : Node) × (at_position new at ≡ Some after) × (child_of other after ≡ child_of other node))
-            ⊎ ((at ≡ end) × (child_of other node ≡ child_of rest node))
+        ⊎ ((at ≡ end) × (child_of other node ≡ child_of rest node))
         → (after : Node) × (at_position new at ≡ Some after) × (child_of other after ≡ child_of other node)
     keeps_by other at node here later inside (inl stays) = stays
     keeps_by other at node here later inside (inr over) =
@@ -187,9 +190,15 @@ hangs path rest end place old new next some within ends goes_on sets = record {
     one_step : (node : Node) → (before : Node) × (at_position old end ≡ Some before) → IsReached (new ++ node ∷ []) place rest end
     one_step node before =
         let child = child_of-with rest place before.0 in
-        let later : end < place = omega arith in
-        (1, (with_child rest place before.0, at_position-push new node end (with_child rest place before.0) (sets.changed before.0 before.1), rw child later,
-            rw child refl))
+        let later : end < place = omega arith in (
+          1,
+          (
+            with_child rest place before.0,
+            at_position-push new node end (with_child rest place before.0) (sets.changed before.0 before.1),
+            rw child later,
+            rw child refl,
+          ),
+        )
 
 -- with no node yet, a path leads to the first place
 pub hangs_first : (path place : ℕ) (old : List Node) → place ≡ length old + 1 → length old ≡ 0 → Hangs place path old old
@@ -208,7 +217,7 @@ cuts_off parent rest place old new on sets = record {
   where
     by : (other at : ℕ) (node : Node) → at_position old at ≡ Some node → child_of other node ≢ place
         → ((after : Node) × (at_position new at ≡ Some after) × (child_of other after ≡ child_of other node))
-            ⊎ ((at ≡ parent) × (child_of other node ≡ child_of rest node))
+        ⊎ ((at ≡ parent) × (child_of other node ≡ child_of rest node))
         → (after : Node) × (at_position new at ≡ Some after) × (child_of other after ≡ child_of other node)
     by other at node here differs (inl stays) = stays
     by other at node here differs (inr over) =
@@ -246,7 +255,7 @@ tree_grows old new node tree hangs = λ at found here. by at found (at_position-
         let within = at_position-within old at before.0 before.1 in
         let reached = tree at before.0 before.1 in
         let kept = Leads-keeps old (new ++ node ∷ []) (KeepsPaths-push old new node hangs.keeps) at reached.0 (path_of before.0.late.identity) 1 within.1
-            reached.1 in
+        reached.1 in
         rw before.2 (reached.0, kept)
     by at found (inr last) =
         let same = hangs.lates.same in
@@ -263,9 +272,12 @@ Leads-cut old new front last place cuts parts place_is goal (suc n) path link be
     let differs : child_of path leads.0 ≢ place = λ same. absurd (omega arith) in
     let after = cuts.keeps path link leads.0 leads.1 differs in
     let rest = Leads-cut old new front last place cuts parts place_is goal n (path / 2) (child_of path leads.0) before leads.3 in
-    let long : length new ≡ length front + 1 = ap length parts ∙ length-append front (last ∷ []) in
-    (after.0, in_front (at_position-parts front last link after.0 (ap (λ (l : List Node). at_position l link) (sym parts) ∙ after.1)) (omega arith),
-        rw after.2 leads.2, rw after.2 rest)
+    let long : length new ≡ length front + 1 = ap length parts ∙ length-append front (last ∷ []) in (
+      after.0,
+      in_front (at_position-parts front last link after.0 (ap (λ (l : List Node). at_position l link) (sym parts) ∙ after.1)) (omega arith),
+      rw after.2 leads.2,
+      rw after.2 rest,
+    )
   where
     in_front : {x : Node} → (at_position front link ≡ Some x) ⊎ ((link ≡ suc (length front)) × (x ≡ last)) → link ≤ length front
         → at_position front link ≡ Some x

@@ -207,13 +207,21 @@ untouched_or taken none P (Some old) (Some new) same = inl (none, same)
 
 -- a journal that was not opened
 pub ends_refused : (why : OpenWhy) (left old new : Option (List ℕ)) → IsRefused old new why → DockEnds (refusal_of why) [] left [] old new
-ends_refused Disk left old new refused =
-    (refl, untouched_or [] refl (λ old new. (history : List Batch) × (batch : Batch) × Opens old history × Spells [] batch × IsDue history batch
-        × OpensEither new history (batch ∷ [])) old new refused.unchanged)
-ends_refused NotAJournal left old new refused =
-    (refl, refl, none_opens (λ bytes. ¬ (take 16 bytes ≡ header)) (λ bytes not history. no_header_opens_to_none bytes history not) old new refused.unchanged
-        refused.not_a_journal)
-ends_refused (Damaged at) left old new refused =
-    (refl, refl, none_opens (λ bytes. IsDamagedAt bytes at) (λ bytes is history. damaged_opens_to_none bytes at history is) old new refused.unchanged
-        refused.damaged)
+ends_refused Disk left old new refused = (
+  refl,
+  untouched_or [] refl (λ old new. (history : List Batch) × (batch : Batch) × Opens old history × Spells [] batch × IsDue history batch
+      × OpensEither new history (batch ∷ [])) old new refused.unchanged,
+)
+ends_refused NotAJournal left old new refused = (
+  refl,
+  refl,
+  none_opens (λ bytes. ¬ (take 16 bytes ≡ header)) (λ bytes not history. no_header_opens_to_none bytes history not) old new refused.unchanged
+      refused.not_a_journal,
+)
+ends_refused (Damaged at) left old new refused = (
+  refl,
+  refl,
+  none_opens (λ bytes. IsDamagedAt bytes at) (λ bytes is history. damaged_opens_to_none bytes at history is) old new refused.unchanged
+      refused.damaged,
+)
 ends_refused OpenMemory left old new refused = (refl, refused.unchanged)

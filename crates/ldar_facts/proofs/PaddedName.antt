@@ -24,11 +24,11 @@ padded_name len bytes twelve some fits letters zeros =
     let behind = length-drop len bytes in
     let long : length (take len bytes) ≡ len = length-take-le len bytes (omega (arith, twelve, fits)) in
     let left : length (drop len bytes) ≡ 12 - length (take len bytes) = omega (arith, behind, long, twelve) in
-    let all : take (12 - len) (drop len bytes) ≡ drop len bytes = take_all (12 - len) (drop len bytes) (omega (arith, behind, twelve)) in
-    ( long
-    , sym (take-append-drop len bytes)
-    ∙ ap (λ l. take len bytes ++ l) (all_zeros (drop len bytes) (rw all at zeros) ∙ ap (λ n. replicate n 0) left)
-    , record { some = omega (arith, long, some); fits = omega (arith, long, fits); letters = letters }
+    let all : take (12 - len) (drop len bytes) ≡ drop len bytes = take_all (12 - len) (drop len bytes) (omega (arith, behind, twelve)) in (
+      long,
+      sym (take-append-drop len bytes)
+          ∙ ap (λ l. take len bytes ++ l) (all_zeros (drop len bytes) (rw all at zeros) ∙ ap (λ n. replicate n 0) left),
+      record { some = omega (arith, long, some); fits = omega (arith, long, fits); letters = letters },
     )
 
 -- a name in its twelve bytes at a place is read

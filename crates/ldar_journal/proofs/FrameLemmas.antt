@@ -56,7 +56,7 @@ no_batch bytes rest front whole each none some batches is same =
     let goes_on = payload_goes_on front batches rest each is.each (same ∙ whole) in
     let more = left_of front batches rest goes_on some in
     let front_is : take (length (spelling more.0)) rest ≡ spelling more.0 = ap (take (length (spelling more.0))) more.4
-        ∙ take-append_seam (spelling more.0) (payload more.1) in
+    ∙ take-append_seam (spelling more.0) (payload more.1) in
     none (length (spelling more.0)) more.0 (subst (λ (l : List ℕ). Spells l more.0) (sym front_is) (is-Spells more.0 more.2))
 
 -- no bytes are no payload
@@ -69,9 +69,9 @@ pub one_more : (bytes rest after : List ℕ) (items : List Batch) (b : Batch) (u
     → bytes ≡ payload (items ++ b ∷ []) ++ after
 one_more bytes rest after items b used whole spells left =
     let parts : rest ≡ spelling b ++ after = sym (take-append-drop used rest) ∙ ap (λ (l : List ℕ). l ++ drop used rest) spells
-        ∙ ap (λ (l : List ℕ). spelling b ++ l) (sym left) in
+    ∙ ap (λ (l : List ℕ). spelling b ++ l) (sym left) in
     whole ∙ ap (λ (l : List ℕ). payload items ++ l) parts ∙ sym (append_assoc (payload items) (spelling b) after)
-        ∙ ap (λ (l : List ℕ). l ++ after) (sym (payload-push items b))
+    ∙ ap (λ (l : List ℕ). l ++ after) (sym (payload-push items b))
 
 -- nothing was read, and nothing is left
 pub nothing_left : (bytes rest : List ℕ) (items : List Batch) → bytes ≡ payload items ++ rest → length rest ≡ 0 → length items ≡ 0 → (batches : List Batch)
@@ -140,7 +140,7 @@ frame_stands bytes found batches stands is same =
     let used_is : 5 + length found ≡ length (frame batches) = ap (λ (l : List ℕ). 5 + length l) (sym same) ∙ omega arith in
     let whole : bytes ≡ frame batches ++ stands.rest = stands.stands ∙ ap (λ (l : List ℕ). 1 ∷ ((big_endian 4 (length l) ++ l) ++ stands.rest)) (sym same) in
     let after : drop (5 + length found) bytes ≡ stands.rest = ap₂ (λ (n : ℕ) (l : List ℕ). drop n l) used_is whole
-        ∙ drop-append_seam (frame batches) stands.rest in
+    ∙ drop-append_seam (frame batches) stands.rest in
     record {
       is = is;
       used_is = used_is;
@@ -177,7 +177,7 @@ pub wanted_enough : (bytes more rest : List ℕ) (len wanted : ℕ) → 5 ≤ le
 wanted_enough bytes more rest len wanted long are_bytes len_is fits reaches within none others after is stands =
     let at = payload_of_frame ((bytes ++ more) ++ rest) after others is stands in
     let same : length (payload others) ≡ len = wanted_payload bytes (more ++ rest) len long are_bytes len_is fits (payload others)
-        (subst (λ (l : List ℕ). IsPayloadAt l (payload others)) (append_assoc bytes more rest) at) in
+    (subst (λ (l : List ℕ). IsPayloadAt l (payload others)) (append_assoc bytes more rest) at) in
     let small = at.fits in
     let reached : 5 + len ≤ wanted = reaches (omega arith) in
     let size : length (frame others) ≡ 5 + length (payload others) = omega arith in

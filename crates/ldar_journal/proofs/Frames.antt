@@ -72,11 +72,15 @@ pub payload_goes_on : (front whole : List Batch) (rest : List ℕ) → AllByRecu
     → payload whole ≡ payload front ++ rest → PayloadGoesOn front whole rest
 payload_goes_on [] whole rest front_are whole_are same = record { more = whole; batches = refl; bytes = sym same; each = whole_are }
 payload_goes_on (a ∷ front) [] rest front_are whole_are same =
-    absurd (omega (arith, length-spelling a front_are.0, longer (spelling a) (payload front ++ rest)
-        (sym (append_assoc (spelling a) (payload front) rest) ∙ sym same)))
+    absurd (omega (
+      arith,
+      length-spelling a front_are.0,
+      longer (spelling a) (payload front ++ rest)
+          (sym (append_assoc (spelling a) (payload front) rest) ∙ sym same),
+    ))
 payload_goes_on (a ∷ front) (b ∷ whole) rest front_are whole_are same =
     let first = one_batch a b (payload front ++ rest) (payload whole) front_are.0 whole_are.0
-        (sym (append_assoc (spelling a) (payload front) rest) ∙ sym same) in
+    (sym (append_assoc (spelling a) (payload front) rest) ∙ sym same) in
     let next = payload_goes_on front whole rest front_are.1 whole_are.1 (sym first.1) in
     let batches = next.batches in
     let head = first.0 in

@@ -32,7 +32,7 @@ goes_on [] whole x y gate rest front_is whole_is ends shut same = record { more 
 goes_on (f ∷ front) [] x y gate rest front_is whole_is ends shut same = absurd (shut cc)
 goes_on (f ∷ front) (g ∷ whole) x y gate rest front_is whole_is ends shut same =
     let first = one_frame f g (framed front ++ x) (framed whole ++ y) front_is.0 whole_is.0
-        (sym (append_assoc (frame f) (framed front) x) ∙ same ∙ append_assoc (frame g) (framed whole) y) in
+    (sym (append_assoc (frame f) (framed front) x) ∙ same ∙ append_assoc (frame g) (framed whole) y) in
     let next = goes_on front whole x y gate rest front_is.1 whole_is.1 ends shut first.1 in
     record { more = next.more; each = next.each; frames = ap (λ (l : List (List Batch)). l) cc; bytes = next.bytes }
 
@@ -130,7 +130,7 @@ IsFront-push front frames batches is_front is_frame = record {
   spells =
       ap (λ (l : List ℕ). l ++ frame batches) is_front.spells ∙ append_assoc header (framed frames) (frame batches)
       ∙ ap (λ (l : List ℕ). header ++ l) (ap (λ (l : List ℕ). framed frames ++ l) (sym (append-nil (frame batches)))
-          ∙ sym (flat_map-append frame frames (batches ∷ [])));
+      ∙ sym (flat_map-append frame frames (batches ∷ [])));
 }
 
 -- the batches of frames and of one more
@@ -144,7 +144,7 @@ pub front_grows : (image : List ℕ) (place used : ℕ) (frames : List (List Bat
     → IsFront (take (place + used) image) (frames ++ batches ∷ [])
 front_grows image place used frames batches is_front stands =
     let frame_is : take used (drop place image) ≡ frame batches = ap₂ (λ (n : ℕ) (l : List ℕ). take n l) stands.used_is stands.stands
-        ∙ take-append_seam (frame batches) (drop used (drop place image)) in
+    ∙ take-append_seam (frame batches) (drop used (drop place image)) in
     subst (λ (l : List ℕ). IsFront l (frames ++ batches ∷ [])) (ap (λ (l : List ℕ). take place image ++ l) (sym frame_is) ∙ sym (take-add place used image))
     (IsFront-push (take place image) frames batches is_front stands.is)
 
@@ -179,8 +179,12 @@ no_header_opens_to_none image history no_header opens =
 -- frames are as long as their places say
 pub length-framed : (frames : List (List Batch)) → 16 + length (framed frames) ≡ end_of frames
 length-framed [] = refl
-length-framed (f ∷ frames) = omega (arith, length-framed frames, length-append (frame f) (framed frames),
-    sum_by-append (λ (b : List Batch). 5 + length (payload b)) (f ∷ []) frames)
+length-framed (f ∷ frames) = omega (
+  arith,
+  length-framed frames,
+  length-append (frame f) (framed frames),
+  sum_by-append (λ (b : List Batch). 5 + length (payload b)) (f ∷ []) frames,
+)
 
 -- the gate behind one frame more
 pub end_of-push : (frames : List (List Batch)) (batches : List Batch) → end_of (frames ++ batches ∷ []) ≡ end_of frames + (5 + length (payload batches))

@@ -19,7 +19,7 @@ ahead_parts place window bytes ahead =
 -- two steps of reading, of which the first keeps a window ahead
 steps : (a b c : Option (List ℕ)) (place : ℕ) (first middle : List ℕ) (P : List ℕ → Type 0) → BothTold a b (λ old new. new ≡ old)
     → BothTold a b (λ old new. IsAhead place first old → IsAhead place middle old) → BothTold b c (λ old new. IsAhead place middle old → P old)
-        → BothTold a c (λ old new. IsAhead place first old → P old)
+    → BothTold a c (λ old new. IsAhead place first old → P old)
 steps None None None place first middle P same one two = tt
 steps None None (Some z) place first middle P same one two = absurd two
 steps None (Some y) c place first middle P same one two = absurd one
@@ -61,12 +61,12 @@ nothing_left a b place w0 w1 all none =
 -- a frame at the front of a window stands at its place
 pub frame_ahead : (a b c : Option (List ℕ)) (place : ℕ) (w0 w1 w2 : List ℕ) (batches : List Batch) (used : ℕ) → BothTold a b (λ old new. new ≡ old)
     → BothTold a b (λ old new. IsAhead place w0 old → IsAhead place w1 old) → BothTold b c (λ old new. IsAhead place w1 old → IsAhead place w2 old)
-        → IsFrameOf w2 batches used
+    → IsFrameOf w2 batches used
     → BothTold a c (λ old new. IsAhead place w0 old → place ≤ length old → IsFrameOf (drop place old) batches used)
 frame_ahead a b c place w0 w1 w2 batches used same one two is =
     steps a b c place w0 w1 (λ bytes. place ≤ length bytes → IsFrameOf (drop place bytes) batches used) same one
     (BothTold-weaker (λ old new. IsAhead place w1 old → IsAhead place w2 old)
-        (λ old new. IsAhead place w1 old → place ≤ length old → IsFrameOf (drop place old) batches used)
+    (λ old new. IsAhead place w1 old → place ≤ length old → IsFrameOf (drop place old) batches used)
     (λ old new ahead is_ahead within. subst (λ (l : List ℕ). IsFrameOf l batches used) (sym (ahead_parts place w2 old (ahead is_ahead)))
     (IsFrameOf-longer w2 (drop (length w2) (drop place old)) batches used is)) b c two)
 
@@ -88,10 +88,10 @@ first_byte place window bytes ahead some =
 -- an open gate stands, and no frame
 pub bad_ahead : (a b c : Option (List ℕ)) (place : ℕ) (w0 w1 w2 : List ℕ) → BothTold a b (λ old new. new ≡ old)
     → BothTold a b (λ old new. IsAhead place w0 old → IsAhead place w1 old)
-        → BothTold b c (λ old new. IsAhead place w1 old → HasNoFrame w2 → HasNoFrame (drop place old))
+    → BothTold b c (λ old new. IsAhead place w1 old → HasNoFrame w2 → HasNoFrame (drop place old))
     → 0 < length w1 → slice_index w1 0 ≡ 1 → HasNoFrame w2 → BothTold a c (λ old new. IsAhead place w0 old → place ≤ length old → IsBadAt old place)
 bad_ahead a b c place w0 w1 w2 same one two some open_gate none =
     steps a b c place w0 w1 (λ bytes. place ≤ length bytes → IsBadAt bytes place) same one
     (BothTold-weaker (λ old new. IsAhead place w1 old → HasNoFrame w2 → HasNoFrame (drop place old))
-        (λ old new. IsAhead place w1 old → place ≤ length old → IsBadAt old place)
+    (λ old new. IsAhead place w1 old → place ≤ length old → IsBadAt old place)
     (λ old new judged ahead within. record { open_gate = inr (sym (first_byte place w1 old ahead some) ∙ open_gate); no_frame = judged ahead none }) b c two)

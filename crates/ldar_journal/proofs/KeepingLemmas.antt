@@ -24,11 +24,11 @@ position_of-is q xs = position_from-is q 1 xs
 -- one batch more
 pub known_more : (history : List Batch) (identities identities' : List Identity) (facts more : ℕ) (batch : Batch) → IsKnown history identities facts
     → position_in (identity_of batch) identities ≡ None → identities' ≡ identities ++ identity_of batch ∷ [] → more ≡ facts + length batch.facts
-        → more ≤ 8_000_000
+    → more ≤ 8_000_000
     → IsKnown (history ++ batch ∷ []) identities' more
 known_more history identities identities' facts more batch known is_new added count fits =
     let new : is_some (position_of (identity_of batch) history) ≡ false =
-        ap is_some (position_of-is (identity_of batch) history ∙ ap (position_in (identity_of batch)) (sym known.in_order) ∙ is_new) in
+    ap is_some (position_of-is (identity_of batch) history ∙ ap (position_in (identity_of batch)) (sym known.in_order) ∙ is_new) in
     record {
       in_order = added ∙ ap (λ (l : List Identity). l ++ identity_of batch ∷ []) known.in_order ∙ sym (map-append identity_of history (batch ∷ []));
       counted = omega (arith, fact_count-push history batch, known.counted);
@@ -45,7 +45,7 @@ refused history identities facts batch known (inl there) kept =
     found None is = there is
     found (Some p) is =
         IsKept-twice history batch (ap is_some (position_of-is (identity_of batch) history ∙ ap (position_in (identity_of batch)) (sym known.in_order) ∙ is))
-            kept
+        kept
 refused history identities facts batch known (inr many) kept = omega (arith, fact_count-push history batch, known.counted, kept.fits)
 
 -- a front of batches with the next one, and what follows it
@@ -59,7 +59,7 @@ not_all history batches i batch next not_kept kept =
     let parts : history ++ batches ≡ ((history ++ take i batches) ++ batch ∷ []) ++ drop (i + 1) batches =
     ap (λ (l : List Batch). history ++ l) (sym (take-append-drop (i + 1) batches)) ∙ sym (append_assoc history (take (i + 1) batches) (drop (i + 1) batches))
     ∙ ap (λ (l : List Batch). l ++ drop (i + 1) batches) (ap (λ (l : List Batch). history ++ l) next
-        ∙ sym (append_assoc history (take i batches) (batch ∷ []))) in
+    ∙ sym (append_assoc history (take i batches) (batch ∷ []))) in
     not_kept (IsKept-front ((history ++ take i batches) ++ batch ∷ []) (drop (i + 1) batches) (subst IsKept parts kept))
 
 -- the identities of a front, with those behind it taken out
@@ -69,10 +69,15 @@ pub back_again : (history batches : List Batch) (i : ℕ) (entry identities afte
 back_again history batches i entry identities after facts count known within more taken =
     let all : identities ≡ map identity_of history ++ map identity_of (take i batches) = more.in_order ∙ map-append identity_of history (take i batches) in
     let long : length identities - i ≡ length (map identity_of history) =
-    omega (arith, ap length all, length-append (map identity_of history) (map identity_of (take i batches)), length-map (take i batches) identity_of,
-        length-take-le i batches within) in
+    omega (
+      arith,
+      ap length all,
+      length-append (map identity_of history) (map identity_of (take i batches)),
+      length-map (take i batches) identity_of,
+      length-take-le i batches within,
+    ) in
     taken ∙ ap (λ n. take n identities) long ∙ ap (take (length (map identity_of history))) all
-        ∙ take-append_seam (map identity_of history) (map identity_of (take i batches)) ∙ sym known.in_order
+    ∙ take-append_seam (map identity_of history) (map identity_of (take i batches)) ∙ sym known.in_order
 
 -- identities are left while some are to be taken out
 pub some_left : (entry now : List Identity) (count left : ℕ) → count ≤ length entry → left ≤ count → 0 < left

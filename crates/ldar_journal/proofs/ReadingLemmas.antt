@@ -28,13 +28,13 @@ ahead_behind place used window bytes within ahead =
     let whole : length window ≡ used + rest = omega arith in
     let long : length (drop used window) ≡ rest = length-drop used window in
     ap (drop used) ahead ∙ ap (λ n. drop used (take n (drop place bytes))) whole ∙ drop-take used rest (drop place bytes)
-        ∙ ap (take rest) (drop-drop used place bytes)
+    ∙ ap (take rest) (drop-drop used place bytes)
     ∙ ap (λ n. take n (drop (place + used) bytes)) (sym long)
 
 -- what was read with a frame more
 behind_more : (place used : ℕ) (frames : List (List Batch)) (batches : List Batch) (window window' bytes : List ℕ) → IsBehind bytes place frames window
     → (IsAhead place window bytes → IsAhead place window' bytes)
-        → (IsAhead place window bytes → place ≤ length bytes → IsFrameOf (drop place bytes) batches used) → used ≤ length window'
+    → (IsAhead place window bytes → place ≤ length bytes → IsFrameOf (drop place bytes) batches used) → used ≤ length window'
     → IsBehind bytes (place + used) (frames ++ batches ∷ []) (drop used window')
 behind_more place used frames batches window window' bytes behind ahead found within =
     let stands = found behind.ahead behind.within in
@@ -81,9 +81,9 @@ pub reading_on : (content content' : Option (List ℕ)) (images images' : List �
 reading_on content content' images images' place used frames batches window window' reading same images_same ahead found is used_is within kept = record {
   behind =
       told_three content content' (λ bytes. IsBehind bytes place frames window)
-          (λ bytes. IsBehind bytes (place + used) (frames ++ batches ∷ []) (drop used window'))
+      (λ bytes. IsBehind bytes (place + used) (frames ++ batches ∷ []) (drop used window'))
       (λ old new. IsAhead place window old → IsAhead place window' old)
-          (λ old new. IsAhead place window old → place ≤ length old → IsFrameOf (drop place old) batches used)
+      (λ old new. IsAhead place window old → place ≤ length old → IsFrameOf (drop place old) batches used)
       (λ x y behind goes stands equal. subst (λ (l : List ℕ). IsBehind l (place + used) (frames ++ batches ∷ []) (drop used window')) (sym equal)
       (behind_more place used frames batches window window' x behind goes stands within))
       reading.behind ahead found same;
@@ -110,7 +110,7 @@ gate_of_frame bytes place used batches inside stands =
 pub not_kept_damaged : (a b : Option (List ℕ)) (place used : ℕ) (frames : List (List Batch)) (batches : List Batch) (window : List ℕ)
     → Told a (λ bytes. IsBehind bytes place frames window)
     → BothTold a b (λ old new. IsAhead place window old → place ≤ length old → IsFrameOf (drop place old) batches used) → IsKept (batches_of frames)
-        → ¬ (IsKept (batches_of frames ++ batches))
+    → ¬ (IsKept (batches_of frames ++ batches))
     → Told a (λ bytes. IsDamagedAt bytes place)
 not_kept_damaged None b place used frames batches window behind found kept not_kept = tt
 not_kept_damaged (Some bytes) None place used frames batches window behind found kept not_kept = absurd found
@@ -133,15 +133,25 @@ frame_fits batches is = let long = length-payload batches is.each in omega (arit
 pub facts_grow : (frames : List (List Batch)) (batches : List Batch) → IsFrame batches
     → fact_count (batches_of frames) < fact_count (batches_of (frames ++ batches ∷ []))
 facts_grow frames batches is =
-    omega (arith, ap fact_count (batches_of-push frames batches), sum_by-append (λ (b : Batch). length b.facts) (batches_of frames) batches,
-        fact_count-some batches is.each, is.some)
+    omega (
+      arith,
+      ap fact_count (batches_of-push frames batches),
+      sum_by-append (λ (b : Batch). length b.facts) (batches_of frames) batches,
+      fact_count-some batches is.each,
+      is.some,
+    )
 
 -- there are no more batches than facts
 pub few_batches : (frames : List (List Batch)) → AllByRecursion IsFrame frames → length (batches_of frames) ≤ fact_count (batches_of frames)
 few_batches [] each = omega arith
 few_batches (f ∷ frames) each =
-    omega (arith, length-append f (batches_of frames), sum_by-append (λ (b : Batch). length b.facts) f (batches_of frames), fact_count-some f each.0.each,
-        few_batches frames each.1)
+    omega (
+      arith,
+      length-append f (batches_of frames),
+      sum_by-append (λ (b : Batch). length b.facts) f (batches_of frames),
+      fact_count-some f each.0.each,
+      few_batches frames each.1,
+    )
 
 -- what is known of the batches of one frame more
 pub known_frames : (frames : List (List Batch)) (batches : List Batch) (identities : List Identity) (facts : ℕ)
@@ -159,7 +169,7 @@ header_front window bytes ahead (inr all) = ap (take 16) all
 pub shows_header : (a b : Option (List ℕ)) (window : List ℕ) (full : Bool) → BothTold a b (λ old new. IsAhead 0 [] old → IsAhead 0 window old)
     → (full ≡ true → 16 ≤ length window)
     → (full ≡ false → BothTold a b (λ old new. IsAhead 0 [] old → window ≡ drop 0 old))
-        → BothTold a b (λ old new. (take 16 window ≡ take 16 old) × IsAhead 0 window old)
+    → BothTold a b (λ old new. (take 16 window ≡ take 16 old) × IsAhead 0 window old)
 shows_header a b window true ahead long all =
     BothTold-weaker (λ old new. IsAhead 0 [] old → IsAhead 0 window old) (λ old new. (take 16 window ≡ take 16 old) × IsAhead 0 window old)
     (λ old new is. (header_front window old (is refl) (inl (long refl)), is refl)) a b ahead

@@ -38,7 +38,7 @@ opened bytes place frames batches stands open_gate =
     ∙ ap (λ (l : List ℕ). 1 ∷ (big_endian 4 (length (payload batches)) ++ l)) (append_assoc (payload batches) (0 ∷ []) stands.rest) in
     let after : drop used (drop place bytes) ≡ 0 ∷ stands.rest = ap (drop used) whole ∙ drop-append_seam (frame batches) (0 ∷ stands.rest) in
     let long : length bytes - place ≡ used + length (0 ∷ stands.rest) = sym (length-drop place bytes) ∙ ap length whole
-        ∙ length-append (frame batches) (0 ∷ stands.rest) in
+    ∙ length-append (frame batches) (0 ∷ stands.rest) in
     let is_frame : IsFrameOf (drop place bytes) batches used = record {
       is = stands.is;
       used_is = refl;
@@ -71,8 +71,16 @@ Stands-opens bytes place frames (b ∷ doubt) stands = in_doubt (cases_eq (get_o
   where
     in_doubt : (get_or bytes place 0 ≡ 1) ⊎ (get_or bytes place 0 ≢ 1) → OpensToEither bytes frames (b ∷ doubt)
     in_doubt (inl open_gate) = inr (place + length (behind_gate (b ∷ doubt)), opened bytes place frames (b ∷ doubt) stands open_gate)
-    in_doubt (inr shut) = inl (place, record { within = stands.within; front = stands.front; closed = shut; kept =
-        IsKept-front (batches_of frames) (b ∷ doubt) stands.kept })
+    in_doubt (inr shut) = inl (
+      place,
+      record {
+        within = stands.within;
+        front = stands.front;
+        closed = shut;
+        kept =
+            IsKept-front (batches_of frames) (b ∷ doubt) stands.kept;
+      },
+    )
 
 -- bytes behind the gate that ends a journal change nothing of its frames
 pub put_behind_stays : (gate : ℕ) (frames : List (List Batch)) (old new : List ℕ) → EndsAt old gate frames → WritesBehind gate old new → EndsAt new gate frames
@@ -80,7 +88,7 @@ put_behind_stays gate frames old new ends puts =
     let put = puts ends.within in
     let front : take gate new ≡ take gate old = take_gate new ∙ ap (take gate) put.front ∙ sym (take_gate old) in
     let byte : get_or new gate 0 ≡ get_or old gate 0 = sym (get_or-take (gate + 1) new gate 0 (omega arith)) ∙ ap (λ (l : List ℕ). get_or l gate 0) put.front
-        ∙ get_or-take (gate + 1) old gate 0 (omega arith) in
+    ∙ get_or-take (gate + 1) old gate 0 (omega arith) in
     record {
       within = put.within;
       front = subst (λ (l : List ℕ). IsFront l frames) (sym front) ends.front;
@@ -183,14 +191,14 @@ pub IsShelved-as : (content : Option (List ℕ)) (images : List ℕ → Type 0) 
     → IsShelved content images place frames doubt torn → OnDisk content images (λ image. OpensAs image frames doubt)
 IsShelved-as content images place frames doubt torn shelved =
     OnDisk-weaker (λ image. Stands image place frames doubt) (λ image. OpensAs image frames doubt) (λ image. Stands-as image place frames doubt) content
-        images shelved.stands
+    images shelved.stands
 
 pub IsShelved-opens : (content : Option (List ℕ)) (images : List ℕ → Type 0) (place : ℕ) (frames : List (List Batch)) (doubt : List Batch) (torn : ℕ)
     → IsShelved content images place frames doubt torn → Told content (λ bytes. OpensToEither bytes frames doubt)
 IsShelved-opens content images place frames doubt torn shelved =
     OnDisk-content (λ image. OpensToEither image frames doubt) content images
     (OnDisk-weaker (λ image. Stands image place frames doubt) (λ image. OpensToEither image frames doubt) (λ image. Stands-opens image place frames doubt)
-        content images shelved.stands)
+    content images shelved.stands)
 
 -- a settled journal with a frame to append
 pub record IsReady (content : Option (List ℕ)) (images : List ℕ → Type 0) (gate : ℕ) (frames : List (List Batch)) (doubt batches : List Batch)
@@ -210,7 +218,7 @@ seen disk frames doubt = record { disk = disk; frames = frames; doubt = doubt }
 pub ready : {D : Type 0} (content_of : D → Option (List ℕ)) (images_of : D → List ℕ → Type 0) (disk : D) (gate : ℕ) (frames : List (List Batch))
     (doubt batches : List Batch) (torn : ℕ) (as_seen : Shelf D)
     → seen disk frames doubt ≡ as_seen → IsShelved (content_of disk) (images_of disk) gate frames doubt torn → as_seen.doubt ≡ [] → IsFrame batches
-        → IsKept (batches_of as_seen.frames ++ batches)
+    → IsKept (batches_of as_seen.frames ++ batches)
     → IsReady (content_of disk) (images_of disk) gate frames doubt batches torn
 ready content_of images_of disk gate frames doubt batches torn as_seen is_seen shelved settled is kept =
     let none : doubt ≡ [] = ap (λ shelf. shelf.doubt) is_seen ∙ settled in
@@ -281,9 +289,9 @@ module _ {D : Type 0} (clock_of : D → ℕ) (left_of : D → ℕ → List ℕ �
           (Told-both (λ bytes. EndsAt bytes gate frames) (λ bytes. HoldsBehind gate (behind_gate batches) bytes) (content_of middle)
           (OnDisk-content (λ image. EndsAt image gate frames) (content_of middle) (images_of middle) stays)
           (Told-after (λ bytes. EndsAt bytes gate frames) (λ bytes. HoldsBehind gate (behind_gate batches) bytes)
-              (λ old new. gate < length old → HoldsBehind gate (behind_gate batches) new)
+          (λ old new. gate < length old → HoldsBehind gate (behind_gate batches) new)
           (λ old new ends holds. holds ends.within) (content_of old) (content_of middle)
-              (OnDisk-content (λ image. EndsAt image gate frames) (content_of old) (images_of old) is_ready.ends) holds))
+          (OnDisk-content (λ image. EndsAt image gate frames) (content_of old) (images_of old) is_ready.ends) holds))
           stable
 
       -- so the frame is in doubt while its gate is opened
@@ -314,11 +322,11 @@ module _ {D : Type 0} (clock_of : D → ℕ) (left_of : D → ℕ → List ℕ �
       IsShelved-appended gates stable_new =
           let gate_is = Told-after (IsPut gate frames batches) (λ bytes. slice_index bytes gate ≡ 1) (λ old new. gate < length old → slice_index new gate ≡ 1)
           (λ old new is_put is_open. is_open is_put.0.within) (content_of middle) (content_of new)
-              (OnDisk-content (IsPut gate frames batches) (content_of middle) (images_of middle) put) gates in
+          (OnDisk-content (IsPut gate frames batches) (content_of middle) (images_of middle) put) gates in
           let stands = Told-weaker (λ bytes. IsInDoubt bytes gate frames batches × (slice_index bytes gate ≡ 1))
-              (λ bytes. Stands bytes (gate + length (behind_gate batches)) (frames ++ batches ∷ []) doubt)
+          (λ bytes. Stands bytes (gate + length (behind_gate batches)) (frames ++ batches ∷ []) doubt)
           (λ bytes both. subst (λ (d : List Batch). Stands bytes (gate + length (behind_gate batches)) (frames ++ batches ∷ []) d) (sym is_ready.none)
-              (opened bytes gate frames batches both.0 both.1))
+          (opened bytes gate frames batches both.0 both.1))
           (content_of new) (Told-both (λ bytes. IsInDoubt bytes gate frames batches) (λ bytes. slice_index bytes gate ≡ 1) (content_of new)
           (OnDisk-content (λ image. IsInDoubt image gate frames batches) (content_of new) (images_of new) in_doubt) gate_is) in
           record {
@@ -338,7 +346,7 @@ module _ {D : Type 0} (clock_of : D → ℕ) (left_of : D → ℕ → List ℕ �
           (told_image (IsPut gate frames batches) (λ image. OpensToEither image frames batches) (Torn gate 1)
           (λ a b is_put torn. Stands-opens b gate frames batches
           (Stands-doubt b gate frames batches is_ready.is.some
-              (put_in_doubt gate frames batches is_ready.is is_ready.kept a b is_put (Torn-gate gate a b torn))))
+          (put_in_doubt gate frames batches is_ready.is is_ready.kept a b is_put (Torn-gate gate a b torn))))
           (content_of middle) (images_of middle) put image from)) open_leaves)
 
 -- where the frame takes its room, so do its parts
@@ -381,10 +389,10 @@ module _ (content : Option (List ℕ)) (images : List ℕ → Type 0) (place : �
     stands =
         OnDisk-stable (λ image. EndsAt image (place + length (behind_gate doubt)) (frames ++ doubt ∷ [])) content images
         (Told-weaker (λ bytes. IsInDoubt bytes place frames doubt × (place < length bytes → slice_index bytes place ≡ 1))
-            (λ bytes. EndsAt bytes (place + length (behind_gate doubt)) (frames ++ doubt ∷ []))
+        (λ bytes. EndsAt bytes (place + length (behind_gate doubt)) (frames ++ doubt ∷ []))
         (λ bytes both. opened bytes place frames doubt both.0 (both.1 both.0.within)) content
         (Told-both (λ bytes. IsInDoubt bytes place frames doubt) (λ bytes. place < length bytes → slice_index bytes place ≡ 1) content doubted open_gate))
-            stable;
+        stable;
     counted = IsCounted-push place frames doubt is_torn.is is_torn.kept shelved.counted;
     in_doubt = refl;
   })
@@ -414,7 +422,7 @@ settle_moments clock_of left_of old new content images place frames doubt torn s
     LeavesOnly-weaker clock_of left_of old new images (λ image. Told content (λ _. OpensToEither image frames doubt))
     (λ image now. told_image (λ image. Stands image place frames doubt) (λ image. OpensToEither image frames doubt) (λ a b. a ≡ b)
     (λ a b stands same. Stands-opens b place frames doubt (subst (λ (l : List ℕ). Stands l place frames doubt) same stands)) content images shelved.stands
-        image (image, now, refl)) leaves
+    image (image, now, refl)) leaves
 
 -- what opens to frames, or to one more, opens to their batches, or to these and its own
 pub either_history : (bytes : List ℕ) (frames : List (List Batch)) (history doubt : List Batch) → batches_of frames ≡ history

@@ -50,9 +50,9 @@ IsAhead-more place at n bytes old new window more reads at_is more_is fits ahead
     let piece : more ≡ take n (drop (length window) (drop place bytes)) =
     more_is ∙ Reads-piece at n bytes old new reads ∙ ap (λ k. take n (drop k bytes)) at_is ∙ ap (take n) (sym (drop-drop (length window) place bytes)) in
     let long : length (window ++ more) ≡ length window + n = length-append window more
-        ∙ ap (λ k. length window + k) (ap length more_is ∙ length-take-le n new fits) in
+    ∙ ap (λ k. length window + k) (ap length more_is ∙ length-take-le n new fits) in
     ap (λ (l : List ℕ). l ++ more) ahead ∙ ap (λ (l : List ℕ). take (length window) (drop place bytes) ++ l) piece
-        ∙ sym (take-add (length window) n (drop place bytes))
+    ∙ sym (take-add (length window) n (drop place bytes))
     ∙ ap (λ k. take k (drop place bytes)) (sym long)
 
 -- where a read found no more, the window is all that is left
@@ -66,7 +66,7 @@ IsAhead-all place at bytes old new window reads at_is room ahead =
 pub OnlyReads-joins : {D : Type 0} (content_of : D → Option (List ℕ)) (images_of : D → List ℕ → Type 0) (left_of : D → ℕ → List ℕ → Type 0) (clock_of : D → ℕ)
     (a b c : D) → clock_of a ≤ clock_of b
     → OnlyReads content_of images_of left_of clock_of a b → OnlyReads content_of images_of left_of clock_of b c
-        → OnlyReads content_of images_of left_of clock_of a c
+    → OnlyReads content_of images_of left_of clock_of a c
 OnlyReads-joins content_of images_of left_of clock_of a b c later first second = record {
   content = BothTold-joins (λ old new. new ≡ old) (λ old new. new ≡ old) (λ old new. new ≡ old) (λ x y z one two. two ∙ one) (content_of a) (content_of b)
       (content_of c) first.content second.content;
@@ -92,7 +92,7 @@ OnlyReads-stays content_of images_of left_of clock_of a = record {
 -- what is ahead over two reads one after the other
 pub ahead_joins : (a b c : Option (List ℕ)) (place : ℕ) (first middle last : List ℕ) → BothTold a b (λ old new. new ≡ old)
     → BothTold a b (λ old new. IsAhead place first old → IsAhead place middle old)
-        → BothTold b c (λ old new. IsAhead place middle old → IsAhead place last old) → BothTold b c (λ old new. new ≡ old)
+    → BothTold b c (λ old new. IsAhead place middle old → IsAhead place last old) → BothTold b c (λ old new. new ≡ old)
     → BothTold a c (λ old new. IsAhead place first old → IsAhead place last old)
 ahead_joins None None None place first middle last same one two same' = tt
 ahead_joins None None (Some z) place first middle last same one two same' = absurd two
@@ -130,10 +130,10 @@ read_ahead old moved new from to start end n place window is_window size same or
     let bytes : drop start (take (end + n) new) ≡ window.bytes ++ take n (drop end new) = ap (λ (w : WindowState). w.bytes) more in
     let stood : drop start (take end moved) ≡ window.bytes = same ∙ ap (λ (w : WindowState). w.bytes) is_window in
     let long : length (drop start (take end moved)) ≡ end - start = length-drop start (take end moved)
-        ∙ ap (λ k. k - start) (length-take-le end moved in_range) in
+    ∙ ap (λ k. k - start) (length-take-le end moved in_range) in
     let at_is : place + (end - start) ≡ place + length window.bytes = ap (λ k. place + k) (sym long ∙ ap length stood) in
     let fits : n ≤ length (drop end new) = omega (arith, length-drop end new) in
     BothTold-weaker (λ x y. Reads (place + (end - start)) x (drop end moved) (drop end new) n)
-        (λ x y. IsAhead place window.bytes x → IsAhead place (drop start (take (end + n) new)) x)
+    (λ x y. IsAhead place window.bytes x → IsAhead place (drop start (take (end + n) new)) x)
     (λ x y reads ahead. subst (λ (l : List ℕ). IsAhead place l x) (sym bytes)
     (IsAhead-more place (place + (end - start)) n x (drop end moved) (drop end new) window.bytes (take n (drop end new)) reads at_is refl fits ahead)) a b told

@@ -46,7 +46,7 @@ module _ (detected : ℕ) (attempts : List ℕ) (stops : List Stop) where
             (placed earlier c (subst (λ b. cond b (last_counted detected attempts stops earlier) (Some (length earlier, latest)) ≡ Some c) t e)))
         | inr f ↦
             let this : Some (length earlier, latest) ≡ Some c =
-                subst (λ b. cond b (last_counted detected attempts stops earlier) (Some (length earlier, latest)) ≡ Some c) f e in
+            subst (λ b. cond b (last_counted detected attempts stops earlier) (Some (length earlier, latest)) ≡ Some c) f e in
             let same : (length earlier, latest) ≡ c = ap (λ o. unwrap_or o c) this in
             rw (reverse_more latest earlier)
             (subst (λ d. slice_get (reverse earlier ++ latest ∷ []) d.0 ≡ Some d.1) same
@@ -93,7 +93,7 @@ module _ (detected : ℕ) (attempts : List ℕ) (stops : List Stop) where
       ≡ is_past latest.key.day (due_given detected attempts stops (option_map (λ c. c.1) (last_counted detected attempts stops earlier)))
   judged_by_others latest earlier =
       ap (λ ds. is_past latest.key.day (due_given detected attempts stops (option_map (λ c. c.1) (last_counted detected attempts stops ds))))
-          (reverse_twice earlier)
+      (reverse_twice earlier)
 
   -- with one more delay that is ignored, each is that was
   more_ignored : (delays : List DelayEntry) (delay : DelayEntry) → is_ignored detected attempts stops delays delay ≡ true →
@@ -157,7 +157,7 @@ given_in_order : (detected : ℕ) (attempts : List ℕ) (stops : List Stop) (del
     Given detected attempts stops (last_counted detected attempts stops (reverse delays)) delays
 given_in_order detected attempts stops delays =
     subst (Given detected attempts stops (last_counted detected attempts stops (reverse delays))) (reverse_twice delays)
-        (given_of detected attempts stops (reverse delays))
+    (given_of detected attempts stops (reverse delays))
 
 -- where one counts, not all are ignored
 not_all : (detected : ℕ) (attempts : List ℕ) (stops : List Stop) (delays : List DelayEntry) (place : ℕ) → IsLastCounted detected attempts stops delays place →

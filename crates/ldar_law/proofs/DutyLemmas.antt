@@ -73,7 +73,7 @@ block_range cause start f g grows gives low zero h = (tt, tt)
 block_range cause start f g grows gives low (suc len) h =
     block_more cause (g low) (f low) (filter_map f (range_with_len (low + 1) len)) (gives low)
     (block_later cause (g low) (g (low + 1)) (filter_map f (range_with_len (low + 1) len)) (grows low h)
-        (block_range cause start f g grows gives (low + 1) len (omega (arith, h))))
+    (block_range cause start f g grows gives (low + 1) len (omega (arith, h))))
 
 block_until : (cause start : ℕ) (f : ℕ → Option Duty) (g : ℕ → ℕ) → ((n : ℕ) → start ≤ n → g n ≤ g (n + 1)) → ((n : ℕ) → IfSome (f n) (IsOf cause (g n))) →
     (low end : ℕ) → start ≤ low → IsBlock cause (g low) (filter_map f (until low end))
@@ -91,12 +91,12 @@ five_grow a b h = omega (arith, h)
 block_events : (cause : ℕ) (f : List Event → Event → List Event → Option Duty) →
     ((before : List Event) (e : Event) (after : List Event) → IfSome (f before e after) (IsOf cause (five_after e.key.day))) →
     (front events : List Event) (low : ℕ) → Ascends (λ a b. nat_le a.key.day b.key.day) events → AllByRecursion (λ e. low ≤ e.key.day) events
-        → IsBlock cause (five_after low) (each_from f front events)
+    → IsBlock cause (five_after low) (each_from f front events)
 block_events cause f gives front [] low asc from = (tt, tt)
 block_events cause f gives front (e ∷ events) low asc from =
     let later = all_implied (λ x. nat_le e.key.day x.key.day ≡ true) (λ x. e.key.day ≤ x.key.day) (λ x h. leb-true e.key.day x.key.day h) events asc.0 in
     block_later cause (five_after low) (five_after e.key.day) (cons_option (f front e events) (each_from f (front ++ e ∷ []) events))
-        (five_grow low e.key.day from.0)
+    (five_grow low e.key.day from.0)
     (block_more cause (five_after e.key.day) (f front e events) (each_from f (front ++ e ∷ []) events) (gives front e events)
     (block_events cause f gives (front ++ e ∷ []) events e.key.day asc.1 later))
 

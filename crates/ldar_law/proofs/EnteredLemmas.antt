@@ -51,7 +51,7 @@ some_mapped f (Some x) = refl
 pub component_where_entered : ComponentWhereEntered
 component_where_entered number facts =
     let found = first_where_given (λ e. component_entered number (retired_on number facts) e.0.day e.1.body) (λ e. enters_component number e.1.body)
-        (λ e. component_given number (retired_on number facts) e.0.day e.1.body) facts in (
+    (λ e. component_given number (retired_on number facts) e.0.day e.1.body) facts in (
       found,
       λ day. some_mapped (λ item. class_on item (classes_of number facts) day) (equipment_of number facts) ∙ found,
     )
@@ -72,7 +72,7 @@ classes_given : (number day : ℕ) (facts : List Entry) →
 classes_given number day [] = refl
 classes_given number day (e ∷ es) =
     class_given_by day e (class_entered number e.1.body) (enters_class number e.1.body) (classes_of number es) _ (class_given number e.1.body)
-        (classes_given number day es)
+    (classes_given number day es)
 
 pub class_where_entered : ClassWhereEntered
 class_where_entered number day facts =

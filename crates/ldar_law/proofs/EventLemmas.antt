@@ -36,7 +36,7 @@ module _ (item : Equipment) (classes : List (Key × Class)) where
   -- judged by a list with the fitness of each reading, or each by its own
   in_order_same : (fit : Entry → Fitness) (es : List Entry) →
       events_with item classes es (filter_map (λ e. if is_reading e.1.body then Some (fit e) else None) es) ≡ filter_map
-          (λ e. event_of item classes e (fit e)) es
+      (λ e. event_of item classes e (fit e)) es
   in_order_same fit [] = refl
   in_order_same fit (e ∷ es) =
       let rest = filter_map (λ x. if is_reading x.1.body then Some (fit x) else None) es in
@@ -55,7 +55,7 @@ by_instrument : (item : Equipment) (classes : List (Key × Class)) (facts : List
     reading_instrument body ≡ Some instrument → fitness_at item classes (facts_of_instrument instrument facts) key body ≡ fitness_at item classes facts key body
 by_instrument item classes facts key (Reading _ other _ _ ppm _) instrument e =
     subst (λ i. fitness_of (facts_of_instrument i facts) (limit_on item classes key.day) key other ppm ≡ fitness_of facts (limit_on item classes key.day) key
-        other ppm)
+    other ppm)
     (ap (λ o. unwrap_or o 0) e)
     (fitness_is_of_instrument facts (limit_on item classes key.day) key other ppm)
 by_instrument item classes facts key _ instrument e = refl
@@ -88,7 +88,7 @@ module _ (item : Equipment) (classes : List (Key × Class)) (fit : Entry → Fit
   events_ascend_by [] h = tt
   events_ascend_by (e ∷ facts) h =
       one_more_event e (happening item classes e.0.day (fit e) e.1.body) (filter_map (λ e. event_of item classes e (fit e)) facts) (all_later e.0 facts h.0)
-          (events_ascend_by facts h.1)
+      (events_ascend_by facts h.1)
 
 pub events_ascend : EventsAscend
 unfolding events_in

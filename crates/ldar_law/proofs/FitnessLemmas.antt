@@ -70,5 +70,9 @@ module _ (facts : List Entry) (key : Key) (instrument : ℕ) where
 
 pub fitness_is_of_instrument : FitnessIsOfInstrument
 fitness_is_of_instrument facts limit key instrument ppm =
-    rw (calibrated_same facts key instrument, within_same facts key instrument (limit + 2000), tested_same facts key instrument,
-        voided_same facts key instrument limit ppm) refl
+    rw (
+      calibrated_same facts key instrument,
+      within_same facts key instrument (limit + 2000),
+      tested_same facts key instrument,
+      voided_same facts key instrument limit ppm,
+    ) refl

@@ -45,7 +45,7 @@ stops_added [] stops component = sym (or-false (has stops component))
 stops_added (duty ∷ duties) stops component =
     stops_added duties (with_stop stops duty) component
     ∙ rw (stop_added stops duty component) (or_assoc (has stops component) (nat_eq duty.component component)
-        (list_any (λ d. nat_eq d.component component) duties))
+    (list_any (λ d. nat_eq d.component component) duties))
 
 pub stops_are_undone : StopsAreUndone
 stops_are_undone duties component =

@@ -507,7 +507,7 @@ joins_its_unit : (unit number day : ℕ) (body : FactBody) (item : Equipment) �
 joins_its_unit unit number day (ComponentFact other u kind monomer replaces class) item e is =
     let same : other ≡ number = cc in
     let here : Some (record { component = number; unit = u; kind = kind; monomer = monomer; replaces = replaces; begin = day; retired = None; class = class })
-        ≡ Some item =
+    ≡ Some item =
     rw (eq-eqb other number same) at is in
     let stands : u ≡ item.unit = cc in
     rw (same, stands) refl

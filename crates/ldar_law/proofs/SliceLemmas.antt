@@ -73,12 +73,12 @@ pub has_component : (number : ℕ) (q : Entry → Bool) → ((e : Entry) → q e
 has_component number q silent facts =
     let retired : retired_on number (filter q facts) ≡ retired_on number facts =
     ap (λ found. option_map (λ e. e.0.day) found) (find_narrowed (λ e. retires number e.1.body) q
-        (λ e. kept (retires number e.1.body) (q e) (λ out. (silent e out).stays)) facts) in
+    (λ e. kept (retires number e.1.body) (q e) (λ out. (silent e out).stays)) facts) in
     record {
       equipment = rw retired
           (ap (λ entered. slice_get entered 0)
           (filter_map_narrowed (λ e. component_entered number (retired_on number facts) e.0.day e.1.body) q
-              (λ e out. (silent e out).no_component (retired_on number facts) e.0.day) facts));
+          (λ e out. (silent e out).no_component (retired_on number facts) e.0.day) facts));
       classes = filter_map_narrowed (class_at number) q (λ e out. rw (silent e out).no_class refl) facts;
     }
 

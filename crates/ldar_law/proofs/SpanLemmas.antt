@@ -69,9 +69,9 @@ module _ (kind : Kind) (events : List Event) where
   one_event : (front : List Event) (y : Event) (ys : List Event) (b : Bool) → closes kind front y ≡ b →
       AllByRecursion (λ e. is_earlier y.key e.key ≡ true) ys →
       (is_unsettled kind (front ++ y ∷ []) ≡ true → AllByRecursion (IsBefore (closing (front ++ y ∷ []) ys))
-          (each_from (span_at kind events) (front ++ y ∷ []) ys)) →
+      (each_from (span_at kind events) (front ++ y ∷ []) ys)) →
       AllByRecursion (IsBefore (option_map (λ e. e.key) (if b then Some y else first_from (λ f e _. closes kind f e) (front ++ y ∷ []) ys)))
-          (each_from (span_at kind events) (front ++ y ∷ []) ys)
+      (each_from (span_at kind events) (front ++ y ∷ []) ys)
   one_event front y ys true e later rec = detected_later y.key (front ++ y ∷ []) ys later
   one_event front y ys false e later rec = rec (not_false (is_unsettled kind (front ++ y ∷ [])) e)
 

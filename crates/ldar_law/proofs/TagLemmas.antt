@@ -84,7 +84,7 @@ rest_left span rest asc begins = go span.closed refl begins
         λ x h. rw e (rw h (and-false (is_earlier span.detected x.key))) in
         let asc' : Ascends (λ a b. is_earlier a.key b.key) (closing ∷ after) = subst (λ es. Ascends (λ a b. is_earlier a.key b.key) es) begins.3 asc in
         let first : is_earlier closing.key key ≡ false = subst (λ k. is_earlier closing.key k ≡ false) begins.2
-            ((strict_earlier (λ (k : Key). k)).irreflexive closing.key) in
+        ((strict_earlier (λ (k : Key). k)).irreflexive closing.key) in
         let later = all_implied (λ x. is_earlier closing.key x.key ≡ true) (λ x. is_within span x.key ≡ false)
         (λ x h. out x (subst (λ k. is_earlier x.key k ≡ false) begins.2 (not_both closing.key x.key h))) after asc'.0 in
         subst (λ es. delays_of span es ≡ []) (sym begins.3) (all_left span (closing ∷ after) (out closing first, later))
@@ -102,9 +102,9 @@ between_kept span leak between rest asc detected begins = go span.closed refl be
     go (Some key) e begins =
         let earlier : AllByRecursion (λ x. is_earlier x.key key ≡ true) between =
         all_implied (λ x. is_earlier x.key begins.0.key ≡ true) (λ x. is_earlier x.key key ≡ true) (λ x h. subst (λ k. is_earlier x.key k ≡ true) begins.2 h)
-            between
+        between
         (before_one (λ a b. is_earlier a.key b.key) between begins.0 begins.1
-            (subst (λ es. Ascends (λ a b. is_earlier a.key b.key) (between ++ es)) begins.3 asc.1)) in
+        (subst (λ es. Ascends (λ a b. is_earlier a.key b.key) (between ++ es)) begins.3 asc.1)) in
         both_hold between later earlier
       where
         both_hold : (xs : List Event) → AllByRecursion (λ x. is_earlier span.detected x.key ≡ true) xs →
@@ -115,7 +115,7 @@ between_kept span leak between rest asc detected begins = go span.closed refl be
 pub delays_lie_between : DelaysLieBetween
 delays_lie_between span before leak between rest asc detected begins =
     let back : Ascends (λ a b. is_earlier a.key b.key) (leak ∷ (between ++ rest)) =
-        back_ascends (λ a b. is_earlier a.key b.key) before (leak ∷ (between ++ rest)) asc in
+    back_ascends (λ a b. is_earlier a.key b.key) before (leak ∷ (between ++ rest)) asc in
     let front = all_implied (λ x. is_earlier x.key leak.key ≡ true) (λ x. is_within span x.key ≡ false)
     (λ x h. not_after span x.key (rw detected (not_both x.key leak.key h))) before
     (before_one (λ a b. is_earlier a.key b.key) before leak (between ++ rest) asc) in
@@ -124,6 +124,8 @@ delays_lie_between span before leak between rest asc detected begins =
     ∙ rw (all_left span before front)
     (left_at span leak.key leak.what (filter_map delay_entry (between ++ rest)) itself
     ∙ (of_parts span between rest
-    ∙ rw (all_kept span between (between_kept span leak between rest back detected begins),
-        rest_left span rest (back_ascends (λ a b. is_earlier a.key b.key) between rest back.1) begins)
+    ∙ rw (
+      all_kept span between (between_kept span leak between rest back detected begins),
+      rest_left span rest (back_ascends (λ a b. is_earlier a.key b.key) between rest back.1) begins,
+    )
     (append-nil (filter_map delay_entry between))))

@@ -153,7 +153,7 @@ none_given {X = X} {Y = Y} f xs e before x after stands =
       | inl none ↦ none
       | inr some ↦
           let here : Passes (λ before x after. is_some (f before x after)) xs x =
-              record { before = before; after = after; stands = stands; passes = ap is_some some.1 } in
+          record { before = before; after = after; stands = stands; passes = ap is_some some.1 } in
           let found = (somewhere_decides X (λ before x after. is_some (f before x after)) xs).1 (x, here) in
           absurd (false≢true (sym (ap is_some e) ∙ first_given_finds X Y f xs ∙ found))
     ]

@@ -199,12 +199,12 @@ module _ (months : CleanMonths) (events : List Event) (tells : TellsClean months
 
     -- in the same month
     in_month : months.month ≡ now → TellsClean (record {
-          month = months.month;
-          read = months.read || is_routine_below v.what;
-          leak = months.leak || is_leak v.what;
-          clean = months.clean;
-          pair = months.pair;
-        }) more
+      month = months.month;
+      read = months.read || is_routine_below v.what;
+      leak = months.leak || is_leak v.what;
+      clean = months.clean;
+      pair = months.pair;
+    }) more
     in_month same = record {
       up_to = subst (λ m. AllByRecursion (λ e. month_of e.key.day ≤ m) more) (sym same) up_to;
       read =
@@ -226,12 +226,12 @@ module _ (months : CleanMonths) (events : List Event) (tells : TellsClean months
 
     -- in a later month
     in_later : months.month < now → TellsClean (record {
-          month = now;
-          read = is_routine_below v.what;
-          leak = is_leak v.what;
-          clean = clean_of months;
-          pair = pair_of months;
-        }) more
+      month = now;
+      read = is_routine_below v.what;
+      leak = is_leak v.what;
+      clean = clean_of months;
+      pair = pair_of months;
+    }) more
     in_later later = record {
       up_to = up_to;
       read =

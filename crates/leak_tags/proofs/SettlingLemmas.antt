@@ -62,8 +62,8 @@ regroup true false a x = refl
 regroup false st a x = refl
 
 module _ (kind : Kind) (is_sort : Happening → Bool) (events : List Event) (v : Event) (all late : Bool)
-  (fits : (before : List Event) (e : Event) (after : List Event) → before ++ e ∷ after ≡ events → (is_leak e.what && is_sort e.what) ≡ true →
-  law.settles kind e after v ≡ (all || (late && law.has_delay_between e after))) where
+    (fits : (before : List Event) (e : Event) (after : List Event) → before ++ e ∷ after ≡ events → (is_leak e.what && is_sort e.what) ≡ true →
+    law.settles kind e after v ≡ (all || (late && law.has_delay_between e after))) where
   -- a delay, if the event is one, reaches a leak of this day
   abbrev comes_to : ℕ → Bool
   comes_to from = delays_with_reading v.what && nat_le v.key.day (from + REPAIR_DAYS)
@@ -79,17 +79,17 @@ module _ (kind : Kind) (is_sort : Happening → Bool) (events : List Event) (v :
       some_more (λ e after. (of_sort e && not (law.is_settled kind e after)) && p (law.has_delay_between e after) e.key.day) events v
       ∙ ap (λ b. b || ((of_sort v && true) && p false v.key.day))
       (some_at events
-          (λ e after. (of_sort e && not (law.is_settled kind e (after ++ v ∷ []))) && p (law.has_delay_between e (after ++ v ∷ [])) e.key.day)
-          (λ e after. (of_sort e && not (law.is_settled kind e after))
-          && (not (all || (late && law.has_delay_between e after)) && p (comes_to e.key.day || law.has_delay_between e after) e.key.day))
-          (λ before e after at.
-              ap (λ b. (of_sort e && not b) && p (law.has_delay_between e (after ++ v ∷ [])) e.key.day) (settled_more kind e after v)
-              ∙ ap (λ b. (of_sort e && not (law.is_settled kind e after || law.settles kind e after v)) && p b e.key.day) (delay_more e after v)
-              ∙ where_so (of_sort e) (law.is_settled kind e after) (law.settles kind e after v) (all || (late && law.has_delay_between e after))
-              (p (comes_to e.key.day || law.has_delay_between e after) e.key.day) (fits before e after at)
-              ∙ regroup (of_sort e) (law.is_settled kind e after) (all || (late && law.has_delay_between e after))
-              (p (comes_to e.key.day || law.has_delay_between e after) e.key.day))
-          [] events refl)
+      (λ e after. (of_sort e && not (law.is_settled kind e (after ++ v ∷ []))) && p (law.has_delay_between e (after ++ v ∷ [])) e.key.day)
+      (λ e after. (of_sort e && not (law.is_settled kind e after))
+      && (not (all || (late && law.has_delay_between e after)) && p (comes_to e.key.day || law.has_delay_between e after) e.key.day))
+      (λ before e after at.
+      ap (λ b. (of_sort e && not b) && p (law.has_delay_between e (after ++ v ∷ [])) e.key.day) (settled_more kind e after v)
+      ∙ ap (λ b. (of_sort e && not (law.is_settled kind e after || law.settles kind e after v)) && p b e.key.day) (delay_more e after v)
+      ∙ where_so (of_sort e) (law.is_settled kind e after) (law.settles kind e after v) (all || (late && law.has_delay_between e after))
+      (p (comes_to e.key.day || law.has_delay_between e after) e.key.day) (fits before e after at)
+      ∙ regroup (of_sort e) (law.is_settled kind e after) (all || (late && law.has_delay_between e after))
+      (p (comes_to e.key.day || law.has_delay_between e after) e.key.day))
+      [] events refl)
       ∙ ap (λ b. some_open kind is_sort events (λ l from. not (all || (late && l)) && p (comes_to from || l) from) || (b && p false v.key.day))
       (and_true (of_sort v))
 
@@ -214,7 +214,7 @@ by_sensor bl dr cp at vp dl ws rt =
     ∙ settles_three cp (((vp && bl) && ws) && dl) rt
 
 module _ (kind : Kind) (v : Event) (attempted second : Bool) (e : Event) (after : List Event)
-  (attempt_is : law.is_attempted after ≡ attempted) (second_is : law.was_below after v ≡ second) where
+    (attempt_is : law.is_attempted after ≡ attempted) (second_is : law.was_below after v ≡ second) where
   -- what settles it, by what is asked of the sort and of the event
   abbrev settles_so : Bool → Bool → Bool → Bool
   settles_so rd lk sn =
@@ -282,4 +282,4 @@ pub below_since : (before : List Event) (e : Event) (after : List Event) (later 
 below_since before e after later leaks above =
     was_below_is after later
     ∙ sym (since_that_leak (λ x. is_below x.what && nat_eq (month_of x.key.day + 1) (month_of later.key.day)) before e after leaks
-        (ap (λ b. b && nat_eq (month_of e.key.day + 1) (month_of later.key.day)) above))
+    (ap (λ b. b && nat_eq (month_of e.key.day + 1) (month_of later.key.day)) above))

@@ -113,10 +113,10 @@ sort_more kind is_sort events v all late fits leaks today le told =
     (leaks_with leaks all late (is_leak v.what && is_sort v.what) v) v.key.day
     (open_more kind is_sort events v all late fits)
     (told_opened delayed (reached (settled leaks all late) (delays_with_reading v.what) v.key.day) v.key.day
-        (told_reached left (settled leaks all late) today v.key.day (sums_under some (sums_open kind is_sort events) (λ l _. not (all || (late && l)))) le
-            (told_settled some leaks today (sums_open kind is_sort events) told all late)
-            (delays_with_reading v.what))
-        (is_leak v.what && is_sort v.what))
+    (told_reached left (settled leaks all late) today v.key.day (sums_under some (sums_open kind is_sort events) (λ l _. not (all || (late && l)))) le
+    (told_settled some leaks today (sums_open kind is_sort events) told all late)
+    (delays_with_reading v.what))
+    (is_leak v.what && is_sort v.what))
 
 module _ (kind : Kind) (leaks : OpenLeaks) (today : ℕ) (events : List Event) (v : Event) (tells : Tells kind leaks today events) (le : today ≤ v.key.day) where
   -- an attempt since a leak among them
@@ -204,8 +204,8 @@ unsettled_is kind leaks today events tells =
     ∙ some_same (λ e after. is_leak e.what && not (law.is_settled kind e after))
     (λ e after. (open_of is_reading e after || open_of is_look e after) || open_of is_sensor e after)
     (λ e after.
-        ap (λ b. b && not (law.is_settled kind e after)) (one_of_sorts e.what)
-        ∙ spread (is_leak e.what && is_reading e.what) (is_leak e.what && is_look e.what) (is_leak e.what && is_sensor e.what) (law.is_settled kind e after))
+    ap (λ b. b && not (law.is_settled kind e after)) (one_of_sorts e.what)
+    ∙ spread (is_leak e.what && is_reading e.what) (is_leak e.what && is_look e.what) (is_leak e.what && is_sensor e.what) (law.is_settled kind e after))
     events
     ∙ some_or (λ e after. open_of is_reading e after || open_of is_look e after) (open_of is_sensor) events
     ∙ ap (λ b. b || some_after (open_of is_sensor) events) (some_or (open_of is_reading) (open_of is_look) events)

@@ -116,14 +116,14 @@ module _ (facts : List Entry) (key : Key) where
   sorts_judge apart calibrations drifts limit instrument ppm those calibrations_are drifts_are =
       apart_is_whole facts calibrations apart.tests drifts key
       (λ p day sort.
-          ap (list_any p) (calibrations_are ∙ ap (filter (is_of_day key.day)) those.calibrations)
-          ∙ list_any_narrowed p (is_of_day key.day) day (filter (λ e. is_calibrating e.1.body) facts)
-          ∙ list_any_narrowed p (λ e. is_calibrating e.1.body) sort facts)
+      ap (list_any p) (calibrations_are ∙ ap (filter (is_of_day key.day)) those.calibrations)
+      ∙ list_any_narrowed p (is_of_day key.day) day (filter (λ e. is_calibrating e.1.body) facts)
+      ∙ list_any_narrowed p (λ e. is_calibrating e.1.body) sort facts)
       (λ p sort. ap (list_any p) those.tests ∙ list_any_narrowed p (λ e. is_passed_test e.1.body) sort facts)
       (λ p day sort.
-          ap (find p) (drifts_are ∙ ap (filter (is_of_day key.day)) those.drifts)
-          ∙ find_narrowed p (is_of_day key.day) day (filter (λ e. is_failed_drift e.1.body) facts)
-          ∙ find_narrowed p (λ e. is_failed_drift e.1.body) sort facts)
+      ap (find p) (drifts_are ∙ ap (filter (is_of_day key.day)) those.drifts)
+      ∙ find_narrowed p (is_of_day key.day) day (filter (λ e. is_failed_drift e.1.body) facts)
+      ∙ find_narrowed p (λ e. is_failed_drift e.1.body) sort facts)
       limit instrument ppm
 
 -- ---- the latest precision test
@@ -162,11 +162,11 @@ day_part facts day from count early_within within early here =
     (λ k d low l. ne_eqb (get_or facts k d).0.day day (λ same. absurd (omega (arith, same, ltb-true (get_or facts k d).0.day day (early.0 k d low l)))))
     ∙ filter_front (is_of_day day) (drop from facts) count within
     (λ k d low l.
-        let at = get_or-drop from facts k d in
-        let no_earlier : nat_lt (get_or (drop from facts) k d).0.day day ≡ false = rw at (early.1 (from + k) d (omega arith)
-        (omega (arith, l, within, length-drop from facts))) in
-        eq-eqb (get_or (drop from facts) k d).0.day day (omega
-        (arith, leb-true (get_or (drop from facts) k d).0.day day (here.0 k d low l), ltb-false (get_or (drop from facts) k d).0.day day no_earlier)))
+    let at = get_or-drop from facts k d in
+    let no_earlier : nat_lt (get_or (drop from facts) k d).0.day day ≡ false = rw at (early.1 (from + k) d (omega arith)
+    (omega (arith, l, within, length-drop from facts))) in
+    eq-eqb (get_or (drop from facts) k d).0.day day (omega
+    (arith, leb-true (get_or (drop from facts) k d).0.day day (here.0 k d low l), ltb-false (get_or (drop from facts) k d).0.day day no_earlier)))
     (λ k d low l.
-        ne_eqb (get_or (drop from facts) k d).0.day day (λ same. absurd (omega
-        (arith, same, leb-false (get_or (drop from facts) k d).0.day day (here.1 k d low l))))))
+    ne_eqb (get_or (drop from facts) k d).0.day day (λ same. absurd (omega
+    (arith, same, leb-false (get_or (drop from facts) k d).0.day day (here.1 k d low l))))))

@@ -65,9 +65,9 @@ filter_front p xs count within here late =
     let long = length-take-le count xs within in
     let short = length-drop count xs in
     let all_here : filter p front ≡ front = filter_all p front (by_places (λ x. p x ≡ true) front
-        (λ k d l. let at : k < count = omega (arith, l, long) in rw (get_or-take count xs k d at) (here k d (omega arith) at))) in
+    (λ k d l. let at : k < count = omega (arith, l, long) in rw (get_or-take count xs k d at) (here k d (omega arith) at))) in
     let none_late : filter p rest ≡ [] = filter_none p rest (by_places (λ x. p x ≡ false) rest
-        (λ k d l. rw (get_or-drop count xs k d) (late (count + k) d (omega arith) (omega (arith, l, short, within))))) in
+    (λ k d l. rw (get_or-drop count xs k d) (late (count + k) d (omega arith) (omega (arith, l, short, within))))) in
     ap (filter p) (sym (take-append-drop count xs)) ∙ filter-append p front rest ∙ ap (λ ys. filter p front ++ ys) none_late
     ∙ append-nil (filter p front) ∙ all_here
 
@@ -78,7 +78,7 @@ filter_behind p xs from within early =
     let front = take from xs in
     let long = length-take-le from xs within in
     let none_early : filter p front ≡ [] = filter_none p front (by_places (λ x. p x ≡ false) front
-        (λ k d l. let at : k < from = omega (arith, l, long) in rw (get_or-take from xs k d at) (early k d (omega arith) at))) in
+    (λ k d l. let at : k < from = omega (arith, l, long) in rw (get_or-take from xs k d at) (early k d (omega arith) at))) in
     ap (filter p) (sym (take-append-drop from xs)) ∙ filter-append p front (drop from xs) ∙ ap (λ ys. ys ++ filter p (drop from xs)) none_early
 
 -- two tests, of which one is known

@@ -57,7 +57,7 @@ pub nearer_step : (key : Key) (instrument : ℕ) (next : Option Key) (e : Entry)
     ≡ (is_before (nearer key instrument next e) later || is_calibrated_before es key instrument later)
 nearer_step key instrument next e es later =
     sym (or_assoc (is_before next later) (is_calibration instrument e.1.body && is_earlier key e.0 && is_earlier e.0 later)
-        (is_calibrated_before es key instrument later))
+    (is_calibrated_before es key instrument later))
     ∙ ap (λ b. b || is_calibrated_before es key instrument later) (sym (nearer_is key instrument next e later))
 
 pub nearest_of_all : (next : Option Key) (later : Key) → (is_before next later || false) ≡ is_before next later

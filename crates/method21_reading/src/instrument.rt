@@ -80,7 +80,15 @@ impl Instrument {
     {
         let calibrations = self.calibrations_on(key.day);
         let drifts = self.drifts_on(key.day);
-        judged_apart(calibrations, self.passed_tests(), drifts, limit, key, instrument, ppm)
+        judged_apart(
+            calibrations,
+            self.passed_tests(),
+            drifts,
+            limit,
+            key,
+            instrument,
+            ppm,
+        )
     }
 
     /// Whether a reading with this key may be used.
@@ -88,7 +96,11 @@ impl Instrument {
         ensures value { (facts : List Entry) → AreThoseOf facts self.now → result ≡ fitness_by limit facts key.now reading.now.body }
     {
         match reading.body {
-            FactBody::Reading { instrument, ppm, .. } => self.judged(limit, key, instrument, ppm),
+            FactBody::Reading {
+                instrument,
+                ppm,
+                ..
+            } => self.judged(limit, key, instrument, ppm),
             _ => Fitness::NoCalibration,
         }
     }

@@ -29,7 +29,11 @@ fn is_passed_test(body: &FactBody) -> bool
     ensures value { result ≡ instruments.is_passed_test body.now }
 {
     match *body {
-        FactBody::Precision { value, readings, .. } => is_precise(value, readings),
+        FactBody::Precision {
+            value,
+            readings,
+            ..
+        } => is_precise(value, readings),
         _ => false,
     }
 }
@@ -39,7 +43,11 @@ fn is_failed_drift(body: &FactBody) -> bool
     ensures value { result ≡ instruments.is_failed_drift body.now }
 {
     match *body {
-        FactBody::Drift { value, readings, .. } => has_drifted(value, readings),
+        FactBody::Drift {
+            value,
+            readings,
+            ..
+        } => has_drifted(value, readings),
         _ => false,
     }
 }

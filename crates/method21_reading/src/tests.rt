@@ -254,11 +254,31 @@ fn the_last_passed_precision_test_of_the_instrument_decides(rt: HostRuntime) -> 
     let calibrated = calibration(read, 300, 500);
     let cases = [
         // The first test is too old, and the second was failed or is another instrument's.
-        (precision(early, exact), precision(late, exact), Fitness::Fit),
-        (precision(early, exact), precision(late, off), Fitness::NoPrecision),
-        (precision(early, exact), at(late, 0, other), Fitness::NoPrecision),
-        (precision(late, exact), at(day("2024-05-03")?, 0, other), Fitness::Fit),
-        (precision(late, exact), precision(day("2024-05-03")?, off), Fitness::Fit),
+        (
+            precision(early, exact),
+            precision(late, exact),
+            Fitness::Fit,
+        ),
+        (
+            precision(early, exact),
+            precision(late, off),
+            Fitness::NoPrecision,
+        ),
+        (
+            precision(early, exact),
+            at(late, 0, other),
+            Fitness::NoPrecision,
+        ),
+        (
+            precision(late, exact),
+            at(day("2024-05-03")?, 0, other),
+            Fitness::Fit,
+        ),
+        (
+            precision(late, exact),
+            precision(day("2024-05-03")?, off),
+            Fitness::Fit,
+        ),
     ];
     for (first, second, fitness) in cases {
         let facts = [first, second, calibrated];
@@ -290,17 +310,29 @@ fn a_drift_voids_the_readings_that_could_be_leaks(rt: HostRuntime) -> Result<(),
             calibration(read, 300, 500),
             drift(read, 900, readings),
         ];
-        assert_eq!(rt; judged(rt.alloc(), read, 600, ppm, &facts)?, fitness, "{ppm}");
+        assert_eq!(rt;
+            judged(rt.alloc(), read, 600, ppm, &facts)?,
+            fitness,
+            "{ppm}"
+        );
         // A drift before the reading, or on the next day, voids nothing.
         let early = [
             tested,
             calibration(read, 300, 500),
             drift(read, 599, readings),
         ];
-        assert_eq!(rt; judged(rt.alloc(), read, 600, ppm, &early)?, Fitness::Fit, "{ppm}");
+        assert_eq!(rt;
+            judged(rt.alloc(), read, 600, ppm, &early)?,
+            Fitness::Fit,
+            "{ppm}"
+        );
         let next = drift(day("2024-02-21")?, 900, readings);
         let late = [tested, calibration(read, 300, 500), next];
-        assert_eq!(rt; judged(rt.alloc(), read, 600, ppm, &late)?, Fitness::Fit, "{ppm}");
+        assert_eq!(rt;
+            judged(rt.alloc(), read, 600, ppm, &late)?,
+            Fitness::Fit,
+            "{ppm}"
+        );
     }
     Ok(())
 }

@@ -124,10 +124,10 @@ fold_apart (v ∷ visits) stops apart new =
     ∙ or_from (is_stop stops w.component) (nat_eq v.component w.component || false)
     (all_at (λ x. is_stop stops x.component ≡ false) visits w new.1 among)
     (or_from (nat_eq v.component w.component) false (ne_eqb v.component w.component (λ same.
-        let either = all_at (λ x. (lower v x || lower x v) ≡ true) visits w apart.0 among in
-        false≢true (sym (or_from (lower v w) (lower w v)
-        (ap (λ n. nat_lt v.component n) (sym same) ∙ not_less v.component)
-        (ap (λ n. nat_lt n v.component) (sym same) ∙ not_less v.component)) ∙ either))) refl)))
+    let either = all_at (λ x. (lower v x || lower x v) ≡ true) visits w apart.0 among in
+    false≢true (sym (or_from (lower v w) (lower w v)
+    (ap (λ n. nat_lt v.component n) (sym same) ∙ not_less v.component)
+    (ap (λ n. nat_lt n v.component) (sym same) ∙ not_less v.component)) ∙ either))) refl)))
     ∙ append_assoc stops (v.component ∷ []) (map (λ x. x.component) visits)
 
 -- the components of visits to distinct ones are their stops
@@ -167,9 +167,9 @@ visits_known from (None ∷ days) =
 visits_known from (Some due ∷ days) = (
   (omega arith, ap (λ n. get_or (Some due ∷ days) n None) (none_left from)),
   all_weaker (λ v. (from + 1 ≤ v.component) × (get_or days (v.component - (from + 1)) None ≡ Some v.due))
-  (λ v. (from ≤ v.component) × (get_or (Some due ∷ days) (v.component - from) None ≡ Some v.due))
-  (λ v is. (omega (arith, is.0), day_of_rest (Some due) days v.component from (omega (arith, is.0)) ∙ is.1))
-  (visits_from (from + 1) days) (visits_known (from + 1) days),
+      (λ v. (from ≤ v.component) × (get_or (Some due ∷ days) (v.component - from) None ≡ Some v.due))
+      (λ v is. (omega (arith, is.0), day_of_rest (Some due) days v.component from (omega (arith, is.0)) ∙ is.1))
+      (visits_from (from + 1) days) (visits_known (from + 1) days),
 )
 
 -- .. and to no other component
@@ -178,9 +178,9 @@ visits_distinct from [] = tt
 visits_distinct from (None ∷ days) = visits_distinct (from + 1) days
 visits_distinct from (Some due ∷ days) = (
   all_weaker (λ v. (from + 1 ≤ v.component) × (get_or days (v.component - (from + 1)) None ≡ Some v.due))
-  (λ v. (nat_lt from v.component || nat_lt v.component from) ≡ true)
-  (λ v is. or_left (nat_lt from v.component) (nat_lt v.component from) (lt-ltb from v.component (omega (arith, is.0))))
-  (visits_from (from + 1) days) (visits_known (from + 1) days),
+      (λ v. (nat_lt from v.component || nat_lt v.component from) ≡ true)
+      (λ v is. or_left (nat_lt from v.component) (nat_lt v.component from) (lt-ltb from v.component (omega (arith, is.0))))
+      (visits_from (from + 1) days) (visits_known (from + 1) days),
   visits_distinct (from + 1) days,
 )
 
@@ -228,9 +228,9 @@ least_stops days visits tells =
     sym (stops_apart (visits_from 0 days) (visits_distinct 0 days))
     ∙ covering (visits_from 0 days) visits
     (all_weaker (λ v. (0 ≤ v.component) × (get_or days (v.component - 0) None ≡ Some v.due)) (IsCovered visits)
-        (λ v is.
-            let known : get_or days v.component None ≡ Some v.due = ap (λ n. get_or days n None) (sym (no_less v.component)) ∙ is.1 in
-            record { other = v; among = among_from_Contains visits v (tells.asked v.component v.due known); same = refl; not_later = not_itself v })
-        (visits_from 0 days) (visits_known 0 days))
+    (λ v is.
+    let known : get_or days v.component None ≡ Some v.due = ap (λ n. get_or days n None) (sym (no_less v.component)) ∙ is.1 in
+    record { other = v; among = among_from_Contains visits v (tells.asked v.component v.due known); same = refl; not_later = not_itself v })
+    (visits_from 0 days) (visits_known 0 days))
     (all_weaker (λ v. IsBy (get_or days v.component None) v.due) (IsCovered (visits_from 0 days))
-        (λ v by. covered_by days v (get_or days v.component None) refl by) visits tells.least)
+    (λ v by. covered_by days v (get_or days v.component None) refl by) visits tells.least)

@@ -38,7 +38,7 @@ cells_more f first month cells six within long are is =
 -- the numbers of all six months are all there are
 pub cells_done : (f : ℕ → List ℕ) (first month : ℕ) (cells : List ℕ) → 6 ≤ month → length cells ≡ 36
     → take (6 * month) cells ++ flat_map f (until (first + month) (first + 6)) ≡ flat_map f (until first (first + 6))
-        → cells ≡ flat_map f (until first (first + 6))
+    → cells ≡ flat_map f (until first (first + 6))
 cells_done f first month cells end long all =
     let whole : take (6 * month) cells ≡ cells = take_all (6 * month) cells (omega arith) in
     flat_map_done f cells _ (first + month) (first + 6) (omega arith) (rw whole at all)

@@ -44,7 +44,7 @@ module _ (tallies : List Tally) (elections : List ElectionEntry) (startup : ℕ)
       let tells : Tells streak before = subst (λ k. Tells streak (quarters tallies elections startup k)) down told in
       let one : Tells next ((was_skipped, was_good) ∷ before) = goes_on before tells in
       let two : Tells next ((skips mode before, was_good) ∷ before) =
-          subst (λ b. Tells next ((b, was_good) ∷ before)) (skip ∙ by_streak mode streak before tells) one in
+      subst (λ b. Tells next ((b, was_good) ∷ before)) (skip ∙ by_streak mode streak before tells) one in
       let same : suc n ≡ suc n + 1 - 1 = omega arith in
       subst (λ k. Tells next (quarters tallies elections startup k)) same
       (subst (λ b. Tells next ((skips mode before, b) ∷ before)) good two)

@@ -42,9 +42,17 @@ fn line(
     ensures value { IfOk result (λ line. string_bytes line ≡ law.percent_text unit quarter tally good skipped) }
 {
     let (leaking, monitored) = (tally.leaking, tally.monitored);
-    let good = OrNot { holds: good, word: "good" };
-    let skipped = OrNot { holds: skipped, word: "skipped" };
-    format!(in alloc; "percent {unit} {quarter} leaking {leaking} monitored {monitored} {good} {skipped}\n")
+    let good = OrNot {
+        holds: good,
+        word: "good",
+    };
+    let skipped = OrNot {
+        holds: skipped,
+        word: "skipped",
+    };
+    format!(in alloc;
+        "percent {unit} {quarter} leaking {leaking} monitored {monitored} {good} {skipped}\n"
+    )
 }
 
 /// The text of the percent view, one line: the valves of a process unit that leaked in a quarter and those that were

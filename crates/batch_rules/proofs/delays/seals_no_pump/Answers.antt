@@ -15,5 +15,5 @@ returns-then-ground-eq-NEEDS_DUAL_SEAL c =
     record {
       value = c.is_no_pump.ensures.value ∙ ap (is_so (λ kind _. not (kinds.is_pump kind))) c.asked.ensures.value
           ∙ sym (delay_is case c.in-Delay.component c.in-Delay.ground c.in-Delay.signer c.in-Delay.expected 4 kinds.is_pump says
-              c.if-ground-eq-NEEDS_DUAL_SEAL.true);
+          c.if-ground-eq-NEEDS_DUAL_SEAL.true);
     }

@@ -15,5 +15,5 @@ returns-then-ground-eq-OUT_OF_STOCK c =
     record {
       value = c.is_no_valve.ensures.value ∙ ap (is_so (λ kind _. not (kinds.is_valve kind))) c.asked.ensures.value
           ∙ sym (delay_is case c.in-Delay.component c.in-Delay.ground c.in-Delay.signer c.in-Delay.expected 5 kinds.is_valve says
-              c.if-ground-eq-OUT_OF_STOCK.true);
+          c.if-ground-eq-OUT_OF_STOCK.true);
     }

@@ -9,7 +9,7 @@ returns-clause-grows g c =
     let within : c.from-at.result < length lists.items = omega (arith, c.in_ok-grow.ensures.long, lists.ok.0) in
     grows_on c.args.lists.now.items lists.items _ c.in_ok-grow.ensures.grows
     (grows_set lists.items c.from-at.result c.index_mut.result.now c.reserve.new.self within c.index_mut.ensures.value c.reserve.ensures.items
-        c.reserve.ensures.len c.reserve.ensures.capacity)
+    c.reserve.ensures.len c.reserve.ensures.capacity)
 
 pub returns-clause-roomy : goal.returns-clause-roomy
 returns-clause-roomy g c =

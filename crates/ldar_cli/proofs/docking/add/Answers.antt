@@ -16,7 +16,7 @@ pub returns-then-facts-gt-MOST_FACTS-clause-value : goal.returns-then-facts-gt-M
 returns-then-facts-gt-MOST_FACTS-clause-value g c =
     let slice : length c.as_slice.result.now ≡ length c.args.batch.facts = ap length c.as_slice.ensures.value in
     let facts : c.facts.result + length c.as_slice.result.now ≡ fact_count c.args.accepted.now + length c.args.batch.facts =
-        omega (arith, slice, c.facts.ensures.value) in
+    omega (arith, slice, c.facts.ensures.value) in
     let over : 8_000_000 < c.facts.result + length c.as_slice.result.now = omega (arith, c.if-facts-gt-MOST_FACTS.true) in
     Carries-stays (g.D.Disk.content c.args.journal.now.disk) c.args.accepted.now c.args.batch (Full (c.facts.result + length c.as_slice.result.now))
     (string_bytes c.in_ok-line.field-0) c.requires.opens (c.requires.is_new, facts, over, refl) c.in_ok-line.ensures.value
@@ -25,7 +25,7 @@ pub append-requires-clause-kept : goal.append-requires-clause-kept
 append-requires-clause-kept g c =
     let slice : length c.as_slice.result.now ≡ length c.args.batch.facts = ap length c.as_slice.ensures.value in
     let fits : fact_count c.args.accepted.now + length c.args.batch.facts ≤ 8_000_000 =
-        omega (arith, slice, c.facts.ensures.value, c.if-facts-gt-MOST_FACTS.false) in
+    omega (arith, slice, c.facts.ensures.value, c.if-facts-gt-MOST_FACTS.false) in
     let frame : c.in_ok-frame.frame ≡ c.args.batch ∷ [] = c.in_ok-frame.ensures.value in
     let kept = IsKept-push c.args.accepted.now c.args.batch (ap is_some c.requires.is_new) c.facts.ensures.kept fits in
     subst (λ (history : List Batch). IsKept (history ++ c.in_ok-frame.frame)) (sym c.requires.same)
@@ -35,7 +35,7 @@ pub returns-in-Ok-clause-value : goal.returns-in-Ok-clause-value
 returns-in-Ok-clause-value g c =
     let slice : length c.as_slice.result.now ≡ length c.args.batch.facts = ap length c.as_slice.ensures.value in
     let fits : fact_count c.args.accepted.now + length c.args.batch.facts ≤ 8_000_000 =
-        omega (arith, slice, c.facts.ensures.value, c.if-facts-gt-MOST_FACTS.false) in
+    omega (arith, slice, c.facts.ensures.value, c.if-facts-gt-MOST_FACTS.false) in
     let frame : c.in_ok-frame.frame ≡ c.args.batch ∷ [] = c.in_ok-frame.ensures.value in
     let frames = c.append.new.self.frames in
     let added : batches_of frames ≡ c.args.accepted.now ++ c.args.batch ∷ [] =
@@ -64,7 +64,7 @@ pub returns-in-Err-clause-after_fault : goal.returns-in-Err-clause-after_fault
 returns-in-Err-clause-after_fault g c =
     let slice : length c.as_slice.result.now ≡ length c.args.batch.facts = ap length c.as_slice.ensures.value in
     let fits : fact_count c.args.accepted.now + length c.args.batch.facts ≤ 8_000_000 =
-        omega (arith, slice, c.facts.ensures.value, c.if-facts-gt-MOST_FACTS.false) in
+    omega (arith, slice, c.facts.ensures.value, c.if-facts-gt-MOST_FACTS.false) in
     let frame : c.in_ok-frame.frame ≡ c.args.batch ∷ [] = c.in_ok-frame.ensures.value in
     let doubt = c.append.new.self.doubt in
     let same : batches_of c.append.new.self.frames ≡ c.args.accepted.now = ap batches_of c.in-Err.ensures.not_added ∙ c.requires.same in (

@@ -57,7 +57,7 @@ returns-in-Ok-None-clause-ends g c =
     let some : 0 < length c.bytes-bytes.result.now = grind (arith, nat_tests, c.if-is_empty.ensures) in
     let none : (batch : Batch) → ¬ (Spells c.bytes-bytes.result.now batch) =
     subst (λ (found : Option Batch). MatchOption found ((batch : Batch) → ¬ (Spells c.bytes-bytes.result.now batch))
-        (λ batch. Spells c.bytes-bytes.result.now batch)) c.in-Ok-None.field-0-is c.in-Ok-None.ensures in (
+    (λ batch. Spells c.bytes-bytes.result.now batch)) c.in-Ok-None.field-0-is c.in-Ok-None.ensures in (
       taken.0,
       [],
       taken.1,
@@ -76,7 +76,7 @@ returns-in-Err-keep-clause-ends g c =
     let bytes : c.bytes-bytes.result.now ≡ taken.0 = c.bytes-bytes.ensures.value ∙ taken.2.0 in
     let is : Spells c.bytes-bytes.result.now c.in-Ok-Some.batch =
     subst (λ (found : Option Batch). MatchOption found ((batch : Batch) → ¬ (Spells c.bytes-bytes.result.now batch))
-        (λ batch. Spells c.bytes-bytes.result.now batch)) c.in-Ok-Some.field-0-is c.in-Ok-Some.ensures in (
+    (λ batch. Spells c.bytes-bytes.result.now batch)) c.in-Ok-Some.field-0-is c.in-Ok-Some.ensures in (
       taken.0,
       [],
       taken.1,
@@ -92,7 +92,7 @@ returns-in-Ok-put_all-clause-ends g c =
     let bytes : c.bytes-bytes.result.now ≡ taken.0 = c.bytes-bytes.ensures.value ∙ taken.2.0 in
     let spelled : Spells c.bytes-bytes.result.now c.in-Ok-Some.batch =
     subst (λ (found : Option Batch). MatchOption found ((batch : Batch) → ¬ (Spells c.bytes-bytes.result.now batch))
-        (λ batch. Spells c.bytes-bytes.result.now batch)) c.in-Ok-Some.field-0-is c.in-Ok-Some.ensures in
+    (λ batch. Spells c.bytes-bytes.result.now batch)) c.in-Ok-Some.field-0-is c.in-Ok-Some.ensures in
     let is : Spells taken.0 c.in-Ok-Some.batch = subst (λ (l : List ℕ). Spells l c.in-Ok-Some.batch) bytes spelled in
     let put = c.in-Ok-put_all.ensures.puts in
     let all : string_bytes c.in-Ok-keep.line ≡ bytes_of put.0 =
@@ -115,7 +115,7 @@ returns-clause-ends g c =
     let bytes : c.bytes-bytes.result.now ≡ taken.0 = c.bytes-bytes.ensures.value ∙ taken.2.0 in
     let spelled : Spells c.bytes-bytes.result.now c.in-Ok-Some.batch =
     subst (λ (found : Option Batch). MatchOption found ((batch : Batch) → ¬ (Spells c.bytes-bytes.result.now batch))
-        (λ batch. Spells c.bytes-bytes.result.now batch)) c.in-Ok-Some.field-0-is c.in-Ok-Some.ensures in
+    (λ batch. Spells c.bytes-bytes.result.now batch)) c.in-Ok-Some.field-0-is c.in-Ok-Some.ensures in
     let is : Spells taken.0 c.in-Ok-Some.batch = subst (λ (l : List ℕ). Spells l c.in-Ok-Some.batch) bytes spelled in
     let put = c.in-Err-put_all.ensures.puts in
     let front : string_bytes c.in-Ok-keep.line ≡ bytes_of put.0 ++ put.1 = sym c.as_bytes.ensures.value ∙ put.3 in (

@@ -6,7 +6,7 @@ use Rattle.ldar_journal.proofs.creation.create.Goals as goal
 pub returns-clause-value : goal.returns-clause-value
 returns-clause-value g c =
     laid_down (g.D.Disk.content c.args.disk.now) (g.D.Disk.content c.read_at.new.self) (g.D.Disk.content c.lay_down.new.disk) _ c.read_at.new.into
-        c.in_ok-read_at.field-0
+    c.in_ok-read_at.field-0
     c.if-branch-gt0.false (omega arith) c.in_ok-read_at.ensures.read c.in_ok-lay_down.ensures.written
 
 pub returns-clause-images : goal.returns-clause-images

@@ -8,7 +8,7 @@ use Rattle.ldar_journal.proofs.frame.read_batches.Goals as goal
 pub returns-then-len-eq-FRAME_BATCHES : goal.returns-then-len-eq-FRAME_BATCHES
 returns-then-len-eq-FRAME_BATCHES c =
     too_many c.args.bytes.now c.loop-rest.rest.now c.loop-rest.batches.items c.loop-rest.invariant.whole c.loop-rest.invariant.each
-        (omega (arith, c.loop-rest.batches.ok.0)) (grind (arith, nat_tests))
+    (omega (arith, c.loop-rest.batches.ok.0)) (grind (arith, nat_tests))
 
 pub loop-rest-preserved : goal.loop-rest-preserved
 loop-rest-preserved c =
@@ -27,13 +27,13 @@ pub returns-in-Short : goal.returns-in-Short
 returns-in-Short c =
     let none : HasNoBatch c.loop-rest.rest.now = (rw c.in-Short.is at c.in_ok-batch.ensures.short).1 in
     no_batch c.args.bytes.now c.loop-rest.rest.now c.loop-rest.batches.items c.loop-rest.invariant.whole c.loop-rest.invariant.each none
-        (grind (arith, nat_tests))
+    (grind (arith, nat_tests))
 
 pub returns-in-Bad : goal.returns-in-Bad
 returns-in-Bad c =
     let none : HasNoBatch c.loop-rest.rest.now = (rw c.in-Bad.is at c.in_ok-batch.ensures.bad).1 in
     no_batch c.args.bytes.now c.loop-rest.rest.now c.loop-rest.batches.items c.loop-rest.invariant.whole c.loop-rest.invariant.each none
-        (grind (arith, nat_tests))
+    (grind (arith, nat_tests))
 
 pub returns-then-is_empty : goal.returns-then-is_empty
 returns-then-is_empty c =

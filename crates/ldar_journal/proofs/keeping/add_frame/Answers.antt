@@ -30,7 +30,7 @@ loop-added-preserved c =
     let next = next_one batches i batch within c.index-batches-added.is in
     let adds = c.in-Some.ensures.added in
     let known = known_more (history ++ take i batches) c.loop-added.positions.identities c.add_batch.new.positions.identities c.loop-added.count
-        c.in-Some.more batch c.loop-added.invariant.known
+    c.in-Some.more batch c.loop-added.invariant.known
     adds.is_new adds.added adds.count adds.fits in
     record {
       known = rw next (subst (λ (l : List Batch). IsKnown l c.add_batch.new.positions.identities c.in-Some.more)

@@ -10,7 +10,7 @@ pub append-appended-requires-clause-kept : goal.append-appended-requires-clause-
 append-appended-requires-clause-kept c =
     let slice : length c.as_slice.result.now ≡ length c.args.batch.facts = ap length c.as_slice.ensures.value in
     let fits : fact_count c.in-Ok.accepted + length c.args.batch.facts ≤ 8_000_000 =
-        omega (arith, slice, c.facts.ensures.value, c.if-facts-as_slice-gt-MOST_FACTS.false) in
+    omega (arith, slice, c.facts.ensures.value, c.if-facts-as_slice-gt-MOST_FACTS.false) in
     let is_new : is_some (position_of (identity_of c.args.batch) c.in-Ok.accepted) ≡ false =
     ap is_some (sym (c.in-None.ensures.value ∙ ap (λ (identity : Identity). position_of identity c.in-Ok.accepted) c.identity.ensures.value)) in
     let kept = IsKept-push c.in-Ok.accepted c.args.batch is_new c.facts.ensures.kept fits in

@@ -9,4 +9,4 @@ abbrev pub invariant-loop-place : goal.invariant-loop-place
 invariant-loop-place l =
     law.is_attempted l.between
     ≡ somewhere_from (λ _ attempt after. is_attempt attempt.what && not (list_any (λ x. is_leak x.what) after)) (take l.place l.between)
-        (drop l.place l.between)
+    (drop l.place l.between)

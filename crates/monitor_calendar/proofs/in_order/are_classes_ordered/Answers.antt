@@ -17,7 +17,7 @@ loop-place-init c = alone order c.args.classes.now (length c.args.classes.now - 
 pub loop-place-preserved : goal.loop-place-preserved
 loop-place-preserved c =
     one_in_front order (strict_earlier (λ (x : Key × Class). x.0)) c.args.classes.now c.loop-place.place c.index-classes-place.result
-        c.index-classes-place-in-loop-place.result
+    c.index-classes-place-in-loop-place.result
     c.loop-place-test.true (omega arith) (sym c.precedes.ensures.value ∙ c.if-not-precedes.false) c.loop-place.invariant
 
 pub returns-then-not-precedes : goal.returns-then-not-precedes

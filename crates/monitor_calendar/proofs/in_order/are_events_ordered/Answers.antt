@@ -16,7 +16,7 @@ loop-place-init c = alone order c.args.events.now (length c.args.events.now - 1)
 pub loop-place-preserved : goal.loop-place-preserved
 loop-place-preserved c =
     one_in_front order (strict_earlier (λ (x : Event). x.key)) c.args.events.now c.loop-place.place c.index-events-place.result
-        c.index-events-place-in-loop-place.result
+    c.index-events-place-in-loop-place.result
     c.loop-place-test.true (omega arith) (sym c.precedes.ensures.value ∙ c.if-not-precedes.false) c.loop-place.invariant
 
 pub returns-then-not-precedes : goal.returns-then-not-precedes

@@ -10,7 +10,7 @@ loop-k-preserved c =
     let at = c.walked_to-walk.ensures.value in
     let told = c.let_be_quarterly.ensures.value
     ∙ quarterly_at c.args.startup month c.walked_to-walk.result.past at.on.last c.args.events.now c.walked_to-walk.result.place at.on.front at.rest
-        at.on.tells in
+    at.on.tells in
     record {
       walk = (month, omega arith, at);
       long = length-set l.quarterly l.k c.let_be_quarterly.result ∙ l.invariant.long;

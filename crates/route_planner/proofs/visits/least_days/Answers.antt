@@ -32,4 +32,4 @@ loop-duty-preserved c =
     ap (λ n. set days n (Some c.earlier.result)) c.from-number.ensures ∙ ap (λ day. set days e.component (Some day)) known in
     subst (λ l. TellsLeast l (visits_asked (take (i + 1) duties))) (sym then_days)
     (subst (TellsLeast (set days e.component (Some (earlier_of (get_or days e.component None) e.due)))) (sym asked)
-        (least_more days (visits_asked (take i duties)) told (visit_of e) within))
+    (least_more days (visits_asked (take i duties)) told (visit_of e) within))

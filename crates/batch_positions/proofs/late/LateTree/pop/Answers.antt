@@ -16,7 +16,7 @@ invariant_of-self c =
     let same = cuts.lates.same in
     let last = last_of new (omega (arith, length-map old (λ (node : Node). node.late))) in
     let front : c.pop.new.self.items ≡ take (length new - 1) new = c.pop.ensures.rest ∙ ap (take (c.self.inside.nodes.len - 1)) back
-        ∙ ap (λ n. take (n - 1) new) (long ∙ sym same) in
+    ∙ ap (λ n. take (n - 1) new) (long ∙ sym same) in
     subst IsTree (sym front) (tree_shrinks old new (take (length new - 1) new) last.0 (length old) c.self.invariant cuts last.1 refl)
 
 pub returns-clause-lates : goal.returns-clause-lates
@@ -27,7 +27,7 @@ returns-clause-lates c =
     let cuts : CutsOff (length old) old new = rw c.deref_mut.ensures.value at c.cut_last.ensures.value in
     let back = written_back new old c.self.inside.nodes.len cuts.lates.same long in
     let front : c.pop.new.self.items ≡ take (length old - 1) new = c.pop.ensures.rest ∙ ap (take (c.self.inside.nodes.len - 1)) back
-        ∙ ap (λ n. take (n - 1) new) long in
+    ∙ ap (λ n. take (n - 1) new) long in
     rw (← c.self.view_is) (ap (map (λ (node : Node). node.late)) front ∙ sym (take-map (λ (node : Node). node.late) (length old - 1) new)
-        ∙ ap (take (length old - 1)) (lates_stay old new cuts.lates)
+    ∙ ap (take (length old - 1)) (lates_stay old new cuts.lates)
     ∙ ap (λ n. take (n - 1) (map (λ (node : Node). node.late) old)) (sym (length-map old (λ (node : Node). node.late))))

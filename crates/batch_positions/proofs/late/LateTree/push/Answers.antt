@@ -11,9 +11,9 @@ invariant_of-self c =
     let new = c.hang.new.nodes in
     let long : c.self.inside.nodes.len ≡ length old = sym c.deref_mut.ensures.len ∙ ap length c.deref_mut.ensures.value in
     let hangs : Hangs (length old + 1) (path_of c.args.late.identity) old new =
-        rw (c.len.ensures, long, c.path_of.ensures.value, c.deref_mut.ensures.value) at c.hang.ensures.value in
+    rw (c.len.ensures, long, c.path_of.ensures.value, c.deref_mut.ensures.value) at c.hang.ensures.value in
     let items = c.push_reserved.ensures.items ∙ ap (λ (l : List Node). l ++ record { late = c.args.late; low = 0; high = 0 } ∷ [])
-        (written_back new old c.self.inside.nodes.len hangs.lates.same long) in
+    (written_back new old c.self.inside.nodes.len hangs.lates.same long) in
     subst IsTree (sym items) (tree_grows old new (record { late = c.args.late; low = 0; high = 0 }) c.self.invariant hangs)
 
 pub returns-clause-lates : goal.returns-clause-lates
@@ -22,9 +22,9 @@ returns-clause-lates c =
     let new = c.hang.new.nodes in
     let long : c.self.inside.nodes.len ≡ length old = sym c.deref_mut.ensures.len ∙ ap length c.deref_mut.ensures.value in
     let hangs : Hangs (length old + 1) (path_of c.args.late.identity) old new =
-        rw (c.len.ensures, long, c.path_of.ensures.value, c.deref_mut.ensures.value) at c.hang.ensures.value in
+    rw (c.len.ensures, long, c.path_of.ensures.value, c.deref_mut.ensures.value) at c.hang.ensures.value in
     let items = c.push_reserved.ensures.items ∙ ap (λ (l : List Node). l ++ record { late = c.args.late; low = 0; high = 0 } ∷ [])
-        (written_back new old c.self.inside.nodes.len hangs.lates.same long) in
+    (written_back new old c.self.inside.nodes.len hangs.lates.same long) in
     rw (← c.self.view_is) (ap (map (λ (node : Node). node.late)) items
-        ∙ map-append (λ (node : Node). node.late) new (record { late = c.args.late; low = 0; high = 0 } ∷ [])
+    ∙ map-append (λ (node : Node). node.late) new (record { late = c.args.late; low = 0; high = 0 } ∷ [])
     ∙ ap (λ l. l ++ c.args.late ∷ []) (lates_stay old new hangs.lates))

@@ -5,7 +5,7 @@ use Rattle.batch_positions.proofs.positions.Positions.pop.Goals as goal
 pub pop-requires-then-entry-clause-some : goal.pop-requires-then-entry-clause-some
 pop-requires-then-entry-clause-some c =
     (late_goes_back c.pop.new.self.items c.self.inside.heads.items c.self.inside.late.lates c.in-Some.entry (rw c.in-Some.ensures.items at c.self.invariant.0)
-        c.if-entry.true).1
+    c.if-entry.true).1
 
 pub pop-requires-then-entry-clause-fits : goal.pop-requires-then-entry-clause-fits
 pop-requires-then-entry-clause-fits c =

@@ -5,8 +5,10 @@ use Rattle.batch_positions.proofs.positions.Positions.position.Goals as goal
 pub returns-in-Some : goal.returns-in-Some
 returns-in-Some c =
     let found = rw c.deref-2.ensures.value at c.in-Some.ensures.found in
-    record { value = rw (← c.self.view_is) (sym (position_found c.self.inside.entries.items c.args.identity c.in-Some.position found.0
-        c.self.invariant.0.apart found.1 found.2)) }
+    record {
+      value = rw (← c.self.view_is) (sym (position_found c.self.inside.entries.items c.args.identity c.in-Some.position found.0
+          c.self.invariant.0.apart found.1 found.2));
+    }
 
 pub returns-in-None : goal.returns-in-None
 returns-in-None c =

@@ -21,7 +21,7 @@ returns-in_err-item c =
     record {
       value = subst (λ kept. c.from_residual.result ≡ force.class_in_force c.args.component (facts_in kept) c.args.day) c.self.view_is
           (c.from_residual.ensures ∙ sym (no_class_held inside.store inside.slots.items inside.units.items inside.classes.items inside.rosters.items
-              c.self.invariant c.args.component c.args.day c.row_of.result is none));
+          c.self.invariant c.args.component c.args.day c.row_of.result is none));
     }
 
 pub returns : goal.returns
@@ -31,7 +31,7 @@ returns c =
     let some : c.row_of.result.entered ≡ Some c.in_ok-item.item = c.in_ok-item.was in
     let entered = rw c.list_of.ensures.value at c.class_by-entered.ensures.value in
     let held = class_held_on inside.store inside.slots.items inside.units.items inside.classes.items inside.rosters.items c.self.invariant c.args.component
-        c.args.day c.row_of.result is c.in_ok-item.item some in
+    c.args.day c.row_of.result is c.in_ok-item.item some in
     record {
       value = subst (λ kept. Some c.class_or.result ≡ force.class_in_force c.args.component (facts_in kept) c.args.day) c.self.view_is
           (ap Some (c.class_or.ensures.value ∙ ap (λ o. unwrap_or (option_map (λ e. e.1) o) c.in_ok-item.item.class) entered) ∙ sym held);

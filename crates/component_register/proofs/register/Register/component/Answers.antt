@@ -12,7 +12,7 @@ returns-in_err-item c =
     let slot = c.row_of-slot.result in
     let is = rw c.deref.ensures.value at c.row_of-slot.ensures.value in
     let held = component_held inside.store inside.slots.items inside.units.items inside.classes.items inside.rosters.items c.self.invariant c.args.component
-        slot is in
+    slot is in
     let none : slot.entered ≡ None = c.in_err-item.was in
     record {
       value = subst (λ kept. c.from_residual.result ≡ law.equipment_of c.args.component (facts_in kept)) c.self.view_is
@@ -25,7 +25,7 @@ returns c =
     let slot = c.row_of-slot.result in
     let is = rw c.deref.ensures.value at c.row_of-slot.ensures.value in
     let held = component_held inside.store inside.slots.items inside.units.items inside.classes.items inside.rosters.items c.self.invariant c.args.component
-        slot is in
+    slot is in
     let some : slot.entered ≡ Some c.in_ok-item.item = c.in_ok-item.was in
     record {
       value = subst (λ kept. Some (with_retired slot.retired c.in_ok-item.item) ≡ law.equipment_of c.args.component (facts_in kept)) c.self.view_is

@@ -53,4 +53,4 @@ invariant_of-self c =
     (sound_more inside.store c.args.key fact c.fact.inside.body (ap (λ s. s.body) c.fact.view_is) next new_key first few
     inside.slots.items c.enter.new.slots.items inside.units.items c.enter_unit.new.units.items inside.classes.items c.put_class.new.classes.items
     inside.rosters.items c.put_member.new.rosters.items c.self.invariant c.enter.ensures.value c.enter_unit.ensures.value c.put_class.ensures
-        c.put_member.ensures)
+    c.put_member.ensures)

@@ -13,7 +13,7 @@ invariant_of-self c =
     let inside = c.self.inside in
     let slots = c.make_slots.new.slots.items in
     let first = sound_slots inside.store inside.slots.items inside.units.items inside.classes.items inside.rosters.items c.self.invariant slots
-        c.make_slots.ensures.adds in
+    c.make_slots.ensures.adds in
     first
 
 pub invariant_of-self-in_err-make_units : goal.invariant_of-self-in_err-make_units
@@ -21,7 +21,7 @@ invariant_of-self-in_err-make_units c =
     let inside = c.self.inside in
     let slots = c.make_slots.new.slots.items in
     let first = sound_slots inside.store inside.slots.items inside.units.items inside.classes.items inside.rosters.items c.self.invariant slots
-        c.make_slots.ensures.adds in
+    c.make_slots.ensures.adds in
     let units = c.make_units.new.units.items in
     let second = sound_units inside.store slots inside.units.items inside.classes.items inside.rosters.items first units c.make_units.ensures.adds in
     second
@@ -31,7 +31,7 @@ invariant_of-self-in_err-make_rooms c =
     let inside = c.self.inside in
     let slots = c.make_slots.new.slots.items in
     let first = sound_slots inside.store inside.slots.items inside.units.items inside.classes.items inside.rosters.items c.self.invariant slots
-        c.make_slots.ensures.adds in
+    c.make_slots.ensures.adds in
     let units = c.make_units.new.units.items in
     let second = sound_units inside.store slots inside.units.items inside.classes.items inside.rosters.items first units c.make_units.ensures.adds in
     let classes = c.make_rooms.new.lists.items in
@@ -43,7 +43,7 @@ invariant_of-self-in_err-make_rooms-2 c =
     let inside = c.self.inside in
     let slots = c.make_slots.new.slots.items in
     let first = sound_slots inside.store inside.slots.items inside.units.items inside.classes.items inside.rosters.items c.self.invariant slots
-        c.make_slots.ensures.adds in
+    c.make_slots.ensures.adds in
     let units = c.make_units.new.units.items in
     let second = sound_units inside.store slots inside.units.items inside.classes.items inside.rosters.items first units c.make_units.ensures.adds in
     let classes = c.make_rooms.new.lists.items in
@@ -57,7 +57,7 @@ invariant_of-self-in_err-reserve c =
     let inside = c.self.inside in
     let slots = c.make_slots.new.slots.items in
     let first = sound_slots inside.store inside.slots.items inside.units.items inside.classes.items inside.rosters.items c.self.invariant slots
-        c.make_slots.ensures.adds in
+    c.make_slots.ensures.adds in
     let units = c.make_units.new.units.items in
     let second = sound_units inside.store slots inside.units.items inside.classes.items inside.rosters.items first units c.make_units.ensures.adds in
     let classes = c.make_rooms.new.lists.items in
@@ -71,7 +71,7 @@ invariant_of-self-2 c =
     let inside = c.self.inside in
     let slots = c.make_slots.new.slots.items in
     let first = sound_slots inside.store inside.slots.items inside.units.items inside.classes.items inside.rosters.items c.self.invariant slots
-        c.make_slots.ensures.adds in
+    c.make_slots.ensures.adds in
     let units = c.make_units.new.units.items in
     let second = sound_units inside.store slots inside.units.items inside.classes.items inside.rosters.items first units c.make_units.ensures.adds in
     let classes = c.make_rooms.new.lists.items in

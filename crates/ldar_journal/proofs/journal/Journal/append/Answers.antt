@@ -20,7 +20,7 @@ invariant_of-self g c =
     let d = g.D.Disk in
     let put = c.put_behind in
     let is_ready = ready d.content d.images j.disk j.end j.frames j.doubt.value c.args.frame.now j.torn c.args.self.now c.self.view_is c.self.invariant
-        c.requires.settled
+    c.requires.settled
     c.bytes-bytes.ensures.is_frame c.requires.kept in
     IsShelved-shut d.clock d.left d.images d.content j.disk j.end j.frames j.doubt.value c.args.frame.now j.torn is_ready
     put.new.disk (length c.bytes-bytes.result.now) put.ensures.front put.ensures.crash put.ensures.any_moment
@@ -41,7 +41,7 @@ returns-then-is_err-clause-any_moment g c =
     let d = g.D.Disk in
     let put = c.put_behind in
     let is_ready = ready d.content d.images j.disk j.end j.frames j.doubt.value c.args.frame.now j.torn c.args.self.now c.self.view_is c.self.invariant
-        c.requires.settled
+    c.requires.settled
     c.bytes-bytes.ensures.is_frame c.requires.kept in
     rw (← c.self.view_is) (put_moments d.clock d.left d.images d.content j.disk j.end j.frames j.doubt.value c.args.frame.now j.torn is_ready
     put.new.disk (length c.bytes-bytes.result.now) put.ensures.front put.ensures.crash put.ensures.any_moment)
@@ -54,7 +54,7 @@ invariant_of-self-then-is_err-2 g c =
     let d = g.D.Disk in
     let put = c.put_behind in
     let is_ready = ready d.content d.images j.disk j.end j.frames j.doubt.value c.args.frame.now j.torn c.args.self.now c.self.view_is c.self.invariant
-        c.requires.settled
+    c.requires.settled
     c.bytes-bytes.ensures.is_frame c.requires.kept in
     let was_put = sym c.is_err.ensures.value ∙ c.if-is_err.false in
     let holds = from_ok put.result was_put put.ensures.put in
@@ -68,14 +68,14 @@ pub returns-then-is_err-2-clause-opens : goal.returns-then-is_err-2-clause-opens
 returns-then-is_err-2-clause-opens g c =
     let j = c.self.inside in
     IsShelved-opens (g.D.Disk.content c.open_gate.new.disk) (g.D.Disk.images c.open_gate.new.disk) j.end j.frames c.batches.result.value
-        (length c.bytes-bytes.result.now)
+    (length c.bytes-bytes.result.now)
     (invariant_of-self-then-is_err-2 g c)
 
 pub returns-then-is_err-2-clause-images : goal.returns-then-is_err-2-clause-images
 returns-then-is_err-2-clause-images g c =
     let j = c.self.inside in
     IsShelved-as (g.D.Disk.content c.open_gate.new.disk) (g.D.Disk.images c.open_gate.new.disk) j.end j.frames c.batches.result.value
-        (length c.bytes-bytes.result.now)
+    (length c.bytes-bytes.result.now)
     (invariant_of-self-then-is_err-2 g c)
 
 pub returns-then-is_err-2-clause-behind : goal.returns-then-is_err-2-clause-behind
@@ -84,7 +84,7 @@ returns-then-is_err-2-clause-behind g c = λ torn.
     let d = g.D.Disk in
     let put = c.put_behind in
     let is_ready = ready d.content d.images j.disk j.end j.frames j.doubt.value c.args.frame.now j.torn c.args.self.now c.self.view_is c.self.invariant
-        c.requires.settled
+    c.requires.settled
     c.bytes-bytes.ensures.is_frame c.requires.kept in
     let was_put = sym c.is_err.ensures.value ∙ c.if-is_err.false in
     let holds = from_ok put.result was_put put.ensures.put in
@@ -99,7 +99,7 @@ returns-then-is_err-2-clause-any_moment g c =
     let d = g.D.Disk in
     let put = c.put_behind in
     let is_ready = ready d.content d.images j.disk j.end j.frames j.doubt.value c.args.frame.now j.torn c.args.self.now c.self.view_is c.self.invariant
-        c.requires.settled
+    c.requires.settled
     c.bytes-bytes.ensures.is_frame c.requires.kept in
     let was_put = sym c.is_err.ensures.value ∙ c.if-is_err.false in
     let holds = from_ok put.result was_put put.ensures.put in
@@ -117,7 +117,7 @@ invariant_of-self-2 g c =
     let d = g.D.Disk in
     let put = c.put_behind in
     let is_ready = ready d.content d.images j.disk j.end j.frames j.doubt.value c.args.frame.now j.torn c.args.self.now c.self.view_is c.self.invariant
-        c.requires.settled
+    c.requires.settled
     c.bytes-bytes.ensures.is_frame c.requires.kept in
     let was_put = sym c.is_err.ensures.value ∙ c.if-is_err.false in
     let holds = from_ok put.result was_put put.ensures.put in
@@ -133,14 +133,14 @@ pub returns-clause-opens : goal.returns-clause-opens
 returns-clause-opens g c =
     let j = c.self.inside in
     IsShelved-opens (g.D.Disk.content c.open_gate.new.disk) (g.D.Disk.images c.open_gate.new.disk) (j.end + length c.bytes-bytes.result.now)
-        c.add_to.new.frames j.doubt.value j.torn
+    c.add_to.new.frames j.doubt.value j.torn
     (invariant_of-self-2 g c)
 
 pub returns-clause-images : goal.returns-clause-images
 returns-clause-images g c =
     let j = c.self.inside in
     IsShelved-as (g.D.Disk.content c.open_gate.new.disk) (g.D.Disk.images c.open_gate.new.disk) (j.end + length c.bytes-bytes.result.now) c.add_to.new.frames
-        j.doubt.value j.torn
+    j.doubt.value j.torn
     (invariant_of-self-2 g c)
 
 pub returns-clause-any_moment : goal.returns-clause-any_moment
@@ -149,7 +149,7 @@ returns-clause-any_moment g c =
     let d = g.D.Disk in
     let put = c.put_behind in
     let is_ready = ready d.content d.images j.disk j.end j.frames j.doubt.value c.args.frame.now j.torn c.args.self.now c.self.view_is c.self.invariant
-        c.requires.settled
+    c.requires.settled
     c.bytes-bytes.ensures.is_frame c.requires.kept in
     let was_put = sym c.is_err.ensures.value ∙ c.if-is_err.false in
     let holds = from_ok put.result was_put put.ensures.put in

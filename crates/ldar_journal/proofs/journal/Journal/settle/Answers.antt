@@ -18,7 +18,7 @@ returns-in_err-stands-clause-images g c =
     let read = c.is_open_for_good in
     IsShelved-as (d.content read.new.disk) (d.images read.new.disk) j.end j.frames j.doubt.value j.torn
     (IsShelved-fewer (d.content j.disk) (d.content read.new.disk) (d.images j.disk) (d.images read.new.disk) j.end j.frames j.doubt.value j.torn
-        c.self.invariant
+    c.self.invariant
     read.ensures.unchanged read.ensures.crash)
 
 -- the bytes stay over the look at the gate, and the frame in doubt with them
@@ -30,7 +30,7 @@ invariant_of-self-2 g c =
     let read = c.is_open_for_good in
     let some : j.doubt.value ≢ [] = λ none. c.requires.settling (ap (λ shelf. shelf.doubt) (sym c.self.view_is) ∙ none) in
     let fewer = IsShelved-fewer (d.content j.disk) (d.content read.new.disk) (d.images j.disk) (d.images read.new.disk) j.end j.frames j.doubt.value j.torn
-        c.self.invariant
+    c.self.invariant
     read.ensures.unchanged read.ensures.crash in
     let none : c.of-2.result.value ≡ [] = cc in
     let is_open = rw c.if-not-stands.false at c.in_ok-stands.ensures.value in

@@ -15,7 +15,7 @@ returns-in_default-clause-damaged g c =
     let judged = rw c.in-Whole.is at c.in_ok-judge.ensures.judged in
     let not_kept = rw c.deref.ensures.value at (c.in_default.ensures.not_kept refl).1 in
     rw (← c.self.view_is) (not_kept_damaged (g.D.Disk.content old.disk) (g.D.Disk.content c.judge.new.disk) old.place c.in-Whole.used old.frames
-        c.judge.new.batches.items old.window.bytes c.self.invariant.0.behind judged c.self.invariant.0.counted.kept not_kept)
+    c.judge.new.batches.items old.window.bytes c.self.invariant.0.behind judged c.self.invariant.0.counted.kept not_kept)
 
 pub overflow_add-self : goal.overflow_add-self
 overflow_add-self g c =
@@ -38,7 +38,7 @@ invariant_of-self-in-Whole g c =
       rw (frames, bytes) (reading_on (g.D.Disk.content old.disk) (g.D.Disk.content c.judge.new.disk) (g.D.Disk.images old.disk)
           (g.D.Disk.images c.judge.new.disk) old.place c.in-Whole.used old.frames batches
           old.window.bytes c.judge.new.window.bytes c.self.invariant.0 judge.reads.content judge.reads.images judge.ahead found whole.0 whole.1 whole.2
-              known.kept),
+          known.kept),
       rw frames (known_frames old.frames batches c.add_frame.new.positions.identities c.in-Some.facts known),
       ap (λ (w : WindowState). w.size) c.drop_front.ensures.value ∙ judge.size ∙ c.self.invariant.2,
       λ is. absurd (false≢true is),

@@ -25,6 +25,6 @@ returns-clause-ahead g c =
     let end = c.make_room-start.result.1 in
     let new = c.read_behind.new.buffer.items in
     read_ahead old.buffer.items c.make_room-start.new.buffer.items new old.start old.end c.make_room-start.result.0 end c.in_ok-n.n c.args.place
-        c.args.self.now c.self.view_is
+    c.args.self.now c.self.view_is
     room.size room.value room.ordered room.in_range call.size call.before call.within (g.D.Disk.content c.args.disk.now)
-        (g.D.Disk.content c.read_behind.new.disk) call.read
+    (g.D.Disk.content c.read_behind.new.disk) call.read

@@ -14,8 +14,12 @@ returns-then-not-is_planned c =
     let due = c.last_day_by-due.result in
     let day : c.judging_day.result ≡ min due asked.day = c.judging_day.ensures.value in
     let is : IsOf asked judged (min due asked.day) =
-    subst (IsOf asked judged) day (record { serves = c.judged-judged.ensures.serves; regime = c.judged-judged.ensures.regime; class =
-        c.judged-judged.ensures.class }) in
+    subst (IsOf asked judged) day (record {
+      serves = c.judged-judged.ensures.serves;
+      regime = c.judged-judged.ensures.regime;
+      class =
+          c.judged-judged.ensures.class;
+    }) in
     let owed = causes.is_planned_judged asked judged month in
     let first = first_day (month + 1 - judged.class.plan) in
     let met = routine_in asked.events.now first due in
@@ -40,8 +44,12 @@ returns-then-number-from c =
     let due = c.last_day_by-due.result in
     let day : c.judging_day.result ≡ min due asked.day = c.judging_day.ensures.value in
     let is : IsOf asked judged (min due asked.day) =
-    subst (IsOf asked judged) day (record { serves = c.judged-judged.ensures.serves; regime = c.judged-judged.ensures.regime; class =
-        c.judged-judged.ensures.class }) in
+    subst (IsOf asked judged) day (record {
+      serves = c.judged-judged.ensures.serves;
+      regime = c.judged-judged.ensures.regime;
+      class =
+          c.judged-judged.ensures.class;
+    }) in
     let owed = causes.is_planned_judged asked judged month in
     let first = first_day (month + 1 - judged.class.plan) in
     let met = routine_in asked.events.now first due in
@@ -67,8 +75,12 @@ returns c =
     let due = c.last_day_by-due.result in
     let day : c.judging_day.result ≡ min due asked.day = c.judging_day.ensures.value in
     let is : IsOf asked judged (min due asked.day) =
-    subst (IsOf asked judged) day (record { serves = c.judged-judged.ensures.serves; regime = c.judged-judged.ensures.regime; class =
-        c.judged-judged.ensures.class }) in
+    subst (IsOf asked judged) day (record {
+      serves = c.judged-judged.ensures.serves;
+      regime = c.judged-judged.ensures.regime;
+      class =
+          c.judged-judged.ensures.class;
+    }) in
     let owed = causes.is_planned_judged asked judged month in
     let first = first_day (month + 1 - judged.class.plan) in
     let met = routine_in asked.events.now first due in

@@ -26,7 +26,7 @@ loop-place-preserved c =
     record {
       done = ap (λ ds. ds ++ each_from (after_event asked c.args.after) (take (l.place + 1) events) (drop (l.place + 1) events)) c.in_ok-put.ensures.put
           ∙ one_event_on asked c.args.after l.past l.place c.next_after-next.result e l.duties.items c.after_event.result asked.events_ordered
-              c.loop-place-test.true
+          c.loop-place-test.true
           (sym c.index-self-place.is) l.invariant.tells c.next_after-next.ensures.value
           (c.after_event.ensures.value ∙ ap (λ x. after_by asked c.args.after l.past.repeat x c.next_after-next.result) (sym c.index-self-place.is))
           ∙ l.invariant.done;

@@ -14,13 +14,17 @@ returns-then-not-is_quarter_month c =
     let to : c.last_day-due.result ≡ last_day c.args.month = c.last_day-due.ensures.value in
     let day : c.judging_day.result ≡ min c.last_day-due.result asked.day = c.judging_day.ensures.value in
     let is : IsOf asked judged (min c.last_day-due.result asked.day) =
-    subst (IsOf asked judged) day (record { serves = c.judged-judged.ensures.serves; regime = c.judged-judged.ensures.regime; class =
-        c.judged-judged.ensures.class }) in
+    subst (IsOf asked judged) day (record {
+      serves = c.judged-judged.ensures.serves;
+      regime = c.judged-judged.ensures.regime;
+      class =
+          c.judged-judged.ensures.class;
+    }) in
     let owed = causes.is_quarter_month_judged asked judged c.args.month c.args.is_quarterly in
     let met = routine_in asked.events.now c.first_day-first.result c.last_day-due.result in
     let form : causes.quarterly asked c.args.month
     ≡ causes.duty asked 3 c.first_day-first.result c.last_day-due.result owed met =
-        quarterly_by asked judged c.args.month c.first_day-first.result c.last_day-due.result c.args.is_quarterly from to c.requires.quarterly is in
+    quarterly_by asked judged c.args.month c.first_day-first.result c.last_day-due.result c.args.is_quarterly from to c.requires.quarterly is in
     record {
       value = sym (form ∙ unowed asked.item.now asked.classes.now asked.startup asked.events.now asked.skipped.now asked.day 3 c.first_day-first.result
           c.last_day-due.result owed met
@@ -35,13 +39,17 @@ returns c =
     let to : c.last_day-due.result ≡ last_day c.args.month = c.last_day-due.ensures.value in
     let day : c.judging_day.result ≡ min c.last_day-due.result asked.day = c.judging_day.ensures.value in
     let is : IsOf asked judged (min c.last_day-due.result asked.day) =
-    subst (IsOf asked judged) day (record { serves = c.judged-judged.ensures.serves; regime = c.judged-judged.ensures.regime; class =
-        c.judged-judged.ensures.class }) in
+    subst (IsOf asked judged) day (record {
+      serves = c.judged-judged.ensures.serves;
+      regime = c.judged-judged.ensures.regime;
+      class =
+          c.judged-judged.ensures.class;
+    }) in
     let owed = causes.is_quarter_month_judged asked judged c.args.month c.args.is_quarterly in
     let met = routine_in asked.events.now c.first_day-first.result c.last_day-due.result in
     let form : causes.quarterly asked c.args.month
     ≡ causes.duty asked 3 c.first_day-first.result c.last_day-due.result owed met =
-        quarterly_by asked judged c.args.month c.first_day-first.result c.last_day-due.result c.args.is_quarterly from to c.requires.quarterly is in
+    quarterly_by asked judged c.args.month c.first_day-first.result c.last_day-due.result c.args.is_quarterly from to c.requires.quarterly is in
     record {
       value = c.duty.ensures.value
           ∙ ap (λ m. causes.duty asked 3 c.first_day-first.result c.last_day-due.result true m) c.routine_in-met.ensures.value

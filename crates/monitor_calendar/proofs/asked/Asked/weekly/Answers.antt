@@ -14,13 +14,17 @@ returns-then-not-is_plain_pump c =
     let to : c.plus_days-due.result ≡ week_last c.args.week = omega (arith, c.plus_days-due.ensures.value, c.at-first.ensures.value, c.requires) in
     let day : c.judging_day.result ≡ min c.plus_days-due.result asked.day = c.judging_day.ensures.value in
     let is : IsOf asked judged (min c.plus_days-due.result asked.day) =
-    subst (IsOf asked judged) day (record { serves = c.judged-judged.ensures.serves; regime = c.judged-judged.ensures.regime; class =
-        c.judged-judged.ensures.class }) in
+    subst (IsOf asked judged) day (record {
+      serves = c.judged-judged.ensures.serves;
+      regime = c.judged-judged.ensures.regime;
+      class =
+          c.judged-judged.ensures.class;
+    }) in
     let owed = causes.is_plain_pump judged in
     let met = look_in asked.events.now c.at-first.result c.plus_days-due.result in
     let form : causes.weekly asked c.args.week
     ≡ causes.duty asked 6 c.at-first.result c.plus_days-due.result owed met =
-        weekly_by asked judged c.args.week c.at-first.result c.plus_days-due.result from to is in
+    weekly_by asked judged c.args.week c.at-first.result c.plus_days-due.result from to is in
     record {
       value = sym (form ∙ unowed asked.item.now asked.classes.now asked.startup asked.events.now asked.skipped.now asked.day 6 c.at-first.result
           c.plus_days-due.result owed met
@@ -35,13 +39,17 @@ returns c =
     let to : c.plus_days-due.result ≡ week_last c.args.week = omega (arith, c.plus_days-due.ensures.value, c.at-first.ensures.value, c.requires) in
     let day : c.judging_day.result ≡ min c.plus_days-due.result asked.day = c.judging_day.ensures.value in
     let is : IsOf asked judged (min c.plus_days-due.result asked.day) =
-    subst (IsOf asked judged) day (record { serves = c.judged-judged.ensures.serves; regime = c.judged-judged.ensures.regime; class =
-        c.judged-judged.ensures.class }) in
+    subst (IsOf asked judged) day (record {
+      serves = c.judged-judged.ensures.serves;
+      regime = c.judged-judged.ensures.regime;
+      class =
+          c.judged-judged.ensures.class;
+    }) in
     let owed = causes.is_plain_pump judged in
     let met = look_in asked.events.now c.at-first.result c.plus_days-due.result in
     let form : causes.weekly asked c.args.week
     ≡ causes.duty asked 6 c.at-first.result c.plus_days-due.result owed met =
-        weekly_by asked judged c.args.week c.at-first.result c.plus_days-due.result from to is in
+    weekly_by asked judged c.args.week c.at-first.result c.plus_days-due.result from to is in
     record {
       value = c.duty.ensures.value
           ∙ ap (λ m. causes.duty asked 6 c.at-first.result c.plus_days-due.result true m) c.look_in-met.ensures.value

@@ -13,13 +13,17 @@ returns-then-not-is_yearly c =
     let to : c.last_day-due.result ≡ last_day (12 * c.args.year + 11) = cc in
     let day : c.judging_day.result ≡ min c.last_day-due.result asked.day = c.judging_day.ensures.value in
     let is : IsOf asked judged (min c.last_day-due.result asked.day) =
-    subst (IsOf asked judged) day (record { serves = c.judged-judged.ensures.serves; regime = c.judged-judged.ensures.regime; class =
-        c.judged-judged.ensures.class }) in
+    subst (IsOf asked judged) day (record {
+      serves = c.judged-judged.ensures.serves;
+      regime = c.judged-judged.ensures.regime;
+      class =
+          c.judged-judged.ensures.class;
+    }) in
     let owed = causes.is_yearly_judged judged in
     let met = causes.yearly_reading_judged asked judged c.first_day-first.result c.last_day-due.result in
     let form : causes.yearly asked c.args.year
     ≡ causes.duty asked 4 c.first_day-first.result c.last_day-due.result owed met =
-        yearly_by asked judged c.args.year c.first_day-first.result c.last_day-due.result from to is in
+    yearly_by asked judged c.args.year c.first_day-first.result c.last_day-due.result from to is in
     record {
       value = sym (form ∙ unowed asked.item.now asked.classes.now asked.startup asked.events.now asked.skipped.now asked.day 4 c.first_day-first.result
           c.last_day-due.result owed met
@@ -34,13 +38,17 @@ returns c =
     let to : c.last_day-due.result ≡ last_day (12 * c.args.year + 11) = cc in
     let day : c.judging_day.result ≡ min c.last_day-due.result asked.day = c.judging_day.ensures.value in
     let is : IsOf asked judged (min c.last_day-due.result asked.day) =
-    subst (IsOf asked judged) day (record { serves = c.judged-judged.ensures.serves; regime = c.judged-judged.ensures.regime; class =
-        c.judged-judged.ensures.class }) in
+    subst (IsOf asked judged) day (record {
+      serves = c.judged-judged.ensures.serves;
+      regime = c.judged-judged.ensures.regime;
+      class =
+          c.judged-judged.ensures.class;
+    }) in
     let owed = causes.is_yearly_judged judged in
     let met = causes.yearly_reading_judged asked judged c.first_day-first.result c.last_day-due.result in
     let form : causes.yearly asked c.args.year
     ≡ causes.duty asked 4 c.first_day-first.result c.last_day-due.result owed met =
-        yearly_by asked judged c.args.year c.first_day-first.result c.last_day-due.result from to is in
+    yearly_by asked judged c.args.year c.first_day-first.result c.last_day-due.result from to is in
     record {
       value = c.duty.ensures.value
           ∙ ap (λ m. causes.duty asked 4 c.first_day-first.result c.last_day-due.result true m) c.yearly_reading-met.ensures.value
