@@ -33,7 +33,7 @@ impl fmt::Display for OrNot {
 /// The line of the percent view.
 fn line(
     alloc: Global,
-    unit: u8,
+    unit: u16,
     quarter: u16,
     tally: Tally,
     good: bool,
@@ -42,16 +42,24 @@ fn line(
     ensures value { IfOk result (λ line. string_bytes line ≡ law.percent_text unit quarter tally good skipped) }
 {
     let (leaking, monitored) = (tally.leaking, tally.monitored);
-    let good = OrNot { holds: good, word: "good" };
-    let skipped = OrNot { holds: skipped, word: "skipped" };
-    format!(in alloc; "percent {unit} {quarter} leaking {leaking} monitored {monitored} {good} {skipped}\n")
+    let good = OrNot {
+        holds: good,
+        word: "good",
+    };
+    let skipped = OrNot {
+        holds: skipped,
+        word: "skipped",
+    };
+    format!(in alloc;
+        "percent {unit} {quarter} leaking {leaking} monitored {monitored} {good} {skipped}\n"
+    )
 }
 
 /// The text of the percent view, one line: the valves of a process unit that leaked in a quarter and those that were
 /// monitored (40 CFR 60.485a(h)), and whether the quarter is good and skipped.
 pub fn percent_text(
     alloc: Global,
-    unit: u8,
+    unit: u16,
     quarter: u16,
     tally: Tally,
     good: bool,
@@ -65,7 +73,7 @@ pub fn percent_text(
 /// Appends the line of the percent view, or nothing where memory is wanting.
 pub fn put_percent(
     alloc: Global,
-    unit: u8,
+    unit: u16,
     quarter: u16,
     tally: Tally,
     good: bool,

@@ -23,7 +23,7 @@ const COLUMNS: usize = 6;
 fn begun(alloc: Global, name: &str, report: &Report) -> Result<String, Memory>
     ensures value { IfOk result (λ text. string_bytes text
         ≡ codes "report " ++ name.now ++ codes " unit " ++ decimal report.now.unit ++ codes " half " ++ decimal report.now.half
-            ++ codes " as of " ++ day_text report.now.day ++ law.end_of_line) }
+        ++ codes " as of " ++ day_text report.now.day ++ law.end_of_line) }
 {
     let (unit, half, day) = (report.unit, report.half, report.day);
     format!(in alloc; "report {name} unit {unit} half {half} as of {day}\n")
@@ -104,7 +104,10 @@ fn put_stops(text: &mut String, stops: &[Stop]) -> Result<(), Memory>
 pub fn report_text(alloc: Global, first: Month, report: &Report) -> Result<Text, Memory>
     ensures value { IfOk result (λ text. text ≡ law.report_text first report.now) }
 {
-    let (delays, stops) = (report.cells.delays.as_slice(), report.cells.stops.as_slice());
+    let (delays, stops) = (
+        report.cells.delays.as_slice(),
+        report.cells.stops.as_slice(),
+    );
     let mut text = begun(alloc, name_word(&report.name), report)?;
     put_months(&mut text, first, report.cells.months.as_slice())?;
     put_delays(&mut text, delays)?;

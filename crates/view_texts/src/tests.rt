@@ -206,10 +206,42 @@ fn routes_are_numbered_from_one(rt: HostRuntime) -> Result<(), Fail> {
 #[test]
 fn a_quarter_is_good_and_skipped_or_not(rt: HostRuntime) -> Result<(), Fail> {
     let cases = [
-        (1, 16, 0, 0, false, false, "percent 1 16 leaking 0 monitored 0 not good not skipped\n"),
-        (1, 18, 3, 150, true, true, "percent 1 18 leaking 3 monitored 150 good skipped\n"),
-        (2, 65_535, 4, 200, true, false, "percent 2 65535 leaking 4 monitored 200 good not skipped\n"),
-        (64, 1, 1_200, 60_000, false, true, "percent 64 1 leaking 1200 monitored 60000 not good skipped\n"),
+        (
+            1,
+            16,
+            0,
+            0,
+            false,
+            false,
+            "percent 1 16 leaking 0 monitored 0 not good not skipped\n",
+        ),
+        (
+            1,
+            18,
+            3,
+            150,
+            true,
+            true,
+            "percent 1 18 leaking 3 monitored 150 good skipped\n",
+        ),
+        (
+            2,
+            65_535,
+            4,
+            200,
+            true,
+            false,
+            "percent 2 65535 leaking 4 monitored 200 good not skipped\n",
+        ),
+        (
+            64,
+            1,
+            1_200,
+            60_000,
+            false,
+            true,
+            "percent 64 1 leaking 1200 monitored 60000 not good skipped\n",
+        ),
     ];
     for (unit, quarter, leaking, monitored, good, skipped, wanted) in cases {
         let tally = Tally { leaking, monitored };

@@ -9,6 +9,6 @@ use Rattle.view_texts.proofs.report.begun.Goals as goal
 pub returns : goal.returns
 returns c = record {
   value = line_made c.format.result (λ text. string_bytes text) (codes "report ") (
-    c.args.name.now ∷ codes " unit " ∷ decimal c.args.report.now.unit ∷ codes " half " ∷ decimal c.args.report.now.half
-    ∷ codes " as of " ∷ day_text c.args.report.now.day ∷ end_of_line ∷ []) c.format.ensures.ok;
+      c.args.name.now ∷ codes " unit " ∷ decimal c.args.report.now.unit ∷ codes " half " ∷ decimal c.args.report.now.half
+      ∷ codes " as of " ∷ day_text c.args.report.now.day ∷ end_of_line ∷ []) c.format.ensures.ok;
 }

@@ -9,5 +9,5 @@ use Rattle.view_texts.proofs.routes.begun.Goals as goal
 pub returns : goal.returns
 returns c = record {
   value = line_made c.format.result (λ text. string_bytes text) (codes "route ") (
-    decimal c.args.unit ∷ codes " " ∷ day_text c.args.day ∷ codes " " ∷ decimal c.args.stops ∷ end_of_line ∷ []) c.format.ensures.ok;
+      decimal c.args.unit ∷ codes " " ∷ day_text c.args.day ∷ codes " " ∷ decimal c.args.stops ∷ end_of_line ∷ []) c.format.ensures.ok;
 }
