@@ -41,7 +41,7 @@ fn put_each(text: &mut String, lines: &[DelayLine]) -> Result<(), Memory>
 }
 
 /// The text of the delays view: the repairs of a process unit that are delayed (40 CFR 60.486a(c)), as known on a day.
-pub fn delays_text(alloc: Global, unit: u8, day: Day, lines: &[DelayLine]) -> Result<Text, Memory>
+pub fn delays_text(alloc: Global, unit: u16, day: Day, lines: &[DelayLine]) -> Result<Text, Memory>
     ensures value { IfOk result (λ text. text ≡ law.delays_text unit day lines.now) }
 {
     let mut text = begun(alloc, "delays", unit, day)?;
@@ -53,7 +53,7 @@ pub fn delays_text(alloc: Global, unit: u8, day: Day, lines: &[DelayLine]) -> Re
 /// Appends the text of the delays view, or nothing where memory is wanting.
 pub fn put_delays(
     alloc: Global,
-    unit: u8,
+    unit: u16,
     day: Day,
     lines: &[DelayLine],
     out: &mut Vec<u8>,

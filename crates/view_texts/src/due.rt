@@ -58,7 +58,7 @@ fn put_each(text: &mut String, day: Day, duties: &[Duty]) -> Result<(), Memory>
 }
 
 /// The text of the due view: what has to be done at the components of a process unit, as known on a day.
-pub fn due_text(alloc: Global, unit: u8, day: Day, duties: &[Duty]) -> Result<Text, Memory>
+pub fn due_text(alloc: Global, unit: u16, day: Day, duties: &[Duty]) -> Result<Text, Memory>
     ensures value { IfOk result (λ text. text ≡ law.due_text unit day duties.now) }
 {
     let mut text = begun(alloc, "due", unit, day)?;
@@ -70,7 +70,7 @@ pub fn due_text(alloc: Global, unit: u8, day: Day, duties: &[Duty]) -> Result<Te
 /// Appends the text of the due view, or nothing where memory is wanting.
 pub fn put_due(
     alloc: Global,
-    unit: u8,
+    unit: u16,
     day: Day,
     duties: &[Duty],
     out: &mut Vec<u8>,

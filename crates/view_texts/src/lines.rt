@@ -11,7 +11,7 @@ use ldar_law::Text;
 use std::alloc::Global;
 
 /// A text with the first line of a view, which names the view, the process unit and the day.
-pub fn begun(alloc: Global, view: &str, unit: u8, day: Day) -> Result<String, Memory>
+pub fn begun(alloc: Global, view: &str, unit: u16, day: Day) -> Result<String, Memory>
     ensures value { IfOk result (λ text. string_bytes text
         ≡ view.now ++ codes " " ++ decimal unit ++ codes " " ++ day_text day ++ end_of_line) }
 {

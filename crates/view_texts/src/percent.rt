@@ -33,7 +33,7 @@ impl fmt::Display for OrNot {
 /// The line of the percent view.
 fn line(
     alloc: Global,
-    unit: u8,
+    unit: u16,
     quarter: u16,
     tally: Tally,
     good: bool,
@@ -59,7 +59,7 @@ fn line(
 /// monitored (40 CFR 60.485a(h)), and whether the quarter is good and skipped.
 pub fn percent_text(
     alloc: Global,
-    unit: u8,
+    unit: u16,
     quarter: u16,
     tally: Tally,
     good: bool,
@@ -73,7 +73,7 @@ pub fn percent_text(
 /// Appends the line of the percent view, or nothing where memory is wanting.
 pub fn put_percent(
     alloc: Global,
-    unit: u8,
+    unit: u16,
     quarter: u16,
     tally: Tally,
     good: bool,

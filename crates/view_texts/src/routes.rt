@@ -11,7 +11,7 @@ use ldar_law::{Route, Text};
 use std::alloc::Global;
 
 /// A text with the first line of the route view.
-fn begun(alloc: Global, unit: u8, day: Day, stops: u16) -> Result<String, Memory>
+fn begun(alloc: Global, unit: u16, day: Day, stops: u16) -> Result<String, Memory>
     ensures value { IfOk result (λ text. string_bytes text
         ≡ codes "route " ++ decimal unit ++ codes " " ++ day_text day ++ codes " " ++ decimal stops ++ law.end_of_line) }
 {
@@ -50,7 +50,7 @@ fn put_each(text: &mut String, routes: &[Route]) -> Result<(), Memory>
 /// The text of the route view: routes of so many stops at most through a process unit, as known on a day.
 pub fn routes_text(
     alloc: Global,
-    unit: u8,
+    unit: u16,
     day: Day,
     stops: u16,
     routes: &[Route],
@@ -66,7 +66,7 @@ pub fn routes_text(
 /// Appends the text of the route view, or nothing where memory is wanting.
 pub fn put_routes(
     alloc: Global,
-    unit: u8,
+    unit: u16,
     day: Day,
     stops: u16,
     routes: &[Route],

@@ -52,7 +52,7 @@ fn put_each(text: &mut String, tags: &[Tag]) -> Result<(), Memory>
 }
 
 /// The text of the tags view: the leaks of a process unit that are identified (40 CFR 60.486a(b)), as known on a day.
-pub fn tags_text(alloc: Global, unit: u8, day: Day, tags: &[Tag]) -> Result<Text, Memory>
+pub fn tags_text(alloc: Global, unit: u16, day: Day, tags: &[Tag]) -> Result<Text, Memory>
     ensures value { IfOk result (λ text. text ≡ law.tags_text unit day tags.now) }
 {
     let mut text = begun(alloc, "tags", unit, day)?;
@@ -64,7 +64,7 @@ pub fn tags_text(alloc: Global, unit: u8, day: Day, tags: &[Tag]) -> Result<Text
 /// Appends the text of the tags view, or nothing where memory is wanting.
 pub fn put_tags(
     alloc: Global,
-    unit: u8,
+    unit: u16,
     day: Day,
     tags: &[Tag],
     out: &mut Vec<u8>,

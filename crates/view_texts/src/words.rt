@@ -62,7 +62,7 @@ impl fmt::Display for Cause {
     }
 }
 
-/// The word of a cause. A number that is no cause has none.
+/// The word of a cause; a number past the last has none, and 0, which none has, reads as 1.
 fn cause_word(cause: u8) -> &'static str
     ensures value { result.now ≡ law.cause_text cause }
 {
