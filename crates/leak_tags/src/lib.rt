@@ -6,8 +6,8 @@ mod clean_months;
 mod leaks;
 mod next_attempt;
 mod open_leaks;
-mod plain;
 mod rising;
+mod search;
 mod settling;
 mod spans;
 

@@ -8,7 +8,7 @@ ghost use Rattle.leak_tags.specs.Telling.{IsAt, Rises};
 use crate::clean_months::last_clean_pair;
 use crate::next_attempt::NextAttempt;
 use crate::open_leaks::OpenLeaks;
-use crate::plain::spans_by_search;
+use crate::search::spans_by_search;
 use crate::rising::are_rising;
 use ldar_days::Day;
 use ldar_facts::{Key, Kind, Memory};

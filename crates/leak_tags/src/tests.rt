@@ -1,4 +1,4 @@
-use crate::plain::spans_by_search;
+use crate::search::spans_by_search;
 use crate::spans_of;
 use ldar_days::Day;
 use ldar_facts::{Key, Kind};

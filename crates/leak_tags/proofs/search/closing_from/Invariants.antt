@@ -1,7 +1,7 @@
 use Rattle.std.proofs.Common.{◌≡◌, take, drop}
 use Rattle.list_words.specs.Words.{first_from}
 use Rattle.ldar_law.specs.Spans as law
-use Rattle.leak_tags.proofs.plain.closing_from.Given as goal
+use Rattle.leak_tags.proofs.search.closing_from.Given as goal
 
 abbrev pub invariant-loop-place : goal.invariant-loop-place
 invariant-loop-place l =
