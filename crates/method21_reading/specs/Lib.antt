@@ -1,3 +1,4 @@
 pub mod Instruments
 pub mod Parts
 pub mod Readings
+pub mod Walks

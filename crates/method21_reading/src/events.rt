@@ -1,13 +1,13 @@
-ghost use Rattle.std.specs.Prelude.{◌≡◌, ◌++◌, OnOk, IfOk};
+ghost use Rattle.std.specs.Prelude.{◌≡◌, ◌≤◌, ◌++◌, length, OnOk, IfOk};
 ghost use Rattle.std.specs.Option.{option_to_list};
 ghost use Rattle.list_words.specs.Order.{Ascends};
 ghost use Rattle.ldar_facts.specs.Facts.{is_earlier};
 ghost use Rattle.ldar_law.specs.Events as law;
-ghost use Rattle.ldar_law.specs.Standing as standing;
 ghost use Rattle.method21_reading.specs.Readings.{AreEventsAmongAll};
+ghost use Rattle.method21_reading.specs.Walks.{IsBehind};
 
+use crate::class_walk::{place_on, standing_at};
 use crate::happening::happening;
-use ldar_days::Day;
 use ldar_facts::{Class, Fact, FactBody, Key, Memory};
 use ldar_law::{Equipment, Event, Fitness, Happening};
 use std::alloc::Global;
@@ -28,8 +28,10 @@ pub fn events_of(
 {
     let mut events = Vec::new(alloc);
     let mut left = fitness;
+    let mut place = 0;
     for e in facts {
-        push_event(&mut events, equipment, classes, e, &next_fitness(left))?;
+        place = place_on(classes, place, e.0.day);
+        push_event(&mut events, equipment, classes, place, e, &next_fitness(left))?;
         left = fitness_left(&e.1.body, left);
     }
     Ok(events)
@@ -46,35 +48,28 @@ pub fn event_of(
     requires ordered { Ascends (λ a b. is_earlier a.0 b.0) classes.now }
     ensures value { result ≡ law.event_of equipment.now classes.now e.now fitness.now }
 {
-    match judged(equipment, classes, e, fitness) {
+    let place = place_on(classes, 0, e.0.day);
+    match judged(equipment, classes, place, e, fitness) {
         Some(what) => Some(Event { key: e.0, what }),
         None => None,
     }
 }
 
-/// The component as it is entered, but with the class in force on a day, found by halving.
-fn standing_on(equipment: &Equipment, classes: &[(Key, Class)], day: Day) -> Equipment
-    requires ordered { Ascends (λ a b. is_earlier a.0 b.0) classes.now }
-    ensures value { result ≡ standing.standing_on equipment.now classes.now day }
-{
-    Equipment {
-        class: equipment.ordered_class_on(classes, day),
-        ..*equipment
-    }
-}
-
-/// What a fact of the component is, judged on its own day; a reading by its fitness.
+/// What a fact of the component is, judged on its own day by the place behind the classes entered by then; a reading by
+/// its fitness.
 fn judged(
     equipment: &Equipment,
     classes: &[(Key, Class)],
+    place: usize,
     e: &(Key, Fact),
     fitness: &Fitness,
 ) -> Option<Happening>
-    requires ordered { Ascends (λ a b. is_earlier a.0 b.0) classes.now }
+    requires within { place ≤ length classes.now }
+    requires behind { IsBehind e.now.0.day classes.now place }
     ensures value { result ≡ law.happening equipment.now classes.now e.now.0.day fitness.now e.now.1.body }
 {
     let day = e.0.day;
-    let item = standing_on(equipment, classes, day);
+    let item = standing_at(equipment, classes, place, day);
     happening(&item, day, fitness, &e.1.body)
 }
 
@@ -83,13 +78,15 @@ fn push_event(
     events: &mut Vec<Event>,
     equipment: &Equipment,
     classes: &[(Key, Class)],
+    place: usize,
     e: &(Key, Fact),
     fitness: &Fitness,
 ) -> Result<(), Memory>
-    requires ordered { Ascends (λ a b. is_earlier a.0 b.0) classes.now }
+    requires within { place ≤ length classes.now }
+    requires behind { IsBehind e.now.0.day classes.now place }
     ensures taken { OnOk result (events.new.items ≡ events.old.items ++ option_to_list (law.event_of equipment.now classes.now e.now fitness.now)) }
 {
-    if let Some(what) = judged(equipment, classes, e, fitness) {
+    if let Some(what) = judged(equipment, classes, place, e, fitness) {
         events.push(Event { key: e.0, what })?;
     }
     Ok(())

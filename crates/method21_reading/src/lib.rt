@@ -2,6 +2,7 @@
 #![tactic(auto)]
 
 mod calibration;
+mod class_walk;
 mod day;
 mod drift;
 mod events;
