@@ -31,7 +31,14 @@ pub fn events_of(
     let mut place = 0;
     for e in facts {
         place = place_on(classes, place, e.0.day);
-        push_event(&mut events, equipment, classes, place, e, &next_fitness(left))?;
+        push_event(
+            &mut events,
+            equipment,
+            classes,
+            place,
+            e,
+            &next_fitness(left),
+        )?;
         left = fitness_left(&e.1.body, left);
     }
     Ok(events)
