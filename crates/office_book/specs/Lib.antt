@@ -1,3 +1,4 @@
 pub mod Asking
 pub mod Safe
 pub mod SafeLaws
+pub mod Serving
