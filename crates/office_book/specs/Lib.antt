@@ -1,4 +1,5 @@
 pub mod Asking
 pub mod Safe
 pub mod SafeLaws
+pub mod Moves
 pub mod Serving
