@@ -115,9 +115,11 @@ impl<D: Disk> Journal<D> {
         ensures behind { IsErrOf result (record { gate = true }) → OnDisk (D.content self.new.disk) (D.images self.new.disk)
             (λ image. IsInDoubt image (end_of self.new.frames) self.new.frames frame.now) }
 
-        // A crash at any moment of the call leaves all of the frame or nothing of it.
+        // A crash at any moment of the call leaves all of the frame or nothing of it, and nothing where the gate is not touched.
         ensures any_moment { LeavesOnly D.clock D.left self.old.disk self.new.disk (λ image.
             Told (D.content self.old.disk) (λ _. OpensToEither image self.old.frames frame.now)) }
+        ensures any_moment_shut { IsErrOf result (record { gate = false }) → LeavesOnly D.clock D.left self.old.disk self.new.disk
+            (λ image. Told (D.content self.old.disk) (λ _. OpensTo image self.old.frames)) }
 
         ensures grows { BothTold (D.content self.old.disk) (D.content self.new.disk) (λ old new. length old ≤ length new) }
         ensures roomy { AnswersInRoom D.room D.clock 4 self.old.disk self.new.disk

@@ -1,0 +1,29 @@
+-- The receipts of a run of calls, and what a crash leaves of them.
+use Rattle.std.specs.Prelude.{◌≡◌, ℕ, Some, List}
+use Rattle.std.specs.List.{AllByRecursion}
+use Rattle.ldar_facts.specs.declared.batch.Batch.{Batch}
+use Rattle.ldar_journal.specs.Image.{Opens}
+use Rattle.ldar_law.specs.declared.reply.Reply.TheVariants.{Receipt}
+use Rattle.ldar_law.specs.declared.request.Request.TheVariants.{Sync}
+use Rattle.ldar_law.specs.Machine.{Call, Turn, batch_at}
+
+-- the image opens to a history with this batch at this position, from 1
+pub record HoldsAt (image : List ℕ) (position : ℕ) (batch : Batch) : Type 0 where
+  pub history : List Batch
+  pub opens : Opens image history
+  pub stands : batch_at history position ≡ Some batch
+
+-- the turn was asked to keep this batch, and receipted it at this position
+pub record IsReceipted (turn : Turn) (batch : Batch) (position : ℕ) : Type 0 where
+  pub handheld : ℕ
+  pub number : ℕ
+  pub asked : turn.request ≡ Sync batch
+  pub told : turn.reply ≡ Receipt handheld number position
+
+-- what a turn receipted stands in each of these images
+abbrev pub IsReceiptKept : (List ℕ → Type 0) → Turn → Type 0
+IsReceiptKept images turn = (batch : Batch) (position : ℕ) → IsReceipted turn batch position → (image : List ℕ) → images image → HoldsAt image position batch
+
+-- what the turns of calls receipted stands in each image that was left since the call returned
+abbrev pub AreReceiptsKept : (ℕ → List ℕ → Type 0) → List Call → Type 0
+AreReceiptsKept left calls = AllByRecursion (λ call. AllByRecursion (IsReceiptKept (left call.end.clock)) call.turns) calls

@@ -1,0 +1,37 @@
+-- What the views answer: a text or what there is none of, and a report.
+use Rattle.std.specs.Prelude.{ℕ, if◌then◌else◌, Some, None, Result, Ok, Err, List}
+use Rattle.ldar_facts.specs.Facts.{Entry}
+use Rattle.ldar_law.specs.declared.reply.Reply.{Reply}
+use Rattle.ldar_law.specs.declared.reply.Reply.TheVariants as replies
+use Rattle.ldar_law.specs.declared.report.Report.{Report}
+use Rattle.ldar_law.specs.declared.request.Request.{Request}
+use Rattle.ldar_law.specs.declared.request.Request.TheVariants.{Sync, Due, Tags, Delays, Route, Percent, Report as ReportView}
+use Rattle.ldar_law.specs.declared.request.What.{What}
+use Rattle.ldar_law.specs.declared.request.What.TheVariants.{Unit as NoUnit, Half as NoHalf}
+use Rattle.ldar_law.specs.Equipment.{unit_entry_of}
+use Rattle.ldar_law.specs.Reports.{has_half_begun}
+use Rattle.ldar_law.specs.Shown.{report_of_unit}
+use Rattle.office_views.specs.declared.shown.Shown.{Shown}
+use Rattle.office_views.specs.declared.shown.Shown.TheVariants.{Text, NoSuch}
+
+-- the request is a view
+abbrev pub IsView : Request → Type 0
+IsView (Sync batch) = ⊥
+IsView (Due unit day) = Unit {0}
+IsView (Tags unit day) = Unit {0}
+IsView (Delays unit day) = Unit {0}
+IsView (Route unit day stops) = Unit {0}
+IsView (Percent unit quarter day) = Unit {0}
+IsView (ReportView unit half day) = Unit {0}
+
+-- the reply with what is shown
+abbrev pub reply_of : Shown → Reply
+reply_of (Text text) = replies.Shown text
+reply_of (NoSuch what) = replies.NoSuch what
+
+-- the report of a half from the facts up to a view day, or what there is none of
+abbrev pub report_asked : ℕ → ℕ → ℕ → List Entry → Result Report What
+report_asked unit half day facts = elim (unit_entry_of unit facts) [
+  | None ↦ Err NoUnit
+  | Some entry ↦ if has_half_begun entry.startup half day then Ok (report_of_unit entry half day facts) else Err NoHalf
+]

@@ -1,0 +1,5 @@
+pub mod Answers
+pub mod Headers
+pub mod Held
+pub mod Inside
+pub mod Taking

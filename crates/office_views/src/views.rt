@@ -1,0 +1,116 @@
+ghost use Rattle.std.specs.Prelude.{◌≡◌, ℕ, ◌+◌, ◌≤◌, ◌↔◌, Some, None, IsTrue, [], ◌∷◌, ◌++◌, length, drop, slice_get, OnOk, OnErr};
+ghost use Rattle.ldar_facts.specs.Facts.{facts_of};
+ghost use Rattle.fact_store.specs.Kept.{facts_in};
+ghost use Rattle.ldar_law.specs.declared.verdict.Verdict.TheVariants.{Pass};
+ghost use Rattle.ldar_law.specs.Machine.{batch_at, IsNew};
+ghost use Rattle.ldar_law.specs.Slices.{register_facts};
+ghost use Rattle.ldar_law.specs.Verdicts.{verdict_on};
+
+use crate::comparing::is_batch_of;
+use crate::header::{Header, facts_of_all, push_headers};
+use crate::taking::{put_entries, put_facts};
+use component_register::Register;
+use fact_store::{FactStore, Steps};
+use ldar_facts::{Batch, Memory};
+use std::alloc::Global;
+use std::marker::Model;
+use std::sync::ledger::Ledger;
+
+/// The facts of the adopted batches, and what they say of each process unit on a day. Contracts see the adopted batches in
+/// the order in which they came, beside the batches that have room.
+#[derive(Drop)]
+pub struct Views {
+    alloc: Global,
+    store: FactStore,
+    register: Register,
+    /// The batches: those that were adopted, and then those that have room.
+    headers: Vec<Header>,
+    /// How many batches were adopted, and how many facts they have.
+    adopted: usize,
+    facts: usize,
+}
+
+impl Model for Views {
+    ghost use Rattle.std.specs.Prelude.{◌≡◌, take, drop, length};
+    ghost use Rattle.office_views.specs.Held.{Held};
+    ghost use Rattle.office_views.specs.Headers.{batches_by, facts_kept};
+    ghost use Rattle.office_views.specs.Inside.{IsSound};
+
+    ghost Value = { Held };
+
+    ghost view = { λ v. record {
+        adopted = take v.adopted (batches_by (facts_kept v.store) v.headers.items);
+        spare = drop v.adopted (batches_by (facts_kept v.store) v.headers.items)
+    } };
+
+    ghost invariant = { λ v. IsSound v.store v.register v.headers.items v.adopted × (v.facts ≡ length v.store.arrived) };
+}
+
+impl Views {
+    /// Views over no batches. Takes no memory.
+    pub fn new(alloc: Global) -> Views
+        ensures value { result ≡ record { adopted = []; spare = [] } }
+    {
+        Views {
+            alloc,
+            store: FactStore::new(alloc),
+            register: Register::new(alloc),
+            headers: Vec::new(alloc),
+            adopted: 0,
+            facts: 0,
+        }
+    }
+
+    /// The register of the adopted batches.
+    pub fn register(&self) -> &Register
+        ensures value { facts_in result.now ≡ register_facts (facts_of self.now.adopted) }
+    {
+        &self.register
+    }
+
+    /// How many batches were adopted, and how many facts they have.
+    pub fn counts(&self) -> (u32, u64)
+        ensures batches { result.0 ≡ length self.now.adopted }
+        ensures facts { result.1 ≡ length (facts_of self.now.adopted) }
+        ensures in_range { result.1 ≤ 8_000_000 }
+    {
+        (self.adopted as u32, self.facts as u64)
+    }
+
+    /// Makes room for just these batches, in this order. After `Memory` no batch has room, and the adopted ones are as they
+    /// were.
+    pub fn reserve(&mut self, batches: &[Batch]) -> Result<(), Memory>
+        ensures ok { OnOk result (self.new ≡ record self.old { spare = batches.now }) }
+        ensures none { OnErr result (self.new ≡ record self.old { spare = [] }) }
+    {
+        self.headers.truncate(self.adopted);
+        let facts = facts_of_all(self.alloc, batches)?;
+        self.headers.reserve(batches.len())?;
+        self.register.reserve(&facts)?;
+        self.store.reserve(&facts)?;
+        push_headers(&mut self.headers, self.facts, batches);
+        Ok(())
+    }
+
+    /// Adopts a batch: the next that has room, which passes after the adopted ones and has an identity of its own. It takes
+    /// no memory.
+    pub fn adopt<L: Ledger>(&mut self, batch: &Batch, _steps: &mut Steps<L>)
+        requires roomy { slice_get self.old.spare 0 ≡ Some batch.now }
+        requires passes { verdict_on self.old.adopted batch.now ≡ Pass }
+        requires new_identity { IsNew self.old.adopted batch.now }
+        ensures value { self.new ≡ record { adopted = self.old.adopted ++ batch.now ∷ []; spare = drop 1 self.old.spare } }
+    {
+        put_facts(&mut self.store, batch);
+        put_entries(&mut self.register, batch);
+        self.adopted += 1;
+        self.facts += batch.facts.as_slice().len();
+    }
+
+    /// Whether the adopted batch at a position, from 1, is just this one.
+    pub fn is_kept_at<L: Ledger>(&self, position: u32, batch: &Batch, steps: &mut Steps<L>) -> bool
+        ensures value { IsTrue result ↔ (batch_at self.now.adopted position ≡ Some batch.now) }
+    {
+        let at = position.saturating_sub(1) as usize;
+        at < self.adopted && is_batch_of(&self.store, &self.headers[at], batch, steps)
+    }
+}
