@@ -1,11 +1,13 @@
 -- The laws of requests, their beginnings and their refusals.
-use Rattle.std.proofs.Common.{◌≡◌, ℕ, ◌+◌, ◌-◌, ◌<◌, ◌≤◌, ◌⊎◌, inl, inr, Bool, true, false, cond, List, [], ◌∷◌, ◌++◌, length, take, drop, min, Result, Ok, Err, Option, Some, None, not, nat_lt, codes, sym, ap, subst, ◌∙◌, refl, arith, length-append, length-take}
+use Rattle.std.proofs.Common.{◌≡◌, ℕ, ◌+◌, ◌-◌, ◌<◌, ◌≤◌, ◌⊎◌, inl, inr, Bool, true, false, cond, List, [], ◌∷◌, ◌++◌, length, take, drop, min, Result, Ok}
+use Rattle.std.proofs.Common.{Err, Option, Some, None, not, nat_lt, codes, sym, ap, subst, ◌∙◌, refl, arith, length-append, length-take}
 use Rattle.std.specs.Str.Parse.{digits_value}
 use Rattle.std.proofs.lemmas.List.{take-append-le, take-append-drop, get_or_append_left}
 use Rattle.std.proofs.lemmas.Bool.{ltb-false}
 use Rattle.httparse.specs.Grammar.{RequestHead}
 use Rattle.httparse.proofs.GrammarLemmas.{request_unique}
-use Rattle.handheld_http.specs.Heads.{Pair, longest_body, empty_line, EndsHead, HasNoEnd, IsHead, pairs_of, body_length, length_by, stated_length, is_number, is_post, count_named, value_of, closes}
+use Rattle.handheld_http.specs.Heads.{Pair, longest_body, empty_line, EndsHead, HasNoEnd, IsHead, pairs_of, body_length, length_by, stated_length, is_number}
+use Rattle.handheld_http.specs.Heads.{is_post, count_named, value_of, closes}
 use Rattle.handheld_http.specs.Cuts.{Begins, BeginsRequest, IsNoHead, HasNoBody, Refuses, HasNoHeadYet, LacksBody}
 use Rattle.handheld_http.specs.Items as items
 use Rattle.handheld_http.specs.Items.{IsWhole, IsItem, IsClosing, HasNoItem, IsRefused}

@@ -272,7 +272,8 @@ module _ {D : Type 0} (clock_of : D → ℕ) (left_of : D → ℕ → List ℕ �
     -- up to then a crash leaves the frames alone
     pub put_leaves_frames : LeavesOnly clock_of left_of old middle (λ image. Told (content_of old) (λ _. OpensTo image frames))
     put_leaves_frames =
-        LeavesOnly-weaker clock_of left_of old middle (ComesFrom (Torn (gate + 1) n) (images_of old)) (λ image. Told (content_of old) (λ _. OpensTo image frames))
+        LeavesOnly-weaker clock_of left_of old middle (ComesFrom (Torn (gate + 1) n) (images_of old))
+        (λ image. Told (content_of old) (λ _. OpensTo image frames))
         (told_image (λ image. EndsAt image gate frames) (λ image. OpensTo image frames) (Torn (gate + 1) n)
         (λ a b ends torn. (gate, put_behind_stays gate frames a b ends (Torn-behind gate n a b torn)))
         (content_of old) (images_of old) is_ready.ends) put_leaves

@@ -1,5 +1,6 @@
 -- A place in ordered classes, by its two neighbours.
-use Rattle.std.proofs.Common.{◌≡◌, ℕ, zero, suc, ◌+◌, ◌-◌, ◌<◌, ◌≤◌, true, false, nat_le, Bool, Option, Some, None, List, [], ◌∷◌, length, get_or, slice_get, option_map, unwrap_or, refl, sym, ap, ◌∙◌, inl, inr, arith}
+use Rattle.std.proofs.Common.{◌≡◌, ℕ, zero, suc, ◌+◌, ◌-◌, ◌<◌, ◌≤◌, true, false, nat_le, Bool, Option, Some, None, List, [], ◌∷◌, length, get_or, slice_get}
+use Rattle.std.proofs.Common.{option_map, unwrap_or, refl, sym, ap, ◌∙◌, inl, inr, arith}
 use Rattle.std.specs.List.Sorted.{IsPartitionedBy, IsPartitionPoint}
 use Rattle.std.specs.Option.{option_map_or}
 use Rattle.std.proofs.lemmas.Bool.{cases_Bool, false≢true}
@@ -58,4 +59,5 @@ class_at_front item classes day behind = no_class (option_map (λ e. e.1) (class
 pub class_behind : (item : Equipment) (classes : List (Key × Class)) (day place : ℕ) (d : Key × Class) → 0 < place → place ≤ length classes →
     IsBehind day classes place → (get_or classes (place - 1) d).1 ≡ class_on item classes day
 class_behind item classes day place d some within behind =
-    some_class (option_map (λ e. e.1) (class_by day classes)) (get_or classes (place - 1) d).1 item.class (class_in_front day classes place d some within behind)
+    some_class (option_map (λ e. e.1) (class_by day classes)) (get_or classes (place - 1) d).1 item.class
+    (class_in_front day classes place d some within behind)

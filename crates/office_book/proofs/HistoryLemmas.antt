@@ -1,5 +1,6 @@
 -- Histories with more batches behind them: what may be kept, what passes, and what is new.
-use Rattle.std.proofs.Common.{◌≡◌, ◌⊎◌, inl, inr, ℕ, ◌+◌, ◌<◌, ◌≤◌, Bool, true, false, Option, Some, None, is_some, List, [], ◌∷◌, ◌++◌, length, take, drop, get_or, map, refl, sym, ◌∙◌, ap, subst, arith, append_assoc}
+use Rattle.std.proofs.Common.{◌≡◌, ◌⊎◌, inl, inr, ℕ, ◌+◌, ◌<◌, ◌≤◌, Bool, true, false, Option, Some, None, is_some, List, [], ◌∷◌, ◌++◌, length, take, drop}
+use Rattle.std.proofs.Common.{get_or, map, refl, sym, ◌∙◌, ap, subst, arith, append_assoc}
 use Rattle.std.specs.Prelude.{IsTrue}
 use Rattle.std.proofs.lemmas.Bool.{cases_Bool, false≢true}
 use Rattle.std.proofs.lemmas.List.{take-append-drop}
@@ -35,7 +36,8 @@ cut_at history batches i batch within is =
     ∙ sym (append_assoc history (take i batches) (batch ∷ drop (i + 1) batches))
 
 -- it passes after those before it
-pub passes_at : (history batches : List Batch) (i : ℕ) (batch : Batch) → i < length batches → batch ≡ get_or batches i batch → IsTrue (is_ruly (history ++ batches))
+pub passes_at : (history batches : List Batch) (i : ℕ) (batch : Batch) → i < length batches → batch ≡ get_or batches i batch
+    → IsTrue (is_ruly (history ++ batches))
     → verdict_on (history ++ take i batches) batch ≡ Pass
 passes_at history batches i batch within is ruly =
     (ruly_is_each (history ++ batches)).0 ruly (history ++ take i batches) batch (drop (i + 1) batches) (cut_at history batches i batch within is)
@@ -45,7 +47,8 @@ kept_to : (history batches : List Batch) (i : ℕ) (batch : Batch) → i < lengt
     → IsKept ((history ++ take i batches) ++ batch ∷ [])
 kept_to history batches i batch within is kept =
     IsKept-front ((history ++ take i batches) ++ batch ∷ []) (drop (i + 1) batches)
-    (subst (λ (l : List Batch). IsKept l) (cut_at history batches i batch within is ∙ sym (append_assoc (history ++ take i batches) (batch ∷ []) (drop (i + 1) batches))) kept)
+    (subst (λ (l : List Batch). IsKept l) (cut_at history batches i batch within is
+    ∙ sym (append_assoc (history ++ take i batches) (batch ∷ []) (drop (i + 1) batches))) kept)
 
 -- a batch that may be kept behind a history is new there
 pub new_where_kept : (history : List Batch) (batch : Batch) → IsKept (history ++ batch ∷ []) → IsNew history batch

@@ -1,5 +1,6 @@
 -- Parts of a call one after the other, and the call that they make up.
-use Rattle.std.proofs.Common.{◌≡◌, ◌≢◌, ◌⊎◌, inl, inr, ℕ, ◌+◌, ◌<◌, ◌≤◌, Bool, true, false, Option, Some, None, List, [], ◌∷◌, ◌++◌, length, map, min, refl, sym, ◌∙◌, ap, subst, arith, length-append}
+use Rattle.std.proofs.Common.{◌≡◌, ◌≢◌, ◌⊎◌, inl, inr, ℕ, ◌+◌, ◌<◌, ◌≤◌, Bool, true, false, Option, Some, None, List, [], ◌∷◌, ◌++◌, length, map, min, refl}
+use Rattle.std.proofs.Common.{sym, ◌∙◌, ap, subst, arith, length-append}
 use Rattle.std.specs.List.{AllByRecursion}
 use Rattle.std.proofs.lemmas.List.{append-nil}
 use Rattle.disk_model.specs.Faults.{Rose}
@@ -54,7 +55,8 @@ both_join (Some now) (Some later) (Some last) one two = tt
 -- ---- images of a journal, by its history
 
 -- frames that bytes open to are a history
-pub stands_either : (image : List ℕ) (frames : List (List Batch)) (doubt : List Batch) → OpensToEither image frames doubt → OpensEither image (batches_of frames) doubt
+pub stands_either : (image : List ℕ) (frames : List (List Batch)) (doubt : List Batch) → OpensToEither image frames doubt
+    → OpensEither image (batches_of frames) doubt
 stands_either image frames doubt opens = elim opens [
   | inl before ↦ inl (frames, refl, before)
   | inr after ↦ inr (frames ++ doubt ∷ [], batches_of-push frames doubt, after)
@@ -126,7 +128,8 @@ module _ {D : Type 0} (content_of : D → Option (List ℕ)) (images_of : D → 
 
   -- a settling, and what follows it
   pub moves_join : (old middle new : Shelf D) (written : ℕ) → ((image : List ℕ) → StandsIn (state_of middle) image → StandsIn (state_of old) image)
-      → Moves content_of images_of left_of clock_of name_of faults_of old middle 0 → Moves content_of images_of left_of clock_of name_of faults_of middle new written
+      → Moves content_of images_of left_of clock_of name_of faults_of old middle 0
+      → Moves content_of images_of left_of clock_of name_of faults_of middle new written
       → Moves content_of images_of left_of clock_of name_of faults_of old new written
   moves_join old middle new written back one two =
       let early = one.keeps.time in
@@ -141,10 +144,12 @@ module _ {D : Type 0} (content_of : D → Option (List ℕ)) (images_of : D → 
         frames = omega arith;
         leaves = LeavesOnly-joins clock_of left_of old.disk middle.disk new.disk _ early
             (LeavesOnly-weaker clock_of left_of old.disk middle.disk _ _
-            (λ image told. told_map (StandsIn (state_of old) image ⊎ StandsIn (state_of middle) image) (StandsIn (state_of old) image ⊎ StandsIn (state_of new) image)
+            (λ image told. told_map (StandsIn (state_of old) image ⊎ StandsIn (state_of middle) image)
+            (StandsIn (state_of old) image ⊎ StandsIn (state_of new) image)
             (λ either. elim either [ inl before ↦ inl before | inr between ↦ inl (back image between) ]) (content_of old.disk) told) one.leaves)
             (LeavesOnly-weaker clock_of left_of middle.disk new.disk _ _
-            (λ image told. told_map (StandsIn (state_of middle) image ⊎ StandsIn (state_of new) image) (StandsIn (state_of old) image ⊎ StandsIn (state_of new) image)
+            (λ image told. told_map (StandsIn (state_of middle) image ⊎ StandsIn (state_of new) image)
+            (StandsIn (state_of old) image ⊎ StandsIn (state_of new) image)
             (λ either. elim either [ inl between ↦ inl (back image between) | inr after ↦ inr after ]) (content_of old.disk)
             (told_back _ (content_of old.disk) (content_of middle.disk) one.tells told)) two.leaves);
         stands = two.stands;
@@ -169,15 +174,18 @@ module _ {D : Type 0} (content_of : D → Option (List ℕ)) (images_of : D → 
         → Moves content_of images_of left_of clock_of name_of faults_of old new 1
         → Leads content_of left_of clock_of name_of faults_of old (record { turns = turns; end = moment_of clock_of faults_of new } ∷ []) new
     leads_call old new turns some few steps each moves = record {
-      runs = (record {
-        some = some;
-        fits = few;
-        steps = steps;
-        before = faults_of old.disk;
-        count = (omega arith, moves.keeps.count);
-        time = moves.keeps.time;
-        call = each;
-      }, (refl, omega arith, omega arith));
+      runs = (
+        record {
+          some = some;
+          fits = few;
+          steps = steps;
+          before = faults_of old.disk;
+          count = (omega arith, moves.keeps.count);
+          time = moves.keeps.time;
+          call = each;
+        },
+        (refl, omega arith, omega arith),
+      );
       name = moves.keeps.name;
       tells = moves.tells;
       frames = moves.frames;
@@ -191,9 +199,11 @@ module _ {D : Type 0} (content_of : D → Option (List ℕ)) (images_of : D → 
         × (call.end.clock ≤ clock_of new.disk)
 
     -- a call that settled, if it had to, and then answered
-    pub serves_call : (faulty : Type 0) (old middle new : Shelf D) (found : Finding) (request : Request) (requests : List Request) (reply : Reply) (replies : List Reply)
+    pub serves_call : (faulty : Type 0) (old middle new : Shelf D) (found : Finding) (request : Request) (requests : List Request) (reply : Reply)
+        (replies : List Reply)
         → IsFound found (state_of old) (state_of middle)
-        → Moves content_of images_of left_of clock_of name_of faults_of old middle 0 → Moves content_of images_of left_of clock_of name_of faults_of middle new 1
+        → Moves content_of images_of left_of clock_of name_of faults_of old middle 0
+        → Moves content_of images_of left_of clock_of name_of faults_of middle new 1
         → (faulty → Rose (faults_of middle.disk) (faults_of new.disk))
         → Serves faulty (batches_of middle.frames) (request ∷ requests) (reply ∷ replies) (state_of new)
         → length replies ≡ length requests → length (request ∷ requests) ≤ 16
@@ -208,14 +218,13 @@ module _ {D : Type 0} (content_of : D → Option (List ℕ)) (images_of : D → 
         let back = λ (image : List ℕ) (stands : StandsIn (state_of middle) image).
         stands_settled found (state_of old) image (subst (λ (s : State). StandsIn s image) is_found.is stands) in
         let early = one.keeps.count in
-        let rises_whole = λ (why : faulty). earlier_rise (faults_of old.disk) (faults_of middle.disk) (faults_of new.disk) early (rises why) in
-        (
+        let rises_whole = λ (why : faulty). earlier_rise (faults_of old.disk) (faults_of middle.disk) (faults_of new.disk) early (rises why) in (
           record { turns = turns; end = end },
           leads_call old new turns (λ none. cc)
-          (few_turns found doubt before end (request ∷ requests) (reply ∷ replies) few)
-          (serves_steps faulty before end rises_whole found (state_of old) (batches_of middle.frames) request requests reply replies is_found.can is serves)
-          (of_call found doubt before end (request ∷ requests) (reply ∷ replies))
-          (moves_join old middle new 1 back one two),
+              (few_turns found doubt before end (request ∷ requests) (reply ∷ replies) few)
+              (serves_steps faulty before end rises_whole found (state_of old) (batches_of middle.frames) request requests reply replies is_found.can is serves)
+              (of_call found doubt before end (request ∷ requests) (reply ∷ replies))
+              (moves_join old middle new 1 back one two),
           requests_asked found doubt before end (request ∷ requests) (reply ∷ replies) (omega arith),
           replies_given found doubt before end (request ∷ requests) (reply ∷ replies) (omega arith),
           omega arith,
@@ -231,14 +240,13 @@ module _ {D : Type 0} (content_of : D → Option (List ℕ)) (images_of : D → 
         let end = moment_of clock_of faults_of new in
         let before = faults_of old.disk in
         let turns = turns_of not_asked false before end (request ∷ requests) (Fault ∷ replies) in
-        let frames = moves.frames in
-        (
+        let frames = moves.frames in (
           record { turns = turns; end = end },
           leads_call old new turns (λ none. cc)
-          (few_turns not_asked false before end (request ∷ requests) (Fault ∷ replies) few)
-          (faults_steps before end (state_of old) request requests replies rose doubt stays faults)
-          (of_call not_asked false before end (request ∷ requests) (Fault ∷ replies))
-          (record { keeps = moves.keeps; tells = moves.tells; frames = omega arith; leaves = moves.leaves; stands = moves.stands }),
+              (few_turns not_asked false before end (request ∷ requests) (Fault ∷ replies) few)
+              (faults_steps before end (state_of old) request requests replies rose doubt stays faults)
+              (of_call not_asked false before end (request ∷ requests) (Fault ∷ replies))
+              (record { keeps = moves.keeps; tells = moves.tells; frames = omega arith; leaves = moves.leaves; stands = moves.stands }),
           requests_asked not_asked false before end (request ∷ requests) (Fault ∷ replies) (omega arith),
           replies_given not_asked false before end (request ∷ requests) (Fault ∷ replies) (omega arith),
           omega arith,

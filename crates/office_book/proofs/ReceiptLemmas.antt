@@ -1,5 +1,6 @@
 -- A history grows at its end, so what was receipted stays where it stands.
-use Rattle.std.proofs.Common.{◌≡◌, ◌⊎◌, inl, inr, ℕ, ◌+◌, ◌-◌, ◌<◌, ◌≤◌, Option, Some, None, List, [], ◌∷◌, ◌++◌, length, refl, sym, ◌∙◌, ap, subst, arith, append_assoc}
+use Rattle.std.proofs.Common.{◌≡◌, ◌⊎◌, inl, inr, ℕ, ◌+◌, ◌-◌, ◌<◌, ◌≤◌, Option, Some, None, List, [], ◌∷◌, ◌++◌, length, refl, sym, ◌∙◌, ap, subst, arith}
+use Rattle.std.proofs.Common.{append_assoc}
 use Rattle.std.specs.Prelude.{slice_get}
 use Rattle.std.specs.List.{AllByRecursion}
 use Rattle.std.proofs.lemmas.List.{append-nil, length-append}
@@ -14,7 +15,8 @@ use Rattle.ldar_law.specs.declared.reply.Reply.{Reply}
 use Rattle.ldar_law.specs.declared.reply.Reply.TheVariants.{Receipt, Conflict, Denied, Full, Shown, NoSuch, Fault, Memory}
 use Rattle.ldar_law.specs.declared.request.Request.{Request}
 use Rattle.ldar_law.specs.declared.request.Request.TheVariants.{Sync, Due, Tags, Delays, Route, Percent, Report as ReportView}
-use Rattle.ldar_law.specs.Machine.{State, Moment, Call, Turn, Finding, not_asked, they_stand, they_are_gone, Answers, AnswersBatch, batch_at, settled, IsAnswered, IsWanting, GoesOn, BreaksOff, Step, Steps, GroupStep, Runs}
+use Rattle.ldar_law.specs.Machine.{State, Moment, Call, Turn, Finding, not_asked, they_stand, they_are_gone, Answers, AnswersBatch, batch_at, settled}
+use Rattle.ldar_law.specs.Machine.{IsAnswered, IsWanting, GoesOn, BreaksOff, Step, Steps, GroupStep, Runs}
 use Rattle.office_book.specs.Safe.{StandsIn, StandsInRun, AreBehind, IsSafe, Leads, moment_of}
 use Rattle.office_book.specs.Receipts.{HoldsAt, IsReceipted, IsReceiptKept, AreReceiptsKept}
 
@@ -43,7 +45,8 @@ last_at xs x =
     let longer = length-append xs (x ∷ []) in
     slice_get-get_or (xs ++ x ∷ []) (length xs) x (omega arith) ∙ ap Some (get_or-append_seam xs x [] x)
 
-pub holds_later : (old new : List Batch) (position : ℕ) (batch : Batch) → GoesFrom old new → batch_at old position ≡ Some batch → batch_at new position ≡ Some batch
+pub holds_later : (old new : List Batch) (position : ℕ) (batch : Batch) → GoesFrom old new → batch_at old position ≡ Some batch
+    → batch_at new position ≡ Some batch
 holds_later old new position batch from stands =
     subst (λ (l : List Batch). batch_at l position ≡ Some batch) (sym from.1) (stays_at old from.0 (position - 1) batch stands)
 
@@ -112,13 +115,15 @@ break_goes state turn turns next breaks =
       | inr leaves ↦ ap (λ (s : State). s.history) leaves.leaves
     ]))
 
-on_goes : (state : State) (turn : Turn) (turns : List Turn) (next : State) → ((between : State) → Steps between turns next → GoesFrom between.history next.history)
+on_goes : (state : State) (turn : Turn) (turns : List Turn) (next : State)
+    → ((between : State) → Steps between turns next → GoesFrom between.history next.history)
     → (between : State) × Step state turn between × Steps between turns next → GoesFrom state.history next.history
 on_goes state turn turns next rest steps =
     from_both state.history steps.0.history next.history (step_goes state turn steps.0 steps.1) (rest steps.0 steps.2)
 
 steps_go_by : (reply : Reply) (state : State) (turn : Turn) (turns : List Turn) (next : State)
-    → ((between : State) → Steps between turns next → GoesFrom between.history next.history) → StepsBy reply state turn turns next → GoesFrom state.history next.history
+    → ((between : State) → Steps between turns next → GoesFrom between.history next.history) → StepsBy reply state turn turns next
+    → GoesFrom state.history next.history
 steps_go_by (Receipt handheld number position) state turn turns next rest steps = on_goes state turn turns next rest steps
 steps_go_by (Conflict position) state turn turns next rest steps = on_goes state turn turns next rest steps
 steps_go_by (Denied fact rule) state turn turns next rest steps = on_goes state turn turns next rest steps
@@ -157,7 +162,8 @@ turn_holds state turn turns next batch position receipt steps =
     (receipt_holds (settled turn.found state).history batch receipt.handheld receipt.number position by.0.history answers)
 
 -- what stands in each image that stands in some states stands in all
-stands_holds : (state : State) (position : ℕ) (batch : Batch) (image : List ℕ) → batch_at state.history position ≡ Some batch → StandsIn state image → HoldsAt image position batch
+stands_holds : (state : State) (position : ℕ) (batch : Batch) (image : List ℕ) → batch_at state.history position ≡ Some batch → StandsIn state image
+    → HoldsAt image position batch
 stands_holds state position batch image holds stands = elim stands [
   | inl before ↦ record { history = state.history; opens = before; stands = holds }
   | inr after ↦ record { history = state.history ++ state.doubt; opens = after; stands = stays_at state.history state.doubt (position - 1) batch holds }
@@ -173,7 +179,8 @@ run_holds start end (call ∷ calls) position batch image run holds stands = eli
 ]
 
 -- a fault receipts nothing
-no_receipts : (images : List ℕ → Type 0) (turns : List Turn) → AllByRecursion (λ (turn : Turn). turn.reply ≡ Fault) turns → AllByRecursion (IsReceiptKept images) turns
+no_receipts : (images : List ℕ → Type 0) (turns : List Turn) → AllByRecursion (λ (turn : Turn). turn.reply ≡ Fault) turns
+    → AllByRecursion (IsReceiptKept images) turns
 no_receipts images [] faults = tt
 no_receipts images (turn ∷ turns) faults = (
   λ batch position receipt image now. let clash : Fault ≡ Receipt receipt.handheld receipt.number position = sym faults.0 ∙ receipt.told in absurd cc,
@@ -204,11 +211,12 @@ group_kept images (turn ∷ turns) state next holds steps = (
 )
 
 -- the receipts of a run
-receipts_of_run : (left : ℕ → List ℕ → Type 0) (start end : Moment) (calls : List Call) → Runs start calls end → AreBehind left calls → AreReceiptsKept left calls
+receipts_of_run : (left : ℕ → List ℕ → Type 0) (start end : Moment) (calls : List Call) → Runs start calls end → AreBehind left calls
+    → AreReceiptsKept left calls
 receipts_of_run left start end [] run behind = tt
 receipts_of_run left start end (call ∷ calls) run behind = (
   group_kept (left call.end.clock) call.turns start.state call.end.state
-  (λ position batch holds image now. run_holds call.end end calls position batch image run.1 holds (behind.0 image now)) run.0.steps,
+      (λ position batch holds image now. run_holds call.end end calls position batch image run.1 holds (behind.0 image now)) run.0.steps,
   receipts_of_run left call.end end calls run.1 behind.1,
 )
 

@@ -1,5 +1,6 @@
 -- What a verdict says of the rules: a denial names one of them, and a batch of a handheld that passes enters nothing into the register.
-use Rattle.std.proofs.Common.{◌≡◌, ◌≢◌, ◌⊎◌, inl, inr, ℕ, ◌+◌, ◌<◌, ◌≤◌, Bool, true, false, ◌&&◌, ◌||◌, Option, Some, None, List, [], ◌∷◌, ◌++◌, length, refl, sym, ◌∙◌, ap, subst, arith}
+use Rattle.std.proofs.Common.{◌≡◌, ◌≢◌, ◌⊎◌, inl, inr, ℕ, ◌+◌, ◌<◌, ◌≤◌, Bool, true, false, ◌&&◌, ◌||◌, Option, Some, None, List, [], ◌∷◌, ◌++◌, length, refl}
+use Rattle.std.proofs.Common.{sym, ◌∙◌, ap, subst, arith}
 use Rattle.std.specs.Prelude.{nat_le, nat_lt, codes, Contains}
 use Rattle.std.specs.List.{AllByRecursion, list_any}
 use Rattle.std.specs.Option.{option_map}
@@ -18,7 +19,25 @@ abbrev IsNumbered : Rule → Type 0
 IsNumbered rule = (nat_le 1 rule.number && nat_le rule.number 21) ≡ true
 
 each_is_numbered : AllByRecursion IsNumbered rules
-each_is_numbered = (refl, (refl, (refl, (refl, (refl, (refl, (refl, (refl, (refl, (refl, (refl, (refl, (refl, (refl, (refl, (refl, (refl, (refl, (refl, (refl, (refl, tt)))))))))))))))))))))
+each_is_numbered = (
+  refl,
+  (
+    refl,
+    (
+      refl,
+      (
+        refl,
+        (
+          refl,
+          (
+            refl,
+            (refl, (refl, (refl, (refl, (refl, (refl, (refl, (refl, (refl, (refl, (refl, (refl, (refl, (refl, (refl, tt))))))))))))))),
+          ),
+        ),
+      ),
+    ),
+  ),
+)
 
 numbered_within : (n : ℕ) → (nat_le 1 n && nat_le n 21) ≡ true → (1 ≤ n) × (n ≤ 21)
 numbered_within n test = (grind (arith, nat_tests), grind (arith, nat_tests))
@@ -29,7 +48,8 @@ rule_named None = None
 rule_named (Some denial) = Some denial.1
 
 -- what a fact is denied by
-denied_by : (earlier : List Entry) (rule : Option ℕ) (fact number : ℕ) → option_map {U = ℕ × ℕ} (λ n. (length earlier + 1, n)) rule ≡ Some (fact, number) → rule ≡ Some number
+denied_by : (earlier : List Entry) (rule : Option ℕ) (fact number : ℕ) → option_map {U = ℕ × ℕ} (λ n. (length earlier + 1, n)) rule ≡ Some (fact, number)
+    → rule ≡ Some number
 unfolding rule_named
 denied_by earlier (Some n) fact number e = ap rule_named e
 denied_by earlier None fact number e = ap rule_named e
@@ -40,4 +60,5 @@ rule_in_range history batch fact number e =
     let first = (first_fact_is_told history batch fact number).0 e in
     let case = case_of (facts_of history) first.before first.element first.after in
     let told = (least_rule_is_told case number (denied_by first.before (least_rule case) fact number first.gives)).0 in
-    numbered_within number (subst (λ (n : ℕ). (nat_le 1 n && nat_le n 21) ≡ true) told.2 (all_at IsNumbered rules told.0 each_is_numbered (among_from_Contains rules told.0 told.1)))
+    numbered_within number (subst (λ (n : ℕ). (nat_le 1 n && nat_le n 21) ≡ true) told.2
+    (all_at IsNumbered rules told.0 each_is_numbered (among_from_Contains rules told.0 told.1)))

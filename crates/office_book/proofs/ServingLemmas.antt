@@ -1,12 +1,14 @@
 -- What is answered to the requests of a group are steps of the machine.
-use Rattle.std.proofs.Common.{◌≡◌, ◌≢◌, ◌⊎◌, inl, inr, ℕ, ◌+◌, Bool, true, false, Option, Some, None, List, [], ◌∷◌, ◌++◌, length, map, refl, sym, ◌∙◌, ap, subst, arith}
+use Rattle.std.proofs.Common.{◌≡◌, ◌≢◌, ◌⊎◌, inl, inr, ℕ, ◌+◌, Bool, true, false, Option, Some, None, List, [], ◌∷◌, ◌++◌, length, map, refl, sym, ◌∙◌, ap}
+use Rattle.std.proofs.Common.{subst, arith}
 use Rattle.std.specs.List.{AllByRecursion}
 use Rattle.disk_model.specs.Faults.{Rose}
 use Rattle.ldar_facts.specs.declared.batch.Batch.{Batch}
 use Rattle.ldar_law.specs.declared.reply.Reply.{Reply}
 use Rattle.ldar_law.specs.declared.reply.Reply.TheVariants.{Receipt, Conflict, Denied, Full, Shown, NoSuch, Fault, Memory}
 use Rattle.ldar_law.specs.declared.request.Request.{Request}
-use Rattle.ldar_law.specs.Machine.{State, Moment, Turn, Finding, not_asked, they_stand, they_are_gone, Answers, TakesMemory, batch_added, batches_added, settled, CanBeFound, IsAnswered, IsWanting, LeavesState, LeavesDoubt, BreaksOff, Step, Steps, IsOfCall}
+use Rattle.ldar_law.specs.Machine.{State, Moment, Turn, Finding, not_asked, they_stand, they_are_gone, Answers, TakesMemory, batch_added, batches_added}
+use Rattle.ldar_law.specs.Machine.{settled, CanBeFound, IsAnswered, IsWanting, LeavesState, LeavesDoubt, BreaksOff, Step, Steps, IsOfCall}
 use Rattle.office_book.specs.Serving.{certain, uncertain, added, Stops, Serves, turn_of, turns_of, doubts, has_some}
 
 -- the batches that turns add are those that their requests add
@@ -28,10 +30,12 @@ added_by_turns found doubt before end history (request ∷ requests) (reply ∷ 
 
 -- turns whose replies are faults
 faults_by_turns : (found : Finding) (doubt : Bool) (before : ℕ) (end : Moment) (requests : List Request) (replies : List Reply)
-    → AllByRecursion (λ (reply : Reply). reply ≡ Fault) replies → AllByRecursion (λ (turn : Turn). turn.reply ≡ Fault) (turns_of found doubt before end requests replies)
+    → AllByRecursion (λ (reply : Reply). reply ≡ Fault) replies
+    → AllByRecursion (λ (turn : Turn). turn.reply ≡ Fault) (turns_of found doubt before end requests replies)
 faults_by_turns found doubt before end [] replies each = tt
 faults_by_turns found doubt before end (request ∷ requests) [] each = tt
-faults_by_turns found doubt before end (request ∷ requests) (reply ∷ replies) each = (each.0, faults_by_turns not_asked doubt before end requests replies each.1)
+faults_by_turns found doubt before end (request ∷ requests) (reply ∷ replies) each =
+    (each.0, faults_by_turns not_asked doubt before end requests replies each.1)
 
 -- an answer after what was found
 answered : (found : Finding) (state : State) (history after : List Batch) (turn : Turn) → settled found state ≡ certain history → turn.in_doubt ≡ false
@@ -57,15 +61,16 @@ wanting found state history turn is sure takes = record {
 some_added : (history : List Batch) (request : Request) (requests : List Request) (batch : Batch) → batch_added history request ≡ Some batch
     → has_some (added history (request ∷ requests)) ≡ true
 some_added history request requests batch adds = subst (λ (one : Option Batch). has_some (elim one [
-    | None ↦ added history requests
-    | Some more ↦ more ∷ added (history ++ more ∷ []) requests
-  ]) ≡ true) (sym adds) refl
+  | None ↦ added history requests
+  | Some more ↦ more ∷ added (history ++ more ∷ []) requests
+]) ≡ true) (sym adds) refl
 
 module _ (faulty : Type 0) (before : ℕ) (end : Moment) (rises : faulty → Rose before end.faults) where
   -- the first fault
   stopped : (found : Finding) (state : State) (history : List Batch) (request : Request) (requests : List Request) (replies : List Reply)
       → CanBeFound found state → settled found state ≡ certain history → Stops faulty history request requests replies end.state
-      → BreaksOff state (turn_of found (has_some end.state.doubt) before end request Fault) (turns_of not_asked (has_some end.state.doubt) before end requests replies) end.state
+      → BreaksOff state (turn_of found (has_some end.state.doubt) before end request Fault)
+      (turns_of not_asked (has_some end.state.doubt) before end requests replies) end.state
   stopped found state history request requests replies can is stops =
       let same : certain history ≡ settled found state = sym is in
       let adds : batch_added (settled found state).history request ≡ Some stops.batch =
@@ -74,22 +79,24 @@ module _ (faulty : Type 0) (before : ℕ) (end : Moment) (rises : faulty → Ros
         can = can;
         leaves = elim stops.leaves [
           | inl stays ↦ inl (record {
-              faulty = rises stops.why;
-              certain = ap (λ (s : State). has_some s.doubt) stays;
-              why = inr (stops.batch, adds);
-              stays = stays ∙ same;
-            })
+            faulty = rises stops.why;
+            certain = ap (λ (s : State). has_some s.doubt) stays;
+            why = inr (stops.batch, adds);
+            stays = stays ∙ same;
+          })
           | inr doubt ↦ inr (record {
-              faulty = rises stops.why;
-              uncertain = ap (λ (s : State). has_some s.doubt) doubt ∙ some_added history request requests stops.batch stops.adds;
-              nothing_in_doubt = ap (λ (s : State). s.doubt) is;
-              batch = stops.batch;
-              adds = adds;
-              leaves = doubt
-                  ∙ ap (λ (l : List Batch). uncertain history l) (sym (added_by_turns found (has_some end.state.doubt) before end history (request ∷ requests) (Fault ∷ replies)
-                  (let each = stops.each in omega arith)))
-                  ∙ ap (λ (s : State). uncertain s.history (batches_added s.history (turns_of found (has_some end.state.doubt) before end (request ∷ requests) (Fault ∷ replies)))) same;
-            })
+            faulty = rises stops.why;
+            uncertain = ap (λ (s : State). has_some s.doubt) doubt ∙ some_added history request requests stops.batch stops.adds;
+            nothing_in_doubt = ap (λ (s : State). s.doubt) is;
+            batch = stops.batch;
+            adds = adds;
+            leaves = doubt
+                ∙ ap (λ (l : List Batch). uncertain history l)
+                (sym (added_by_turns found (has_some end.state.doubt) before end history (request ∷ requests) (Fault ∷ replies)
+                (let each = stops.each in omega arith)))
+                ∙ ap (λ (s : State). uncertain s.history (batches_added s.history
+                (turns_of found (has_some end.state.doubt) before end (request ∷ requests) (Fault ∷ replies)))) same;
+          })
         ];
         others = faults_by_turns not_asked (has_some end.state.doubt) before end requests replies stops.others;
       }
@@ -97,7 +104,8 @@ module _ (faulty : Type 0) (before : ℕ) (end : Moment) (rises : faulty → Ros
   -- the first reply, and the steps behind it
   first_step : (found : Finding) (state : State) (history : List Batch) (request : Request) (requests : List Request) (reply : Reply) (replies : List Reply)
       → CanBeFound found state → settled found state ≡ certain history
-      → ((after : List Batch) → Serves faulty after requests replies end.state → Steps (certain after) (turns_of not_asked (has_some end.state.doubt) before end requests replies) end.state)
+      → ((after : List Batch) → Serves faulty after requests replies end.state
+      → Steps (certain after) (turns_of not_asked (has_some end.state.doubt) before end requests replies) end.state)
       → Serves faulty history (request ∷ requests) (reply ∷ replies) end.state
       → Steps state (turns_of found (has_some end.state.doubt) before end (request ∷ requests) (reply ∷ replies)) end.state
   first_step found state history request requests (Receipt handheld number position) replies can is rest serves =
@@ -126,7 +134,8 @@ module _ (faulty : Type 0) (before : ℕ) (end : Moment) (rises : faulty → Ros
       first_step not_asked (certain history) history request requests reply replies tt refl (λ after rest. steps_behind after requests replies rest) serves
 
   -- the steps of a group, with what was found before it
-  pub serves_steps : (found : Finding) (state : State) (history : List Batch) (request : Request) (requests : List Request) (reply : Reply) (replies : List Reply)
+  pub serves_steps : (found : Finding) (state : State) (history : List Batch) (request : Request) (requests : List Request) (reply : Reply)
+      (replies : List Reply)
       → CanBeFound found state → settled found state ≡ certain history → Serves faulty history (request ∷ requests) (reply ∷ replies) end.state
       → Steps state (turns_of found (has_some end.state.doubt) before end (request ∷ requests) (reply ∷ replies)) end.state
   serves_steps found state history request requests reply replies can is serves =

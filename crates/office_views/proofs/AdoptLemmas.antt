@@ -1,5 +1,6 @@
 -- Views after one more batch was adopted.
-use Rattle.std.proofs.Common.{◌≡◌, ℕ, ◌+◌, ◌≤◌, Some, List, [], ◌∷◌, ◌++◌, length, take, drop, filter, slice_get, sym, ap, ◌∙◌, subst, arith, append_assoc, length-append, length-drop, take-add}
+use Rattle.std.proofs.Common.{◌≡◌, ℕ, ◌+◌, ◌≤◌, Some, List, [], ◌∷◌, ◌++◌, length, take, drop, filter, slice_get, sym, ap, ◌∙◌, subst, arith, append_assoc}
+use Rattle.std.proofs.Common.{length-append, length-drop, take-add}
 use Rattle.std.proofs.Math.Seq.{drop-append_seam, take-append_seam}
 use Rattle.std.specs.List.{AllByRecursion, flat_map}
 use Rattle.std.proofs.lemmas.List.{drop-drop}
@@ -110,14 +111,15 @@ module _ (batches : List Batch) (store register : Kept) (headers : List Header) 
     -- with it all is as it should be
     pub adopted : (s r : Kept) → s ≡ record { arrived = store.arrived ++ entries_of batch; spare = drop (length batch.facts) store.spare }
         → r ≡ record {
-        arrived = register.arrived ++ register_facts (entries_of batch);
-        spare = drop (length (filter (λ fact. is_registered fact.body) batch.facts)) register.spare }
+          arrived = register.arrived ++ register_facts (entries_of batch);
+          spare = drop (length (filter (λ fact. is_registered fact.body) batch.facts)) register.spare;
+        }
         → AllByRecursion IsFact batch.facts → AreOf batches s r headers (count + 1)
     adopted s r stored entered in_range =
         let front = take count batches in
         let came : s.arrived ≡ flat_map entries_of (take (count + 1) batches) =
-            ap (λ k. k.arrived) stored ∙ ap (λ es. es ++ entries_of batch) sound.arrived ∙ sym (entries_more front batch)
-            ∙ ap (flat_map entries_of) (sym front_is) in
+        ap (λ k. k.arrived) stored ∙ ap (λ es. es ++ entries_of batch) sound.arrived ∙ sym (entries_more front batch)
+        ∙ ap (flat_map entries_of) (sym front_is) in
         record {
           headed = sound.headed;
           counted = omega (arith, ap length rest_is, length-drop count batches);

@@ -1,4 +1,5 @@
-use Rattle.std.proofs.Common.{◌≡◌, ℕ, zero, suc, ◌+◌, ◌<◌, get_or, List, [], ◌∷◌, ◌++◌, length, take, drop, map, refl, sym, ap, ◌∙◌, arith, append_assoc, length-append, add-zero}
+use Rattle.std.proofs.Common.{◌≡◌, ℕ, zero, suc, ◌+◌, ◌<◌, get_or, List, [], ◌∷◌, ◌++◌, length, take, drop, map, refl, sym, ap, ◌∙◌, arith, append_assoc}
+use Rattle.std.proofs.Common.{length-append, add-zero}
 use Rattle.std.proofs.Math.Seq.{drop-append_seam, take-append_seam}
 use Rattle.std.specs.List.{flat_map}
 use Rattle.std.proofs.lemmas.List.{append-nil, length-map, map-append, take_more}
@@ -19,7 +20,8 @@ length-headers_of first (batch ∷ batches) = omega (arith, length-headers_of (f
 pub headers_of-append : (first : ℕ) (xs ys : List Batch) → headers_of first (xs ++ ys) ≡ headers_of first xs ++ headers_of (first + length (facts_stated xs)) ys
 headers_of-append first [] ys = ap (λ n. headers_of n ys) (sym (add-zero first))
 headers_of-append first (x ∷ xs) ys =
-    let sum : first + length x.facts + length (facts_stated xs) ≡ first + length (x.facts ++ facts_stated xs) = omega (arith, length-append x.facts (facts_stated xs)) in
+    let sum : first + length x.facts + length (facts_stated xs) ≡ first + length (x.facts ++ facts_stated xs) =
+    omega (arith, length-append x.facts (facts_stated xs)) in
     ap (λ hs. record { handheld = x.handheld; number = x.number; first = first; count = length x.facts } ∷ hs)
     (headers_of-append (first + length x.facts) xs ys
     ∙ ap (λ n. headers_of (first + length x.facts) xs ++ headers_of n ys) sum)
@@ -28,9 +30,14 @@ headers_of-append first (x ∷ xs) ys =
 pub headers_more : (first : ℕ) (batches : List Batch) (i : ℕ) (batch : Batch) → i < length batches → batch ≡ get_or batches i batch
     → headers_of first (take (i + 1) batches)
     ≡ headers_of first (take i batches) ++ record {
-    handheld = batch.handheld; number = batch.number; first = first + length (facts_stated (take i batches)); count = length batch.facts } ∷ []
+      handheld = batch.handheld;
+      number = batch.number;
+      first = first + length (facts_stated (take i batches));
+      count = length batch.facts;
+    } ∷ []
 headers_more first batches i batch within is =
-    ap (headers_of first) (take_more batches i batch within ∙ ap (λ b. take i batches ++ b ∷ []) (sym is)) ∙ headers_of-append first (take i batches) (batch ∷ [])
+    ap (headers_of first) (take_more batches i batch within ∙ ap (λ b. take i batches ++ b ∷ []) (sym is))
+    ∙ headers_of-append first (take i batches) (batch ∷ [])
 
 -- with one more header
 pub headers_pushed : (before old new : List Header) (first next count : ℕ) (batches : List Batch) (i : ℕ) (batch : Batch)
@@ -40,11 +47,20 @@ pub headers_pushed : (before old new : List Header) (first next count : ℕ) (ba
     → new ≡ before ++ headers_of first (take (i + 1) batches)
 headers_pushed before old new first next count batches i batch within is was next_is count_is pushed =
     pushed ∙ ap (λ hs. hs ++ record { handheld = batch.handheld; number = batch.number; first = next; count = count } ∷ []) was
-    ∙ ap (λ n. (before ++ headers_of first (take i batches)) ++ record { handheld = batch.handheld; number = batch.number; first = n; count = count } ∷ []) next_is
+    ∙ ap (λ n. (before ++ headers_of first (take i batches)) ++ record { handheld = batch.handheld; number = batch.number; first = n; count = count } ∷ [])
+    next_is
     ∙ ap (λ n. (before ++ headers_of first (take i batches)) ++ record {
-    handheld = batch.handheld; number = batch.number; first = first + length (facts_stated (take i batches)); count = n } ∷ []) count_is
+      handheld = batch.handheld;
+      number = batch.number;
+      first = first + length (facts_stated (take i batches));
+      count = n;
+    } ∷ []) count_is
     ∙ append_assoc before (headers_of first (take i batches)) (record {
-    handheld = batch.handheld; number = batch.number; first = first + length (facts_stated (take i batches)); count = length batch.facts } ∷ [])
+      handheld = batch.handheld;
+      number = batch.number;
+      first = first + length (facts_stated (take i batches));
+      count = length batch.facts;
+    } ∷ [])
     ∙ ap (λ hs. before ++ hs) (sym (headers_more first batches i batch within is))
 
 -- .. and how many facts they have
@@ -72,16 +88,16 @@ batches_back before (batch ∷ batches) after =
     let all = before ++ (facts_stated (batch ∷ batches) ++ after) in
     let rest = facts_stated batches ++ after in
     let joined : before ++ ((batch.facts ++ facts_stated batches) ++ after) ≡ before ++ (batch.facts ++ rest) =
-        ap (λ xs. before ++ xs) (append_assoc batch.facts (facts_stated batches) after) in
+    ap (λ xs. before ++ xs) (append_assoc batch.facts (facts_stated batches) after) in
     let own : take (length batch.facts) (drop (length before) all) ≡ batch.facts =
-        ap (λ xs. take (length batch.facts) (drop (length before) xs)) joined
-        ∙ ap (take (length batch.facts)) (drop-append_seam before (batch.facts ++ rest)) ∙ take-append_seam batch.facts rest in
+    ap (λ xs. take (length batch.facts) (drop (length before) xs)) joined
+    ∙ ap (take (length batch.facts)) (drop-append_seam before (batch.facts ++ rest)) ∙ take-append_seam batch.facts rest in
     let behind : batches_by all (headers_of (length before + length batch.facts) batches) ≡ batches =
-        ap (λ xs. batches_by xs (headers_of (length before + length batch.facts) batches)) (joined ∙ sym (append_assoc before batch.facts rest))
-        ∙ ap (λ n. batches_by ((before ++ batch.facts) ++ rest) (headers_of n batches)) (sym (length-append before batch.facts))
-        ∙ batches_back (before ++ batch.facts) batches after in
+    ap (λ xs. batches_by xs (headers_of (length before + length batch.facts) batches)) (joined ∙ sym (append_assoc before batch.facts rest))
+    ∙ ap (λ n. batches_by ((before ++ batch.facts) ++ rest) (headers_of n batches)) (sym (length-append before batch.facts))
+    ∙ batches_back (before ++ batch.facts) batches after in
     let first : batch_by all (record { handheld = batch.handheld; number = batch.number; first = length before; count = length batch.facts }) ≡ batch =
-        ap (λ facts. record { handheld = batch.handheld; number = batch.number; facts = facts }) own in
+    ap (λ facts. record { handheld = batch.handheld; number = batch.number; facts = facts }) own in
     ap (λ b. b ∷ batches_by all (headers_of (length before + length batch.facts) batches)) first ∙ ap (λ bs. batch ∷ bs) behind
 
 -- the facts of a batch with their keys are its facts

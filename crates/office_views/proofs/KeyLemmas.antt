@@ -1,5 +1,6 @@
 -- Keys that no fact of some has, and identities of batches.
-use Rattle.std.proofs.Common.{◌≡◌, ℕ, ◌+◌, Bool, true, false, ◌&&◌, ◌||◌, ◌==◌, not, IsTrue, None, is_some, List, [], ◌∷◌, ◌++◌, filter, refl, sym, ap, ◌∙◌, subst, inl, inr, arith}
+use Rattle.std.proofs.Common.{◌≡◌, ℕ, ◌+◌, Bool, true, false, ◌&&◌, ◌||◌, ◌==◌, not, IsTrue, None, is_some, List, [], ◌∷◌, ◌++◌, filter, refl, sym, ap, ◌∙◌}
+use Rattle.std.proofs.Common.{subst, inl, inr, arith}
 use Rattle.std.specs.List.{AllByRecursion, list_any, position_from, flat_map}
 use Rattle.std.proofs.lemmas.Bool.{cases_Bool}
 use Rattle.std.proofs.lemmas.Bool.Decides.{nat_tests}
@@ -36,7 +37,8 @@ apart_is_new (x ∷ xs) e apart =
     rw (tie, rest) refl
 
 -- of entries apart those in front are apart from each behind them
-apart_before : (xs ys : List Entry) (e : Entry) → AllApart goes_first (xs ++ ys) → Among ys e → AllByRecursion (λ x. (goes_first x e || goes_first e x) ≡ true) xs
+apart_before : (xs ys : List Entry) (e : Entry) → AllApart goes_first (xs ++ ys) → Among ys e
+    → AllByRecursion (λ x. (goes_first x e || goes_first e x) ≡ true) xs
 apart_before [] ys e apart among = tt
 apart_before (x ∷ xs) ys e apart among = (
   all_at (λ y. (goes_first x y || goes_first y x) ≡ true) ys e (all_behind (λ y. (goes_first x y || goes_first y x) ≡ true) xs ys apart.0) among,

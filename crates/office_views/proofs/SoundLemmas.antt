@@ -1,5 +1,6 @@
 -- What is true inside all views, and stays true.
-use Rattle.std.proofs.Common.{◌≡◌, ℕ, ◌<◌, ◌≤◌, List, [], ◌∷◌, ◌++◌, length, take, drop, map, filter, sym, ap, ◌∙◌, subst, arith, append_assoc, length-append, length-take-le, zero-add}
+use Rattle.std.proofs.Common.{◌≡◌, ℕ, ◌<◌, ◌≤◌, List, [], ◌∷◌, ◌++◌, length, take, drop, map, filter, sym, ap, ◌∙◌, subst, arith, append_assoc, length-append}
+use Rattle.std.proofs.Common.{length-take-le, zero-add}
 use Rattle.std.specs.List.{AllByRecursion, flat_map}
 use Rattle.std.proofs.Math.ListN.{drop_of_length-le, take-append-drop}
 use Rattle.std.proofs.lemmas.List.{length-map, take_all, take_at, drop_at, append-nil}
@@ -145,7 +146,8 @@ module _ (batches : List Batch) (store register : Kept) (headers : List Header) 
         let front = take count batches in
         record {
           headed = pushed ∙ ap (λ hs. hs ++ headers_of (length store.arrived) others) (ap (take count) sound.headed ∙ take-headers_of count 0 batches)
-              ∙ ap (λ n. headers_of 0 front ++ headers_of n others) (stated_is ∙ sym (zero-add (length (facts_stated front)))) ∙ sym (headers_of-append 0 front others);
+              ∙ ap (λ n. headers_of 0 front ++ headers_of n others) (stated_is ∙ sym (zero-add (length (facts_stated front))))
+              ∙ sym (headers_of-append 0 front others);
           counted = omega (arith, count_is, length-append front others);
           filled = all_append _ front others (all_of_first _ count batches sound.filled) filled;
           arrived = same ∙ sound.arrived ∙ ap (flat_map entries_of) (sym in_front);

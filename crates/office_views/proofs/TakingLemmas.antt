@@ -1,5 +1,6 @@
 -- Facts of a batch put into a store or a register one after the other.
-use Rattle.std.proofs.Common.{◌≡◌, ◌⊎◌, ℕ, zero, suc, ◌+◌, ◌<◌, ◌≤◌, Bool, true, false, cond, Some, List, [], ◌∷◌, ◌++◌, length, take, drop, filter, slice_get, refl, sym, ap, ◌∙◌, subst, inl, inr, arith, append_assoc, length-append, length-take-le, add-zero}
+use Rattle.std.proofs.Common.{◌≡◌, ◌⊎◌, ℕ, zero, suc, ◌+◌, ◌<◌, ◌≤◌, Bool, true, false, cond, Some, List, [], ◌∷◌, ◌++◌, length, take, drop, filter}
+use Rattle.std.proofs.Common.{slice_get, refl, sym, ap, ◌∙◌, subst, inl, inr, arith, append_assoc, length-append, length-take-le, add-zero}
 use Rattle.std.proofs.Math.Seq.{drop-append_seam}
 use Rattle.std.specs.List.{AllByRecursion, flat_map}
 use Rattle.std.specs.Ordering.{is_eq}
@@ -91,7 +92,8 @@ stored_more old store batch i key fact is keyed here =
     kept_is _ _ _ _
     (ap (λ k. k.arrived ++ (key, fact) ∷ []) is ∙ append_assoc old.arrived (take i (entries_of batch)) ((key, fact) ∷ [])
     ∙ ap (λ es. old.arrived ++ es)
-    (ap (λ k. take i (entries_of batch) ++ (k, fact) ∷ []) keyed ∙ sym (take_next (entries_of batch) i (key_of batch i fact, fact) (entry_here batch i fact here))))
+    (ap (λ k. take i (entries_of batch) ++ (k, fact) ∷ []) keyed
+    ∙ sym (take_next (entries_of batch) i (key_of batch i fact, fact) (entry_here batch i fact here))))
     (ap (λ k. drop 1 k.spare) is ∙ drop-drop 1 i old.spare)
 
 -- with all of them
@@ -111,7 +113,7 @@ pub next_of : (spare all front : List Stated) (x : Stated) (rest : List Stated) 
 next_of spare all front x rest parts same =
     let behind = drop (length all) spare in
     let whole : spare ≡ front ++ (x ∷ (rest ++ behind)) =
-        sym (take-append-drop (length all) spare) ∙ ap (λ xs. xs ++ behind) (same ∙ parts) ∙ append_assoc front (x ∷ rest) behind in
+    sym (take-append-drop (length all) spare) ∙ ap (λ xs. xs ++ behind) (same ∙ parts) ∙ append_assoc front (x ∷ rest) behind in
     ap (λ xs. slice_get (drop (length front) xs) 0) whole ∙ ap (λ xs. slice_get xs 0) (drop-append_seam front (x ∷ (rest ++ behind)))
 
 -- what passes of a list is in the list
@@ -162,7 +164,8 @@ module _ (old register : Kept) (batch : Batch) (i : ℕ) (is : register ≡ ente
   entry_new_key enters =
       let flat = flat_map entries_of enters.history in
       ap (is_held (key_of batch i fact)) (came_as enters.history enters.came)
-      ∙ none_held_of_part (λ e. is_registered e.1.body) (key_of batch i fact) (flat ++ take i (entries_of batch)) (new_key batch i fact here flat enters.own_keys)
+      ∙ none_held_of_part (λ e. is_registered e.1.body) (key_of batch i fact) (flat ++ take i (entries_of batch))
+      (new_key batch i fact here flat enters.own_keys)
 
   -- .. there are not too many
   pub entry_few : CanEnter old.arrived batch → length register.arrived < 8_000_000
@@ -198,9 +201,9 @@ module _ (old register : Kept) (batch : Batch) (i : ℕ) (is : register ≡ ente
       let front = filter (λ fact. is_registered fact.body) (take i batch.facts) in
       let rest = filter (λ fact. is_registered fact.body) (drop (i + 1) batch.facts) in
       let parts : filter (λ fact. is_registered fact.body) batch.facts ≡ front ++ fact ∷ rest =
-          ap (filter (λ fact. is_registered fact.body)) (cut_here batch.facts i fact here)
-          ∙ filter-append (λ fact. is_registered fact.body) (take i batch.facts) (fact ∷ drop (i + 1) batch.facts)
-          ∙ ap (λ b. front ++ cond b (fact ∷ rest) rest) registered in
+      ap (filter (λ fact. is_registered fact.body)) (cut_here batch.facts i fact here)
+      ∙ filter-append (λ fact. is_registered fact.body) (take i batch.facts) (fact ∷ drop (i + 1) batch.facts)
+      ∙ ap (λ b. front ++ cond b (fact ∷ rest) rest) registered in
       ap (λ k. slice_get k.spare 0) is ∙ next_of old.spare (filter (λ fact. is_registered fact.body) batch.facts) front fact rest parts roomy
 
   entries_next : register_facts (take (i + 1) (entries_of batch))

@@ -21,18 +21,15 @@ pub record AreOf (batches : List Batch) (store register : Kept) (headers : List 
   pub headed : headers ≡ headers_of 0 batches
   pub counted : count ≤ length batches
   pub filled : AllByRecursion (λ batch. (0 < length batch.facts) × (length batch.facts ≤ 512)) batches
-
   -- the facts of the adopted batches came to the store, and the entries among them to the register
   pub arrived : store.arrived ≡ flat_map entries_of (take count batches)
   pub few : length store.arrived ≤ 8_000_000
   pub entered : register.arrived ≡ register_facts (flat_map entries_of (take count batches))
-
   -- there is room for the facts of the other batches, and it may be for more
   pub more : List Stated
   pub room : store.spare ≡ facts_stated (drop count batches) ++ more
   pub more_entries : List Stated
   pub entry_room : register.spare ≡ filter (λ fact. is_registered fact.body) (facts_stated (drop count batches)) ++ more_entries
-
   -- the history of the adopted batches is ruly, their identities differ, and each of their facts is in its ranges
   pub ruly : IsTrue (is_ruly (take count batches))
   pub differ : IsTrue (identities_differ (take count batches))

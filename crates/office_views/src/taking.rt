@@ -45,8 +45,9 @@ pub fn put_entries(register: &mut Register, batch: &Batch)
         ≡ filter (λ fact. says_registered fact.body) batch.now.facts }
     requires enters { CanEnter register.old.arrived batch.now }
     ensures value { register.new ≡ record {
-        arrived = register.old.arrived ++ register_facts (entries_of batch.now);
-        spare = drop (length (filter (λ fact. says_registered fact.body) batch.now.facts)) register.old.spare } }
+      arrived = register.old.arrived ++ register_facts (entries_of batch.now);
+      spare = drop (length (filter (λ fact. says_registered fact.body) batch.now.facts)) register.old.spare;
+    } }
 {
     let facts = batch.facts.as_slice();
     for index in 0..facts.len() {

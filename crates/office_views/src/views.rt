@@ -39,8 +39,8 @@ impl Model for Views {
     ghost Value = { Held };
 
     ghost view = { λ v. record {
-        adopted = take v.adopted (batches_by (facts_kept v.store) v.headers.items);
-        spare = drop v.adopted (batches_by (facts_kept v.store) v.headers.items)
+      adopted = take v.adopted (batches_by (facts_kept v.store) v.headers.items);
+      spare = drop v.adopted (batches_by (facts_kept v.store) v.headers.items);
     } };
 
     ghost invariant = { λ v. IsSound v.store v.register v.headers.items v.adopted × (v.facts ≡ length v.store.arrived) };

@@ -8,6 +8,7 @@ pub returns-clause-of_all : goal.returns-clause-of_all
 returns-clause-of_all c =
     let a = c.args in
     let events = c.loop-e.events.items in
-    let none = ap (λ es. events ++ law.events_with a.equipment.now a.classes.now es c.loop-e.left.now) (drop_all c.loop-e.e-index a.facts.now (omega (arith, c.loop-e-test.false))) in
+    let none = ap (λ es. events ++ law.events_with a.equipment.now a.classes.now es c.loop-e.left.now)
+    (drop_all c.loop-e.e-index a.facts.now (omega (arith, c.loop-e-test.false))) in
     let given = sym (append-nil events) ∙ sym (c.loop-e.invariant.done ∙ none) in
     events_among_all a.equipment.now a.classes.now a.facts.now a.fitness.now events given

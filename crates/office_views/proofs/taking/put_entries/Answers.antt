@@ -63,5 +63,5 @@ loop-index-preserved c =
 pub returns : goal.returns
 returns c =
     let all : c.loop-index.index ≡ length c.args.batch.now.facts =
-        omega (arith, ap length c.as_slice-facts.ensures.value, c.loop-index-test.false, c.loop-index.auto.index-end) in
+    omega (arith, ap length c.as_slice-facts.ensures.value, c.loop-index-test.false, c.loop-index.auto.index-end) in
     record { value = c.loop-index.invariant ∙ entered_all c.args.register.now c.args.batch.now c.loop-index.index all }

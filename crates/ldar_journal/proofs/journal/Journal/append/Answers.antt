@@ -1,5 +1,6 @@
 use Rattle.std.proofs.Common.{◌≡◌, ◌+◌, List, [], ◌∷◌, ◌++◌, length, sym, ◌∙◌, ap, arith}
-use Rattle.ldar_journal.proofs.ShelfLemmas.{IsCounted-fits, behind_gate-fits, ready, IsShelved-shut, put_moments, put_leaves_frames, IsShelved-torn, doubt_at_end}
+use Rattle.ldar_journal.proofs.ShelfLemmas.{IsCounted-fits, behind_gate-fits, ready, IsShelved-shut, put_moments, put_leaves_frames, IsShelved-torn}
+use Rattle.ldar_journal.proofs.ShelfLemmas.{doubt_at_end}
 use Rattle.ldar_journal.proofs.ShelfLemmas.{IsShelved-appended, append_moments, IsShelved-as, IsShelved-opens, from_ok}
 use Rattle.ldar_journal.proofs.journal.Journal.append.Goals as goal
 
@@ -51,7 +52,8 @@ returns-then-is_err-clause-any_moment_shut g c = λ shut.
     let j = c.self.inside in
     let d = g.D.Disk in
     let put = c.put_behind in
-    let is_ready = ready d.content d.images j.disk j.end j.frames j.doubt.value c.args.frame.now j.torn c.args.self.now c.self.view_is c.self.invariant c.requires.settled
+    let is_ready = ready d.content d.images j.disk j.end j.frames j.doubt.value c.args.frame.now j.torn c.args.self.now c.self.view_is c.self.invariant
+    c.requires.settled
     c.bytes-bytes.ensures.is_frame c.requires.kept in
     rw (← c.self.view_is) (put_leaves_frames d.clock d.left d.images d.content j.disk j.end j.frames j.doubt.value c.args.frame.now j.torn is_ready
     put.new.disk (length c.bytes-bytes.result.now) put.ensures.front put.ensures.crash put.ensures.any_moment)

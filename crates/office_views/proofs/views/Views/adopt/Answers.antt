@@ -52,10 +52,14 @@ invariant_of-self g c =
     let next = subst (λ bs. slice_get bs 0 ≡ Some c.args.batch.now) spare c.requires.roomy in
     let held = adopted_is sound.0 inside.store inside.register inside.headers.items inside.adopted sound.1 c.args.self.now c.self.view_is in
     let passes = subst (λ bs. verdict_on bs c.args.batch.now ≡ Pass) held c.requires.passes in
-    let new = subst (λ bs. position_of (identity_of c.args.batch.now) bs ≡ None) held c.requires.new_identity in
-    ((sound.0, adopted sound.0 inside.store inside.register inside.headers.items inside.adopted sound.1 c.args.batch.now next passes new
-    c.put_facts.new.store c.put_entries.new.register c.put_facts.ensures.value c.put_entries.ensures.value c.put_facts.ensures.in_range),
-    stored_count inside.store c.put_facts.new.store c.args.batch.now c.put_facts.ensures.value inside.facts c.self.invariant.1 _ c.as_slice.ensures.value)
+    let new = subst (λ bs. position_of (identity_of c.args.batch.now) bs ≡ None) held c.requires.new_identity in (
+      (
+        sound.0,
+        adopted sound.0 inside.store inside.register inside.headers.items inside.adopted sound.1 c.args.batch.now next passes new
+            c.put_facts.new.store c.put_entries.new.register c.put_facts.ensures.value c.put_entries.ensures.value c.put_facts.ensures.in_range,
+      ),
+      stored_count inside.store c.put_facts.new.store c.args.batch.now c.put_facts.ensures.value inside.facts c.self.invariant.1 _ c.as_slice.ensures.value,
+    )
 
 pub returns : goal.returns
 returns g c =

@@ -36,9 +36,9 @@ returns-then-at-self g c =
     let batches = take inside.adopted (batches_by kept inside.headers.items) in
     let held = ap (λ h. h.adopted) (sym c.self.view_is) in
     let found : slice_get c.args.self.now.adopted (c.args.position - 1) ≡ Some (batch_by kept header) =
-        ap (λ bs. slice_get bs (c.args.position - 1)) held ∙ ap (λ k. slice_get batches k) (sym c.saturating_sub-at.ensures)
-        ∙ taken_at (batch_by kept) inside.headers.items at inside.adopted header c.if-at-self.true
-        (omega (arith, c.if-at-self.true, sound.1.counted, ap length sound.1.headed, length-headers_of 0 sound.0)) c.index.ensures in
+    ap (λ bs. slice_get bs (c.args.position - 1)) held ∙ ap (λ k. slice_get batches k) (sym c.saturating_sub-at.ensures)
+    ∙ taken_at (batch_by kept) inside.headers.items at inside.adopted header c.if-at-self.true
+    (omega (arith, c.if-at-self.true, sound.1.counted, ap length sound.1.headed, length-headers_of 0 sound.0)) c.index.ensures in
     let told = c.is_batch_of.ensures.value in
     record {
       value = (
@@ -54,8 +54,8 @@ returns-else-at-self g c =
     let held = ap (λ h. h.adopted) (sym c.self.view_is) in
     let batches = batches_by (facts_kept inside.store) inside.headers.items in
     let none : slice_get c.args.self.now.adopted (c.args.position - 1) ≡ None =
-        ap (λ bs. slice_get bs (c.args.position - 1)) held ∙ ap (λ k. slice_get (take inside.adopted batches) k) (sym c.saturating_sub-at.ensures)
-        ∙ none_at batches at inside.adopted c.if-at-self.false in
+    ap (λ bs. slice_get bs (c.args.position - 1)) held ∙ ap (λ k. slice_get (take inside.adopted batches) k) (sym c.saturating_sub-at.ensures)
+    ∙ none_at batches at inside.adopted c.if-at-self.false in
     record {
       value = (
         λ told. absurd (grind (arith, nat_tests)),
