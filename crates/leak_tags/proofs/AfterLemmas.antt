@@ -149,11 +149,11 @@ since_more p events v =
     some_more (λ e after. p e && not (list_any (λ x. is_leak x.what) after)) events v
     ∙ ap (λ b. b || (p v && true))
     (some_same
-        (λ e after. p e && not (list_any (λ x. is_leak x.what) (after ++ v ∷ [])))
-        (λ e after. not (is_leak v.what) && (p e && not (list_any (λ x. is_leak x.what) after)))
-        (λ e after.
-            ap (λ b. p e && not b) (any_more (λ x. is_leak x.what) after v)
-            ∙ passes_before (p e) (list_any (λ x. is_leak x.what) after) (is_leak v.what))
-        events
+    (λ e after. p e && not (list_any (λ x. is_leak x.what) (after ++ v ∷ [])))
+    (λ e after. not (is_leak v.what) && (p e && not (list_any (λ x. is_leak x.what) after)))
+    (λ e after.
+    ap (λ b. p e && not b) (any_more (λ x. is_leak x.what) after v)
+    ∙ passes_before (p e) (list_any (λ x. is_leak x.what) after) (is_leak v.what))
+    events
     ∙ some_under (not (is_leak v.what)) (λ e after. p e && not (list_any (λ x. is_leak x.what) after)) events)
     ∙ ap (λ b. (not (is_leak v.what) && since_leak p events) || b) (and_true (p v))

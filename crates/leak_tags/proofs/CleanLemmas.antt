@@ -1,5 +1,5 @@
 -- The last two clean months in a row, with one event more.
-use Rattle.std.proofs.Common.{◌≡◌, ◌⊎◌, ℕ, ◌+◌, ◌-◌, ◌<◌, ◌≤◌, Bool, true, false, not, ◌&&◌, ◌||◌, nat_eq, nat_le, List, [], ◌∷◌, ◌++◌, refl, sym, ap, subst, ◌∙◌, inl, inr, arith}
+use Rattle.std.proofs.Common.{◌≡◌, ℕ, ◌+◌, ◌-◌, ◌<◌, ◌≤◌, Bool, true, false, not, ◌&&◌, ◌||◌, nat_eq, nat_le, List, [], ◌∷◌, ◌++◌, refl, sym, ap, subst, ◌∙◌, inl, inr, arith}
 use Rattle.std.specs.Prelude.{if◌then◌else◌}
 use Rattle.std.specs.List.{AllByRecursion, list_any}
 use Rattle.std.proofs.lemmas.Bool.{cases_Bool, cases_lt, cases_eq, and_parts, and_from, or_from, eq-eqb, ne_eqb, eqb-true, leb-true, le-leb, lt-leb, false≢true}
@@ -198,12 +198,12 @@ module _ (months : CleanMonths) (events : List Event) (tells : TellsClean months
 
     -- in the same month
     in_month : months.month ≡ now → TellsClean (record {
-          month = months.month;
-          read = months.read || is_routine_below v.what;
-          leak = months.leak || is_leak v.what;
-          clean = months.clean;
-          pair = months.pair;
-        }) more
+      month = months.month;
+      read = months.read || is_routine_below v.what;
+      leak = months.leak || is_leak v.what;
+      clean = months.clean;
+      pair = months.pair;
+    }) more
     in_month same = record {
       up_to = subst (λ m. AllByRecursion (λ e. month_of e.key.day ≤ m) more) (sym same) up_to;
       read =
@@ -225,12 +225,12 @@ module _ (months : CleanMonths) (events : List Event) (tells : TellsClean months
 
     -- in a later month
     in_later : months.month < now → TellsClean (record {
-          month = now;
-          read = is_routine_below v.what;
-          leak = is_leak v.what;
-          clean = clean_of months;
-          pair = pair_of months;
-        }) more
+      month = now;
+      read = is_routine_below v.what;
+      leak = is_leak v.what;
+      clean = clean_of months;
+      pair = pair_of months;
+    }) more
     in_later later = record {
       up_to = up_to;
       read =

@@ -1,8 +1,7 @@
 -- What settles the open leaks of each sort, and those with one event more.
-use Rattle.std.proofs.Common.{◌≡◌, ℕ, ◌+◌, ◌≤◌, Bool, true, false, not, ◌&&◌, ◌||◌, nat_eq, nat_le, List, [], ◌∷◌, ◌++◌, refl, sym, ap, ◌∙◌, inl, inr}
+use Rattle.std.proofs.Common.{◌≡◌, ℕ, ◌+◌, Bool, true, false, not, ◌&&◌, ◌||◌, nat_eq, nat_le, List, [], ◌∷◌, ◌++◌, refl, sym, ap, ◌∙◌}
 use Rattle.std.specs.List.{list_any}
-use Rattle.std.proofs.lemmas.Bool.{cases_Bool, and_parts, false≢true}
-use Rattle.list_words.specs.Words.{somewhere_from}
+use Rattle.std.proofs.lemmas.Bool.{false≢true}
 use Rattle.ldar_days.specs.Calendar.{month_of}
 use Rattle.ldar_facts.specs.declared.class.Kind.{Kind}
 use Rattle.ldar_law.specs.declared.event.Event.{Event}
@@ -12,7 +11,7 @@ use Rattle.ldar_law.specs.declared.numbers.TheConstants.{REPAIR_DAYS}
 use Rattle.ldar_law.specs.Happenings.{is_leak, is_reading_or_drip, is_look, is_sensor, is_below, is_dry, is_attempt, is_complete, delays_with_reading, is_retire}
 use Rattle.ldar_law.specs.Settling as law
 use Rattle.leak_tags.specs.OpenLeaks.{is_reading}
-use Rattle.leak_tags.specs.Telling.{some_after, since_leak, some_open}
+use Rattle.leak_tags.specs.Telling.{since_leak, some_open}
 use Rattle.leak_tags.proofs.AfterLemmas.{and_true, and_false, and_over, or_swap, some_same, some_at, some_or, some_none, some_more, somewhere_is_after, somewhere_before, any_more, since_that_leak}
 use Rattle.leak_tags.proofs.ToldLemmas.{Sums}
 
@@ -60,8 +59,8 @@ regroup true false a x = refl
 regroup false st a x = refl
 
 module _ (kind : Kind) (is_sort : Happening → Bool) (events : List Event) (v : Event) (all late : Bool)
-  (fits : (before : List Event) (e : Event) (after : List Event) → before ++ e ∷ after ≡ events → (is_leak e.what && is_sort e.what) ≡ true →
-  law.settles kind e after v ≡ (all || (late && law.has_delay_between e after))) where
+    (fits : (before : List Event) (e : Event) (after : List Event) → before ++ e ∷ after ≡ events → (is_leak e.what && is_sort e.what) ≡ true →
+    law.settles kind e after v ≡ (all || (late && law.has_delay_between e after))) where
   -- a delay, if the event is one, reaches a leak of this day
   abbrev comes_to : ℕ → Bool
   comes_to from = delays_with_reading v.what && nat_le v.key.day (from + REPAIR_DAYS)
@@ -77,17 +76,17 @@ module _ (kind : Kind) (is_sort : Happening → Bool) (events : List Event) (v :
       some_more (λ e after. (of_sort e && not (law.is_settled kind e after)) && p (law.has_delay_between e after) e.key.day) events v
       ∙ ap (λ b. b || ((of_sort v && true) && p false v.key.day))
       (some_at events
-          (λ e after. (of_sort e && not (law.is_settled kind e (after ++ v ∷ []))) && p (law.has_delay_between e (after ++ v ∷ [])) e.key.day)
-          (λ e after. (of_sort e && not (law.is_settled kind e after))
-          && (not (all || (late && law.has_delay_between e after)) && p (comes_to e.key.day || law.has_delay_between e after) e.key.day))
-          (λ before e after at.
-              ap (λ b. (of_sort e && not b) && p (law.has_delay_between e (after ++ v ∷ [])) e.key.day) (settled_more kind e after v)
-              ∙ ap (λ b. (of_sort e && not (law.is_settled kind e after || law.settles kind e after v)) && p b e.key.day) (delay_more e after v)
-              ∙ where_so (of_sort e) (law.is_settled kind e after) (law.settles kind e after v) (all || (late && law.has_delay_between e after))
-              (p (comes_to e.key.day || law.has_delay_between e after) e.key.day) (fits before e after at)
-              ∙ regroup (of_sort e) (law.is_settled kind e after) (all || (late && law.has_delay_between e after))
-              (p (comes_to e.key.day || law.has_delay_between e after) e.key.day))
-          [] events refl)
+      (λ e after. (of_sort e && not (law.is_settled kind e (after ++ v ∷ []))) && p (law.has_delay_between e (after ++ v ∷ [])) e.key.day)
+      (λ e after. (of_sort e && not (law.is_settled kind e after))
+      && (not (all || (late && law.has_delay_between e after)) && p (comes_to e.key.day || law.has_delay_between e after) e.key.day))
+      (λ before e after at.
+      ap (λ b. (of_sort e && not b) && p (law.has_delay_between e (after ++ v ∷ [])) e.key.day) (settled_more kind e after v)
+      ∙ ap (λ b. (of_sort e && not (law.is_settled kind e after || law.settles kind e after v)) && p b e.key.day) (delay_more e after v)
+      ∙ where_so (of_sort e) (law.is_settled kind e after) (law.settles kind e after v) (all || (late && law.has_delay_between e after))
+      (p (comes_to e.key.day || law.has_delay_between e after) e.key.day) (fits before e after at)
+      ∙ regroup (of_sort e) (law.is_settled kind e after) (all || (late && law.has_delay_between e after))
+      (p (comes_to e.key.day || law.has_delay_between e after) e.key.day))
+      [] events refl)
       ∙ ap (λ b. some_open kind is_sort events (λ l from. not (all || (late && l)) && p (comes_to from || l) from) || (b && p false v.key.day))
       (and_true (of_sort v))
 
@@ -212,7 +211,7 @@ by_sensor bl dr cp at vp dl ws rt =
     ∙ settles_three cp (((vp && bl) && ws) && dl) rt
 
 module _ (kind : Kind) (v : Event) (attempted second : Bool) (e : Event) (after : List Event)
-  (attempt_is : law.is_attempted after ≡ attempted) (second_is : law.was_below after v ≡ second) where
+    (attempt_is : law.is_attempted after ≡ attempted) (second_is : law.was_below after v ≡ second) where
   -- what settles it, by what is asked of the sort and of the event
   abbrev settles_so : Bool → Bool → Bool → Bool
   settles_so rd lk sn =
@@ -280,4 +279,4 @@ pub below_since : (before : List Event) (e : Event) (after : List Event) (later 
 below_since before e after later leaks above =
     was_below_is after later
     ∙ sym (since_that_leak (λ x. is_below x.what && nat_eq (month_of x.key.day + 1) (month_of later.key.day)) before e after leaks
-        (ap (λ b. b && nat_eq (month_of e.key.day + 1) (month_of later.key.day)) above))
+    (ap (λ b. b && nat_eq (month_of e.key.day + 1) (month_of later.key.day)) above))

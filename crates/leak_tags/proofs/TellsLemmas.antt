@@ -1,8 +1,8 @@
 -- What open leaks tell of events, with one event more, and whether some leak is unsettled.
 use Rattle.std.proofs.Common.{◌≡◌, ℕ, ◌+◌, ◌-◌, ◌<◌, ◌≤◌, Bool, true, false, not, ◌&&◌, ◌||◌, nat_eq, nat_le, List, [], ◌∷◌, ◌++◌, refl, sym, ap, subst, ◌∙◌, inl, inr, arith}
 use Rattle.std.specs.Prelude.{if◌then◌else◌}
-use Rattle.std.specs.List.{AllByRecursion, list_any}
-use Rattle.std.proofs.lemmas.Bool.{cases_Bool, cases_eq, and_parts, and_cases, and_left, or_left, or_right, eq-eqb, ne_eqb, true≢false, false≢true}
+use Rattle.std.specs.List.{AllByRecursion}
+use Rattle.std.proofs.lemmas.Bool.{cases_eq, and_parts, or_right, eq-eqb, ne_eqb, true≢false, false≢true}
 use Rattle.std.proofs.lemmas.Bool.Decides.{nat_tests}
 use Rattle.list_words.proofs.Members.{all_append}
 use Rattle.ldar_days.specs.Calendar.{month_of}
@@ -10,12 +10,12 @@ use Rattle.ldar_facts.specs.declared.class.Kind.{Kind}
 use Rattle.ldar_law.specs.declared.event.Event.{Event}
 use Rattle.ldar_law.specs.declared.event.Happening.{Happening}
 use Rattle.ldar_law.specs.declared.numbers.TheConstants.{REPAIR_DAYS}
-use Rattle.ldar_law.specs.Happenings.{is_leak, is_look, is_sensor, is_below, is_dry, is_attempt, is_complete, delays_with_reading, is_retire}
+use Rattle.ldar_law.specs.Happenings.{is_leak, is_look, is_sensor, is_below, is_attempt, delays_with_reading}
 use Rattle.ldar_law.specs.Settling as law
 use Rattle.leak_tags.specs.declared.below_months.BelowMonths.{BelowMonths}
 use Rattle.leak_tags.specs.declared.leaks.Leaks.{Leaks}
 use Rattle.leak_tags.specs.declared.open_leaks.OpenLeaks.{OpenLeaks}
-use Rattle.leak_tags.specs.OpenLeaks.{no_leaks, has_leaks, leaks_with, settled, reached, no_months, is_second, months_with, is_reading, none_open, is_open, settles_readings, settles_drips, settles_sensors, settles_delayed, with_event}
+use Rattle.leak_tags.specs.OpenLeaks.{has_leaks, leaks_with, settled, reached, no_months, is_second, is_reading, none_open, is_open, settles_readings, settles_drips, settles_sensors, settles_delayed, with_event}
 use Rattle.leak_tags.specs.Telling.{some_after, since_leak, some_open, Told, Tells}
 use Rattle.leak_tags.proofs.AfterLemmas.{or_false, some_same, some_or, somewhere_is_after, since_more}
 use Rattle.leak_tags.proofs.SettlingLemmas.{sums_open, open_more, one_of_sorts, reading_settled, drip_settled, sensor_settled, attempted_since, below_since}
@@ -111,10 +111,10 @@ sort_more kind is_sort events v all late fits leaks today le told =
     (leaks_with leaks all late (is_leak v.what && is_sort v.what) v) v.key.day
     (open_more kind is_sort events v all late fits)
     (told_opened delayed (reached (settled leaks all late) (delays_with_reading v.what) v.key.day) v.key.day
-        (told_reached left (settled leaks all late) today v.key.day (sums_under some (sums_open kind is_sort events) (λ l _. not (all || (late && l)))) le
-            (told_settled some leaks today (sums_open kind is_sort events) told all late)
-            (delays_with_reading v.what))
-        (is_leak v.what && is_sort v.what))
+    (told_reached left (settled leaks all late) today v.key.day (sums_under some (sums_open kind is_sort events) (λ l _. not (all || (late && l)))) le
+    (told_settled some leaks today (sums_open kind is_sort events) told all late)
+    (delays_with_reading v.what))
+    (is_leak v.what && is_sort v.what))
 
 module _ (kind : Kind) (leaks : OpenLeaks) (today : ℕ) (events : List Event) (v : Event) (tells : Tells kind leaks today events) (le : today ≤ v.key.day) where
   -- an attempt since a leak among them
@@ -202,8 +202,8 @@ unsettled_is kind leaks today events tells =
     ∙ some_same (λ e after. is_leak e.what && not (law.is_settled kind e after))
     (λ e after. (open_of is_reading e after || open_of is_look e after) || open_of is_sensor e after)
     (λ e after.
-        ap (λ b. b && not (law.is_settled kind e after)) (one_of_sorts e.what)
-        ∙ spread (is_leak e.what && is_reading e.what) (is_leak e.what && is_look e.what) (is_leak e.what && is_sensor e.what) (law.is_settled kind e after))
+    ap (λ b. b && not (law.is_settled kind e after)) (one_of_sorts e.what)
+    ∙ spread (is_leak e.what && is_reading e.what) (is_leak e.what && is_look e.what) (is_leak e.what && is_sensor e.what) (law.is_settled kind e after))
     events
     ∙ some_or (λ e after. open_of is_reading e after || open_of is_look e after) (open_of is_sensor) events
     ∙ ap (λ b. b || some_after (open_of is_sensor) events) (some_or (open_of is_reading) (open_of is_look) events)

@@ -1,6 +1,6 @@
 -- Walks over events: what is open at a place, the next attempt, and events that rise.
-use Rattle.std.proofs.Common.{◌≡◌, ◌⊎◌, ℕ, zero, suc, ◌+◌, ◌<◌, ◌≤◌, Bool, true, false, not, ◌&&◌, ◌||◌, nat_lt, Option, Some, None, List, [], ◌∷◌, ◌++◌, length, take, drop, get_or, slice_get, option_map, refl, sym, ap, subst, ◌∙◌, inl, inr, arith}
-use Rattle.std.proofs.lemmas.Bool.{cases_lt, or_parts, lt-ltb, ltb-true, ltb-false, or_cases, true≢false, false≢true}
+use Rattle.std.proofs.Common.{◌≡◌, ℕ, zero, suc, ◌+◌, ◌<◌, ◌≤◌, Bool, true, false, not, ◌&&◌, ◌||◌, nat_lt, Option, Some, None, List, [], ◌∷◌, ◌++◌, length, take, drop, get_or, slice_get, option_map, refl, sym, ap, subst, ◌∙◌, inl, inr, arith}
+use Rattle.std.proofs.lemmas.Bool.{cases_lt, or_parts, ltb-true, ltb-false, or_cases, true≢false}
 use Rattle.std.proofs.lemmas.List.{drop_more, take_more, drop_all}
 use Rattle.list_words.specs.Words.{first_from}
 use Rattle.ldar_facts.specs.declared.class.Kind.{Kind}
@@ -102,7 +102,7 @@ stands_there (z ∷ xs) zero x is within = ap Some (sym is)
 stands_there (z ∷ xs) (suc i) x is within = stands_there xs i x is (omega (arith, within))
 
 module _ (kind : Kind) (leaks : OpenLeaks) (events : List Event) (i : ℕ) (at : IsAt kind leaks events i) (e : Event) (within : i < length events)
-  (is : e ≡ get_or events i e) where
+    (is : e ≡ get_or events i e) where
   -- the closing that is looked for from this place on
   abbrev first_closing : ℕ → Option Event
   first_closing n = first_from (λ front x _. law.closes kind front x) (take n events) (drop n events)
@@ -148,10 +148,10 @@ module _ (kind : Kind) (leaks : OpenLeaks) (events : List Event) (i : ℕ) (at :
       ∙ sym closed_is in
       ap (λ x. law.span_at kind events (take i events) x (drop (i + 1) events)) (stands_same events i e leak stands is within)
       ∙ rw some (
-        ap (λ x. tag x (law.closing_of kind (take i events) e (drop (i + 1) events))
-        (law.is_removable kind events (law.closing_of kind (take i events) e (drop (i + 1) events)))) (sym attempted_is)
-        ∙ ap (λ x. tag attempted x (law.is_removable kind events x)) closing
-        ∙ ap (tag attempted closed) (sym removable_is)
+      ap (λ x. tag x (law.closing_of kind (take i events) e (drop (i + 1) events))
+      (law.is_removable kind events (law.closing_of kind (take i events) e (drop (i + 1) events)))) (sym attempted_is)
+      ∙ ap (λ x. tag attempted x (law.is_removable kind events x)) closing
+      ∙ ap (tag attempted closed) (sym removable_is)
       )
 
 -- ---- the next attempt

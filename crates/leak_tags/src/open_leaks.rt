@@ -87,9 +87,13 @@ impl OpenLeaks {
         let sensors = settles_sensors(event);
         let delayed = self.settles_delayed(kind, event);
         OpenLeaks {
-            readings: self.readings.with(all, delayed, is_reading_leak(event), event),
+            readings: self
+                .readings
+                .with(all, delayed, is_reading_leak(event), event),
             drips: self.drips.with(drips, delayed, is_drip_leak(event), event),
-            sensors: self.sensors.with(sensors, delayed, is_sensor_leak(event), event),
+            sensors: self
+                .sensors
+                .with(sensors, delayed, is_sensor_leak(event), event),
             attempted: self.attempted_with(event),
             below: self.below.with(event),
         }

@@ -134,7 +134,14 @@ fn a_tag_closes_when_nothing_is_unsettled(rt: HostRuntime) -> Result<(), Fail> {
         // A leak after the attempt: another attempt is wanted.
         (
             Kind::Valve,
-            &[(0, b'L'), (1, b'A'), (2, b'L'), (3, b'b'), (4, b'A'), (5, b'b')],
+            &[
+                (0, b'L'),
+                (1, b'A'),
+                (2, b'L'),
+                (3, b'b'),
+                (4, b'A'),
+                (5, b'b'),
+            ],
             "0 attempted 1 closed 5; ",
         ),
         // A leak while a tag is open opens no other; April and May are clean, after both closings.
@@ -263,7 +270,15 @@ fn two_readings_settle_a_delayed_leak(rt: HostRuntime) -> Result<(), Fail> {
         // The delay reaches the second leak, and the first wants an attempt.
         (
             FEBRUARY,
-            &[(0, b'L'), (10, b'L'), (20, b'D'), (22, b'b'), (50, b'b'), (51, b'A'), (52, b'b')],
+            &[
+                (0, b'L'),
+                (10, b'L'),
+                (20, b'D'),
+                (22, b'b'),
+                (50, b'b'),
+                (51, b'A'),
+                (52, b'b'),
+            ],
             "0 attempted 51 closed 52; ",
         ),
         // What a sensor told is delayed as well.
