@@ -1,8 +1,7 @@
 -- What settles the open leaks of each sort, and those with one event more.
-use Rattle.std.proofs.Common.{◌≡◌, ℕ, ◌+◌, ◌≤◌, Bool, true, false, not, ◌&&◌, ◌||◌, nat_eq, nat_le, List, [], ◌∷◌, ◌++◌, refl, sym, ap, ◌∙◌, inl, inr}
+use Rattle.std.proofs.Common.{◌≡◌, ℕ, ◌+◌, Bool, true, false, not, ◌&&◌, ◌||◌, nat_eq, nat_le, List, [], ◌∷◌, ◌++◌, refl, sym, ap, ◌∙◌}
 use Rattle.std.specs.List.{list_any}
-use Rattle.std.proofs.lemmas.Bool.{cases_Bool, and_parts, false≢true}
-use Rattle.list_words.specs.Words.{somewhere_from}
+use Rattle.std.proofs.lemmas.Bool.{false≢true}
 use Rattle.ldar_days.specs.Calendar.{month_of}
 use Rattle.ldar_facts.specs.declared.class.Kind.{Kind}
 use Rattle.ldar_law.specs.declared.event.Event.{Event}
@@ -13,9 +12,14 @@ use Rattle.ldar_law.specs.Happenings.{is_leak, is_reading_or_drip, is_look, is_s
 use Rattle.ldar_law.specs.Happenings.{is_retire}
 use Rattle.ldar_law.specs.Settling as law
 use Rattle.leak_tags.specs.OpenLeaks.{is_reading}
+<<<<<<< HEAD
 use Rattle.leak_tags.specs.Telling.{some_after, since_leak, some_open}
 use Rattle.leak_tags.proofs.AfterLemmas.{and_true, and_false, and_over, or_swap, some_same, some_at, some_or, some_none, some_more, somewhere_is_after}
 use Rattle.leak_tags.proofs.AfterLemmas.{somewhere_before, any_more, since_that_leak}
+=======
+use Rattle.leak_tags.specs.Telling.{since_leak, some_open}
+use Rattle.leak_tags.proofs.AfterLemmas.{and_true, and_false, and_over, or_swap, some_same, some_at, some_or, some_none, some_more, somewhere_is_after, somewhere_before, any_more, since_that_leak}
+>>>>>>> 35f4d4cc64488ee0d55cc4e6cf2ca484d8481e04
 use Rattle.leak_tags.proofs.ToldLemmas.{Sums}
 
 -- ---- some open leak

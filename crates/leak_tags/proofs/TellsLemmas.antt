@@ -2,8 +2,8 @@
 use Rattle.std.proofs.Common.{◌≡◌, ℕ, ◌+◌, ◌-◌, ◌<◌, ◌≤◌, Bool, true, false, not, ◌&&◌, ◌||◌, nat_eq, nat_le, List, [], ◌∷◌, ◌++◌, refl, sym, ap, subst, ◌∙◌}
 use Rattle.std.proofs.Common.{inl, inr, arith}
 use Rattle.std.specs.Prelude.{if◌then◌else◌}
-use Rattle.std.specs.List.{AllByRecursion, list_any}
-use Rattle.std.proofs.lemmas.Bool.{cases_Bool, cases_eq, and_parts, and_cases, and_left, or_left, or_right, eq-eqb, ne_eqb, true≢false, false≢true}
+use Rattle.std.specs.List.{AllByRecursion}
+use Rattle.std.proofs.lemmas.Bool.{cases_eq, and_parts, or_right, eq-eqb, ne_eqb, true≢false, false≢true}
 use Rattle.std.proofs.lemmas.Bool.Decides.{nat_tests}
 use Rattle.list_words.proofs.Members.{all_append}
 use Rattle.ldar_days.specs.Calendar.{month_of}
@@ -11,13 +11,17 @@ use Rattle.ldar_facts.specs.declared.class.Kind.{Kind}
 use Rattle.ldar_law.specs.declared.event.Event.{Event}
 use Rattle.ldar_law.specs.declared.event.Happening.{Happening}
 use Rattle.ldar_law.specs.declared.numbers.TheConstants.{REPAIR_DAYS}
-use Rattle.ldar_law.specs.Happenings.{is_leak, is_look, is_sensor, is_below, is_dry, is_attempt, is_complete, delays_with_reading, is_retire}
+use Rattle.ldar_law.specs.Happenings.{is_leak, is_look, is_sensor, is_below, is_attempt, delays_with_reading}
 use Rattle.ldar_law.specs.Settling as law
 use Rattle.leak_tags.specs.declared.below_months.BelowMonths.{BelowMonths}
 use Rattle.leak_tags.specs.declared.leaks.Leaks.{Leaks}
 use Rattle.leak_tags.specs.declared.open_leaks.OpenLeaks.{OpenLeaks}
+<<<<<<< HEAD
 use Rattle.leak_tags.specs.OpenLeaks.{no_leaks, has_leaks, leaks_with, settled, reached, no_months, is_second, months_with, is_reading, none_open, is_open}
 use Rattle.leak_tags.specs.OpenLeaks.{settles_readings, settles_drips, settles_sensors, settles_delayed, with_event}
+=======
+use Rattle.leak_tags.specs.OpenLeaks.{has_leaks, leaks_with, settled, reached, no_months, is_second, is_reading, none_open, is_open, settles_readings, settles_drips, settles_sensors, settles_delayed, with_event}
+>>>>>>> 35f4d4cc64488ee0d55cc4e6cf2ca484d8481e04
 use Rattle.leak_tags.specs.Telling.{some_after, since_leak, some_open, Told, Tells}
 use Rattle.leak_tags.proofs.AfterLemmas.{or_false, some_same, some_or, somewhere_is_after, since_more}
 use Rattle.leak_tags.proofs.SettlingLemmas.{sums_open, open_more, one_of_sorts, reading_settled, drip_settled, sensor_settled, attempted_since, below_since}

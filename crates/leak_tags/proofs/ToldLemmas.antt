@@ -5,7 +5,7 @@ use Rattle.std.proofs.lemmas.Bool.{cases_Bool, and_right, leb-true, leb-false, l
 use Rattle.ldar_law.specs.declared.numbers.TheConstants.{REPAIR_DAYS}
 use Rattle.leak_tags.specs.declared.leaks.Days.{Days}
 use Rattle.leak_tags.specs.declared.leaks.Leaks.{Leaks}
-use Rattle.leak_tags.specs.OpenLeaks.{no_leaks, has_leaks, reaches, misses, missed_by, first_with, settled, reached, opened}
+use Rattle.leak_tags.specs.OpenLeaks.{has_leaks, reaches, misses, missed_by, first_with, settled, reached, opened}
 use Rattle.leak_tags.specs.Telling.{Told}
 use Rattle.leak_tags.proofs.AfterLemmas.{or_false, and_true, and_false, and_over}
 

@@ -1,4 +1,4 @@
-use Rattle.std.proofs.Common.{◌≡◌, ◌≤◌, take, drop, length}
+use Rattle.std.proofs.Common.{◌≡◌, take, drop}
 use Rattle.list_words.specs.Words.{first_from}
 use Rattle.ldar_law.specs.Spans as law
 use Rattle.leak_tags.specs.Telling.{IsAt}

@@ -1,4 +1,4 @@
-use Rattle.std.proofs.Common.{◌≡◌, ◌+◌, true, false, not, ◌&&◌, sym, ap, subst, ◌∙◌}
+use Rattle.std.proofs.Common.{◌≡◌, ◌+◌, true, false, not, ◌&&◌, sym, ap, subst}
 use Rattle.std.proofs.lemmas.Bool.{and_left, and_right, and_from}
 use Rattle.ldar_law.specs.Happenings.{is_leak}
 use Rattle.leak_tags.specs.declared.open_leaks.OpenLeaks.{OpenLeaks}

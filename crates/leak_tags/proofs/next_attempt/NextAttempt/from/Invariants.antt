@@ -1,4 +1,4 @@
-use Rattle.std.proofs.Common.{◌≡◌, ℕ, ◌≤◌, drop, length}
+use Rattle.std.proofs.Common.{◌≡◌, ℕ, ◌≤◌, drop}
 use Rattle.ldar_law.specs.Spans.{attempt_after}
 use Rattle.leak_tags.proofs.next_attempt.NextAttempt.from.Given as goal
 
