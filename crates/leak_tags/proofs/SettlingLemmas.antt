@@ -12,14 +12,9 @@ use Rattle.ldar_law.specs.Happenings.{is_leak, is_reading_or_drip, is_look, is_s
 use Rattle.ldar_law.specs.Happenings.{is_retire}
 use Rattle.ldar_law.specs.Settling as law
 use Rattle.leak_tags.specs.OpenLeaks.{is_reading}
-<<<<<<< HEAD
-use Rattle.leak_tags.specs.Telling.{some_after, since_leak, some_open}
+use Rattle.leak_tags.specs.Telling.{since_leak, some_open}
 use Rattle.leak_tags.proofs.AfterLemmas.{and_true, and_false, and_over, or_swap, some_same, some_at, some_or, some_none, some_more, somewhere_is_after}
 use Rattle.leak_tags.proofs.AfterLemmas.{somewhere_before, any_more, since_that_leak}
-=======
-use Rattle.leak_tags.specs.Telling.{since_leak, some_open}
-use Rattle.leak_tags.proofs.AfterLemmas.{and_true, and_false, and_over, or_swap, some_same, some_at, some_or, some_none, some_more, somewhere_is_after, somewhere_before, any_more, since_that_leak}
->>>>>>> 35f4d4cc64488ee0d55cc4e6cf2ca484d8481e04
 use Rattle.leak_tags.proofs.ToldLemmas.{Sums}
 
 -- ---- some open leak

@@ -16,12 +16,8 @@ use Rattle.ldar_law.specs.Settling as law
 use Rattle.leak_tags.specs.declared.below_months.BelowMonths.{BelowMonths}
 use Rattle.leak_tags.specs.declared.leaks.Leaks.{Leaks}
 use Rattle.leak_tags.specs.declared.open_leaks.OpenLeaks.{OpenLeaks}
-<<<<<<< HEAD
-use Rattle.leak_tags.specs.OpenLeaks.{no_leaks, has_leaks, leaks_with, settled, reached, no_months, is_second, months_with, is_reading, none_open, is_open}
-use Rattle.leak_tags.specs.OpenLeaks.{settles_readings, settles_drips, settles_sensors, settles_delayed, with_event}
-=======
-use Rattle.leak_tags.specs.OpenLeaks.{has_leaks, leaks_with, settled, reached, no_months, is_second, is_reading, none_open, is_open, settles_readings, settles_drips, settles_sensors, settles_delayed, with_event}
->>>>>>> 35f4d4cc64488ee0d55cc4e6cf2ca484d8481e04
+use Rattle.leak_tags.specs.OpenLeaks.{has_leaks, leaks_with, settled, reached, no_months, is_second, is_reading, none_open, is_open, settles_readings}
+use Rattle.leak_tags.specs.OpenLeaks.{settles_drips, settles_sensors, settles_delayed, with_event}
 use Rattle.leak_tags.specs.Telling.{some_after, since_leak, some_open, Told, Tells}
 use Rattle.leak_tags.proofs.AfterLemmas.{or_false, some_same, some_or, somewhere_is_after, since_more}
 use Rattle.leak_tags.proofs.SettlingLemmas.{sums_open, open_more, one_of_sorts, reading_settled, drip_settled, sensor_settled, attempted_since, below_since}

@@ -1,12 +1,7 @@
 -- Walks over events: what is open at a place, the next attempt, and events that rise.
-<<<<<<< HEAD
-use Rattle.std.proofs.Common.{◌≡◌, ◌⊎◌, ℕ, zero, suc, ◌+◌, ◌<◌, ◌≤◌, Bool, true, false, not, ◌&&◌, ◌||◌, nat_lt, Option, Some, None, List, [], ◌∷◌, ◌++◌}
-use Rattle.std.proofs.Common.{length, take, drop, get_or, slice_get, option_map, refl, sym, ap, subst, ◌∙◌, inl, inr, arith}
-use Rattle.std.proofs.lemmas.Bool.{cases_lt, or_parts, lt-ltb, ltb-true, ltb-false, or_cases, true≢false, false≢true}
-=======
-use Rattle.std.proofs.Common.{◌≡◌, ℕ, zero, suc, ◌+◌, ◌<◌, ◌≤◌, Bool, true, false, not, ◌&&◌, ◌||◌, nat_lt, Option, Some, None, List, [], ◌∷◌, ◌++◌, length, take, drop, get_or, slice_get, option_map, refl, sym, ap, subst, ◌∙◌, inl, inr, arith}
+use Rattle.std.proofs.Common.{◌≡◌, ℕ, zero, suc, ◌+◌, ◌<◌, ◌≤◌, Bool, true, false, not, ◌&&◌, ◌||◌, nat_lt, Option, Some, None, List, [], ◌∷◌, ◌++◌, length}
+use Rattle.std.proofs.Common.{take, drop, get_or, slice_get, option_map, refl, sym, ap, subst, ◌∙◌, inl, inr, arith}
 use Rattle.std.proofs.lemmas.Bool.{cases_lt, or_parts, ltb-true, ltb-false, or_cases, true≢false}
->>>>>>> 35f4d4cc64488ee0d55cc4e6cf2ca484d8481e04
 use Rattle.std.proofs.lemmas.List.{drop_more, take_more, drop_all}
 use Rattle.list_words.specs.Words.{first_from}
 use Rattle.ldar_facts.specs.declared.class.Kind.{Kind}
