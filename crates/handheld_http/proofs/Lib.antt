@@ -4,3 +4,4 @@ pub mod ItemLaws
 pub mod MemberLemmas
 pub mod KindLemmas
 pub mod RequestLemmas
+pub mod MeaningLaws

@@ -1,5 +1,5 @@
 -- What a request asks: by its method, its target and its body.
-use Rattle.std.specs.Prelude.{◌≡◌, ℕ, ◌+◌, Bool, true, false, ◌&&◌, ◌==◌, not, nat_eq, nat_le, nat_lt, List, get_or, length, take, drop, codes, Option, Some, None, ok_or, Result, Ok, Err, if◌then◌else◌}
+use Rattle.std.specs.Prelude.{◌≡◌, ◌↔◌, ℕ, ◌+◌, Bool, true, false, ◌&&◌, ◌==◌, not, nat_eq, nat_le, nat_lt, List, get_or, length, take, drop, codes, Option, Some, None, ok_or, Result, Ok, Err, if◌then◌else◌}
 use Rattle.std.specs.List.{before_first, after_first}
 use Rattle.std.specs.Cmp.Lexicographic.{pointwise}
 use Rattle.std.specs.Str.Parse.{digits_value}
@@ -21,6 +21,7 @@ use Rattle.handheld_http.specs.declared.routes.Resource.TheVariants.{Sync, View}
 use Rattle.handheld_http.specs.BatchJson.{Says}
 use Rattle.handheld_http.specs.Cuts.{Begins, IsCut}
 use Rattle.handheld_http.specs.Heads.{is_number, is_post}
+use Rattle.handheld_http.specs.Items.{IsItem}
 use Rattle.handheld_http.specs.Routes.{resource_of}
 
 -- ---- a target, and the parts of its path
@@ -157,3 +158,13 @@ WasCut bytes head = (body : ℕ) × (closing : Bool) × IsCut bytes (Whole head 
 abbrev pub IsAsked : List ℕ → ℕ → Asked → Type 0
 IsAsked bytes head asked =
     (body : ℕ) (closing : Bool) → IsCut bytes (Whole head body closing) → Means (take (head + body) bytes) asked
+
+-- ---- laws
+
+-- a request asks one thing
+abbrev pub OneMeaning : Type 0
+OneMeaning = (item : List ℕ) (asked other : Asked) → Means item asked → Means item other → asked ≡ other
+
+-- each request asks something, and nothing else does
+abbrev pub ItemsMean : Type 0
+ItemsMean = (item : List ℕ) → IsItem item ↔ ((asked : Asked) × Means item asked)
