@@ -236,6 +236,14 @@ items_in_range bytes (closing, item) =
 pub head_stays_with : items.HeadStays
 head_stays_with bytes more head body closing begins = (begins.0, Begins-append bytes more head body closing begins.0 begins.1)
 
+pub head_tells_cut_with : items.HeadTellsCut
+head_tells_cut_with bytes more head body closing begins =
+    let stays = head_stays_with bytes more head body closing begins in
+    (
+      λ inside. (stays, inside),
+      λ short. inr (record { head = head; body = body; closing = closing; begins = stays; short = short }),
+    )
+
 pub refusal_stays_with : items.RefusalStays
 refusal_stays_with bytes more status (inl long) = inl (record {
   endless = λ k fits there.

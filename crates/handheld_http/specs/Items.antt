@@ -1,5 +1,5 @@
 -- The items of a connection: its requests, each the bytes of one head and of the body that the head states.
-use Rattle.std.specs.Prelude.{◌≡◌, ℕ, ◌+◌, ◌≤◌, ◌↔◌, Bool, true, List, [], ◌++◌, length, take, IsTrue}
+use Rattle.std.specs.Prelude.{◌≡◌, ℕ, ◌+◌, ◌≤◌, ◌<◌, ◌↔◌, Bool, true, List, [], ◌++◌, length, take, IsTrue}
 use Rattle.handheld_http.specs.Cuts.{BeginsRequest, Refuses, IsCut}
 use Rattle.handheld_http.specs.declared.outcome.Cut.{Cut}
 use Rattle.handheld_http.specs.declared.outcome.Cut.TheVariants.{Whole, More}
@@ -50,6 +50,13 @@ abbrev pub HeadStays : Type 0
 HeadStays =
     (bytes more : List ℕ) (head body : ℕ) (closing : Bool)
     → BeginsRequest bytes head body closing → BeginsRequest (bytes ++ more) head body closing
+
+-- .. and tells how all that came is cut: where the body is there, and where bytes of it are missing
+abbrev pub HeadTellsCut : Type 0
+HeadTellsCut =
+    (bytes more : List ℕ) (head body : ℕ) (closing : Bool) → BeginsRequest bytes head body closing
+    → (head + body ≤ length (bytes ++ more) → IsCut (bytes ++ more) (Whole head body closing))
+    × (length (bytes ++ more) < head + body → IsCut (bytes ++ more) More)
 
 -- what is refused stays refused
 abbrev pub RefusalStays : Type 0

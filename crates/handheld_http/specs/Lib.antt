@@ -6,3 +6,5 @@ pub mod Answers
 pub mod Members
 pub mod FactJson
 pub mod BatchJson
+pub mod Routes
+pub mod Requests

@@ -30,3 +30,14 @@ pub record IsBarred (bytes : List ℕ) (status : ℕ) (h : RequestHead) : Type 0
 abbrev pub Judges : List ℕ → Result HeadSays ℕ → Type 0
 Judges bytes (Ok says) = (h : RequestHead) × IsAccepted bytes says h
 Judges bytes (Err status) = (IsNoHeadAtAll bytes × (status ≡ 400)) ⊎ ((h : RequestHead) × IsBarred bytes status h)
+
+-- a head of which a body is read
+abbrev pub IsReadable : List ℕ → Type 0
+IsReadable bytes = (h : RequestHead) × (n : ℕ) × IsHead bytes h × (body_length h.method (pairs_of h) ≡ Ok n)
+
+-- the method and the target of a head, and how many bytes of body follow it
+pub record IsLine (bytes method target : List ℕ) (body : ℕ) (h : RequestHead) : Type 0 where
+  pub reads : IsHead bytes h
+  pub method_is : method ≡ h.method
+  pub target_is : target ≡ h.target
+  pub length_is : body_length h.method (pairs_of h) ≡ Ok body

@@ -60,7 +60,7 @@ fn value_of<'h>(head: &'h [u8], fields: &[HeaderSpan], name: &[u8]) -> Option<&'
 }
 
 /// Whether the value is one or more decimal digits.
-fn is_number(value: &[u8]) -> bool
+pub(crate) fn is_number(value: &[u8]) -> bool
     ensures { result ≡ heads.is_number value.now }
 {
     !value.is_empty() && are_digits(value)
@@ -74,7 +74,7 @@ fn are_digits(value: &[u8]) -> bool
 }
 
 /// The number that digits write, or the least that is too long for a body, where it is longer.
-fn number_of(digits: &[u8]) -> usize
+pub(crate) fn number_of(digits: &[u8]) -> usize
     requires { IsTrue (list_all is_ascii_digit digits.now) }
     ensures { result ≡ min 262_145 (digits_value 10 digits.now) }
 {

@@ -2,7 +2,7 @@ ghost use Rattle.std.specs.Prelude.{◌≡◌, ℕ, ◌≤◌, ◌<◌, length, 
 ghost use Rattle.httparse.specs.Grammar.{RequestHead};
 ghost use Rattle.httparse.specs.Spans.{IsRequestAt, IsRequestWithin};
 ghost use Rattle.handheld_http.specs.Heads.{IsHead};
-ghost use Rattle.handheld_http.specs.Parsed.{HasHead, IsNoHeadAtAll, Judges};
+ghost use Rattle.handheld_http.specs.Parsed.{HasHead, IsLine, IsNoHeadAtAll, IsReadable, Judges};
 
 use crate::fields::{body_length, closes};
 use httparse::Status;
@@ -48,4 +48,32 @@ pub(crate) fn judge(head: &[u8]) -> Result<HeadSays, u16>
     let body = body_length(parts.method.of(head), head, fields)?;
     let closing = closes(parts.version, head, fields);
     Ok(HeadSays { body, closing })
+}
+
+/// What a head says of what is asked: its method, its target, and the length of the body.
+#[derive(Clone, Copy)]
+pub(crate) struct RequestLine<'h> {
+    pub method: &'h [u8],
+    pub target: &'h [u8],
+    pub body: usize,
+}
+
+/// What a head says of what is asked, where it is one of which a body is read.
+pub(crate) fn line_of(head: &[u8]) -> RequestLine<'_>
+    requires { IsReadable head.now }
+    ensures { (h : RequestHead) × IsLine head.now result.method.now result.target.now result.body h }
+{
+    let mut spans = [EMPTY_HEADER_SPAN; MOST_FIELDS];
+    let Some(parts) = whole_head(head, &mut spans) else {
+        unreachable!()
+    };
+    let method = parts.method.of(head);
+    let Ok(body) = body_length(method, head, &spans[..parts.headers]) else {
+        unreachable!()
+    };
+    RequestLine {
+        method,
+        target: parts.path.of(head),
+        body,
+    }
 }

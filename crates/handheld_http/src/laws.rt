@@ -1,6 +1,7 @@
 //! Laws of the requests of a connection. Each function has an empty body, and its clause says the law.
 
-ghost use Rattle.handheld_http.specs.Items.{OneCut, NoProperFront, ItemsAreInRange, HeadStays, RefusalStays, WholeIsItem, MoreIsNone, RefusedIsNone, ItemIsCut};
+ghost use Rattle.handheld_http.specs.Items.{OneCut, NoProperFront, ItemsAreInRange, HeadStays, HeadTellsCut, RefusalStays, WholeIsItem, MoreIsNone, RefusedIsNone, ItemIsCut};
+ghost use Rattle.handheld_http.specs.Requests.{ItemsMean, OneMeaning};
 
 /// Some bytes are cut in one way.
 pub fn one_cut()
@@ -20,6 +21,11 @@ pub fn items_are_in_range()
 /// What a head says stays as more bytes come, so it is read once.
 pub fn head_stays()
     ensures { HeadStays }
+{}
+
+/// A head tells how all that came is cut, so that a body that comes in pieces is awaited by its length alone.
+pub fn head_tells_cut()
+    ensures { HeadTellsCut }
 {}
 
 /// What is refused stays refused.
@@ -45,4 +51,14 @@ pub fn refused_is_none()
 /// A request is cut from what begins with it.
 pub fn item_is_cut()
     ensures { ItemIsCut }
+{}
+
+/// A request asks one thing.
+pub fn one_meaning()
+    ensures { OneMeaning }
+{}
+
+/// Each request asks something, and nothing else does.
+pub fn items_mean()
+    ensures { ItemsMean }
 {}

@@ -11,12 +11,16 @@ mod heads;
 pub mod laws;
 mod members;
 mod outcome;
+mod paths;
+mod requests;
 mod response;
+mod routes;
 
 pub use answer::{Answer, Asked, Refusal};
 pub use cutting::{cut, head_of};
 pub use heads::{LONGEST_BODY, LONGEST_HEAD};
 pub use outcome::{Cut, Front};
+pub use requests::request_of;
 pub use response::reply_bytes;
 
 #[cfg(test)]

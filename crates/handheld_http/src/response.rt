@@ -7,7 +7,7 @@ ghost use Rattle.ldar_law.specs.Replies.{reply_text, HasRule};
 use crate::answer::{Answer, Refusal};
 use http::StatusCode;
 use ldar_facts::Memory;
-use ldar_law::Reply;
+use ldar_law::{Reply, What};
 use std::alloc::Global;
 
 /// Appends the head and the body of a response, or nothing where memory is wanting.
@@ -144,6 +144,28 @@ fn allow(post: bool) -> &'static str
     }
 }
 
+/// Appends the response to a request of which a part names nothing.
+fn put_no_such(
+    alloc: Global,
+    what: What,
+    closing: bool,
+    out: &mut Vec<u8>,
+) -> Result<(), Memory>
+    ensures value { OnOk result (out.new.items ≡ out.old.items ++ answer_bytes (Answer.Not (Refusal.NoSuch what)) closing) }
+    ensures unchanged { OnErr result (out.new.items ≡ out.old.items) }
+{
+    let mut line = Vec::new(alloc);
+    Reply::NoSuch(what).put_line(alloc, &mut line)?;
+    put(
+        alloc,
+        StatusCode::NOT_FOUND,
+        "",
+        closing,
+        line.as_slice(),
+        out,
+    )
+}
+
 /// Appends the response to a request that asks the office nothing.
 fn put_refusal(
     alloc: Global,
@@ -181,18 +203,25 @@ fn put_refusal(
                 out,
             )
         }
-        Refusal::NoSuch(what) => {
-            let mut line = Vec::new(alloc);
-            Reply::NoSuch(what).put_line(alloc, &mut line)?;
-            put(
-                alloc,
-                StatusCode::NOT_FOUND,
-                "",
-                closing,
-                line.as_slice(),
-                out,
-            )
-        }
+        Refusal::NoSuch(what) => put_no_such(alloc, what, closing, out),
+    }
+}
+
+/// The status with which bytes are refused, and the line that says so.
+fn refused_line(status: u16) -> (StatusCode, &'static [u8])
+    requires { IsRefusalStatus status }
+    ensures status { result.0 ≡ status }
+    ensures line { result.1.now ≡ spec.status_line status }
+{
+    match status {
+        400 => (StatusCode::BAD_REQUEST, b"bad request\n"),
+        411 => (StatusCode::LENGTH_REQUIRED, b"length needed\n"),
+        413 => (StatusCode::PAYLOAD_TOO_LARGE, b"too large\n"),
+        431 => (
+            StatusCode::REQUEST_HEADER_FIELDS_TOO_LARGE,
+            b"head too large\n",
+        ),
+        _ => (StatusCode::NOT_IMPLEMENTED, b"not implemented\n"),
     }
 }
 
@@ -202,48 +231,8 @@ fn put_status(alloc: Global, status: u16, out: &mut Vec<u8>) -> Result<(), Memor
     ensures value { OnOk result (out.new.items ≡ out.old.items ++ response status [] true (spec.status_line status)) }
     ensures unchanged { OnErr result (out.new.items ≡ out.old.items) }
 {
-    match status {
-        400 => put(
-            alloc,
-            StatusCode::BAD_REQUEST,
-            "",
-            true,
-            b"bad request\n",
-            out,
-        ),
-        411 => put(
-            alloc,
-            StatusCode::LENGTH_REQUIRED,
-            "",
-            true,
-            b"length needed\n",
-            out,
-        ),
-        413 => put(
-            alloc,
-            StatusCode::PAYLOAD_TOO_LARGE,
-            "",
-            true,
-            b"too large\n",
-            out,
-        ),
-        431 => put(
-            alloc,
-            StatusCode::REQUEST_HEADER_FIELDS_TOO_LARGE,
-            "",
-            true,
-            b"head too large\n",
-            out,
-        ),
-        _ => put(
-            alloc,
-            StatusCode::NOT_IMPLEMENTED,
-            "",
-            true,
-            b"not implemented\n",
-            out,
-        ),
-    }
+    let (status, line) = refused_line(status);
+    put(alloc, status, "", true, line, out)
 }
 
 /// Appends the bytes of one answer: its status line, its fields and its body. A denial is by a rule from 1 to 21; a status is

@@ -1,0 +1,5 @@
+use Rattle.handheld_http.proofs.MeaningLaws.{items_mean_with}
+use Rattle.handheld_http.proofs.laws.items_mean.Goals as goal
+
+pub returns : goal.returns
+returns c = items_mean_with

@@ -1,0 +1,82 @@
+ghost use Rattle.std.specs.Prelude.{◌≡◌, IfOk, IsUtf8};
+ghost use Rattle.handheld_http.specs.Heads as heads;
+ghost use Rattle.handheld_http.specs.Requests as spec;
+ghost use Rattle.handheld_http.specs.Requests.{IsAsked, RequestAsks, ResourceAsks, SyncAsks, WasCut};
+
+use crate::answer::{Asked, Refusal};
+use crate::batch_json::batch_in;
+use crate::fields::is_post;
+use crate::heads::line_of;
+use crate::paths::{parts_of, path_of, view_of};
+use crate::routes::{Page, Resource, resource_of};
+use ldar_facts::Memory;
+use ldar_law::Request;
+use std::alloc::Global;
+use std::str::from_utf8;
+
+/// Whether the method is `GET`.
+fn is_get(method: &[u8]) -> bool
+    ensures { result ≡ spec.is_get method.now }
+{
+    method == b"GET".as_slice()
+}
+
+/// What a body asks that is sent to where batches are taken in.
+fn asked_sync(alloc: Global, method: &[u8], body: &[u8]) -> Result<Asked, Memory>
+    ensures { IfOk result (SyncAsks (heads.is_post method.now) body.now) }
+{
+    if !is_post(method) {
+        return Ok(Asked::Not(Refusal::NoMethod { post: true }));
+    }
+    Ok(match batch_in(alloc, body)? {
+        Some(batch) => Asked::Request(Request::Sync(batch)),
+        None => Asked::Not(Refusal::BadBatch),
+    })
+}
+
+/// What is asked of a view.
+fn asked_view(page: Page, method: &[u8], path: &str) -> Asked
+    ensures { spec.ViewAsks (spec.is_get method.now) page path.now result }
+{
+    if !is_get(method) {
+        return Asked::Not(Refusal::NoMethod { post: false });
+    }
+    match view_of(page, parts_of(path)) {
+        Ok(request) => Asked::Request(request),
+        Err(what) => Asked::Not(Refusal::NoSuch(what)),
+    }
+}
+
+/// What is asked by this method of this target, with this body.
+fn asked_of(alloc: Global, method: &[u8], target: &str, body: &[u8]) -> Result<Asked, Memory>
+    ensures { IfOk result (RequestAsks method.now target.now body.now) }
+{
+    let path = path_of(target);
+    match resource_of(alloc, path)? {
+        None => Ok(Asked::Not(Refusal::NoPath)),
+        Some(Resource::Sync) => asked_sync(alloc, method, body),
+        Some(Resource::View(page)) => Ok(asked_view(page, method, path)),
+    }
+}
+
+/// A text of bytes that are one.
+fn text_of(bytes: &[u8]) -> &str
+    requires { IsUtf8 bytes.now }
+    ensures { result.now ≡ bytes.now }
+{
+    match from_utf8(bytes) {
+        Ok(text) => text,
+        Err(_) => unreachable!(),
+    }
+}
+
+/// What the request asks that `cut` found at the front of these bytes, with a head of so many bytes: a batch or a view, or
+/// why it asks nothing.
+pub fn request_of(alloc: Global, bytes: &[u8], head: usize) -> Result<Asked, Memory>
+    requires { WasCut bytes.now head }
+    ensures value { IfOk result (IsAsked bytes.now head) }
+{
+    let line = line_of(&bytes[..head]);
+    let body = &bytes[head..head + line.body];
+    asked_of(alloc, line.method, text_of(line.target), body)
+}
