@@ -238,8 +238,7 @@ head_stays_with bytes more head body closing begins = (begins.0, Begins-append b
 
 pub head_tells_cut_with : items.HeadTellsCut
 head_tells_cut_with bytes more head body closing begins =
-    let stays = head_stays_with bytes more head body closing begins in
-    (
+    let stays = head_stays_with bytes more head body closing begins in (
       λ inside. (stays, inside),
       λ short. inr (record { head = head; body = body; closing = closing; begins = stays; short = short }),
     )

@@ -88,20 +88,25 @@ unfolding IsItem
 items_mean_with item = (
   λ is.
       let h = is.1.begins.0 in
-      let asks = resource_asks (resource_of (path_of h.target)) h.method (path_of h.target) (drop is.1.head item) in
-      (asks.0, record {
-        head = is.1.head;
-        body = is.1.body;
-        closing = is.0;
-        h = h;
-        begins = is.1.begins.1;
-        whole = is.1.whole;
-        asks = asks.1;
-      }),
-  λ means. (means.1.closing, record {
-    head = means.1.head;
-    body = means.1.body;
-    begins = (means.1.h, means.1.begins);
-    whole = means.1.whole;
-  }),
+      let asks = resource_asks (resource_of (path_of h.target)) h.method (path_of h.target) (drop is.1.head item) in (
+        asks.0,
+        record {
+          head = is.1.head;
+          body = is.1.body;
+          closing = is.0;
+          h = h;
+          begins = is.1.begins.1;
+          whole = is.1.whole;
+          asks = asks.1;
+        },
+      ),
+  λ means. (
+    means.1.closing,
+    record {
+      head = means.1.head;
+      body = means.1.body;
+      begins = (means.1.h, means.1.begins);
+      whole = means.1.whole;
+    },
+  ),
 )

@@ -29,8 +29,7 @@ pub same_line : (bytes : List ℕ) (head body : ℕ) (closing : Bool) (h : Reque
 same_line bytes head body closing h begins method target n k line =
     let head_is : k ≡ h = IsHead-unique (take head bytes) k h line.reads begins.reads in
     let length_is : body_length h.method (pairs_of h) ≡ Ok n =
-    subst (λ (l : RequestHead). body_length l.method (pairs_of l) ≡ Ok n) head_is line.length_is in
-    (
+    subst (λ (l : RequestHead). body_length l.method (pairs_of l) ≡ Ok n) head_is line.length_is in (
       cc (begins.length, length_is),
       line.method_is ∙ ap (λ (l : RequestHead). l.method) head_is,
       line.target_is ∙ ap (λ (l : RequestHead). l.target) head_is,

@@ -30,7 +30,7 @@ office_routes =
     (with_route (codes "/delays/{unit}/{day}") (View Delays)
     (with_route (codes "/tags/{unit}/{day}") (View Tags)
     (with_route (codes "/due/{unit}/{day}") (View Due)
-    (with_route (codes "/sync") Sync [])))))) 
+    (with_route (codes "/sync") Sync []))))))
 
 -- what a path names
 abbrev pub resource_of : List ℕ → Option Resource

@@ -145,12 +145,7 @@ fn allow(post: bool) -> &'static str
 }
 
 /// Appends the response to a request of which a part names nothing.
-fn put_no_such(
-    alloc: Global,
-    what: What,
-    closing: bool,
-    out: &mut Vec<u8>,
-) -> Result<(), Memory>
+fn put_no_such(alloc: Global, what: What, closing: bool, out: &mut Vec<u8>) -> Result<(), Memory>
     ensures value { OnOk result (out.new.items ≡ out.old.items ++ answer_bytes (Answer.Not (Refusal.NoSuch what)) closing) }
     ensures unchanged { OnErr result (out.new.items ≡ out.old.items) }
 {

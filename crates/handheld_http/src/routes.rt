@@ -41,11 +41,31 @@ fn office_routes(alloc: Global) -> Result<Router<Resource>, Memory>
     let mut routes = Router::new(alloc);
     add(&mut routes, "/sync", Resource::Sync)?;
     add(&mut routes, "/due/{unit}/{day}", Resource::View(Page::Due))?;
-    add(&mut routes, "/tags/{unit}/{day}", Resource::View(Page::Tags))?;
-    add(&mut routes, "/delays/{unit}/{day}", Resource::View(Page::Delays))?;
-    add(&mut routes, "/route/{unit}/{day}/{stops}", Resource::View(Page::Route))?;
-    add(&mut routes, "/percent/{unit}/{quarter}/{day}", Resource::View(Page::Percent))?;
-    add(&mut routes, "/report/{unit}/{half}/{day}", Resource::View(Page::Report))?;
+    add(
+        &mut routes,
+        "/tags/{unit}/{day}",
+        Resource::View(Page::Tags),
+    )?;
+    add(
+        &mut routes,
+        "/delays/{unit}/{day}",
+        Resource::View(Page::Delays),
+    )?;
+    add(
+        &mut routes,
+        "/route/{unit}/{day}/{stops}",
+        Resource::View(Page::Route),
+    )?;
+    add(
+        &mut routes,
+        "/percent/{unit}/{quarter}/{day}",
+        Resource::View(Page::Percent),
+    )?;
+    add(
+        &mut routes,
+        "/report/{unit}/{half}/{day}",
+        Resource::View(Page::Report),
+    )?;
     Ok(routes)
 }
 

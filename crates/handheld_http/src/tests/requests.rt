@@ -63,7 +63,10 @@ fn views_are_asked(rt: HostRuntime) -> Result<(), Fail> {
         (b"GET /due/1/2024-02-20", ("due", 1, 0, 19_773)),
         (b"GET /tags/0/2008-01-01", ("tags", 0, 0, 13_879)),
         (b"GET /delays/255/2099-12-31", ("delays", 255, 0, 47_481)),
-        (b"GET /route/1/2024-02-20/65535", ("route", 1, 65_535, 19_773)),
+        (
+            b"GET /route/1/2024-02-20/65535",
+            ("route", 1, 65_535, 19_773),
+        ),
         (b"GET /route/1/2024-02-20/0", ("route", 1, 0, 19_773)),
         (b"GET /percent/1/16/2024-03-31", ("percent", 1, 16, 19_813)),
         (b"GET /report/1/8/2024-03-31", ("report", 1, 8, 19_813)),
@@ -141,7 +144,10 @@ fn batches_are_asked(rt: HostRuntime) -> Result<(), Fail> {
     assert_eq!(rt; told(alloc, &SYNC[at..])?, ("percent", 1, 16, 19_813));
     let short = b"POST /sync HTTP/1.1\r\nContent-Length: 1\r\n\r\n{}";
     assert_eq!(rt; told(alloc, short)?, ("bad batch", 0, 0, 0));
-    assert_eq!(rt; told_of(alloc, b"POST /sync?a=/due/1")?, ("bad batch", 0, 0, 0));
+    assert_eq!(rt;
+        told_of(alloc, b"POST /sync?a=/due/1")?,
+        ("bad batch", 0, 0, 0)
+    );
     Ok(())
 }
 
