@@ -5,3 +5,6 @@ pub mod MemberLemmas
 pub mod KindLemmas
 pub mod RequestLemmas
 pub mod MeaningLaws
+pub mod FoundRoutes
+pub mod WalkLemmas
+pub mod RouteLaws

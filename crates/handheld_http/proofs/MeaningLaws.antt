@@ -27,16 +27,19 @@ one_batch body None (Some other) none says = absurd (none other says)
 one_batch body (Some batch) None says none = absurd (none batch says)
 one_batch body (Some batch) (Some other) says says_too = sym says.says ∙ says_too.says
 
+-- the intake asks one thing
 one_sync : (posted : Bool) (body : List ℕ) (asked other : Asked) → SyncAsks posted body asked → SyncAsks posted body other → asked ≡ other
 one_sync false body asked other is is_too = is ∙ sym is_too
 one_sync true body asked other (batch, says, is) (same, says_too, is_too) =
     is ∙ ap asked_sync (one_batch body batch same says says_too) ∙ sym is_too
 
+-- .. and a view
 one_view : (got : Bool) (page : Page) (path : List ℕ) (asked other : Asked) → ViewAsks got page path asked → ViewAsks got page path other
     → asked ≡ other
 one_view false page path asked other is is_too = is ∙ sym is_too
 one_view true page path asked other is is_too = is ∙ sym is_too
 
+-- .. and whatever a path names
 one_asked : (resource : Option Resource) (method path body : List ℕ) (asked other : Asked) → ResourceAsks resource method path body asked
     → ResourceAsks resource method path body other → asked ≡ other
 one_asked None method path body asked other is is_too = is ∙ sym is_too
@@ -69,10 +72,12 @@ says_something body false e = (None, λ batch is. absurd (not_both (sym e ∙ is
     not_both : false ≡ true → ⊥
     not_both e = absurd cc
 
+-- the intake asks something
 sync_asks : (posted : Bool) (body : List ℕ) → (asked : Asked) × SyncAsks posted body asked
 sync_asks false body = (Not (NoMethod true), refl)
 sync_asks true body = let said = says_something body (is_utf8 body) refl in (asked_sync said.0, (said.0, said.1, refl))
 
+-- .. and a view
 view_asks : (got : Bool) (page : Page) (path : List ℕ) → (asked : Asked) × ViewAsks got page path asked
 view_asks false page path = (Not (NoMethod false), refl)
 view_asks true page path = (asked_view (view_of page (parts_of path)), refl)

@@ -8,3 +8,4 @@ pub mod FactJson
 pub mod BatchJson
 pub mod Routes
 pub mod Requests
+pub mod RouteLaws

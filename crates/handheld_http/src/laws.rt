@@ -2,6 +2,7 @@
 
 ghost use Rattle.handheld_http.specs.Items.{OneCut, NoProperFront, ItemsAreInRange, HeadStays, HeadTellsCut, RefusalStays, WholeIsItem, MoreIsNone, RefusedIsNone, ItemIsCut};
 ghost use Rattle.handheld_http.specs.Requests.{ItemsMean, OneMeaning};
+ghost use Rattle.handheld_http.specs.RouteLaws.{PartsAreParameters};
 
 /// Some bytes are cut in one way.
 pub fn one_cut()
@@ -61,4 +62,9 @@ pub fn one_meaning()
 /// Each request asks something, and nothing else does.
 pub fn items_mean()
     ensures { ItemsMean }
+{}
+
+/// The parts of a path of a view are what the parameters of its route take.
+pub fn parts_are_parameters()
+    ensures { PartsAreParameters }
 {}
