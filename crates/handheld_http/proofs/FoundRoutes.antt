@@ -1,10 +1,12 @@
 -- What the route takes of a path that `matchit` finds: it is one of the rows, and its tokens take the path.
-use Rattle.std.proofs.Common.{◌≡◌, ℕ, zero, suc, ◌+◌, ◌-◌, ◌<◌, ◌≤◌, ◌⊎◌, inl, inr, Bool, true, false, cond, ◌&&◌, ◌==◌, ltb, List, [], ◌∷◌, ◌++◌, length, take, drop, Option, Some, None, sym, ap, ap₂, subst, ◌∙◌, refl, arith}
+use Rattle.std.proofs.Common.{◌≡◌, ℕ, zero, suc, ◌+◌, ◌-◌, ◌<◌, ◌≤◌, ◌⊎◌, inl, inr, Bool, true, false, cond, ◌&&◌, ◌==◌, ltb, List, [], ◌∷◌, ◌++◌, length}
+use Rattle.std.proofs.Common.{take, drop, Option, Some, None, sym, ap, ap₂, subst, ◌∙◌, refl, arith}
 use Rattle.std.specs.List.{ends_with}
 use Rattle.std.proofs.lemmas.List.{take-append-drop, take_all}
 use Rattle.std.proofs.lemmas.Bool.{ltb-true, eqb-true}
 use Rattle.matchit.specs.Rows.{RowsOf, param_token, catch_all_token}
-use Rattle.matchit.specs.Seek.{seek, own, step, or_else, segment, has_slash, slash, same_text, cuts, better, longest_from, longest_suffix, with_suffix, param_step}
+use Rattle.matchit.specs.Seek.{seek, own, step, or_else, segment, has_slash, slash, same_text, cuts, better, longest_from, longest_suffix, with_suffix}
+use Rattle.matchit.specs.Seek.{param_step}
 use Rattle.matchit.proofs.ConflictLemmas.{and-cases}
 use Rattle.matchit.proofs.CountLemmas.{some-segment}
 
@@ -151,13 +153,16 @@ module _ {K : Type 0} where
       record {
         tokens = param_token ∷ found.tokens;
         stands = step_stands param_token rows found.tokens key is.stands;
-        takes = inr (inl (refl, (
-          take n (b ∷ path),
-          drop n (b ∷ path),
-          sym (take-append-drop n (b ∷ path)),
-          is.plain,
-          subst (λ (l : List ℕ). Takes found.tokens l) rest found.takes,
-        )));
+        takes = inr (inl (
+          refl,
+          (
+            take n (b ∷ path),
+            drop n (b ∷ path),
+            sym (take-append-drop n (b ∷ path)),
+            is.plain,
+            subst (λ (l : List ℕ). Takes found.tokens l) rest found.takes,
+          ),
+        ));
       }
 
   -- found by what takes all that is left
