@@ -4,22 +4,27 @@ use std::alloc::Global;
 use std::test::Fail;
 
 /// The meaning of a request, as a word and three numbers.
-type Told = (&'static str, u16, u16, u32);
+type Told = (&'static str, u16, u32, u32);
 
 fn told_request(request: &Request) -> Told {
     match request {
         Request::Sync(batch) => (
             "sync",
             batch.handheld,
-            batch.number as u16,
+            batch.number,
             batch.facts.as_slice().len() as u32,
         ),
         Request::Due { unit, day } => ("due", *unit, 0, day.number()),
         Request::Tags { unit, day } => ("tags", *unit, 0, day.number()),
         Request::Delays { unit, day } => ("delays", *unit, 0, day.number()),
-        Request::Route { unit, day, stops } => ("route", *unit, *stops, day.number()),
-        Request::Percent { unit, quarter, day } => ("percent", *unit, *quarter, day.number()),
-        Request::Report { unit, half, day } => ("report", *unit, *half, day.number()),
+        Request::Route { unit, day, stops } => ("route", *unit, u32::from(*stops), day.number()),
+        Request::Percent { unit, quarter, day } => (
+            "percent",
+            *unit,
+            u32::from(*quarter),
+            day.number(),
+        ),
+        Request::Report { unit, half, day } => ("report", *unit, u32::from(*half), day.number()),
     }
 }
 
