@@ -2,5 +2,7 @@ pub mod AdoptLemmas
 pub mod HeaderLemmas
 pub mod KeyLemmas
 pub mod PlaceLemmas
+pub mod ReadLemmas
 pub mod SoundLemmas
 pub mod TakingLemmas
+pub mod UnitLemmas

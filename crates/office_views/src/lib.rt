@@ -2,9 +2,19 @@
 #![tactic(auto)]
 
 mod comparing;
+mod entered;
 mod header;
+mod instruments;
+mod judged;
+mod known;
+mod lists;
+mod reading;
+mod register_on;
+mod sheets;
 mod shown;
+mod tags;
 mod taking;
+mod unit_lists;
 mod views;
 
 pub use shown::{AskError, Shown};

@@ -1,0 +1,66 @@
+ghost use Rattle.std.specs.Prelude.{◌≡◌, ◌++◌, IfOk, OnOk};
+ghost use Rattle.std.specs.Option.{option_to_list};
+ghost use Rattle.ldar_law.specs.Equipment as law;
+
+use ldar_days::Day;
+use ldar_facts::{Class, Fact, FactBody, Key, Memory};
+use ldar_law::Stop;
+use std::alloc::Global;
+
+/// Adds an element, if there is one.
+pub fn add<T: Copy + Drop>(items: &mut Vec<T>, item: &Option<T>) -> Result<(), Memory>
+    ensures put { OnOk result (items.new.items ≡ items.old.items ++ option_to_list item.now) }
+{
+    if let Some(item) = item {
+        items.push(*item)?;
+    }
+    Ok(())
+}
+
+/// The class that a fact enters for a component, with its key.
+fn class_at(number: u16, e: &(Key, Fact)) -> Option<(Key, Class)>
+    ensures value { result ≡ law.class_at number e.now }
+{
+    match e.1.body {
+        FactBody::Class { component, class } => { if component == number { Some((e.0, class)) } else { None } }
+        _ => None,
+    }
+}
+
+/// The classes that some facts enter for a component, in their order.
+pub fn classes_of(alloc: Global, number: u16, facts: &[(Key, Fact)]) -> Result<Vec<(Key, Class)>, Memory>
+    ensures value { IfOk result (λ classes. classes.items ≡ law.classes_of number facts.now) }
+{
+    let mut classes = Vec::new(alloc);
+    for e in facts {
+        add(&mut classes, &class_at(number, e))?;
+    }
+    Ok(classes)
+}
+
+/// The shutdown of a process unit that a fact of a day enters.
+fn stop_entered(number: u8, day: Day, fact: &Fact) -> Option<Stop>
+    ensures value { result ≡ law.stop_entered number day fact.now.body }
+{
+    match fact.body {
+        FactBody::Shutdown { unit, days } => {
+            if unit == number {
+                Some(Stop { first: day, last: day.plus_days(u32::from(days) - 1) })
+            } else {
+                None
+            }
+        }
+        _ => None,
+    }
+}
+
+/// The shutdowns of a process unit that some facts enter, in their order.
+pub fn stops_of(alloc: Global, number: u8, facts: &[(Key, Fact)]) -> Result<Vec<Stop>, Memory>
+    ensures value { IfOk result (λ stops. stops.items ≡ law.stops_of number facts.now) }
+{
+    let mut stops = Vec::new(alloc);
+    for e in facts {
+        add(&mut stops, &stop_entered(number, e.0.day, &e.1))?;
+    }
+    Ok(stops)
+}
