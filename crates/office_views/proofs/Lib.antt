@@ -4,5 +4,6 @@ pub mod KeyLemmas
 pub mod PlaceLemmas
 pub mod ReadLemmas
 pub mod SoundLemmas
+pub mod TagLemmas
 pub mod TakingLemmas
 pub mod UnitLemmas

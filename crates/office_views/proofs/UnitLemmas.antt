@@ -1,22 +1,24 @@
 -- What the register and the lists of a store say of a process unit on a day.
-use Rattle.std.proofs.Common.{◌≡◌, ℕ, Some, None, false, cond, nat_le, inl, inr, arith, option_map, option_and_then, List, [], ◌∷◌, ◌++◌, length, take, filter, map, get_or, ◌<◌, ◌+◌, refl, sym, ap, ◌∙◌, subst}
+use Rattle.std.proofs.Common.{◌≡◌, ℕ, Some, None, false, cond, nat_le, inl, inr, arith, option_map, option_and_then, List, [], ◌∷◌, ◌++◌, length, take, filter, map, get_or, ◌<◌, ◌≤◌, ◌+◌, Contains, refl, sym, ap, ◌∙◌, subst}
 use Rattle.std.specs.List.{AllByRecursion, filter_map}
 use Rattle.std.proofs.lemmas.Bool.{cases_Bool}
 use Rattle.std.proofs.lemmas.Option.{cases_Option}
 use Rattle.std.specs.Option.{option_to_list}
-use Rattle.std.proofs.lemmas.List.{take_more, append-nil, map-append}
+use Rattle.std.proofs.lemmas.List.{take_more, take_all, append-nil, map-append}
 use Rattle.std.proofs.lemmas.List.Concat.{flat_map-append}
 use Rattle.std.proofs.lemmas.List.Elements.{filter-append, filter_map-append}
 use Rattle.list_words.specs.Order.{Ascends}
 use Rattle.list_words.proofs.WordLemmas.{cons_option_is}
 use Rattle.ldar_facts.specs.Facts.{Entry, goes_first}
-use Rattle.history_laws.specs.DayLaws.{up_to, if_begun, if_started}
+use Rattle.history_laws.specs.DayLaws.{up_to, item_on, if_begun, if_started}
 use Rattle.history_laws.specs.RulyLaws.{IsEachOnce}
 use Rattle.history_laws.specs.RangeLaws.{IsInRange}
+use Rattle.history_laws.proofs.MemberLemmas.{members_stand_in_unit}
 use Rattle.history_laws.proofs.RangeLemmas.{startups_are_days}
 use Rattle.history_laws.proofs.RegisterUpTo.{components_up_to_a_day, components_are_of_all_members, units_up_to_a_day}
 use Rattle.history_laws.proofs.UpTo.{ascending_are_in_order}
 use Rattle.ldar_law.specs.declared.delay.DelayLine.{DelayLine}
+use Rattle.ldar_law.specs.declared.equipment.Equipment.{Equipment}
 use Rattle.ldar_law.specs.declared.sheet.Sheet.{Sheet}
 use Rattle.ldar_law.specs.declared.tag.Tag.{Tag}
 use Rattle.ldar_law.specs.Equipment.{equipment_of, members_of, unit_entry_of}
@@ -40,12 +42,42 @@ component_is day number facts entries up is =
 pub members_are : (unit : ℕ) (facts entries : List Entry) → entries ≡ register_facts facts → members_of unit entries ≡ members_of unit facts
 members_are unit facts entries is = ap (members_of unit) is ∙ (register_facts_suffice unit facts).1.members
 
+-- a component that has begun stands in the process unit in which it was entered
+begun_unit : (day : ℕ) (entered item : Equipment) → if_begun day entered ≡ Some item → item.unit ≡ entered.unit
+begun_unit day entered item is =
+    elim (cases_Bool (nat_le entered.begin day)) [
+      | inl come ↦
+          let known : Some (item_on day entered) ≡ Some item = rw come at is in
+          let same : item_on day entered ≡ item = cc in
+          sym (ap (λ i. i.unit) same)
+      | inr not_come ↦
+          let none : None ≡ Some item = rw not_come at is in
+          absurd cc
+    ]
+
+-- a member that has begun stands in its process unit
+pub unit_of_member : (day unit number : ℕ) (facts entries : List Entry) (item : Equipment) → AreKept facts entries
+    → Contains (members_of unit facts) number → Some item ≡ option_and_then (if_begun day) (equipment_of number entries) → item.unit ≡ unit
+unit_of_member day unit number facts entries item kept held is =
+    let stands = members_stand_in_unit facts unit number kept.once held in
+    let there : equipment_of number entries ≡ Some stands.0 =
+        ap (equipment_of number) kept.register ∙ (register_facts_suffice number facts).0.equipment ∙ stands.1 in
+    begun_unit day stands.0 item (sym (is ∙ ap (option_and_then (if_begun day)) there)) ∙ stands.3
+
 -- the components of a unit on a day are found among these
 pub components_are : (day unit : ℕ) (facts entries : List Entry) → Ascends goes_first facts → IsEachOnce facts → entries ≡ register_facts facts
     → components_of unit (up_to day facts) ≡ known_among (up_to day facts) (members_of unit entries)
 components_are day unit facts entries up once is =
     components_are_of_all_members day unit facts (ascending_are_in_order facts up) once
     ∙ ap (known_among (up_to day facts)) (sym (members_are unit facts entries is))
+
+-- .. when all members are looked at
+pub all_listed : {X : Type 0} (f : List Known → X) (day unit i : ℕ) (facts entries : List Entry) (numbers : List ℕ) (x : X)
+    → Ascends goes_first facts → AreKept facts entries → numbers ≡ members_of unit entries → length numbers ≤ i
+    → x ≡ f (known_among (up_to day facts) (take i numbers)) → x ≡ f (components_of unit (up_to day facts))
+all_listed f day unit i facts entries numbers x up kept are end is =
+    is ∙ ap (λ ns. f (known_among (up_to day facts) ns)) (take_all i numbers end ∙ are)
+    ∙ sym (ap f (components_are day unit facts entries up kept.once kept.register))
 
 -- ---- with one more member
 

@@ -1,4 +1,5 @@
 pub mod Answers
+pub mod Ascending
 pub mod Headers
 pub mod Held
 pub mod Inside

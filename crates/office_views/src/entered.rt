@@ -1,5 +1,6 @@
-ghost use Rattle.std.specs.Prelude.{◌≡◌, ◌++◌, IfOk, OnOk};
+ghost use Rattle.std.specs.Prelude.{◌≡◌, ◌+◌, ◌-◌, ◌++◌, IfOk, OnOk};
 ghost use Rattle.std.specs.Option.{option_to_list};
+ghost use Rattle.ldar_days.specs.Calendar.{end_by};
 ghost use Rattle.ldar_law.specs.Equipment as law;
 
 use ldar_days::Day;
@@ -28,6 +29,7 @@ fn class_at(number: u16, e: &(Key, Fact)) -> Option<(Key, Class)>
 }
 
 /// The classes that some facts enter for a component, in their order.
+#[tactic(auto, using(semiannual_report::proofs::PushedLemmas::given_pushed))]
 pub fn classes_of(alloc: Global, number: u16, facts: &[(Key, Fact)]) -> Result<Vec<(Key, Class)>, Memory>
     ensures value { IfOk result (λ classes. classes.items ≡ law.classes_of number facts.now) }
 {
@@ -38,6 +40,17 @@ pub fn classes_of(alloc: Global, number: u16, facts: &[(Key, Fact)]) -> Result<V
     Ok(classes)
 }
 
+/// The shutdown that begins on a day and lasts so many days.
+fn stop_from(first: Day, days: u16) -> Stop
+    ensures value { result ≡ record { first = first; last = end_by (first + days - 1) } }
+{
+    let end = first.number() + u32::from(days);
+    Stop {
+        first,
+        last: Day::at(0).plus_days(end.saturating_sub(1)),
+    }
+}
+
 /// The shutdown of a process unit that a fact of a day enters.
 fn stop_entered(number: u8, day: Day, fact: &Fact) -> Option<Stop>
     ensures value { result ≡ law.stop_entered number day fact.now.body }
@@ -45,7 +58,7 @@ fn stop_entered(number: u8, day: Day, fact: &Fact) -> Option<Stop>
     match fact.body {
         FactBody::Shutdown { unit, days } => {
             if unit == number {
-                Some(Stop { first: day, last: day.plus_days(u32::from(days) - 1) })
+                Some(stop_from(day, days))
             } else {
                 None
             }
@@ -55,6 +68,7 @@ fn stop_entered(number: u8, day: Day, fact: &Fact) -> Option<Stop>
 }
 
 /// The shutdowns of a process unit that some facts enter, in their order.
+#[tactic(auto, using(semiannual_report::proofs::PushedLemmas::given_pushed))]
 pub fn stops_of(alloc: Global, number: u8, facts: &[(Key, Fact)]) -> Result<Vec<Stop>, Memory>
     ensures value { IfOk result (λ stops. stops.items ≡ law.stops_of number facts.now) }
 {

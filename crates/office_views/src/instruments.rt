@@ -1,6 +1,7 @@
-ghost use Rattle.std.specs.Prelude.{◌≡◌, Some, IfOk, OnOk};
+ghost use Rattle.std.specs.Prelude.{◌≡◌, List, Some, IfOk, OnOk};
 ghost use Rattle.std.specs.BTreeMap.{get};
 ghost use Rattle.std.specs.Ordering.{nat_cmp};
+ghost use Rattle.ldar_facts.specs.Facts.{Entry};
 ghost use Rattle.ldar_facts.specs.Named as named;
 ghost use Rattle.method21_reading.specs.Readings.{fitness_by};
 ghost use Rattle.office_views.specs.Lists.{AreReady, facts_by};
@@ -10,11 +11,19 @@ use fact_store::Steps;
 use ldar_facts::{Fact, Key, Memory};
 use ldar_law::Fitness;
 use method21_reading::Instrument;
+use std::alloc::Global;
 use std::collections::BTreeMap;
 use std::sync::ledger::Ledger;
 
 /// The instruments with which readings were taken, each made ready when it is first asked.
 pub type Instruments = BTreeMap<u16, Instrument>;
+
+/// No instrument is ready.
+pub fn none_ready(alloc: Global) -> Instruments
+    ensures ready { (facts : List Entry) → AreReady (λ n. get nat_cmp result n) facts }
+{
+    BTreeMap::new(alloc)
+}
 
 /// Whether a reading with an instrument may be used, judged by a leak definition in parts per million by volume.
 pub fn fitness_of<L: Ledger>(

@@ -1,6 +1,7 @@
 ghost use Rattle.list_words.specs.Order.{Ascends};
 ghost use Rattle.ldar_facts.specs.Facts.{goes_first};
 ghost use Rattle.fact_store.specs.Kept.{facts_in};
+ghost use Rattle.office_views.specs.Ascending.{Ascends-prop};
 
 use fact_store::FactStore;
 use ldar_days::Day;
@@ -12,5 +13,5 @@ pub struct Lists<'a> {
     pub alloc: Global,
     pub store: &'a FactStore,
     pub day: Day,
-    ghost ordered: { Ascends goes_first (facts_in store.now) },
+    ghost ordered: { Ascends goes_first (facts_in store.now) } by { Ascends-prop goes_first (facts_in store.now) },
 }

@@ -9,6 +9,7 @@ ghost use Rattle.ldar_law.specs.Units as law;
 ghost use Rattle.office_views.specs.Known.{in_law};
 ghost use Rattle.office_views.specs.Lists.{AreKept, facts_by};
 
+use crate::instruments::none_ready;
 use crate::known::Known;
 use crate::lists::Lists;
 use crate::unit_lists::{known_at, stops_on};
@@ -18,7 +19,6 @@ use ldar_days::Month;
 use ldar_facts::Memory;
 use ldar_law::{Event, Items, Sheet, UnitEntry};
 use std::alloc::Global;
-use std::collections::BTreeMap;
 use std::sync::ledger::Ledger;
 
 /// The months of the leaks among some events.
@@ -69,7 +69,7 @@ pub fn sheets_of_unit<L: Ledger>(
     ensures value { IfOk result (λ sheets. sheets.items ≡ map shown.sheet_of (law.components_of unit.now.unit (facts_by lists.now))) }
 {
     let stops = stops_on(lists, unit.unit, steps)?;
-    let mut ready = BTreeMap::new(lists.alloc);
+    let mut ready = none_ready(lists.alloc);
     let mut sheets = Vec::new(lists.alloc);
     for number in register.members(unit.unit) {
         let known = known_at(&mut ready, lists, register, unit.unit, *number, &stops, steps)?;

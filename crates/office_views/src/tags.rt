@@ -23,6 +23,7 @@ fn delay_entry(e: &Event) -> Option<DelayEntry>
 }
 
 /// The delays among some events, in order.
+#[tactic(auto, using(semiannual_report::proofs::PushedLemmas::given_pushed))]
 fn delays_among(alloc: Global, events: &[Event]) -> Result<Vec<DelayEntry>, Memory>
     ensures value { IfOk result (λ delays. delays.items ≡ filter_map law.delay_entry events.now) }
 {
@@ -70,6 +71,7 @@ fn delay_at(delays: &[DelayEntry], place: Option<usize>) -> Option<DelayEntry>
 }
 
 /// A tag with its due days, by the delays of its own, the component's attempts and its process unit's shutdowns.
+#[tactic(auto, unfolding(ldar_law::specs::Tags::tag_of))]
 fn tag_of(component: u16, span: &Span, delays: &[DelayEntry], attempts: &[Day], stops: &[Stop]) -> Tag
     ensures value { (events : List SomeEvent) → attempts.now ≡ law.attempt_days events → delays.now ≡ law.delays_of span.now events
         → result ≡ law.tag_of component events stops.now span.now }

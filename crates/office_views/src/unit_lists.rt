@@ -10,7 +10,7 @@ ghost use Rattle.office_views.specs.Known.{in_law, IsOrdered};
 ghost use Rattle.office_views.specs.Lists.{AreKept, AreReady, facts_by};
 
 use crate::entered::{add, stops_of};
-use crate::instruments::Instruments;
+use crate::instruments::{Instruments, none_ready};
 use crate::known::{Known, known_of};
 use crate::lists::Lists;
 use crate::register_on::component_on;
@@ -19,7 +19,6 @@ use fact_store::Steps;
 use ldar_days::Day;
 use ldar_facts::Memory;
 use ldar_law::{DelayLine, Stop, Tag, UnitEntry};
-use std::collections::BTreeMap;
 use std::sync::ledger::Ledger;
 
 /// What is known on the day of a component of a process unit, with the unit's shutdowns, if it has begun.
@@ -88,7 +87,7 @@ pub fn tags_of_unit<L: Ledger>(
     ensures value { IfOk result (λ tags. tags.items ≡ law.tags_of_unit unit.now lists.now.day (facts_by lists.now)) }
 {
     let stops = stops_on(lists, unit.unit, steps)?;
-    let mut ready = BTreeMap::new(lists.alloc);
+    let mut ready = none_ready(lists.alloc);
     let mut tags = Vec::new(lists.alloc);
     for number in register.members(unit.unit) {
         let known = known_at(&mut ready, lists, register, unit.unit, *number, &stops, steps)?;
@@ -111,6 +110,7 @@ fn line_on_open(tag: &Tag) -> Option<DelayLine>
 }
 
 /// Adds the lines on those of some tags that are open and whose repair is delayed.
+#[tactic(auto, using(semiannual_report::proofs::PushedLemmas::given_pushed))]
 fn add_lines_on(lines: &mut Vec<DelayLine>, tags: &[Tag]) -> Result<(), Memory>
     ensures put { OnOk result (lines.new.items ≡ lines.old.items ++ shown.delay_lines tags.now) }
 {
@@ -141,7 +141,7 @@ pub fn delays_of_unit<L: Ledger>(
     ensures value { IfOk result (λ lines. lines.items ≡ law.delays_of_unit unit.now (facts_by lists.now)) }
 {
     let stops = stops_on(lists, unit.unit, steps)?;
-    let mut ready = BTreeMap::new(lists.alloc);
+    let mut ready = none_ready(lists.alloc);
     let mut lines = Vec::new(lists.alloc);
     for number in register.members(unit.unit) {
         let known = known_at(&mut ready, lists, register, unit.unit, *number, &stops, steps)?;
