@@ -6,3 +6,4 @@ pub mod Inside
 pub mod Known
 pub mod Lists
 pub mod Taking
+pub mod Tallied

@@ -1,7 +1,10 @@
 //! The views over all adopted batches: what the office shows of a process unit, as known on a day.
 #![tactic(auto)]
 
+mod answers;
 mod comparing;
+mod components;
+mod due;
 mod entered;
 mod header;
 mod instruments;
@@ -14,6 +17,7 @@ mod sheets;
 mod shown;
 mod tags;
 mod taking;
+mod tallies;
 mod unit_lists;
 mod views;
 
