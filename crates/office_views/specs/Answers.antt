@@ -1,5 +1,5 @@
 -- What the views answer: a text or what there is none of, and a report.
-use Rattle.std.specs.Prelude.{◌≡◌, ℕ, if◌then◌else◌, Some, None, Result, Ok, Err, List}
+use Rattle.std.specs.Prelude.{◌≡◌, ℕ, if◌then◌else◌, Option, Some, None, Result, Ok, Err, List}
 use Rattle.ldar_facts.specs.Facts.{Entry}
 use Rattle.ldar_law.specs.declared.reply.Reply.{Reply}
 use Rattle.ldar_law.specs.declared.reply.Reply.TheVariants as replies
@@ -39,3 +39,7 @@ report_asked unit half day facts = elim (unit_entry_of unit facts) [
 -- the reply shows a text
 abbrev pub IsText : Reply → Type 0
 IsText reply = (text : List ℕ) × (reply ≡ replies.Shown text)
+
+-- .. there is one, and it shows a text
+abbrev pub IsTextOf : Option Reply → Type 0
+IsTextOf answer = (text : List ℕ) × (answer ≡ Some (replies.Shown text))

@@ -2,6 +2,7 @@
 #![tactic(auto)]
 
 mod answers;
+mod asking;
 mod comparing;
 mod components;
 mod due;
@@ -13,6 +14,9 @@ mod known;
 mod lists;
 mod reading;
 mod register_on;
+mod reporting;
+mod routes;
+mod shares;
 mod sheets;
 mod shown;
 mod tags;
