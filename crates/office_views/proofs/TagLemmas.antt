@@ -12,8 +12,9 @@ use Rattle.ldar_law.proofs.DelayLemmas.{counted_place_is_of_delay}
 
 -- the tag of a span, from its due day, the place of the delay that counts, and the delay there
 pub tag_is : (component : ℕ) (events : List Event) (stops : List Stop) (span : Span) (days : List ℕ) (delays : List DelayEntry)
-    (due : Until) (place : Option ℕ) (delay : Option DelayEntry) (closed : Option ℕ)
+    (attempt : ℕ) (due : Until) (place : Option ℕ) (delay : Option DelayEntry) (closed : Option ℕ)
     → days ≡ attempt_days events → delays ≡ delays_of span events
+    → attempt ≡ attempt_by span.detected.day
     → due ≡ repair_due span.detected.day days stops delays
     → place ≡ counted_place span.detected.day days stops delays
     → delay ≡ option_and_then (slice_get delays) place
@@ -21,7 +22,7 @@ pub tag_is : (component : ℕ) (events : List Event) (stops : List Stop) (span :
     → record {
         component = component;
         detected = span.detected.day;
-        attempt_due = attempt_by span.detected.day;
+        attempt_due = attempt;
         attempted = span.attempted;
         repair_due = due;
         closed = closed;
@@ -29,7 +30,7 @@ pub tag_is : (component : ℕ) (events : List Event) (stops : List Stop) (span :
         removable = span.removable;
       } ≡ tag_of component events stops span
 unfolding tag_of
-tag_is component events stops span days delays due place delay closed days_are delays_are due_is place_is delay_is closed_is =
+tag_is component events stops span days delays attempt due place delay closed days_are delays_are attempt_is due_is place_is delay_is closed_is =
     let counts : delay ≡ counted_delay span.detected.day days stops delays =
         delay_is ∙ ap (option_and_then (slice_get delays)) place_is ∙ counted_place_is_of_delay span.detected.day days stops delays in
     cc

@@ -1,4 +1,4 @@
-ghost use Rattle.std.specs.Prelude.{◌≡◌, List, IfOk, filter, filter_map, option_and_then, slice_get};
+ghost use Rattle.std.specs.Prelude.{◌≡◌, List, IfOk, filter, filter_map, option_and_then, option_map, slice_get};
 ghost use Rattle.ldar_law.specs.declared.event.Event.{Event as SomeEvent};
 ghost use Rattle.ldar_law.specs.Tags as law;
 
@@ -70,8 +70,17 @@ fn delay_at(delays: &[DelayEntry], place: Option<usize>) -> Option<DelayEntry>
     }
 }
 
+/// The day on which the tag of a span was closed, if it was.
+fn closed_on(span: &Span) -> Option<Day>
+    ensures value { result ≡ option_map (λ key. key.day) span.now.closed }
+{
+    match span.closed {
+        Some(key) => Some(key.day),
+        None => None,
+    }
+}
+
 /// A tag with its due days, by the delays of its own, the component's attempts and its process unit's shutdowns.
-#[tactic(auto, unfolding(ldar_law::specs::Tags::tag_of))]
 fn tag_of(component: u16, span: &Span, delays: &[DelayEntry], attempts: &[Day], stops: &[Stop]) -> Tag
     ensures value { (events : List SomeEvent) → attempts.now ≡ law.attempt_days events → delays.now ≡ law.delays_of span.now events
         → result ≡ law.tag_of component events stops.now span.now }
@@ -84,7 +93,7 @@ fn tag_of(component: u16, span: &Span, delays: &[DelayEntry], attempts: &[Day], 
         attempt_due: attempt_by(detected),
         attempted: span.attempted,
         repair_due: repair.due,
-        closed: span.closed.map(|key| key.day),
+        closed: closed_on(span),
         delay: delay_at(delays, repair.counted),
         removable: span.removable,
     }
