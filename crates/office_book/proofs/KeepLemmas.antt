@@ -1,10 +1,13 @@
 -- What one batch is answered.
 use Rattle.std.proofs.Common.{◌≡◌, ◌≢◌, ◌⊎◌, inl, inr, ℕ, ◌+◌, Bool, true, false, ◌&&◌, Option, Some, None, List, [], ◌∷◌, ◌++◌, length, refl, sym, ◌∙◌, ap, subst}
-use Rattle.std.specs.Prelude.{IsTrue, is_none, if◌then◌else◌}
+use Rattle.std.specs.Prelude.{IsTrue, is_none, if◌then◌else◌, Result, Ok, Err, is_err, OnErr}
+use Rattle.std.proofs.lemmas.Bool.{false≢true}
 use Rattle.std.proofs.lemmas.List.{append-nil}
 use Rattle.ldar_facts.specs.declared.batch.Batch.{Batch}
 use Rattle.ldar_facts.specs.Identity.{identity_of, position_of}
 use Rattle.ldar_journal.specs.Image.{IsKept}
+use Rattle.ldar_law.specs.declared.reply.Reply.{Reply}
+use Rattle.ldar_law.specs.Replies.{HasRule}
 use Rattle.ldar_law.specs.declared.reply.Reply.TheVariants.{Receipt, Conflict, Denied, Full, Fault, Memory}
 use Rattle.ldar_law.specs.declared.request.Request.TheVariants.{Sync}
 use Rattle.ldar_law.specs.declared.verdict.Verdict.{Verdict}
@@ -14,7 +17,7 @@ use Rattle.ldar_law.specs.Verdicts.{is_pass, is_ruly, verdict_on}
 use Rattle.office_book.specs.declared.archive.Standing.TheVariants.{Kept, New}
 use Rattle.office_book.specs.declared.writing.Written.TheVariants as written
 use Rattle.office_book.specs.Archive.{IsStanding, MayCome}
-use Rattle.office_book.specs.Kept.{IsWritten}
+use Rattle.office_book.specs.Kept.{IsWritten, kept_reply}
 use Rattle.office_book.specs.Serving.{certain, uncertain, added, Serves}
 use Rattle.office_book.proofs.HistoryLemmas.{kept_more, ruly_more}
 
@@ -93,3 +96,22 @@ faulted faulty history batch next new passes wrote =
 pub wanted : (faulty : Type 0) (history : List Batch) (batch : Batch) (next : State) → IsNew history batch → verdict_on history batch ≡ Pass
     → IsWritten faulty history (batch ∷ []) written.Memory next → Serves faulty history (Sync batch ∷ []) (Memory ∷ []) next
 wanted faulty history batch next new passes stays = (inl (batch, adds_it history batch new passes), stays)
+
+-- ---- what is said to a kept batch, whatever its content
+
+pub kept_answer : (faulty : Type 0) (history : List Batch) (batch : Batch) (position : ℕ) (same : Bool) (reply : Reply) (next : State)
+    → IsStanding history batch (Kept position same) → reply ≡ kept_reply batch position same → next ≡ certain history
+    → Serves faulty history (Sync batch ∷ []) (reply ∷ []) next
+kept_answer faulty history batch position true reply next stands is stays =
+    subst (λ (r : Reply). Serves faulty history (Sync batch ∷ []) (r ∷ []) next) (sym is) (kept_same faulty history batch position next stands stays)
+kept_answer faulty history batch position false reply next stands is stays =
+    subst (λ (r : Reply). Serves faulty history (Sync batch ∷ []) (r ∷ []) next) (sym is) (kept_other faulty history batch position next stands stays)
+
+pub kept_ruled : (batch : Batch) (position : ℕ) (same : Bool) (reply : Reply) → reply ≡ kept_reply batch position same → HasRule reply
+kept_ruled batch position true reply is = subst (λ (r : Reply). HasRule r) (sym is) tt
+kept_ruled batch position false reply is = subst (λ (r : Reply). HasRule r) (sym is) tt
+
+-- a call that failed
+pub from_err : {T E : Type 0} (r : Result T E) {P : Type 0} → is_err r ≡ true → OnErr r P → P
+from_err (Ok v) err promised = absurd (false≢true err)
+from_err (Err e) err promised = promised

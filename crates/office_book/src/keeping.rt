@@ -1,16 +1,15 @@
-ghost use Rattle.std.specs.Prelude.{◌≡◌, ◌≤◌, [], ◌∷◌, length};
+ghost use Rattle.std.specs.Prelude.{◌≡◌, ◌≤◌, [], ◌∷◌};
 ghost use Rattle.disk_model.specs.Faults.{Rose};
-ghost use Rattle.ldar_journal.specs.Crash.{OnDisk};
 ghost use Rattle.ldar_journal.specs.Image.{batches_of};
 ghost use Rattle.ldar_law.specs.declared.request.Request.TheVariants as requests;
 ghost use Rattle.ldar_law.specs.declared.verdict.Verdict.TheVariants as verdicts;
 ghost use Rattle.ldar_law.specs.Machine.{Call, IsNew};
 ghost use Rattle.ldar_law.specs.Verdicts.{verdict_on};
-ghost use Rattle.office_book.specs.Archive.{IsStanding, MayCome};
+ghost use Rattle.office_book.specs.Archive.{IsStanding};
 ghost use Rattle.office_book.specs.Asking.{requests_of, replies_of, HasRule};
 ghost use Rattle.office_book.specs.Kept.{kept_reply};
 ghost use Rattle.office_book.specs.Moves.{Moves};
-ghost use Rattle.office_book.specs.Safe.{Leads, StandsIn, state_of};
+ghost use Rattle.office_book.specs.Safe.{Leads, state_of};
 ghost use Rattle.office_book.specs.Serving.{Serves};
 
 use crate::archive::Standing;
@@ -50,20 +49,33 @@ impl<D: Disk> Book<D> {
     {
         match self.standing(batch) {
             Standing::Kept { position, same } => reply_kept(batch, position, same),
-            Standing::New(Verdict::Denied { fact, rule }) => Reply::Denied { fact, rule },
-            Standing::New(Verdict::Full { facts }) => Reply::Full { facts },
-            Standing::New(Verdict::Pass) => self.add(alloc, batch),
+            Standing::New(verdict) => self.answer_new(alloc, batch, verdict),
         }
     }
 
     /// How a batch stands to those that are kept.
-    #[tactic(none)]
     fn standing(&self, batch: &Batch) -> Standing
         ensures value { IsStanding (batches_of self.now.frames) batch.now result }
-        ensures may_stay { MayCome (batches_of self.now.frames) [] }
-        ensures stands { OnDisk (D.content self.now.disk) (D.images self.now.disk) (StandsIn (state_of self.now)) }
     {
         self.archive.standing(batch)
+    }
+
+    /// Answers a batch that is new and has this verdict.
+    #[tactic(none)]
+    fn answer_new(&mut self, alloc: Global, batch: &Batch, verdict: Verdict) -> Reply
+        requires settled { self.old.doubt ≡ [] }
+        requires is_new { IsNew (batches_of self.old.frames) batch.now }
+        requires judged { verdict_on (batches_of self.old.frames) batch.now ≡ verdict }
+        ensures serves { Serves (Rose (D.faults self.old.disk) (D.faults self.new.disk)) (batches_of self.old.frames) (requests.Sync batch.now ∷ []) (result ∷ [])
+            (state_of self.new) }
+        ensures moves { Moves D.content D.images D.left D.clock D.name D.faults self.old self.new 1 }
+        ensures ruled { HasRule result }
+    {
+        match verdict {
+            Verdict::Denied { fact, rule } => Reply::Denied { fact, rule },
+            Verdict::Full { facts } => Reply::Full { facts },
+            Verdict::Pass => self.add(alloc, batch),
+        }
     }
 
     /// Writes a batch that is new and passes.
@@ -72,7 +84,6 @@ impl<D: Disk> Book<D> {
         requires settled { self.old.doubt ≡ [] }
         requires is_new { IsNew (batches_of self.old.frames) batch.now }
         requires passes { verdict_on (batches_of self.old.frames) batch.now ≡ verdicts.Pass }
-        requires may_stay { MayCome (batches_of self.old.frames) [] }
         ensures serves { Serves (Rose (D.faults self.old.disk) (D.faults self.new.disk)) (batches_of self.old.frames) (requests.Sync batch.now ∷ []) (result ∷ [])
             (state_of self.new) }
         ensures moves { Moves D.content D.images D.left D.clock D.name D.faults self.old self.new 1 }
