@@ -60,6 +60,12 @@ pub doubtful_state : {D : Type 0} (journal : Shelf D) (history doubt : List Batc
 doubtful_state journal history doubt same is =
     ap (λ (l : List Batch). uncertain l journal.doubt) same ∙ ap (λ (l : List Batch). uncertain history l) is
 
+-- .. and with a frame added
+pub added_state : {D : Type 0} (old new : Shelf D) (batches : List Batch) → new.frames ≡ old.frames ++ batches ∷ [] → new.doubt ≡ []
+    → state_of new ≡ certain (batches_of old.frames ++ batches)
+added_state old new batches frames none =
+    certain_state new (batches_of old.frames ++ batches) (ap batches_of frames ∙ batches_of-push old.frames batches) none
+
 module _ {D : Type 0} (content_of : D → Option (List ℕ)) (images_of : D → List ℕ → Type 0) where
   pub stands_on : (journal : Shelf D) → OnDisk (content_of journal.disk) (images_of journal.disk) (λ image. OpensAs image journal.frames journal.doubt)
       → OnDisk (content_of journal.disk) (images_of journal.disk) (StandsIn (state_of journal))
