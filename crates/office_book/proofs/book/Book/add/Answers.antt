@@ -1,4 +1,5 @@
 use Rattle.std.proofs.Common.{◌≡◌, [], ◌∷◌, ◌++◌, List, length, sym, ◌∙◌, ap, subst, arith, length-append}
+use Rattle.disk_model.specs.Faults.{Rose}
 use Rattle.ldar_facts.specs.declared.batch.Batch.{Batch}
 use Rattle.ldar_journal.specs.Image.{batches_of}
 use Rattle.office_book.specs.Archive.{MayCome}
@@ -32,8 +33,8 @@ pub returns-in-Stands-clause-serves : goal.returns-in-Stands-clause-serves
 returns-in-Stands-clause-serves g c =
     let history = batches_of c.args.self.now.frames in
     let new = state_of c.write.new.self in
-    let wrote = subst (λ (l : List Batch). IsWritten _ history l written.Stands new) c.from_ref.ensures.value c.in-Stands.ensures.value in
-    receipted _ history c.args.batch.now c.counts-position.result.0 new c.requires.is_new c.requires.passes
+    let wrote = subst (λ (l : List Batch). IsWritten (Unit {0}) history l written.Stands new) c.from_ref.ensures.value c.in-Stands.ensures.value in
+    receipted (Unit {0}) history c.args.batch.now c.counts-position.result.0 new c.requires.is_new c.requires.passes
     (c.counts-position.ensures.batches ∙ ap (λ s. length s.history) wrote ∙ length-append history (c.args.batch.now ∷ [])) wrote
 
 pub returns-in-Stands-clause-moves : goal.returns-in-Stands-clause-moves
@@ -46,8 +47,10 @@ pub returns-in-Fault-clause-serves : goal.returns-in-Fault-clause-serves
 returns-in-Fault-clause-serves g c =
     let history = batches_of c.args.self.now.frames in
     let new = state_of c.write.new.self in
-    faulted _ history c.args.batch.now new c.requires.is_new c.requires.passes
-    (subst (λ (l : List Batch). IsWritten _ history l written.Fault new) c.from_ref.ensures.value c.in-Fault.ensures.value)
+    let faults = g.D.Disk.faults in
+    let faulty = Rose (faults c.args.self.now.disk) (faults c.write.new.self.disk) in
+    faulted faulty history c.args.batch.now new c.requires.is_new c.requires.passes
+    (subst (λ (l : List Batch). IsWritten faulty history l written.Fault new) c.from_ref.ensures.value c.in-Fault.ensures.value)
 
 pub returns-in-Fault-clause-moves : goal.returns-in-Fault-clause-moves
 returns-in-Fault-clause-moves g c = c.write.ensures.moves
@@ -58,7 +61,7 @@ returns-in-Fault-clause-ruled g c = tt
 pub returns-in-Memory-clause-serves : goal.returns-in-Memory-clause-serves
 returns-in-Memory-clause-serves g c =
     let history = batches_of c.args.self.now.frames in
-    wanted _ history c.args.batch.now (state_of c.write.new.self) c.requires.is_new c.requires.passes c.in-Memory.ensures.value
+    wanted (Unit {0}) history c.args.batch.now (state_of c.write.new.self) c.requires.is_new c.requires.passes c.in-Memory.ensures.value
 
 pub returns-in-Memory-clause-moves : goal.returns-in-Memory-clause-moves
 returns-in-Memory-clause-moves g c = c.write.ensures.moves

@@ -19,7 +19,7 @@ add-requires-clause-passes g c = c.requires.judged ∙ c.in-Pass.is
 
 pub returns-in-Denied-clause-serves : goal.returns-in-Denied-clause-serves
 returns-in-Denied-clause-serves g c =
-    denied _ (batches_of c.args.self.now.frames) c.args.batch.now c.in-Denied.fact c.in-Denied.rule (state_of c.args.self.now)
+    denied (Unit {0}) (batches_of c.args.self.now.frames) c.args.batch.now c.in-Denied.fact c.in-Denied.rule (state_of c.args.self.now)
     (c.requires.is_new, c.requires.judged ∙ c.in-Denied.is) (certain_state c.args.self.now (batches_of c.args.self.now.frames) refl c.requires.settled)
 
 pub returns-in-Denied-clause-moves : goal.returns-in-Denied-clause-moves
@@ -34,7 +34,7 @@ returns-in-Denied-clause-ruled g c =
 
 pub returns-in-Full-clause-serves : goal.returns-in-Full-clause-serves
 returns-in-Full-clause-serves g c =
-    full _ (batches_of c.args.self.now.frames) c.args.batch.now c.in-Full.facts (state_of c.args.self.now)
+    full (Unit {0}) (batches_of c.args.self.now.frames) c.args.batch.now c.in-Full.facts (state_of c.args.self.now)
     (c.requires.is_new, c.requires.judged ∙ c.in-Full.is) (certain_state c.args.self.now (batches_of c.args.self.now.frames) refl c.requires.settled)
 
 pub returns-in-Full-clause-moves : goal.returns-in-Full-clause-moves
