@@ -1,0 +1,49 @@
+-- The records that a reader has yet to give.
+use Rattle.std.proofs.Common.{◌≡◌, ℕ, zero, suc, ◌+◌, true, false, List, [], ◌∷◌, length, Option, Some, None, refl, sym, ap, ◌∙◌, inr, Bor}
+use Rattle.std.specs.Option.{option_map}
+use Rattle.csv.specs.Reading.{Reached, ReadRecord, ReadsOn, Ready, default_config, names_headers, reader_config, reader_headers, reader_state, reader_trim, records_from, records_next, source_of, strip_bom}
+use Rattle.csv.specs.Machine.{next_record}
+use Rattle.csv.specs.declared.parser.State.TheVariants as st
+use Rattle.csv.specs.declared.reader.Trim.TheVariants as trim
+use Rattle.csv.proofs.ReadFacts.{rows-end, rows-more}
+use Rattle.register_import.specs.Records.{IsReading, TextReader, bytes_left, left_of, or_none, records_left, records_of}
+
+-- the bytes of a slice are known
+abbrev known : Bor (List ℕ) → Option (List ℕ)
+known text = Some text.now
+
+-- a record that was read is the next, and then come those that are left
+pub next_is : (old new : TextReader) (fields : List (List ℕ)) → IsReading old → ReadRecord known old new true fields → ReadsOn old new
+    → IsReading new × ((n : ℕ) → records_left (suc n) old ≡ fields ∷ records_left n new)
+unfolding Reached records_from
+next_is old new fields reading read on =
+    let bytes = bytes_left old in
+    let more = rows-more known old new fields default_config (reader_state old) bytes bytes [] reading.config reading.source (refl, refl) read in
+    let rest : bytes_left new ≡ more.0 = ap or_none more.1 in
+    let next = more.2.1 in (
+      record {
+        trim = on.1 ∙ reading.trim;
+        ready = (on.4 reading.ready).0;
+        config = on.0 ∙ reading.config;
+        source = more.1 ∙ ap Some (sym rest)
+      },
+      (λ n. rw (next, more.2.2, rest, ← more.2.3.0, ← more.2.3.1) refl),
+    )
+
+-- where no record was read, none is left
+pub none_left : (old new : TextReader) (fields : List (List ℕ)) (n : ℕ) → IsReading old → ReadRecord known old new false fields → records_left n old ≡ []
+unfolding records_from
+none_left old new fields zero reading read = refl
+none_left old new fields (suc n) reading read =
+    ap (records_next (records_from default_config n)) (rows-end known old new fields default_config (bytes_left old) reading.config reading.source read)
+
+-- a new reader has all records of the text left
+pub all_left : (reader : TextReader) (text : List ℕ) → reader_trim reader ≡ trim.None → names_headers reader ≡ false → reader_headers reader ≡ None
+    → reader_config reader ≡ default_config → reader_state reader ≡ st.StartRecord → left_of reader ≡ Some (strip_bom text)
+    → IsReading reader × (records_of text ≡ records_left (length text + 1) reader)
+unfolding records_of
+all_left reader text plain unnamed headless config start source =
+    let bytes : bytes_left reader ≡ strip_bom text = ap or_none source in (
+      record { trim = plain; ready = inr (inr (unnamed, headless)); config = config; source = source ∙ ap Some (sym bytes) },
+      rw (start, bytes) refl,
+    )
