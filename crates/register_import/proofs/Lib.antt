@@ -2,3 +2,5 @@ pub mod BatchLemmas
 pub mod RowLemmas
 pub mod SortLemmas
 pub mod RecordLemmas
+pub mod DigitLemmas
+pub mod MemberLemmas

@@ -1,5 +1,5 @@
 -- The records that a reader has yet to give.
-use Rattle.std.proofs.Common.{◌≡◌, ℕ, zero, suc, ◌+◌, true, false, List, [], ◌∷◌, length, Option, Some, None, refl, sym, ap, ◌∙◌, inr, Bor}
+use Rattle.std.proofs.Common.{◌≡◌, ℕ, zero, suc, true, false, List, [], ◌∷◌, length, Option, Some, None, refl, sym, ap, ◌∙◌, inr, Bor}
 use Rattle.std.specs.Option.{option_map}
 use Rattle.csv.specs.Reading.{Reached, ReadRecord, ReadsOn, Ready, default_config, names_headers, reader_config, reader_headers, reader_state, reader_trim, records_from, records_next, source_of, strip_bom}
 use Rattle.csv.specs.Machine.{next_record}
@@ -40,7 +40,7 @@ none_left old new fields (suc n) reading read =
 -- a new reader has all records of the text left
 pub all_left : (reader : TextReader) (text : List ℕ) → reader_trim reader ≡ trim.None → names_headers reader ≡ false → reader_headers reader ≡ None
     → reader_config reader ≡ default_config → reader_state reader ≡ st.StartRecord → left_of reader ≡ Some (strip_bom text)
-    → IsReading reader × (records_of text ≡ records_left (length text + 1) reader)
+    → IsReading reader × (records_of text ≡ records_left (suc (length text)) reader)
 unfolding records_of
 all_left reader text plain unnamed headless config start source =
     let bytes : bytes_left reader ≡ strip_bom text = ap or_none source in (

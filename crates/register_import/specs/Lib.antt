@@ -7,3 +7,4 @@ pub mod Components
 pub mod Members
 pub mod UnitRows
 pub mod Units
+pub mod Samples

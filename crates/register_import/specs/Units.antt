@@ -15,10 +15,16 @@ abbrev pub are_tables : Items → Bool
 are_tables no_items = true
 are_tables (item d items) = is_some (as_table d) && are_tables items
 
+abbrev pub has_element : Items → Bool
+has_element no_items = false
+has_element (item d items) = true
+
 -- there is an element, and each is a table
+abbrev pub are_some_tables : Items → Bool
+are_some_tables items = has_element items && are_tables items
+
 abbrev pub some_tables : Items → Option Items
-some_tables no_items = None
-some_tables (item d items) = if are_tables (item d items) then Some (item d items) else None
+some_tables items = if are_some_tables items then Some items else None
 
 -- the array at a key
 abbrev pub array_at : List ℕ → Members → Option Items

@@ -1,7 +1,7 @@
-ghost use Rattle.std.specs.Prelude.{◌≡◌, ◌≤◌, ◌+◌, ◌++◌, ◌∷◌, [], ℕ, IfOk, IfErr, OnOk, Ok, true, false, not, length, vec_len, filter};
+ghost use Rattle.std.specs.Prelude.{◌≡◌, ◌≤◌, ◌+◌, ◌++◌, ◌∷◌, [], ℕ, IfOk, IfErr, OnOk, Ok, not, suc, length, vec_len, filter};
 ghost use Rattle.csv.specs.Records.{fields_of};
 ghost use Rattle.register_import.specs.Rows.{TellsRow};
-ghost use Rattle.register_import.specs.Records.{IsReading, records_left};
+ghost use Rattle.register_import.specs.Records.{IsReading, records_left, records_of};
 ghost use Rattle.register_import.specs.ComponentRows as spec;
 ghost use Rattle.register_import.specs.Components as files;
 ghost use Rattle.register_import.specs.declared.limits.TheConstants.{LAST_NUMBER, LONGEST_TEXT};
@@ -34,19 +34,80 @@ fn component_facts(alloc: Global, text: &[u8]) -> Result<Vec<Fact>, ImportError>
     ensures bad { IfErr result (TellsRow (files.in_turn (files.component_rows text.now))) }
     ensures in_range { IfOk result (λ facts. vec_len facts ≤ length text.now) }
 {
-    let mut reader = ReaderBuilder::new()
-        .has_headers(false)
-        .flexible(true)
-        .from_reader(alloc, text);
+    let mut reader = reader_of(alloc, text);
     let mut row = ByteRecord::new(alloc);
-    if !next(&mut reader, &mut row)? || !is_header(&row) {
+    if !next(&mut reader, &mut row)? {
         return Err(ImportError::Row { at: 1 });
     }
-    let rows = rows_of(alloc, &mut reader, row, text.len())?;
-    if rows.others.is_empty() && rows.difficult.is_empty() {
+    if !is_header(&row) {
+        return Err(ImportError::Row { at: 1 });
+    }
+    facts_behind(alloc, &mut reader, row, text.len())
+}
+
+// A reader of the text. Records may have any length; that of a component is judged with its fields.
+fn reader_of(alloc: Global, text: &[u8]) -> Reader<&[u8]>
+    ensures reading { IsReading result }
+    ensures value { records_of text.now ≡ records_left (suc (length text.now)) result }
+{
+    ReaderBuilder::new()
+        .has_headers(false)
+        .flexible(true)
+        .from_reader(alloc, text)
+}
+
+// Reads the next record, and tells whether there was one.
+fn next(reader: &mut Reader<&[u8]>, row: &mut ByteRecord) -> Result<bool, Memory>
+    requires { IsReading reader.old }
+    ensures found { result ≡ Ok true → IsReading reader.new × ((n : ℕ) → records_left (suc n) reader.old ≡ fields_of row.new ∷ records_left n reader.new) }
+    ensures none { result ≡ Ok false → (n : ℕ) → records_left n reader.old ≡ [] }
+{
+    match reader.read_byte_record(row) {
+        Ok(found) => Ok(found),
+        Err(_) => Err(Memory),
+    }
+}
+
+// The facts of the records behind the first, so many at most, those that are difficult to monitor last.
+fn facts_behind(alloc: Global, reader: &mut Reader<&[u8]>, first: ByteRecord, most: usize) -> Result<Vec<Fact>, ImportError>
+    requires reading { IsReading reader.old }
+    requires in_range { most ≤ LONGEST_TEXT }
+    ensures value { IfOk result (λ facts. files.in_turn (files.some_rows (records_left most reader.old)) ≡ Ok facts.items) }
+    ensures bad { IfErr result (TellsRow (files.in_turn (files.some_rows (records_left most reader.old)))) }
+    ensures count { IfOk result (λ facts. vec_len facts ≤ most) }
+{
+    let facts = rows_of(alloc, reader, first, most)?.joined()?;
+    if facts.is_empty() {
         return Err(ImportError::Row { at: 2 });
     }
-    Ok(rows.joined()?)
+    Ok(facts)
+}
+
+// The facts of the rows from row 2 on, so many at most.
+fn rows_of(alloc: Global, reader: &mut Reader<&[u8]>, first: ByteRecord, most: usize) -> Result<Sorted, ImportError>
+    requires reading { IsReading reader.old }
+    requires in_range { most ≤ LONGEST_TEXT }
+    ensures value { IfOk result (λ rows. files.in_turn (files.rows_from 2 (records_left most reader.old)) ≡ Ok (rows.others.items ++ rows.difficult.items)) }
+    ensures bad { IfErr result (TellsRow (files.in_turn (files.rows_from 2 (records_left most reader.old)))) }
+    ensures count { IfOk result (λ rows. vec_len rows.others + vec_len rows.difficult ≤ most) }
+{
+    let mut row = first;
+    let mut rows = Sorted {
+        others: Vec::new(alloc),
+        difficult: Vec::new(alloc),
+    };
+    for turn in 0..most {
+        if !next(reader, &mut row)? {
+            return Ok(rows);
+        }
+        let Some(fact) = component_of(&row) else {
+            return Err(ImportError::Row {
+                at: turn as u32 + 2,
+            });
+        };
+        rows.push(fact)?;
+    }
+    Ok(rows)
 }
 
 // The facts of rows, in the order of the file.
@@ -78,38 +139,4 @@ impl Sorted {
         facts.extend_from_slice(&self.difficult)?;
         Ok(facts)
     }
-}
-
-// Reads the next record, and tells whether there was one.
-fn next(reader: &mut Reader<&[u8]>, row: &mut ByteRecord) -> Result<bool, Memory>
-    requires { IsReading reader.old }
-    ensures found { result ≡ Ok true → IsReading reader.new × ((n : ℕ) → records_left (n + 1) reader.old ≡ fields_of row.new ∷ records_left n reader.new) }
-    ensures none { result ≡ Ok false → (n : ℕ) → records_left n reader.old ≡ [] }
-{
-    match reader.read_byte_record(row) {
-        Ok(found) => Ok(found),
-        Err(_) => Err(Memory),
-    }
-}
-
-// The facts of the rows from row 2 on, so many at most.
-fn rows_of(alloc: Global, reader: &mut Reader<&[u8]>, first: ByteRecord, most: usize) -> Result<Sorted, ImportError>
-    requires reading { IsReading reader.old }
-    requires in_range { most ≤ LONGEST_TEXT }
-    ensures value { IfOk result (λ rows. files.in_turn (files.rows_from 2 (records_left most reader.old)) ≡ Ok (rows.others.items ++ rows.difficult.items)) }
-    ensures bad { IfErr result (TellsRow (files.in_turn (files.rows_from 2 (records_left most reader.old)))) }
-    ensures count { IfOk result (λ rows. vec_len rows.others + vec_len rows.difficult ≤ most) }
-{
-    let mut row = first;
-    let mut rows = Sorted { others: Vec::new(alloc), difficult: Vec::new(alloc) };
-    for turn in 0..most {
-        if !next(reader, &mut row)? {
-            return Ok(rows);
-        }
-        let Some(fact) = component_of(&row) else {
-            return Err(ImportError::Row { at: turn as u32 + 2 });
-        };
-        rows.push(fact)?;
-    }
-    Ok(rows)
 }

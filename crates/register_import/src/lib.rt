@@ -5,6 +5,7 @@ mod batches;
 mod component_row;
 mod components;
 mod error;
+pub mod examples;
 mod fields;
 mod limits;
 mod members;

@@ -1,9 +1,8 @@
-ghost use Rattle.std.specs.Prelude.{◌≡◌, ◌≤◌, IfOk, IfErr, Ok, length, vec_len, option_map};
+ghost use Rattle.std.specs.Prelude.{◌≡◌, ◌≤◌, IfOk, IfErr, Ok, is_some, length, vec_len, option_map};
 ghost use Rattle.std.specs.List.{list_all};
-ghost use Rattle.toml.specs.Data.{as_array, as_table, get_member};
+ghost use Rattle.toml.specs.Data.{as_table};
 ghost use Rattle.toml.specs.View.{items_view, table_view, view};
 ghost use Rattle.register_import.specs.Rows.{TellsRow};
-ghost use Rattle.register_import.specs.UnitRows as spec;
 ghost use Rattle.register_import.specs.Units as files;
 ghost use Rattle.register_import.specs.declared.limits.TheConstants.{LAST_NUMBER, LONGEST_TEXT};
 
@@ -59,15 +58,29 @@ fn elements_of(document: &Table) -> Option<&Vec<Value>>
         return None;
     }
     let elements = array_at(document, "unit")?;
-    if elements.is_empty() || !elements.iter().all(Value::is_table) {
+    if !are_some_tables(elements) {
         return None;
     }
     Some(elements)
 }
 
+// Whether there is an element, and each is a table.
+fn are_some_tables(elements: &Vec<Value>) -> bool
+    ensures { result ≡ files.are_some_tables (items_view elements.now.items) }
+{
+    !elements.is_empty() && all_tables(elements)
+}
+
+// Whether each element is a table.
+fn all_tables(elements: &Vec<Value>) -> bool
+    ensures { result ≡ list_all (λ v. is_some (as_table (view v))) elements.now.items }
+{
+    elements.iter().all(|element| element.is_table())
+}
+
 // The array at a key, if there is one.
 fn array_at<'a>(table: &'a Table, key: &str) -> Option<&'a Vec<Value>>
-    ensures value { option_map (λ v. items_view v.now.items) result ≡ files.array_at key.now (table_view table.now) }
+    ensures { option_map (λ v. items_view v.now.items) result ≡ files.array_at key.now (table_view table.now) }
 {
     match table.get(key) {
         Some(value) => value.as_array(),
