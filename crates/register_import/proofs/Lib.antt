@@ -4,3 +4,4 @@ pub mod SortLemmas
 pub mod RecordLemmas
 pub mod DigitLemmas
 pub mod MemberLemmas
+pub mod UnitLemmas

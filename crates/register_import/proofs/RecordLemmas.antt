@@ -1,8 +1,7 @@
 -- The records that a reader has yet to give.
 use Rattle.std.proofs.Common.{◌≡◌, ℕ, zero, suc, true, false, List, [], ◌∷◌, length, Option, Some, None, refl, sym, ap, ◌∙◌, inr, Bor}
-use Rattle.std.specs.Option.{option_map}
 use Rattle.csv.specs.Reading.{Reached, ReadRecord, ReadsOn, Ready, default_config, names_headers, reader_config, reader_headers, reader_state, reader_trim, records_from, records_next, source_of, strip_bom}
-use Rattle.csv.specs.Machine.{next_record}
+use Rattle.csv.specs.declared.parser.State.{State}
 use Rattle.csv.specs.declared.parser.State.TheVariants as st
 use Rattle.csv.specs.declared.reader.Trim.TheVariants as trim
 use Rattle.csv.proofs.ReadFacts.{rows-end, rows-more}
@@ -12,22 +11,34 @@ use Rattle.register_import.specs.Records.{IsReading, TextReader, bytes_left, lef
 abbrev known : Bor (List ℕ) → Option (List ℕ)
 known text = Some text.now
 
+-- no record takes a text to itself
+none_yet : (s : State) (bytes : List ℕ) → Reached default_config s bytes [] s bytes
+unfolding Reached
+none_yet s bytes = (refl, refl)
+
+-- one record takes a text to the bytes behind it
+one_record : (s t : State) (bytes rest : List ℕ) (fields : List (List ℕ)) (n : ℕ) → Reached default_config s bytes (fields ∷ []) t rest
+    → records_from default_config (suc n) s bytes ≡ fields ∷ records_from default_config n t rest
+unfolding Reached records_from
+one_record s t bytes rest fields n reached =
+    let (read, next, is, state, left) = reached in
+    rw (next, is, ← state, ← left) refl
+
 -- a record that was read is the next, and then come those that are left
 pub next_is : (old new : TextReader) (fields : List (List ℕ)) → IsReading old → ReadRecord known old new true fields → ReadsOn old new
     → IsReading new × ((n : ℕ) → records_left (suc n) old ≡ fields ∷ records_left n new)
-unfolding Reached records_from
 next_is old new fields reading read on =
     let bytes = bytes_left old in
-    let more = rows-more known old new fields default_config (reader_state old) bytes bytes [] reading.config reading.source (refl, refl) read in
-    let rest : bytes_left new ≡ more.0 = ap or_none more.1 in
-    let next = more.2.1 in (
+    let s = reader_state old in
+    let (rest, source, reached) = rows-more known old new fields default_config s bytes bytes [] reading.config reading.source (none_yet s bytes) read in
+    let left : bytes_left new ≡ rest = ap or_none source in (
       record {
         trim = on.1 ∙ reading.trim;
         ready = (on.4 reading.ready).0;
         config = on.0 ∙ reading.config;
-        source = more.1 ∙ ap Some (sym rest)
+        source = source ∙ ap Some (sym left)
       },
-      (λ n. rw (next, more.2.2, rest, ← more.2.3.0, ← more.2.3.1) refl),
+      (λ n. rw left (one_record s (reader_state new) bytes rest fields n reached)),
     )
 
 -- where no record was read, none is left

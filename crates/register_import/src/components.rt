@@ -18,8 +18,8 @@ use std::alloc::Global;
 /// that their share of a unit's valves (40 CFR 60.482-7a(h)(2)(ii)) is judged when these are known. The first bad row
 /// is told, where the first record is row 1.
 pub fn components_of(alloc: Global, text: &[u8], number: u32) -> Result<Vec<Batch>, ImportError>
-    requires number { number ≤ LAST_NUMBER }
-    requires length { length text.now ≤ LONGEST_TEXT }
+    requires in_range { number ≤ LAST_NUMBER }
+    requires fits { length text.now ≤ LONGEST_TEXT }
     ensures value { IfOk result (λ batches. files.components_import number text.now ≡ Ok batches.items) }
     ensures bad { IfErr result (TellsRow (files.components_import number text.now)) }
 {

@@ -23,7 +23,7 @@ pub fn ten_fields()
 pub fn numbers()
     ensures last { component_of (with_field 0 (codes "60000")) ≡ Some (valve 60_000 Plain 0) }
     ensures past_the_last { component_of (with_field 0 (codes "60001")) ≡ None }
-    ensures zero { component_of (with_field 0 (codes "0")) ≡ None }
+    ensures number_0 { component_of (with_field 0 (codes "0")) ≡ None }
     ensures leading_zero { component_of (with_field 0 (codes "01")) ≡ None }
     ensures empty { component_of (with_field 0 (codes "")) ≡ None }
     ensures sign { component_of (with_field 0 (codes "+1")) ≡ None }
@@ -75,7 +75,7 @@ pub fn four_keys()
 /// Each value has its type and its range.
 pub fn unit_values()
     ensures past_the_last { unit_of (table (table_of (string (codes "A")) (integer (pos 65)) (boolean true) (string (codes "2020-01-15")))) ≡ None }
-    ensures zero { unit_of (table (table_of (string (codes "A")) (integer (pos 0)) (boolean true) (string (codes "2020-01-15")))) ≡ None }
+    ensures number_0 { unit_of (table (table_of (string (codes "A")) (integer (pos 0)) (boolean true) (string (codes "2020-01-15")))) ≡ None }
     ensures below_zero { unit_of (table (table_of (string (codes "A")) (integer (negsuc 0)) (boolean true) (string (codes "2020-01-15")))) ≡ None }
     ensures number_text { unit_of (table (table_of (string (codes "A")) (string (codes "1")) (boolean true) (string (codes "2020-01-15")))) ≡ None }
     ensures small_letters { unit_of (table (table_of (string (codes "a")) (integer (pos 1)) (boolean true) (string (codes "2020-01-15")))) ≡ None }

@@ -18,8 +18,8 @@ use toml::{Table, Value};
 /// `number`, with up to 512 facts in the order of the file. The first bad row is told: the place of an element from 1,
 /// or 0 where the text is not just such an array.
 pub fn units_of(alloc: Global, text: &[u8], number: u32) -> Result<Vec<Batch>, ImportError>
-    requires number { number ≤ LAST_NUMBER }
-    requires length { length text.now ≤ LONGEST_TEXT }
+    requires in_range { number ≤ LAST_NUMBER }
+    requires fits { length text.now ≤ LONGEST_TEXT }
     ensures value { IfOk result (λ batches. files.units_import number text.now ≡ Ok batches.items) }
     ensures bad { IfErr result (TellsRow (files.units_import number text.now)) }
 {
