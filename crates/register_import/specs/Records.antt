@@ -1,5 +1,6 @@
 -- The records of a text, as the crate `csv` reads it with its usual settings and without a special first record.
-use Rattle.std.specs.Prelude.{◌≡◌, ℕ, suc, List, [], length, Option, Some, None, Bor}
+use Rattle.std.specs.Prelude.{◌≡◌, ℕ, suc, List, [], length, Option, Some, None}
+use Rattle.std.specs.Borrow.{Bor}
 use Rattle.csv.specs.Reading.{Ready, default_config, reader_config, reader_state, reader_trim, records_from, source_of, strip_bom}
 use Rattle.csv.specs.declared.parser.State.TheVariants as st
 use Rattle.csv.specs.declared.reader.Reader.{Reader}

@@ -1,4 +1,4 @@
-ghost use Rattle.std.specs.Prelude.{◌≡◌, ◌≤◌, ◌+◌, ◌++◌, ◌∷◌, [], ℕ, IfOk, IfErr, OnOk, Ok, not, suc, length, vec_len, filter};
+ghost use Rattle.std.specs.Prelude.{◌≡◌, ◌≤◌, ◌+◌, ◌++◌, ◌∷◌, [], ℕ, IfOk, IfErr, OnOk, Ok, true, false, not, suc, length, vec_len, filter};
 ghost use Rattle.csv.specs.Records.{fields_of};
 ghost use Rattle.register_import.specs.Rows.{TellsRow};
 ghost use Rattle.register_import.specs.Records.{IsReading, records_left, records_of};

@@ -1,4 +1,5 @@
 ghost use Rattle.std.specs.Prelude.{◌≡◌};
+ghost use Rattle.toml.specs.Data.{as_table};
 ghost use Rattle.toml.specs.View.{view};
 ghost use Rattle.register_import.specs.UnitRows as spec;
 
@@ -11,8 +12,7 @@ use toml::Value;
 pub(crate) fn unit_of(element: &Value) -> Option<Fact>
     ensures value { result ≡ spec.unit_of (view element.now) }
 {
-    let table = element.as_table()?;
-    if !has_only(table, &["number", "name", "startup", "older"]) {
+    if !has_unit_keys(element) {
         return None;
     }
     let unit = unit_number(element.get("number"))?;
@@ -24,4 +24,14 @@ pub(crate) fn unit_of(element: &Value) -> Option<Fact>
         minute: 0,
         body: FactBody::Unit { unit, older, name },
     })
+}
+
+// Whether an element is a table that has no other keys than these.
+fn has_unit_keys(element: &Value) -> bool
+    ensures { result ≡ spec.has_unit_keys (as_table (view element.now)) }
+{
+    match element.as_table() {
+        Some(table) => has_only(table, &["number", "name", "startup", "older"]),
+        None => false,
+    }
 }
