@@ -92,14 +92,15 @@ numbered_from_one startup month quarter e =
     ]
 
 -- an event lies in the quarter that is found for its month, whose entry stands one place before its number
-pub lies_in : (startup : ℕ) (e : Event) (month quarter place : ℕ) (found : Option ℕ) → month ≡ month_of e.key.day → found ≡ quarter_of startup month →
-    found ≡ Some quarter → place ≡ quarter - 1 → (q : ℕ) → is_in_quarter startup q e.key.day ≡ nat_eq (place + 1) q
+pub lies_in : (startup : ℕ) (e : Event) (month quarter place : ℕ) (found : Option ℕ) → month ≡ month_of e.key.day →
+    found ≡ quarter_of startup month → found ≡ Some quarter → place ≡ quarter - 1 → (q : ℕ) → is_in_quarter startup q e.key.day ≡ nat_eq (place + 1) q
 lies_in startup e month quarter place found month_is found_is is place_is q =
     let on : place + 1 ≡ quarter = omega (arith, place_is, numbered_from_one startup month quarter (sym is ∙ found_is)) in
     ap (λ m. is_numbered (quarter_of startup m) q) (sym month_is) ∙ ap (λ o. is_numbered o q) (sym found_is ∙ is) ∙ ap (λ n. nat_eq n q) (sym on)
 
 -- nothing is seen without an event
-pub seen_none : (startup quarter : ℕ) (events : List Event) → AreSeen startup (take 0 events) quarter (replicate quarter (record { leaking = false; monitored = false }))
+pub seen_none : (startup quarter : ℕ) (events : List Event) →
+    AreSeen startup (take 0 events) quarter (replicate quarter (record { leaking = false; monitored = false }))
 seen_none startup quarter events = record {
   count = length-replicate quarter _;
   each = λ k d within. get_or-replicate quarter k _ d within;

@@ -9,9 +9,7 @@ ghost use Rattle.ldar_law.specs.declared.numbers.TheConstants.{LAST_FACT_DAY};
 use crate::readings::{has_routine_in, is_found_leaking, is_read};
 use ldar_days::{Day, quarter_of};
 use ldar_facts::{Class, Key};
-use ldar_law::{
-    Equipment, Event, Mark, Regime, is_in_quarter, is_nde_designated, judging_day,
-};
+use ldar_law::{Equipment, Event, Mark, Regime, is_in_quarter, is_nde_designated, judging_day};
 
 /// Whether the component is a valve that is counted in the quarter, as a view of the day has it.
 fn is_counted(
@@ -129,5 +127,7 @@ pub fn mark(
         monitored: is_read(startup, events, quarter),
     };
     let missed = is_first_missed(equipment, classes, startup, events, quarter, day);
-    mark_seen(equipment, classes, startup, seen, delayed, missed, quarter, day)
+    mark_seen(
+        equipment, classes, startup, seen, delayed, missed, quarter, day,
+    )
 }

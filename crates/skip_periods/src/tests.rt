@@ -251,7 +251,10 @@ fn a_walk_over_the_quarters_skips_as_each_alone(rt: HostRuntime) -> Result<(), F
     let found = all_skipped(alloc, &five, &three, startup(), 20)?;
     assert_eq!(rt; numbers_of(alloc, &found)?.as_slice(), [6, 7, 8].as_slice());
     let found = all_skipped(alloc, &six, &three, startup(), 20)?;
-    assert_eq!(rt; numbers_of(alloc, &found)?.as_slice(), [6, 7, 8, 10, 11, 12].as_slice());
+    assert_eq!(rt;
+        numbers_of(alloc, &found)?.as_slice(),
+        [6, 7, 8, 10, 11, 12].as_slice()
+    );
     let found = all_skipped(alloc, &five, &ended, startup(), 20)?;
     assert_eq!(rt; numbers_of(alloc, &found)?.as_slice(), [6].as_slice());
     let found = all_skipped(alloc, &late, &one, startup(), 20)?;
@@ -259,7 +262,10 @@ fn a_walk_over_the_quarters_skips_as_each_alone(rt: HostRuntime) -> Result<(), F
     // A unit has up to 368 quarters; none of those behind the last counts is good.
     let found = all_skipped(alloc, &six, &three, startup(), 368)?;
     assert_eq!(rt; found.len(), 368);
-    assert_eq!(rt; numbers_of(alloc, &found)?.as_slice(), [6, 7, 8, 10, 11, 12].as_slice());
+    assert_eq!(rt;
+        numbers_of(alloc, &found)?.as_slice(),
+        [6, 7, 8, 10, 11, 12].as_slice()
+    );
     Ok(())
 }
 
@@ -293,15 +299,40 @@ fn a_walk_over_the_events_marks_as_each_quarter_alone(rt: HostRuntime) -> Result
         (19, UNCOUNTED, UNCOUNTED),
     ];
     let marks = marks_to(alloc, &item, &[], startup(), &events, &delayed, 368, view)?;
-    let kept = marks_to(alloc, &item, &sealed, startup(), &events, &delayed, 368, view)?;
+    let kept = marks_to(
+        alloc,
+        &item,
+        &sealed,
+        startup(),
+        &events,
+        &delayed,
+        368,
+        view,
+    )?;
     assert_eq!(rt; (marks.len(), kept.len()), (368, 368));
     for (quarter, expected, under_class) in cases {
-        assert_eq!(rt; marks.get(quarter - 1), Some(&expected), "quarter {quarter}");
-        assert_eq!(rt; kept.get(quarter - 1), Some(&under_class), "quarter {quarter}");
+        assert_eq!(rt;
+            marks.get(quarter - 1),
+            Some(&expected),
+            "quarter {quarter}"
+        );
+        assert_eq!(rt;
+            kept.get(quarter - 1),
+            Some(&under_class),
+            "quarter {quarter}"
+        );
     }
     for place in 0..368u16 {
         let at = usize::from(place);
-        let alone = mark(&item, &sealed, startup(), &events, place == 16, place + 1, view);
+        let alone = mark(
+            &item,
+            &sealed,
+            startup(),
+            &events,
+            place == 16,
+            place + 1,
+            view,
+        );
         assert_eq!(rt; kept.get(at), Some(&alone), "quarter after {place}");
     }
     Ok(())
@@ -316,7 +347,11 @@ fn a_walk_counts_a_missed_first_monitoring_once(rt: HostRuntime) -> Result<(), F
     let missed = marks_to(alloc, &new, &[], startup(), &[], &[], 18, after)?;
     for place in 0..18 {
         let expected = if place == 16 { FOUND } else { UNCOUNTED };
-        assert_eq!(rt; in_time.get(place), Some(&UNCOUNTED), "quarter after {place}");
+        assert_eq!(rt;
+            in_time.get(place),
+            Some(&UNCOUNTED),
+            "quarter after {place}"
+        );
         assert_eq!(rt; missed.get(place), Some(&expected), "quarter after {place}");
     }
     let none = marks_to(alloc, &new, &[], startup(), &[], &[], 0, after)?;

@@ -14,7 +14,7 @@ loop-past-preserved c =
     let shown = c.index.result.now in
     let place : c.from-in-loop-past.result ≡ l.past = c.from-in-loop-past.ensures in
     let seen : shown ≡ seen_in a.startup a.events.now (l.past + 1) =
-        c.index.ensures ∙ ap (λ k. get_or c.in_ok-seen.seen.items k shown) place ∙ c.in_ok-seen.ensures.value.each l.past shown (omega arith) in
+    c.index.ensures ∙ ap (λ k. get_or c.in_ok-seen.seen.items k shown) place ∙ c.in_ok-seen.ensures.value.each l.past shown (omega arith) in
     ap (λ ms. ms ++ map gives (until (l.past + 1 + 1) (a.quarter + 1))) c.in_ok-push.ensures.items
     ∙ map_until gives l.marks.items (l.past + 1) (a.quarter + 1) mark.result (omega arith)
     (mark_is a.equipment.now a.classes.now a.startup a.events.now a.delayed.now a.day (l.past + 1) shown mark.result

@@ -22,7 +22,7 @@ loop-past-preserved c =
     let more = c.longer-streak.ensures in
     let is_skipped = law.is_skipped a.tallies.now a.elections.now a.startup in
     let skip = c.skips_after-is_skipped.ensures.value ∙ ap (λ mode. law.skips_after mode l.streak.skips l.streak.good)
-        (c.ordered_mode_on-mode.ensures.value ∙ ap (law.mode_on a.elections.now) c.quarter_first.ensures.value) in
+    (c.ordered_mode_on-mode.ensures.value ∙ ap (law.mode_on a.elections.now) c.quarter_first.ensures.value) in
     record {
       told =
           told_next a.tallies.now a.elections.now a.startup (l.past + 1) (omega arith) l.streak c.longer-streak.result
