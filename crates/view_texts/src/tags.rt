@@ -10,7 +10,7 @@ use ldar_law::{Tag, Text};
 use std::alloc::Global;
 use std::fmt;
 
-/// Whether the identification may come off (40 CFR 60.482-1a).
+/// Whether the identification may come off (40 CFR 60.486a(b)).
 #[derive(Clone, Copy)]
 struct Mark(bool);
 
