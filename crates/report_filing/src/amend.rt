@@ -1,0 +1,42 @@
+ghost use Rattle.std.specs.Prelude.{◌≡◌, ◌<◌, Some, None, length, IfOk, slice_index_or};
+ghost use Rattle.ldar_law.specs.Reports as law;
+
+use ldar_facts::Memory;
+use ldar_law::{Amended, Cells};
+use std::alloc::Global;
+
+/// The numbers of a report: six of each of six months.
+const PLACES: usize = 36;
+
+/// What is amended at a place of the 36, if anything is.
+#[tactic(auto, unfolding(ldar_law::specs::Reports::amended_at))]
+fn amended_at(old: &[u32], new: &[u32], place: usize) -> Option<Amended>
+    requires old { place < length old.now }
+    requires new { place < length new.now }
+    requires within { place < PLACES }
+    ensures value { result ≡ law.amended_at old.now new.now place }
+{
+    if old[place] == new[place] {
+        return None;
+    }
+    Some(Amended {
+        month: (place / 6 + 1) as u8,
+        column: (place % 6 + 1) as u8,
+        old: old[place],
+        new: new[place],
+    })
+}
+
+/// The numbers that differ between two reports, by their places: what the later one amends (40 CFR 60.487a(c)(2)).
+pub fn amended_cells(alloc: Global, old: &Cells, new: &Cells) -> Result<Vec<Amended>, Memory>
+    ensures value { IfOk result (λ changes. changes.items ≡ law.amended old.now new.now) }
+{
+    let mut changes = Vec::new(alloc);
+    let (before, now) = (old.months.as_slice(), new.months.as_slice());
+    for place in 0..PLACES {
+        if let Some(change) = amended_at(before, now, place) {
+            changes.push(change)?;
+        }
+    }
+    Ok(changes)
+}
