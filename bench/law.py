@@ -1,0 +1,91 @@
+#!/usr/bin/env python3
+"""Measures the rule's functions on the life of a component: its events, its spans, its marks of all quarters and its
+duties; an instrument that is calibrated each day, routes, and a repair that is delayed again and again. Beside them
+stands a plain Rust program with the same functions (law.rs).
+
+Each row is asked for a size and for twice that. What making the lives takes is left out; the sums over the answers,
+which the two programs have to have in common, are in. The program crates/law_bench is proved and built first, so rt and
+rustc have to be on the path.
+usage: law.py [RUNS]     7 if left out
+"""
+import pathlib
+import resource
+import statistics
+import subprocess
+import sys
+import tempfile
+
+RUNS = int(sys.argv[1]) if len(sys.argv) > 1 else 7
+
+here = pathlib.Path(__file__).parent
+crate = here.parent / "crates/law_bench"
+
+# what is shown, the history or call, and the components and their facts, or the size and the passes
+LIVES = (
+    ("valve, 16 years, 200 events", "valve", 1, 200),
+    ("pump, 16 years, 1,000 events", "pump", 1, 1_000),
+    ("20,000 valves, 12 months", "year", 20_000, 12),
+    ("a leak nobody repairs", "unrepaired", 1, 200),
+    ("a batch of 505 leaks", "batch", 1, 505),
+)
+OTHERS = (
+    ("instrument, a calibration a day", "instrument", 5_840, 100),
+    ("a reading of it", "fit", 5_840, 100),
+    ("routes by 40,000 duties", "routes", 40_000, 50),
+    ("repair, 400 delays", "repair", 400, 50_000),
+)
+
+
+def rows():
+    """Of each row what is shown, the words for a size and for some passes, the size, the passes and the calls of a pass."""
+    for shown, history, components, facts in LIVES:
+        for call in ("events", "spans", "marks", "duties"):
+            passes = max(1, (100_000 if call == "duties" else 10_000_000 // facts) // components)
+            words = lambda size, passes, call=call, history=history, components=components: (call, history, components, size, passes)
+            yield f"{shown}: {call}", words, facts, passes, lambda size, components=components: components
+    for shown, call, size, passes in OTHERS:
+        words = lambda size, passes, call=call: (call, size, passes)
+        yield shown, words, size, passes, lambda size, call=call: size if call == "fit" else 1
+
+
+def timed(program, words):
+    """The processor time of a run in nanoseconds, and what was printed."""
+    before = resource.getrusage(resource.RUSAGE_CHILDREN)
+    told = subprocess.run([program, *map(str, words)], check=True, stdout=subprocess.PIPE, text=True).stdout
+    after = resource.getrusage(resource.RUSAGE_CHILDREN)
+    return (after.ru_utime + after.ru_stime - before.ru_utime - before.ru_stime) * 1e9, told
+
+
+def measured(programs, words, size, passes, calls):
+    """For each program the nanoseconds of a call, run after run, the programs in turn."""
+    took = [[] for _ in programs]
+    for _ in range(RUNS):
+        told = []
+        for program, times in zip(programs, took):
+            none, _ = timed(program, words(size, 0))
+            some, said = timed(program, words(size, passes))
+            times.append((some - none) / passes / calls(size))
+            told.append(said)
+        if len(set(told)) > 1:
+            sys.exit(f"they answer otherwise: {told}")
+    return took
+
+
+def main():
+    subprocess.run(["rt", "run", "--", "repair", "1", "1"], cwd=crate, check=True, stdout=subprocess.DEVNULL, stderr=subprocess.DEVNULL)
+    with tempfile.TemporaryDirectory() as folder:
+        rust = pathlib.Path(folder) / "rust"
+        subprocess.run(["rustc", "-O", "--edition", "2021", "-o", rust, here / "law.rs"], check=True)
+        programs = (crate / "out/law_bench", rust)
+        print(f"{'ns a call: least, and ratios':40} {'ours':>10} {'Rust':>10} {'ratio':>6} {'median':>6} {'twice':>6} {'Rust':>6}")
+        for shown, words, size, passes, calls in rows():
+            once = measured(programs, words, size, passes, calls)
+            # The double size in half the passes.
+            twice = measured(programs, words, 2 * size, max(1, passes // 2), calls)
+            ours, plain = map(min, once)
+            middle = statistics.median(once[0]) / statistics.median(once[1])
+            growth = [min(more) / min(few) for more, few in zip(twice, once)]
+            print(f"{shown:40} {ours:10.0f} {plain:10.0f} {ours / plain:6.2f} {middle:6.2f} {growth[0]:6.2f} {growth[1]:6.2f}", flush=True)
+
+
+main()

@@ -1,0 +1,30 @@
+//! The days of what is made, spread evenly over some years.
+
+ghost use Rattle.std.specs.Prelude.{◌≤◌};
+ghost use Rattle.ldar_law.specs.declared.numbers.TheConstants.{LAST_FACT_DAY};
+
+use ldar_days::Day;
+
+/// Sixteen years.
+pub const SIXTEEN_YEARS: u32 = 5_840;
+
+/// 2020-01-01, from which the components are in service.
+const FIRST: u32 = 18_262;
+
+/// So many days after the beginning of the components.
+pub fn day_after(days: u32) -> Day {
+    Day::at(FIRST + days % 16_000)
+}
+
+/// The day of a place among so many, which are spread over some days.
+pub fn day_at(place: u32, places: u32, days: u32) -> Day {
+    let before = u64::from(place).wrapping_mul(u64::from(days)) / u64::from(places.max(1));
+    day_after((before % 16_000) as u32)
+}
+
+/// 2019-04-14, the initial startup of the process unit.
+pub fn startup() -> Day
+    ensures in_range { result ≤ LAST_FACT_DAY }
+{
+    Day::at(18_000)
+}

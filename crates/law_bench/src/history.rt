@@ -1,0 +1,188 @@
+//! The facts of a component's life.
+
+ghost use Rattle.std.specs.Prelude.{◌≤◌};
+
+use crate::day_at::{SIXTEEN_YEARS, day_at};
+use ldar_days::Day;
+use ldar_facts::{Fact, FactBody, Kind, Purpose, VisualState};
+
+/// Whose life it is.
+#[derive(Clone, Copy, PartialEq, Eq)]
+pub enum History {
+    /// A valve with a leak now and then, for sixteen years.
+    Valve,
+    /// The same for a year.
+    Year,
+    /// A pump with its visual inspections.
+    Pump,
+    /// A valve that leaks at each reading, and that nobody repairs.
+    Unrepaired,
+    /// A valve with leaks, delays and readings below the leak definition on one day.
+    Batch,
+}
+
+impl History {
+    /// The history that a word names: that of a valve where it names no other.
+    pub fn of(word: &str) -> History {
+        match word {
+            "year" => History::Year,
+            "pump" => History::Pump,
+            "unrepaired" => History::Unrepaired,
+            "batch" => History::Batch,
+            _ => History::Valve,
+        }
+    }
+
+    /// The days over which it goes.
+    pub fn days(self) -> u32 {
+        if self == History::Year {
+            365
+        } else {
+            SIXTEEN_YEARS
+        }
+    }
+
+    /// The quarters of the process unit that a view at its end asks for.
+    pub fn quarters(self) -> u16 {
+        if self == History::Year { 6 } else { 66 }
+    }
+
+    /// Of what kind the component is.
+    pub fn kind(self) -> Kind {
+        if self == History::Pump {
+            Kind::Pump
+        } else {
+            Kind::Valve
+        }
+    }
+
+    /// The fact at a place among so many.
+    pub fn fact(self, number: u32, place: u32, places: u32) -> Fact {
+        let day = day_at(place, places, self.days());
+        match self {
+            History::Valve => self.fact_of_a_valve(number, place, places),
+            History::Year => self.fact_of_a_valve(number, place, places),
+            History::Pump => fact_of_a_pump(number, place, day),
+            History::Unrepaired => reading(number, day, Purpose::Routine, 700),
+            History::Batch => fact_of_a_batch(number, place, places),
+        }
+    }
+
+    /// A reading of a valve: the eleventh of sixteen is a leak. There follow an attempt and a reading, or a reading and a
+    /// delay.
+    fn fact_of_a_valve(self, number: u32, place: u32, places: u32) -> Fact {
+        let day = day_at(place, places, self.days());
+        let at = number.wrapping_add(place);
+        let is_attempted = at / 16 % 2 == 0;
+        match at % 16 {
+            10 => reading(number, day, Purpose::Routine, 700),
+            11 => {
+                let soon = self.day_before(place, 1, places).plus_days(2);
+                if is_attempted {
+                    attempt(number, soon)
+                } else {
+                    reading(number, soon, Purpose::FollowUp, 100)
+                }
+            }
+            12 => {
+                let soon = self.day_before(place, 2, places).plus_days(4);
+                if is_attempted {
+                    reading(number, soon, Purpose::FollowUp, 100)
+                } else {
+                    delay(number, soon)
+                }
+            }
+            _ => reading(number, day, Purpose::Routine, 100),
+        }
+    }
+
+    /// The day of the place so many places before.
+    fn day_before(self, place: u32, before: u32, places: u32) -> Day {
+        day_at(place.saturating_sub(before), places, self.days())
+    }
+}
+
+/// A visual inspection of a pump, or now and then a reading or an attempt.
+fn fact_of_a_pump(number: u32, place: u32, day: Day) -> Fact {
+    match number.wrapping_add(place) % 24 {
+        0 | 4 | 8 | 12 | 16 | 20 => reading(number, day, Purpose::Routine, 1_000),
+        5 => look(number, day, VisualState::Drips),
+        6 => reading(number, day, Purpose::FollowUp, 1_000),
+        13 => look(number, day, VisualState::Designated),
+        14 => attempt(number, day),
+        _ => look(number, day, VisualState::Dry),
+    }
+}
+
+/// A leak, a delay or a reading below the leak definition, all of one day.
+fn fact_of_a_batch(number: u32, place: u32, places: u32) -> Fact {
+    let day = day_at(0, places, 0);
+    let third = places / 3;
+    if place < third {
+        return reading(number, day, Purpose::Routine, 700);
+    }
+    if place < third.saturating_mul(2) {
+        return delay(number, day);
+    }
+    reading(number, day, Purpose::FollowUp, 100)
+}
+
+/// The number of a component, by its place from 0.
+pub fn component_number(place: u32) -> u16
+    ensures in_range { (1 ≤ result) × (result ≤ 60_000) }
+{
+    (place % 60_000 + 1) as u16
+}
+
+fn reading(number: u32, day: Day, purpose: Purpose, ppm: u32) -> Fact
+    requires { ppm ≤ 999_999 }
+{
+    Fact {
+        day,
+        minute: 600,
+        body: FactBody::Reading {
+            component: component_number(number),
+            instrument: 1,
+            operator: 1,
+            purpose,
+            ppm,
+            background: 2,
+        },
+    }
+}
+
+fn look(number: u32, day: Day, state: VisualState) -> Fact {
+    Fact {
+        day,
+        minute: 600,
+        body: FactBody::Visual {
+            component: component_number(number),
+            state,
+        },
+    }
+}
+
+fn attempt(number: u32, day: Day) -> Fact {
+    Fact {
+        day,
+        minute: 600,
+        body: FactBody::Attempt {
+            component: component_number(number),
+            complete: false,
+        },
+    }
+}
+
+/// A delay for want of a process unit shutdown.
+fn delay(number: u32, day: Day) -> Fact {
+    Fact {
+        day,
+        minute: 600,
+        body: FactBody::Delay {
+            component: component_number(number),
+            ground: 1,
+            signer: 1,
+            expected: None,
+        },
+    }
+}

@@ -1,0 +1,176 @@
+//! An instrument that is calibrated all the time, and its readings.
+
+ghost use Rattle.std.specs.Prelude.{◌≤◌};
+ghost use Rattle.list_words.specs.Order.{Ascends};
+ghost use Rattle.ldar_facts.specs.Facts.{goes_first};
+
+use crate::day_at::{SIXTEEN_YEARS, day_at};
+use crate::equipment::key_of;
+use crate::said;
+use ldar_days::Day;
+use ldar_facts::{Fact, FactBody, Key, Memory, Purpose};
+use ldar_law::are_in_key_order;
+use method21_reading::Instrument;
+use std::alloc::{AllocError, Global};
+
+/// The leak definition by which the readings are judged.
+const LIMIT: u32 = 500;
+
+/// The minute of a place among so many: where there is one a day it is the first minute of each.
+fn minute_at(place: u32, places: u32) -> u16
+    ensures in_range { result ≤ 1_399 }
+{
+    let places = u64::from(places.max(1));
+    let over = u64::from(place) * u64::from(SIXTEEN_YEARS) % places;
+    (over.wrapping_mul(1_400) / places % 1_400) as u16
+}
+
+/// A precision test that is passed.
+fn precision_test(day: Day, minute: u16) -> Fact
+    requires { minute ≤ 1_439 }
+{
+    Fact {
+        day,
+        minute,
+        body: FactBody::Precision {
+            instrument: 1,
+            value: 500,
+            readings: (500, 500, 500),
+        },
+    }
+}
+
+/// A calibration; the gas of each eleventh is more than the readings allow.
+fn calibration(place: u32, day: Day, minute: u16) -> Fact
+    requires { minute ≤ 1_439 }
+{
+    let gas = if place % 11 == 10 { 3_000 } else { 500 };
+    Fact {
+        day,
+        minute,
+        body: FactBody::Calibration { instrument: 1, gas },
+    }
+}
+
+/// A drift assessment, of which each second is failed.
+fn drift(place: u32, day: Day, minute: u16) -> Fact
+    requires { minute ≤ 1_439 }
+{
+    let read = if place % 2 == 0 { 400 } else { 500 };
+    Fact {
+        day,
+        minute,
+        body: FactBody::Drift {
+            instrument: 1,
+            value: 500,
+            readings: (read, read, read),
+        },
+    }
+}
+
+/// The facts of an instrument with so many calibrations.
+fn facts_of(alloc: Global, places: u32) -> Result<Vec<(Key, Fact)>, AllocError> {
+    let mut facts = Vec::new(alloc);
+    for place in 0..places {
+        let day = day_at(place, places, SIXTEEN_YEARS);
+        let minute = minute_at(place, places);
+        if place % 60 == 0 {
+            facts.push((key_of(day, minute, 0), precision_test(day, minute)))?;
+        }
+        facts.push((key_of(day, minute, 1), calibration(place, day, minute)))?;
+        if place % 7 == 3 {
+            let later = minute + 20;
+            facts.push((key_of(day, later, 2), drift(place, day, later)))?;
+        }
+    }
+    Ok(facts)
+}
+
+/// So many readings, one after each calibration.
+fn readings_of(alloc: Global, places: u32) -> Result<Vec<(Key, Fact)>, AllocError> {
+    let mut readings = Vec::new(alloc);
+    for place in 0..places {
+        let day = day_at(place, places, SIXTEEN_YEARS);
+        let minute = minute_at(place, places) + 10;
+        let fact = Fact {
+            day,
+            minute,
+            body: FactBody::Reading {
+                component: 1,
+                instrument: 1,
+                operator: 1,
+                purpose: Purpose::Routine,
+                ppm: place % 700,
+                background: 2,
+            },
+        };
+        readings.push((key_of(day, minute, place), fact))?;
+    }
+    Ok(readings)
+}
+
+/// A sum over the fitness of each reading.
+fn add_readings(instrument: &Instrument, readings: &[(Key, Fact)], sum: u64) -> u64 {
+    let mut sum = sum;
+    for reading in readings {
+        sum = said::add(
+            sum,
+            said::of_fitness(&instrument.fit(&reading.1, &reading.0, LIMIT)),
+        );
+    }
+    sum
+}
+
+/// A sum over the fitness of each reading, asked so many times of an instrument that is made once.
+fn sum_once_made(
+    alloc: Global,
+    facts: &[(Key, Fact)],
+    readings: &[(Key, Fact)],
+    passes: u32,
+) -> Result<u64, Memory>
+    requires ordered { Ascends goes_first facts.now }
+{
+    let instrument = Instrument::new(alloc, facts)?;
+    let mut sum = 0;
+    for _ in 0..passes {
+        sum = add_readings(&instrument, readings, sum);
+    }
+    Ok(sum)
+}
+
+/// A sum over the fitness of a reading, asked once of each of so many instruments.
+fn sum_made_anew(
+    alloc: Global,
+    facts: &[(Key, Fact)],
+    readings: &[(Key, Fact)],
+    passes: u32,
+) -> Result<u64, Memory>
+    requires ordered { Ascends goes_first facts.now }
+{
+    let mut sum = 0;
+    for _ in 0..passes {
+        let instrument = Instrument::new(alloc, facts)?;
+        sum = add_readings(&instrument, readings, sum);
+    }
+    Ok(sum)
+}
+
+/// A sum over the readings, of which there are as many as calibrations, asked so many times.
+pub fn sum_over_readings(alloc: Global, places: u32, passes: u32) -> Result<u64, Memory> {
+    let facts = facts_of(alloc, places)?;
+    let readings = readings_of(alloc, places)?;
+    if !are_in_key_order(facts.as_slice()) {
+        return Ok(0);
+    }
+    sum_once_made(alloc, facts.as_slice(), readings.as_slice(), passes)
+}
+
+/// A sum over the first reading, for each of which the instrument is made anew.
+pub fn sum_over_makings(alloc: Global, places: u32, passes: u32) -> Result<u64, Memory> {
+    let facts = facts_of(alloc, places)?;
+    let readings = readings_of(alloc, places.min(1))?;
+    if !are_in_key_order(facts.as_slice()) {
+        return Ok(0);
+    }
+    sum_made_anew(alloc, facts.as_slice(), readings.as_slice(), passes)
+}

@@ -1,0 +1,45 @@
+//! The components of a process unit.
+
+use crate::component::{Component, made_component};
+use crate::history::History;
+use crate::life::{Call, add_answer};
+use crate::view::View;
+use ldar_facts::Memory;
+use std::alloc::Global;
+
+/// So many components with so many facts each, up to the first whose facts come out of order.
+fn components_of(
+    alloc: Global,
+    history: History,
+    components: u32,
+    places: u32,
+) -> Result<Vec<Component>, Memory> {
+    let mut unit = Vec::new(alloc);
+    for number in 0..components {
+        let Some(item) = made_component(alloc, history, number, places)? else {
+            break;
+        };
+        unit.push(item)?;
+    }
+    Ok(unit)
+}
+
+/// A sum over what each of so many components answers, asked so many times.
+pub fn sum_over_unit(
+    alloc: Global,
+    call: Call,
+    history: History,
+    components: u32,
+    places: u32,
+    passes: u32,
+) -> Result<u64, Memory> {
+    let unit = components_of(alloc, history, components, places)?;
+    let view = View::of(alloc, history)?;
+    let mut sum = 0;
+    for _ in 0..passes {
+        for item in &unit {
+            sum = add_answer(alloc, call, item, &view, sum)?;
+        }
+    }
+    Ok(sum)
+}

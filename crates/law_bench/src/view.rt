@@ -1,0 +1,35 @@
+//! What a view at the end of a history asks for.
+
+use crate::day_at::day_after;
+use crate::history::History;
+use ldar_days::Day;
+use std::alloc::{AllocError, Global};
+
+#[derive(Drop)]
+pub struct View {
+    pub day: Day,
+    /// The last quarter that it asks for.
+    pub quarters: u16,
+    /// Which quarters of the process unit are skipped.
+    pub skipped: Vec<bool>,
+    /// In which quarters the repair of an open leak is delayed.
+    pub delayed: Vec<bool>,
+}
+
+impl View {
+    pub fn of(alloc: Global, history: History) -> Result<View, AllocError> {
+        let quarters = history.quarters();
+        let mut skipped = Vec::new(alloc);
+        let mut delayed = Vec::new(alloc);
+        for quarter in 0..quarters {
+            skipped.push(quarter % 4 == 3)?;
+            delayed.push(quarter % 16 == 5)?;
+        }
+        Ok(View {
+            day: day_after(history.days()),
+            quarters,
+            skipped,
+            delayed,
+        })
+    }
+}
