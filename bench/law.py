@@ -1,6 +1,6 @@
 #!/usr/bin/env python3
 """Measures the rule's functions on the life of a component: its events, its spans, its marks of all quarters and its
-duties; an instrument that is calibrated each day, routes, and a repair that is delayed again and again. Beside them
+duties; an instrument that is calibrated each day, or all day, routes, and a repair that is delayed again and again. Beside them
 stands a plain Rust program with the same functions (law.rs).
 
 Each row is asked for a size and for twice that. What making the lives takes is left out; the sums over the answers,
@@ -27,10 +27,12 @@ LIVES = (
     ("20,000 valves, 12 months", "year", 20_000, 12),
     ("a leak nobody repairs", "unrepaired", 1, 200),
     ("a batch of 505 leaks", "batch", 1, 505),
+    ("1,000 drips of a year", "drips", 1, 1_000),
 )
 OTHERS = (
     ("instrument, a calibration a day", "instrument", 5_840, 100),
     ("a reading of it", "fit", 5_840, 100),
+    ("a reading of a day, 256 calibrations", "day", 256, 2_000),
     ("routes by 40,000 duties", "routes", 40_000, 50),
     ("repair, 400 delays", "repair", 400, 50_000),
 )
@@ -45,7 +47,7 @@ def rows():
             yield f"{shown}: {call}", words, facts, passes, lambda size, components=components: components
     for shown, call, size, passes in OTHERS:
         words = lambda size, passes, call=call: (call, size, passes)
-        yield shown, words, size, passes, lambda size, call=call: size if call == "fit" else 1
+        yield shown, words, size, passes, lambda size, call=call: size if call in ("fit", "day") else 1
 
 
 def timed(program, words):

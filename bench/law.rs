@@ -624,7 +624,7 @@ fn day_at(place: u32, places: u32, days: u32) -> u16 {
 }
 
 #[derive(Clone, Copy, PartialEq, Eq)]
-enum History { Valve, Year, Pump, Unrepaired, Batch }
+enum History { Valve, Year, Pump, Unrepaired, Batch, Drips }
 
 impl History {
     fn of(word: &str) -> History {
@@ -633,16 +633,17 @@ impl History {
             "pump" => History::Pump,
             "unrepaired" => History::Unrepaired,
             "batch" => History::Batch,
+            "drips" => History::Drips,
             _ => History::Valve,
         }
     }
 
-    fn days(self) -> u32 { if self == History::Year { 365 } else { 5_840 } }
-    fn quarters(self) -> u16 { if self == History::Year { 6 } else { 66 } }
-    fn kind(self) -> Kind { if self == History::Pump { Kind::Pump } else { Kind::Valve } }
+    fn days(self) -> u32 { if matches!(self, History::Year | History::Drips) { 365 } else { 5_840 } }
+    fn quarters(self) -> u16 { if matches!(self, History::Year | History::Drips) { 6 } else { 66 } }
+    fn kind(self) -> Kind { if matches!(self, History::Pump | History::Drips) { Kind::Pump } else { Kind::Valve } }
 
     fn class(self, month: u32) -> Class {
-        let service = if self == History::Pump { Service::Light } else { Service::Gas };
+        let service = if self.kind() == Kind::Pump { Service::Light } else { Service::Gas };
         Class { service, designation: Designation::Plain, plan: 0, month: (month % 3 + 1) as u8 }
     }
 
@@ -672,6 +673,7 @@ impl History {
                 _ => look(State::Dry),
             }),
             History::Unrepaired => (day, reading(true, 700)),
+            History::Drips => (day, look(State::Drips)),
             History::Batch => (FIRST, if place < places / 3 { reading(true, 700) } else if place < places / 3 * 2 { delay } else { reading(false, 100) }),
         };
         Fact { day, minute: 600, body }
@@ -721,6 +723,17 @@ fn readings(places: u32) -> Vec<(Key, Fact)> {
         let (day, minute) = (day_at(place, places, 5_840), minute_at(place, places) + 10);
         let body = Body::Reading { component: 1, instrument: 1, operator: 1, routine: true, ppm: place % 700, background: 2 };
         (key_of(day, minute, place), Fact { day, minute, body })
+    }).collect()
+}
+
+fn facts_of_a_day(places: u32) -> Vec<(Key, Fact)> {
+    (0..places).map(|place| (key_of(FIRST, 300, place), Fact { day: FIRST, minute: 300, body: Body::Calibration { instrument: 1, gas: 3_000 } })).collect()
+}
+
+fn readings_of_a_day(places: u32) -> Vec<(Key, Fact)> {
+    (0..places).map(|place| {
+        let body = Body::Reading { component: 1, instrument: 1, operator: 1, routine: true, ppm: place % 700, background: 2 };
+        (key_of(FIRST, 600, place), Fact { day: FIRST, minute: 600, body })
     }).collect()
 }
 
@@ -788,11 +801,11 @@ fn component_call(call: &str, history: History, components: u32, places: u32, pa
 fn other_call(call: &str, size: u32, passes: u32) -> u64 {
     let mut sum = 0;
     match call {
-        "instrument" | "fit" => {
-            let (facts, readings) = (instrument_facts(size), readings(size));
+        "instrument" | "fit" | "day" => {
+            let (facts, readings) = if call == "day" { (facts_of_a_day(size), readings_of_a_day(size)) } else { (instrument_facts(size), readings(size)) };
             let instrument = Instrument::new(&facts);
             for _ in 0..passes {
-                if call == "fit" {
+                if call != "instrument" {
                     sum = readings.iter().fold(sum, |sum, (key, fact)| add(sum, fitness_said(&instrument.fit(fact, key, 500))));
                 } else {
                     let made = Instrument::new(&facts);

@@ -19,6 +19,8 @@ pub enum History {
     Unrepaired,
     /// A valve with leaks, delays and readings below the leak definition on one day.
     Batch,
+    /// A pump that drips at each visual inspection of a year, and that nobody monitors.
+    Drips,
 }
 
 impl History {
@@ -29,30 +31,35 @@ impl History {
             "pump" => History::Pump,
             "unrepaired" => History::Unrepaired,
             "batch" => History::Batch,
+            "drips" => History::Drips,
             _ => History::Valve,
         }
     }
 
     /// The days over which it goes.
     pub fn days(self) -> u32 {
-        if self == History::Year {
-            365
-        } else {
-            SIXTEEN_YEARS
+        match self {
+            History::Year => 365,
+            History::Drips => 365,
+            _ => SIXTEEN_YEARS,
         }
     }
 
     /// The quarters of the process unit that a view at its end asks for.
     pub fn quarters(self) -> u16 {
-        if self == History::Year { 6 } else { 66 }
+        match self {
+            History::Year => 6,
+            History::Drips => 6,
+            _ => 66,
+        }
     }
 
     /// Of what kind the component is.
     pub fn kind(self) -> Kind {
-        if self == History::Pump {
-            Kind::Pump
-        } else {
-            Kind::Valve
+        match self {
+            History::Pump => Kind::Pump,
+            History::Drips => Kind::Pump,
+            _ => Kind::Valve,
         }
     }
 
@@ -65,6 +72,7 @@ impl History {
             History::Pump => fact_of_a_pump(number, place, day),
             History::Unrepaired => reading(number, day, Purpose::Routine, 700),
             History::Batch => fact_of_a_batch(number, place, places),
+            History::Drips => look(number, day, VisualState::Drips),
         }
     }
 

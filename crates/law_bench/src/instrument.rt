@@ -86,25 +86,51 @@ fn facts_of(alloc: Global, places: u32) -> Result<Vec<(Key, Fact)>, AllocError> 
     Ok(facts)
 }
 
+/// A reading.
+fn reading(place: u32, day: Day, minute: u16) -> Fact
+    requires { minute ≤ 1_439 }
+{
+    Fact {
+        day,
+        minute,
+        body: FactBody::Reading {
+            component: 1,
+            instrument: 1,
+            operator: 1,
+            purpose: Purpose::Routine,
+            ppm: place % 700,
+            background: 2,
+        },
+    }
+}
+
 /// So many readings, one after each calibration.
 fn readings_of(alloc: Global, places: u32) -> Result<Vec<(Key, Fact)>, AllocError> {
     let mut readings = Vec::new(alloc);
     for place in 0..places {
         let day = day_at(place, places, SIXTEEN_YEARS);
         let minute = minute_at(place, places) + 10;
-        let fact = Fact {
-            day,
-            minute,
-            body: FactBody::Reading {
-                component: 1,
-                instrument: 1,
-                operator: 1,
-                purpose: Purpose::Routine,
-                ppm: place % 700,
-                background: 2,
-            },
-        };
-        readings.push((key_of(day, minute, place), fact))?;
+        readings.push((key_of(day, minute, place), reading(place, day, minute)))?;
+    }
+    Ok(readings)
+}
+
+/// The facts of an instrument whose calibrations are all of one minute, and use a gas that is too high.
+fn facts_of_a_day(alloc: Global, places: u32) -> Result<Vec<(Key, Fact)>, AllocError> {
+    let day = day_at(0, 1, 0);
+    let mut facts = Vec::new(alloc);
+    for place in 0..places {
+        facts.push((key_of(day, 300, place), calibration(10, day, 300)))?;
+    }
+    Ok(facts)
+}
+
+/// So many readings of one minute of that day.
+fn readings_of_a_day(alloc: Global, places: u32) -> Result<Vec<(Key, Fact)>, AllocError> {
+    let day = day_at(0, 1, 0);
+    let mut readings = Vec::new(alloc);
+    for place in 0..places {
+        readings.push((key_of(day, 600, place), reading(place, day, 600)))?;
     }
     Ok(readings)
 }
@@ -159,6 +185,16 @@ fn sum_made_anew(
 pub fn sum_over_readings(alloc: Global, places: u32, passes: u32) -> Result<u64, Memory> {
     let facts = facts_of(alloc, places)?;
     let readings = readings_of(alloc, places)?;
+    if !are_in_key_order(facts.as_slice()) {
+        return Ok(0);
+    }
+    sum_once_made(alloc, facts.as_slice(), readings.as_slice(), passes)
+}
+
+/// The same of readings and calibrations of one day.
+pub fn sum_over_readings_of_a_day(alloc: Global, places: u32, passes: u32) -> Result<u64, Memory> {
+    let facts = facts_of_a_day(alloc, places)?;
+    let readings = readings_of_a_day(alloc, places)?;
     if !are_in_key_order(facts.as_slice()) {
         return Ok(0);
     }

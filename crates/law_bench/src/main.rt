@@ -2,10 +2,10 @@
 //!
 //! With `CALL HISTORY COMPONENTS FACTS PASSES` it makes so many components with so many facts each, and asks so many times
 //! for the `events`, the `spans`, the `marks` or the `duties` of each of them. A history is that of a `valve`, of a valve
-//! in its first `year`, of a `pump`, of a valve that leaks `unrepaired`, or of a `batch` of leaks on one day. With
-//! `CALL SIZE PASSES` it asks so often for an `instrument` of so many calibrations, whether each of so many readings is
-//! `fit`, for `routes` by so many duties, or for the `repair` of a leak with so many delays. Without passes it makes what
-//! it asks about alone. With no words it does a little of each.
+//! in its first `year`, of a `pump`, of a valve that leaks `unrepaired`, of a `batch` of leaks on one day, or of a pump's
+//! `drips`. With `CALL SIZE PASSES` it asks so often for an `instrument` of so many calibrations, whether each of so many
+//! readings is `fit`, the same where all of them are of one `day`, for `routes` by so many duties, or for the `repair` of a
+//! leak with so many delays. Without passes it makes what it asks about alone. With no words it does a little of each.
 #![tactic(auto)]
 
 mod component;
@@ -75,6 +75,7 @@ fn others(rt: &HostRuntime, call: &str, size: u32, passes: u32) -> Result<(), an
     let sum = match call {
         "instrument" => instrument::sum_over_makings(alloc, size, passes)?,
         "fit" => instrument::sum_over_readings(alloc, size, passes)?,
+        "day" => instrument::sum_over_readings_of_a_day(alloc, size, passes)?,
         "routes" => walk::sum_over_routes(alloc, size, passes)?,
         _ => repair::sum_over_repairs(alloc, size, passes)?,
     };
@@ -84,11 +85,11 @@ fn others(rt: &HostRuntime, call: &str, size: u32, passes: u32) -> Result<(), an
 
 fn a_little(rt: &HostRuntime) -> Result<(), anyhow::Error> {
     for call in ["events", "spans", "marks", "duties"] {
-        for history in ["valve", "year", "pump", "unrepaired", "batch"] {
+        for history in ["valve", "year", "pump", "unrepaired", "batch", "drips"] {
             lives(rt, call, history, 2, 200, 1)?;
         }
     }
-    for call in ["instrument", "fit", "routes", "repair"] {
+    for call in ["instrument", "fit", "day", "routes", "repair"] {
         others(rt, call, 400, 3)?;
     }
     Ok(())
