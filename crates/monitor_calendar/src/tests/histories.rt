@@ -60,13 +60,14 @@ fn kind_of(number: u32) -> Kind {
 }
 
 fn service(numbers: &mut Numbers, kind: Kind) -> Service {
-    let is_common = !numbers.is_one_of(4);
+    let is_common = kind != Kind::Relief && !numbers.is_one_of(4);
     match (kind, is_common) {
         (Kind::Pump, true) => Service::Light,
         (_, true) => Service::Gas,
         (_, false) => match numbers.below(4) {
             0 => Service::Light,
             1 => Service::Vacuum,
+            2 => Service::Gas,
             _ => Service::Heavy,
         },
     }
@@ -80,14 +81,14 @@ fn class(numbers: &mut Numbers, kind: Kind) -> Class {
         _ => Designation::Plain,
     };
     let plan = if numbers.is_one_of(3) {
-        numbers.below(61)
+        numbers.below(61) as u8
     } else {
-        numbers.below(7)
+        numbers.below(7) as u8
     };
     Class {
         service: service(numbers, kind),
         designation,
-        plan: plan as u8,
+        plan,
         month: (numbers.below(3) + 1) as u8,
     }
 }
@@ -121,11 +122,16 @@ fn item(numbers: &mut Numbers, number: u32) -> Equipment {
     }
 }
 
+/// The day so many days before, where the calendar has it.
+fn days_before(day: Day, days: u32) -> Day {
+    Day::at(day.number().saturating_sub(days).max(13_879))
+}
+
 /// A key at a place among others.
-fn key(day: Day, place: u16) -> Key {
+fn key(day: Day, place: u32) -> Key {
     Key {
         day,
-        minute: place,
+        minute: (place % 1_440) as u16,
         handheld: 1,
         number: 1,
         index: 0,
@@ -140,9 +146,10 @@ fn classes(
 ) -> Result<Vec<(Key, Class)>, Memory> {
     let mut classes = Vec::new(alloc);
     let mut day = item.begin;
-    for place in 0..numbers.below(4) {
+    let count = numbers.below(4);
+    for place in 0..count {
         day = day.plus_days(numbers.below(500));
-        classes.push((key(day, place as u16), class(numbers, item.kind)))?;
+        classes.push((key(day, place), class(numbers, item.kind)))?;
     }
     Ok(classes)
 }
@@ -218,13 +225,14 @@ fn event(numbers: &mut Numbers, kind: Kind, is_calm: bool) -> Happening {
 /// Up to eighty events, some before the component's beginning, many on one day.
 fn events(alloc: Global, numbers: &mut Numbers, item: &Equipment) -> Result<Vec<Event>, Memory> {
     let mut events = Vec::new(alloc);
-    let mut day = Day::at(item.begin.number() - 100).plus_days(numbers.below(200));
-    let gap = numbers.below(40) + 1;
-    let is_calm = item.kind == Kind::Valve && numbers.is_one_of(2);
-    for place in 0..numbers.below(80) {
+    let mut day = days_before(item.begin, 100).plus_days(numbers.below(200));
+    let gap = numbers.below(24) + 1;
+    let is_calm = item.kind == Kind::Valve && !numbers.is_one_of(4);
+    let count = numbers.below(80);
+    for place in 0..count {
         day = day.plus_days(numbers.below(gap));
         events.push(Event {
-            key: key(day, place as u16),
+            key: key(day, place),
             what: event(numbers, item.kind, is_calm),
         })?;
     }
@@ -236,9 +244,12 @@ fn made_life(alloc: Global, numbers: &mut Numbers, number: u32) -> Result<Life, 
     let item = item(numbers, number);
     let classes = classes(alloc, numbers, &item)?;
     let events = events(alloc, numbers, &item)?;
-    let startup = Day::at((item.begin.number() - 600 + numbers.below(650)).min(46_751));
+    let startup = days_before(item.begin, 600)
+        .plus_days(numbers.below(650))
+        .min(Day::at(46_751));
     let mut skipped = Vec::new(alloc);
-    for _ in 0..numbers.below(30) {
+    let count = numbers.below(30);
+    for _ in 0..count {
         skipped.push(numbers.is_one_of(3))?;
     }
     Ok(Life {
@@ -308,14 +319,18 @@ fn compare(
     Ok(())
 }
 
-/// A day in its life, or one of the days that follow some event.
+/// A day in its life.
+fn any_day(numbers: &mut Numbers, life: &Life) -> Day {
+    days_before(life.item.begin, 10).plus_days(numbers.below(1_200))
+}
+
+/// A day in its life, or one of those that follow some event.
 fn day_in(numbers: &mut Numbers, life: &Life) -> Day {
-    let events = life.events.as_slice();
-    if events.is_empty() || numbers.is_one_of(3) {
-        return Day::at(life.item.begin.number() - 10).plus_days(numbers.below(1_200));
+    let place = numbers.below(60) as usize;
+    match life.events.as_slice().get(place) {
+        Some(e) => e.key.day.plus_days(numbers.below(8)),
+        None => any_day(numbers, life),
     }
-    let place = numbers.below(80) as usize % events.len();
-    events[place].key.day.plus_days(numbers.below(8))
 }
 
 #[test]
@@ -326,9 +341,9 @@ fn duties_are_those_by_the_definition(rt: HostRuntime) -> Result<(), Fail> {
         unmet: [0; 10],
         met: [0; 10],
     };
-    for number in 0..480 {
+    for number in 0..600 {
         let life = made_life(alloc, &mut numbers, number)?;
-        for _ in 0..3 {
+        for _ in 0..5 {
             let day = day_in(&mut numbers, &life);
             compare(&rt, alloc, &life, day, &mut count)?;
         }
