@@ -51,6 +51,26 @@ fn fitness_of(alloc: Global, places: u32) -> Result<Vec<Fitness>, AllocError> {
     Ok(fitness)
 }
 
+/// A component whose classes and events are known to be in order.
+fn component_of(
+    equipment: Equipment,
+    classes: Vec<(Key, Class)>,
+    facts: Vec<(Key, Fact)>,
+    fitness: Vec<Fitness>,
+    events: Vec<Event>,
+) -> Component
+    requires classes_ordered { Ascends (λ a b. is_earlier a.0 b.0) classes.items }
+    requires events_ordered { Ascends (λ a b. is_earlier a.key b.key) events.items }
+{
+    Component {
+        equipment,
+        classes,
+        facts,
+        fitness,
+        events,
+    }
+}
+
 /// The component with this number, from 0, and so many facts; `None` where they come out of order.
 pub fn made_component(
     alloc: Global,
@@ -75,11 +95,5 @@ pub fn made_component(
     if !are_events_ordered(events.as_slice()) {
         return Ok(None);
     }
-    Ok(Some(Component {
-        equipment,
-        classes,
-        facts,
-        fitness,
-        events,
-    }))
+    Ok(Some(component_of(equipment, classes, facts, fitness, events)))
 }

@@ -3,29 +3,30 @@
 use crate::day_at::day_after;
 use crate::equipment::key_of;
 use crate::said;
+use ldar_facts::Key;
 use ldar_law::{Duty, Route};
 use route_planner::routes;
 use std::alloc::{AllocError, Global};
 
-/// A monitoring that is due; each tenth is done.
-fn duty(place: u32) -> Duty {
-    let met = if place % 10 == 9 {
+/// What met the monitoring at a place: each tenth is done.
+fn met(place: u32) -> Option<Key> {
+    if place % 10 == 9 {
         Some(key_of(day_after(0), 0, 1))
     } else {
         None
-    };
-    Duty {
-        component: (u64::from(place) * 7_919 % 60_000 + 1) as u16,
-        cause: 2,
-        due: day_after((u64::from(place) * 31 % 365) as u32),
-        met,
     }
 }
 
+/// So many monitorings that are due.
 fn duties_of(alloc: Global, places: u32) -> Result<Vec<Duty>, AllocError> {
     let mut duties = Vec::new(alloc);
     for place in 0..places {
-        duties.push(duty(place))?;
+        duties.push(Duty {
+            component: (u64::from(place) * 7_919 % 60_000 + 1) as u16,
+            cause: 2,
+            due: day_after((u64::from(place) * 31 % 365) as u32),
+            met: met(place),
+        })?;
     }
     Ok(duties)
 }
