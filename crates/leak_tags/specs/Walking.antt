@@ -1,5 +1,5 @@
 -- What a walk over the events of a component knows at a place, and has still to tell.
-use Rattle.std.specs.Prelude.{◌≡◌, ℕ, Bool, true, Option, Some, None, is_some, option_map, List, ◌∷◌, take, drop}
+use Rattle.std.specs.Prelude.{◌≡◌, ℕ, true, Option, Some, None, is_some, option_map, List, ◌∷◌, take, drop}
 use Rattle.list_words.specs.Words.{first_from, each_from}
 use Rattle.ldar_facts.specs.declared.class.Kind.{Kind}
 use Rattle.ldar_facts.specs.declared.key.Key.{Key}

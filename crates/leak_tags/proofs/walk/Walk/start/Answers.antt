@@ -1,6 +1,5 @@
-use Rattle.std.proofs.Common.{refl, sym, ap, subst, ◌∙◌, true, false, arith}
+use Rattle.std.proofs.Common.{refl, arith}
 use Rattle.std.proofs.lemmas.Bool.{false≢true}
-use Rattle.leak_tags.specs.declared.open_leaks.OpenLeaks.{OpenLeaks}
 use Rattle.leak_tags.specs.OpenLeaks.{none_open}
 use Rattle.leak_tags.proofs.WalkLemmas.{at_first}
 use Rattle.leak_tags.proofs.walk.Walk.start.Goals as goal
