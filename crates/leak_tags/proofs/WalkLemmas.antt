@@ -3,7 +3,7 @@ use Rattle.std.proofs.Common.{◌≡◌, ℕ, zero, suc, ◌+◌, ◌<◌, ◌�
 use Rattle.std.proofs.Common.{take, drop, get_or, slice_get, option_map, refl, sym, ap, subst, ◌∙◌, inl, inr, ◌⊎◌, arith}
 use Rattle.std.proofs.lemmas.Bool.{cases_lt, or_parts, ltb-true, ltb-false, or_cases, and_from, true≢false}
 use Rattle.std.proofs.lemmas.List.{drop_more, take_more, drop_all}
-use Rattle.std.specs.Prelude.{is_some}
+use Rattle.std.specs.Prelude.{is_some, IfSome}
 use Rattle.std.specs.List.{cons_option}
 use Rattle.list_words.specs.Words.{first_from, each_from}
 use Rattle.list_words.proofs.WordLemmas.{each_more}
@@ -21,6 +21,7 @@ use Rattle.leak_tags.specs.declared.leaks.Leaks.{Leaks}
 use Rattle.leak_tags.specs.declared.next_attempt.NextAttempt.{NextAttempt}
 use Rattle.leak_tags.specs.declared.walk.OpenTag.{OpenTag}
 use Rattle.leak_tags.specs.declared.walk.Walk.{Walk}
+use Rattle.leak_tags.specs.CleanPairs.{IsPairFor}
 use Rattle.leak_tags.specs.OpenLeaks.{no_leaks, has_leaks, settled, reached, opened, leaks_with, is_reading, none_open, is_open, with_event}
 use Rattle.leak_tags.specs.OpenLeaks.{settles_readings, settles_drips, settles_sensors, settles_delayed}
 use Rattle.leak_tags.specs.Telling.{Tells, Rises, IsAt, IsNext}
@@ -340,17 +341,19 @@ module _ (kind : Kind) (events : List Event) (i : ℕ) (e : Event) (within : i <
       has_tag = ap is_some none ∙ sym (stays_shut kind walks.seen e passes (shut_is none));
       same = λ some. absurd (true≢false (sym some ∙ ap is_some none));
       next = next_still;
+      pair = walks.pair;
     }
 
     -- a tag opens
     pub walks_open : (new : Walk) (tag : OpenTag) → walk.tag ≡ None → is_leak e.what ≡ true → new.tag ≡ Some tag → new.leaks ≡ with_event kind none_open e →
-        IsNext new.next events (i + 1) → Walks kind new events (i + 1)
-    walks_open new tag none finds some leaks_are next = record {
+        IsNext new.next events (i + 1) → new.pair ≡ walk.pair → Walks kind new events (i + 1)
+    walks_open new tag none finds some leaks_are next pair_is = record {
       seen = with_event kind walks.seen e;
       at = at_next kind walks.seen events i walks.at e within is;
       has_tag = ap is_some some ∙ sym (leak_opens kind walks.seen e finds);
       same = λ _. leaks_are ∙ leak_begins kind walks.seen e finds (shut_is none);
       next = next;
+      pair = subst (λ o. IfSome o (λ pair. IsPairFor kind pair events)) (sym pair_is) walks.pair;
     }
 
     -- .. and is the first of the rest
@@ -366,8 +369,8 @@ module _ (kind : Kind) (events : List Event) (i : ℕ) (e : Event) (within : i <
 
     -- the tag stays open
     pub walks_on : (new : Walk) (tag : OpenTag) → walk.tag ≡ Some tag → new.tag ≡ Some tag → new.leaks ≡ with_event kind walk.leaks e → new.next ≡ walk.next →
-        is_open new.leaks ≡ true → Walks kind new events (i + 1)
-    walks_on new tag some still leaks_are next open_still =
+        new.pair ≡ walk.pair → is_open new.leaks ≡ true → Walks kind new events (i + 1)
+    walks_on new tag some still leaks_are next pair_is open_still =
         let same : new.leaks ≡ with_event kind walks.seen e = leaks_are ∙ ap (λ x. with_event kind x e) (walks.same (ap is_some some)) in
         record {
           seen = with_event kind walks.seen e;
@@ -375,6 +378,7 @@ module _ (kind : Kind) (events : List Event) (i : ℕ) (e : Event) (within : i <
           has_tag = ap is_some still ∙ sym open_still ∙ ap is_open same;
           same = λ _. same;
           next = subst (λ (x : NextAttempt). IsNext x events (i + 1)) (sym next) next_still;
+          pair = subst (λ o. IfSome o (λ pair. IsPairFor kind pair events)) (sym pair_is) walks.pair;
         }
 
     -- .. and is still the first of the rest
@@ -389,8 +393,8 @@ module _ (kind : Kind) (events : List Event) (i : ℕ) (e : Event) (within : i <
 
     -- the tag closes
     pub walks_shut : (new : Walk) (tag : OpenTag) → walk.tag ≡ Some tag → new.tag ≡ None → (leaks : OpenLeaks) → leaks ≡ with_event kind walk.leaks e →
-        new.next ≡ walk.next → is_open leaks ≡ false → Walks kind new events (i + 1)
-    walks_shut new tag some none leaks leaks_are next shut =
+        new.next ≡ walk.next → IfSome new.pair (λ pair. IsPairFor kind pair events) → is_open leaks ≡ false → Walks kind new events (i + 1)
+    walks_shut new tag some none leaks leaks_are next pair shut =
         let same : leaks ≡ with_event kind walks.seen e = leaks_are ∙ ap (λ x. with_event kind x e) (walks.same (ap is_some some)) in
         record {
           seen = with_event kind walks.seen e;
@@ -398,6 +402,7 @@ module _ (kind : Kind) (events : List Event) (i : ℕ) (e : Event) (within : i <
           has_tag = ap is_some none ∙ sym shut ∙ ap is_open same;
           same = λ have. absurd (true≢false (sym have ∙ ap is_some none));
           next = subst (λ (x : NextAttempt). IsNext x events (i + 1)) (sym next) next_still;
+          pair = pair;
         }
 
     -- .. with this event
@@ -420,8 +425,3 @@ rest_end kind events tag =
     ap (λ rest. each_from (law.span_at kind events) (take (length events) events) rest) (drop_all (length events) events (omega arith)) in
     ap (λ x. closed_tag kind events tag x ∷ tags_from kind events (length events)) closes
     ∙ ap (λ x. closed_tag kind events tag None ∷ x) none
-
--- .. where no tag is open
-pub rest_none : (kind : Kind) (events : List Event) → rest_of kind events None (length events) ≡ []
-rest_none kind events =
-    ap (λ rest. each_from (law.span_at kind events) (take (length events) events) rest) (drop_all (length events) events (omega arith))

@@ -1,5 +1,5 @@
 -- What a walk over the events of a component knows at a place, and has still to tell.
-use Rattle.std.specs.Prelude.{◌≡◌, ℕ, true, Option, Some, None, is_some, option_map, List, ◌∷◌, take, drop}
+use Rattle.std.specs.Prelude.{◌≡◌, ℕ, true, Option, Some, None, is_some, IfSome, option_map, List, ◌∷◌, take, drop}
 use Rattle.list_words.specs.Words.{first_from, each_from}
 use Rattle.ldar_facts.specs.declared.class.Kind.{Kind}
 use Rattle.ldar_facts.specs.declared.key.Key.{Key}
@@ -9,6 +9,7 @@ use Rattle.ldar_law.specs.Spans as law
 use Rattle.leak_tags.specs.declared.open_leaks.OpenLeaks.{OpenLeaks}
 use Rattle.leak_tags.specs.declared.walk.OpenTag.{OpenTag}
 use Rattle.leak_tags.specs.declared.walk.Walk.{Walk}
+use Rattle.leak_tags.specs.CleanPairs.{IsPairFor}
 use Rattle.leak_tags.specs.OpenLeaks.{is_open}
 use Rattle.leak_tags.specs.Telling.{IsAt, IsNext}
 
@@ -41,3 +42,4 @@ pub record Walks (kind : Kind) (walk : Walk) (events : List Event) (place : ℕ)
   pub has_tag : is_some walk.tag ≡ is_open seen
   pub same : is_some walk.tag ≡ true → walk.leaks ≡ seen
   pub next : IsNext walk.next events place
+  pub pair : IfSome walk.pair (λ pair. IsPairFor kind pair events)

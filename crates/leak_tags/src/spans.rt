@@ -1,15 +1,13 @@
 ghost use Rattle.std.specs.Prelude.{◌≡◌, ◌++◌, OnOk, IfOk};
 ghost use Rattle.std.specs.Option.{option_to_list};
 ghost use Rattle.ldar_law.specs.Spans as law;
-ghost use Rattle.leak_tags.specs.CleanPairs.{IsPairFor};
 ghost use Rattle.leak_tags.specs.Telling.{Rises};
 
-use crate::clean_months::last_clean_pair;
 use crate::rising::are_rising;
 use crate::search::spans_by_search;
 use crate::walk::Walk;
 use ldar_facts::{Kind, Memory};
-use ldar_law::{Event, Span, is_valve};
+use ldar_law::{Event, Span};
 use std::alloc::Global;
 
 /// Adds what is given, if it is.
@@ -22,30 +20,18 @@ fn put<T: Drop>(items: &mut Vec<T>, given: Option<T>) -> Result<(), Memory>
     Ok(())
 }
 
-/// The last pair of clean months of a valve; of another component none is asked for.
-fn pair_for(kind: Kind, events: &[Event]) -> u32
-    requires rising { Rises 0 events.now }
-    ensures value { IsPairFor kind result events.now }
-{
-    if !is_valve(kind) {
-        return 0;
-    }
-    last_clean_pair(events)
-}
-
 /// The tags of a component, by one walk over its events.
 fn spans_by_walk(alloc: Global, kind: Kind, events: &[Event]) -> Result<Vec<Span>, Memory>
     requires rising { Rises 0 events.now }
     ensures value { IfOk result (λ spans. spans.items ≡ law.spans_of kind events.now) }
 {
-    let pair = pair_for(kind, events);
     let mut walk = Walk::start(kind, events);
     let mut spans = Vec::new(alloc);
     for place in 0..events.len() {
-        let closed = walk.step(kind, events, place, pair);
+        let closed = walk.step(kind, events, place);
         put(&mut spans, closed)?;
     }
-    let open = walk.rest(kind, events, pair);
+    let open = walk.rest();
     put(&mut spans, open)?;
     Ok(spans)
 }

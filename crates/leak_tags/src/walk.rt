@@ -1,12 +1,13 @@
 //! One walk over the events of a component, which tells each tag where it closes.
 
-ghost use Rattle.std.specs.Prelude.{◌≡◌, ◌+◌, ◌++◌, ◌<◌, length};
+ghost use Rattle.std.specs.Prelude.{◌≡◌, ◌+◌, ◌++◌, ◌<◌, IfSome, Some, None, length};
 ghost use Rattle.std.specs.Option.{option_to_list};
 ghost use Rattle.ldar_law.specs.Spans as law;
 ghost use Rattle.leak_tags.specs.CleanPairs.{IsPairFor};
 ghost use Rattle.leak_tags.specs.Telling.{Rises};
 ghost use Rattle.leak_tags.specs.Walking.{Walks, closed_tag, rest_of};
 
+use crate::clean_months::last_clean_pair;
 use crate::next_attempt::NextAttempt;
 use crate::open_leaks::OpenLeaks;
 use ldar_days::Day;
@@ -30,31 +31,54 @@ pub struct Walk {
     /// The leaks that are open, where a tag is.
     pub leaks: OpenLeaks,
     pub next: NextAttempt,
+    /// The last pair of clean months, where it was asked for.
+    pub pair: Option<u32>,
 }
 
-/// Whether the identification may come off a tag that is closed or not (40 CFR 60.486a(b)(2), (3)). A valve's may where
-/// two months in a row are clean, the first of them the month of closing or a later one; this is the last such pair.
-fn is_removable(kind: Kind, events: &[Event], pair: u32, closed: &Option<Key>) -> bool
-    requires pair { IsPairFor kind pair events.now }
-    ensures value { result ≡ law.is_removable kind events.now closed.now }
+/// The last pair of clean months of a valve; of another component none is asked for.
+fn pair_for(kind: Kind, events: &[Event]) -> u32
+    requires rising { Rises 0 events.now }
+    ensures value { IsPairFor kind result events.now }
 {
-    match closed {
-        Some(key) => !is_valve(kind) || key.day.month().number() <= pair,
-        None => false,
+    if !is_valve(kind) {
+        return 0;
     }
+    last_clean_pair(events)
+}
+
+/// Whether the identification may come off a tag that is closed (40 CFR 60.486a(b)(2), (3)). A valve's may where two
+/// months in a row are clean, the first of them the month of closing or a later one; this is the last such pair.
+fn is_removable(kind: Kind, events: &[Event], pair: u32, closed: &Key) -> bool
+    requires pair { IsPairFor kind pair events.now }
+    ensures value { result ≡ law.is_removable kind events.now (Some closed.now) }
+{
+    !is_valve(kind) || closed.day.month().number() <= pair
 }
 
 impl OpenTag {
-    /// The tag, closed or not.
-    pub fn closed(self, kind: Kind, events: &[Event], pair: u32, closed: Option<Key>) -> Span
+    /// The tag, closed by the event of this key.
+    fn closed(self, kind: Kind, events: &[Event], pair: u32, key: Key) -> Span
         requires pair { IsPairFor kind pair events.now }
-        ensures value { result ≡ closed_tag kind events.now self closed }
+        ensures value { result ≡ closed_tag kind events.now self (Some key) }
+    {
+        let removable = is_removable(kind, events, pair, &key);
+        Span {
+            detected: self.detected,
+            attempted: self.attempted,
+            closed: Some(key),
+            removable,
+        }
+    }
+
+    /// The tag, which stays open.
+    fn unclosed(self) -> Span
+        ensures value { (kind : _) (events : _) → result ≡ closed_tag kind events self None }
     {
         Span {
             detected: self.detected,
             attempted: self.attempted,
-            closed,
-            removable: is_removable(kind, events, pair, &closed),
+            closed: None,
+            removable: false,
         }
     }
 }
@@ -71,14 +95,27 @@ impl Walk {
             tag: None,
             leaks: OpenLeaks::none(),
             next: NextAttempt::none(),
+            pair: None,
+        }
+    }
+
+    /// The last pair of clean months, looked for where it is not known.
+    fn pair_of(&self, kind: Kind, events: &[Event]) -> u32
+        requires rising { Rises 0 events.now }
+        requires known { IfSome self.now.pair (λ pair. IsPairFor kind pair events.now) }
+        ensures value { IsPairFor kind result events.now }
+    {
+        match self.pair {
+            Some(pair) => pair,
+            None => pair_for(kind, events),
         }
     }
 
     /// Takes the event of this place. The tag that closes there, if one does.
-    pub fn step(&mut self, kind: Kind, events: &[Event], place: usize, pair: u32) -> Option<Span>
+    pub fn step(&mut self, kind: Kind, events: &[Event], place: usize) -> Option<Span>
         requires in_range { place < length events.now }
+        requires rising { Rises 0 events.now }
         requires walks { Walks kind self.old events.now place }
-        requires pair { IsPairFor kind pair events.now }
         ensures walks { Walks kind self.new events.now (place + 1) }
         ensures rest { rest_of kind events.now self.old.tag place ≡ option_to_list result ++ rest_of kind events.now self.new.tag (place + 1) }
     {
@@ -88,8 +125,10 @@ impl Walk {
             if self.leaks.is_open() {
                 return None;
             }
+            let pair = self.pair_of(kind, events);
+            self.pair = Some(pair);
             self.tag = None;
-            return Some(tag.closed(kind, events, pair, Some(event.key)));
+            return Some(tag.closed(kind, events, pair, event.key));
         }
         if !event.what.is_leak() {
             return None;
@@ -107,12 +146,11 @@ impl Walk {
     }
 
     /// The tag that stays open behind the last event, if one does.
-    pub fn rest(&self, kind: Kind, events: &[Event], pair: u32) -> Option<Span>
-        requires pair { IsPairFor kind pair events.now }
-        ensures value { option_to_list result ≡ rest_of kind events.now self.now.tag (length events.now) }
+    pub fn rest(&self) -> Option<Span>
+        ensures value { (kind : _) (events : _) → option_to_list result ≡ rest_of kind events self.now.tag (length events) }
     {
         match self.tag {
-            Some(tag) => Some(tag.closed(kind, events, pair, None)),
+            Some(tag) => Some(tag.unclosed()),
             None => None,
         }
     }

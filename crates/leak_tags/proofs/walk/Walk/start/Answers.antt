@@ -11,4 +11,5 @@ returns-clause-walks c = record {
   has_tag = refl;
   same = λ has. absurd (false≢true has);
   next = λ k low high. absurd (omega (arith, high, c.none-2.ensures.value));
+  pair = tt;
 }
