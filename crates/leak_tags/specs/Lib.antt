@@ -1,3 +1,4 @@
 pub mod CleanPairs
 pub mod OpenLeaks
 pub mod Telling
+pub mod Walking

@@ -1,5 +1,5 @@
 -- What is kept of the leaks that are not settled yet: as much of each sort as decides what settles them later.
-use Rattle.std.specs.Prelude.{ℕ, ◌+◌, ◌-◌, Bool, false, not, ◌&&◌, ◌||◌, nat_eq, nat_le, if◌then◌else◌, Option, Some, None, is_some}
+use Rattle.std.specs.Prelude.{ℕ, ◌+◌, ◌-◌, Bool, true, false, not, ◌&&◌, ◌||◌, nat_eq, nat_le, if◌then◌else◌, Option, Some, None, is_some}
 use Rattle.ldar_days.specs.Calendar.{month_of}
 use Rattle.ldar_facts.specs.declared.class.Kind.{Kind}
 use Rattle.ldar_law.specs.declared.event.Event.{Event}
@@ -120,3 +120,93 @@ with_event kind leaks e = record {
   attempted = (not (is_leak e.what) && leaks.attempted) || is_attempt e.what;
   below = months_with leaks.below e;
 }
+
+-- ---- with an event of one kind
+
+-- at a leak: attempts and readings before it settle nothing
+abbrev pub anew : OpenLeaks → OpenLeaks
+anew leaks = record { readings = leaks.readings; drips = leaks.drips; sensors = leaks.sensors; attempted = false; below = no_months }
+
+-- with a reading below the leak definition
+abbrev pub with_below : Kind → OpenLeaks → ℕ → OpenLeaks
+with_below kind leaks day = record {
+  readings = settled leaks.readings leaks.attempted (is_valve_or_pump kind && is_second leaks.below (month_of day));
+  drips = settled leaks.drips leaks.attempted (is_valve_or_pump kind && is_second leaks.below (month_of day));
+  sensors = settled leaks.sensors false (is_valve_or_pump kind && is_second leaks.below (month_of day));
+  attempted = leaks.attempted;
+  below = record { last = month_of day; before = is_second leaks.below (month_of day) };
+}
+
+-- with a reading that is a leak
+abbrev pub with_reading_leak : OpenLeaks → ℕ → OpenLeaks
+with_reading_leak leaks day = record {
+  readings = opened leaks.readings true day;
+  drips = leaks.drips;
+  sensors = leaks.sensors;
+  attempted = false;
+  below = no_months;
+}
+
+-- with a reading
+abbrev pub with_reading : Kind → OpenLeaks → Bool → Bool → ℕ → OpenLeaks
+with_reading kind leaks below leak day =
+    if leak
+    then with_reading_leak (if below then with_below kind leaks day else leaks) day
+    else (if below then with_below kind leaks day else leaks)
+
+-- with a visual inspection that settles drips or none
+abbrev pub with_dry : OpenLeaks → Bool → OpenLeaks
+with_dry leaks dry = record {
+  readings = leaks.readings;
+  drips = settled leaks.drips (dry && leaks.attempted) false;
+  sensors = leaks.sensors;
+  attempted = leaks.attempted;
+  below = leaks.below;
+}
+
+-- with a visual inspection
+abbrev pub with_look : OpenLeaks → Bool → Bool → ℕ → OpenLeaks
+with_look leaks dry leak day =
+    if leak
+    then record {
+      readings = leaks.readings;
+      drips = opened (settled leaks.drips (dry && leaks.attempted) false) true day;
+      sensors = leaks.sensors;
+      attempted = false;
+      below = no_months;
+    }
+    else with_dry leaks dry
+
+-- with what a sensor told
+abbrev pub with_indication : OpenLeaks → Bool → ℕ → OpenLeaks
+with_indication leaks leak day =
+    if leak
+    then record { readings = leaks.readings; drips = leaks.drips; sensors = opened leaks.sensors true day; attempted = false; below = no_months }
+    else leaks
+
+-- with an attempt
+abbrev pub with_attempt : OpenLeaks → Bool → OpenLeaks
+with_attempt leaks complete = record {
+  readings = leaks.readings;
+  drips = leaks.drips;
+  sensors = settled leaks.sensors complete false;
+  attempted = true;
+  below = leaks.below;
+}
+
+-- with a delay that counts, or one that does not
+abbrev pub with_delay : OpenLeaks → Bool → ℕ → OpenLeaks
+with_delay leaks counts day =
+    if counts
+    then record {
+      readings = reached leaks.readings true day;
+      drips = reached leaks.drips true day;
+      sensors = reached leaks.sensors true day;
+      attempted = leaks.attempted;
+      below = leaks.below;
+    }
+    else leaks
+
+-- out of service
+abbrev pub retired : OpenLeaks → OpenLeaks
+retired leaks = record { readings = no_leaks; drips = no_leaks; sensors = no_leaks; attempted = leaks.attempted; below = leaks.below }

@@ -10,6 +10,7 @@ mod rising;
 mod search;
 mod settling;
 mod spans;
+mod walk;
 
 pub use spans::spans_of;
 
