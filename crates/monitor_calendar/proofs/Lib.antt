@@ -1,3 +1,4 @@
+pub mod Concerning
 pub mod Cutting
 pub mod DripLemmas
 pub mod FollowLemmas

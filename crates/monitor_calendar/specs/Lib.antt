@@ -1,5 +1,6 @@
 pub mod Behind
 pub mod Causes
+pub mod Concern
 pub mod Covering
 pub mod Dripping
 pub mod DutiesOfUnit

@@ -1,0 +1,12 @@
+-- What a walk over delays tells of a repair.
+use Rattle.std.specs.Prelude.{◌≡◌, ℕ, List, option_map}
+use Rattle.ldar_law.specs.declared.delay.DelayEntry.{DelayEntry}
+use Rattle.ldar_law.specs.declared.delay.Stop.{Stop}
+use Rattle.ldar_law.specs.Delays.{due_given, last_counted}
+use Rattle.delay_of_repair.specs.declared.delays.Repair.{Repair}
+
+-- this is the repair by these delays, the latest first
+abbrev pub Repairs : ℕ → List ℕ → List Stop → List DelayEntry → Repair → Type 0
+Repairs detected attempts stops latest repair =
+    (repair.due ≡ due_given detected attempts stops (option_map (λ c. c.1) (last_counted detected attempts stops latest)))
+    × (repair.counted ≡ option_map (λ c. c.0) (last_counted detected attempts stops latest))
