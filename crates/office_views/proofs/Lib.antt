@@ -7,6 +7,7 @@ pub mod ListLemmas
 pub mod MonthLemmas
 pub mod PlaceLemmas
 pub mod ReadLemmas
+pub mod ReadyLemmas
 pub mod SoundLemmas
 pub mod TagLemmas
 pub mod TakingLemmas

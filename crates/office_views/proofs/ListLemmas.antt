@@ -1,8 +1,9 @@
 -- Lists that a loop makes of what each element gives, and lists in order.
 use Rattle.std.proofs.Common.{◌≡◌, ℕ, zero, suc, ◌+◌, ◌-◌, ◌<◌, ◌≤◌, Bool, true, nat_lt, Option, Some, None, List, [], ◌∷◌, ◌++◌, length, take, drop, map, get_or, refl, sym, ap, ◌∙◌, subst, arith}
 use Rattle.std.specs.List.{AllByRecursion, cons_option, filter_map, range_with_len}
-use Rattle.std.specs.Option.{option_to_list}
-use Rattle.std.proofs.lemmas.List.{drop_more, drop_all, append_assoc, append-nil, map_more, length-map}
+use Rattle.std.specs.Option.{IfSome, option_to_list}
+use Rattle.std.proofs.lemmas.List.{take_more, drop_more, drop_all, append_assoc, append-nil, map_more, length-map}
+use Rattle.std.proofs.lemmas.List.Elements.{filter_map-append}
 use Rattle.std.proofs.lemmas.List.FromFn.{get_or-map-range_with_len, length-map-range_with_len, map-range_with_len_more}
 use Rattle.list_words.specs.Order.{Ascends}
 use Rattle.list_words.specs.Ranges.{until, from_to}
@@ -18,6 +19,13 @@ pub given_done : {X Y : Type 0} (f : X → Option Y) (done all : List Y) (xs : L
     → done ++ filter_map f (drop i xs) ≡ all → done ≡ all
 given_done f done all xs i end is =
     sym (append-nil done) ∙ ap (λ ys. done ++ filter_map f ys) (sym (drop_all i xs end)) ∙ is
+
+-- what the elements so far give, with the next
+pub given_more : {X Y : Type 0} (f : X → Option Y) (xs : List X) (i : ℕ) (d : X) → i < length xs
+    → filter_map f (take (i + 1) xs) ≡ filter_map f (take i xs) ++ option_to_list (f (get_or xs i d))
+given_more f xs i d within =
+    ap (filter_map f) (take_more xs i d within) ∙ filter_map-append f (take i xs) (get_or xs i d ∷ [])
+    ∙ ap (λ ys. filter_map f (take i xs) ++ ys) (cons_option_is (f (get_or xs i d)) [] ∙ append-nil (option_to_list (f (get_or xs i d))))
 
 -- a list of what each element gives, with one more
 pub mapped_more : {X Y : Type 0} (f : X → Y) (xs : List X) (i : ℕ) (x : X) → i < length xs → x ≡ get_or xs i x
@@ -107,3 +115,8 @@ all_given P f (n ∷ ns) holds =
       | None ↦ λ is. all_given P f ns holds
       | Some x ↦ λ is. (holds n x is, all_given P f ns holds)
     ] refl
+
+-- what holds of the value holds if there is one
+pub some_holds : {X : Type 0} (P : X → Type 0) (o : Option X) → ((x : X) → o ≡ Some x → P x) → IfSome o P
+some_holds P None holds = tt
+some_holds P (Some x) holds = holds x refl

@@ -8,6 +8,7 @@ use Rattle.std.proofs.lemmas.List.Elements.{filter-append, filter_map-append}
 use Rattle.list_words.specs.Order.{Ascends}
 use Rattle.list_words.proofs.PutLemmas.{ascends_filter}
 use Rattle.ldar_facts.specs.declared.body.FactBody.{FactBody}
+use Rattle.ldar_facts.specs.declared.class.Class.{Class}
 use Rattle.ldar_facts.specs.declared.key.Key.{Key}
 use Rattle.ldar_facts.specs.Facts.{Entry, goes_first, is_earlier}
 use Rattle.ldar_facts.proofs.KeyOrder.{strict_goes_first}
@@ -16,6 +17,7 @@ use Rattle.fact_store.specs.Kept.{Kept, ArePlacesOf, entries_at, facts_in, names
 use Rattle.history_laws.specs.DayLaws.{up_to}
 use Rattle.history_laws.proofs.UpTo.{part_up_to_a_day}
 use Rattle.history_laws.proofs.RegisterUpTo.{election_is}
+use Rattle.ldar_law.specs.declared.election.ElectionEntry.{ElectionEntry}
 use Rattle.ldar_law.specs.Equipment.{class_at, classes_of, election_entered, elections_of}
 use Rattle.ldar_law.proofs.ForceLemmas.{class_keyed}
 
@@ -23,14 +25,14 @@ one_up_to : (day : ℕ) (e : Entry) → up_to day (e ∷ []) ≡ option_to_list 
 one_up_to day e = elim (cases_Bool (nat_le e.0.day day)) [ inl come ↦ rw come refl | inr not_come ↦ rw not_come refl ]
 
 -- with the fact at the next place
-pub read_more : (arrived : List Entry) (day : ℕ) (places : List Place) (i : ℕ) (place : Place) (e : Entry) → i < length places
-    → place ≡ get_or places i place → slice_get arrived place.at ≡ Some e
+pub read_more : (arrived : List Entry) (day : ℕ) (places : List Place) (i : ℕ) (d : Place) (e : Entry) → i < length places
+    → slice_get arrived (get_or places i d).at ≡ Some e
     → up_to day (entries_at arrived (take (i + 1) places))
     ≡ up_to day (entries_at arrived (take i places)) ++ option_to_list (cond (nat_le e.0.day day) (Some e) None)
-read_more arrived day places i place e within is here =
-    ap (λ ps. up_to day (entries_at arrived ps)) (take_more places i place within ∙ ap (λ p. take i places ++ p ∷ []) (sym is))
-    ∙ ap (up_to day) (filter_map-append (λ p. slice_get arrived p.at) (take i places) (place ∷ []))
-    ∙ filter-append (λ e. nat_le e.0.day day) (entries_at arrived (take i places)) (entries_at arrived (place ∷ []))
+read_more arrived day places i d e within here =
+    ap (λ ps. up_to day (entries_at arrived ps)) (take_more places i d within)
+    ∙ ap (up_to day) (filter_map-append (λ p. slice_get arrived p.at) (take i places) (get_or places i d ∷ []))
+    ∙ filter-append (λ e. nat_le e.0.day day) (entries_at arrived (take i places)) (entries_at arrived (get_or places i d ∷ []))
     ∙ ap (λ o. up_to day (entries_at arrived (take i places)) ++ up_to day (cons_option o [])) here
     ∙ ap (λ xs. up_to day (entries_at arrived (take i places)) ++ xs) (one_up_to day e)
 
@@ -67,9 +69,9 @@ module _ {X : Type 0} (key : X → Key) (f : Entry → Option X) (keyed : (e : E
 
 -- the classes of a component
 pub classes_in_order : (number : ℕ) (es : List Entry) → Ascends goes_first es → Ascends (λ a b. is_earlier a.0 b.0) (classes_of number es)
-classes_in_order number = given_in_order (λ entered. entered.0) (class_at number) (class_keyed number)
+classes_in_order number = given_in_order (λ (entered : Key × Class). entered.0) (class_at number) (class_keyed number)
 
 -- the elections of a process unit
 pub elections_in_order : (number : ℕ) (es : List Entry) → Ascends goes_first es → Ascends (λ a b. is_earlier a.key b.key) (elections_of number es)
 elections_in_order number =
-    given_in_order (λ election. election.key) (λ e. election_entered number e.0 e.1.body) (λ e x is. election_is number e.0 e.1.body x is)
+    given_in_order (λ (election : ElectionEntry). election.key) (λ e. election_entered number e.0 e.1.body) (λ e x is. election_is number e.0 e.1.body x is)

@@ -1,14 +1,13 @@
 -- What the register and the lists of a store say of a process unit on a day.
-use Rattle.std.proofs.Common.{◌≡◌, ℕ, Bool, Option, Some, None, false, cond, nat_le, nat_lt, inl, inr, arith, option_map, option_and_then, List, [], ◌∷◌, ◌++◌, length, take, filter, map, get_or, ◌<◌, ◌≤◌, ◌+◌, Contains, refl, sym, ap, ◌∙◌, subst, length-take-le}
+use Rattle.std.proofs.Common.{◌≡◌, ℕ, Bool, Option, Some, None, false, cond, nat_le, nat_lt, inl, inr, arith, leb-false, option_map, option_and_then, List, ◌++◌, length, take, filter, map, get_or, ◌<◌, ◌≤◌, ◌+◌, Contains, refl, sym, ap, ◌∙◌, subst, length-take-le}
 use Rattle.std.specs.List.{AllByRecursion, filter_map}
 use Rattle.std.proofs.lemmas.Bool.{cases_Bool}
-use Rattle.std.proofs.lemmas.Option.{cases_Option}
+use Rattle.ldar_law.proofs.Gifts.{cases_Option}
 use Rattle.std.specs.Option.{option_to_list}
-use Rattle.std.proofs.lemmas.List.{take_more, take_all, append-nil}
+use Rattle.std.proofs.lemmas.List.{take_all}
 use Rattle.std.proofs.lemmas.List.Concat.{flat_map-append}
-use Rattle.std.proofs.lemmas.List.Elements.{filter-append, filter_map-append}
+use Rattle.std.proofs.lemmas.List.Elements.{Contains-get_or, filter-append, filter_map-append}
 use Rattle.list_words.specs.Order.{Ascends}
-use Rattle.list_words.proofs.WordLemmas.{cons_option_is}
 use Rattle.ldar_facts.specs.Facts.{Entry, goes_first}
 use Rattle.history_laws.specs.DayLaws.{up_to, item_on, if_begun, if_started}
 use Rattle.history_laws.specs.RulyLaws.{IsEachOnce}
@@ -19,6 +18,7 @@ use Rattle.history_laws.proofs.RegisterUpTo.{components_up_to_a_day, components_
 use Rattle.history_laws.proofs.UpTo.{ascending_are_in_order}
 use Rattle.ldar_law.specs.declared.equipment.Equipment.{Equipment}
 use Rattle.ldar_law.specs.declared.numbers.TheConstants.{LAST_FACT_DAY, MOST_COMPONENTS}
+use Rattle.ldar_law.specs.declared.sheet.Sheet.{Sheet}
 use Rattle.ldar_law.specs.declared.tally.Tally.{Tally}
 use Rattle.ldar_law.specs.declared.unit_entry.UnitEntry.{UnitEntry}
 use Rattle.ldar_law.specs.Duties.{duties_of}
@@ -32,7 +32,7 @@ use Rattle.semiannual_report.specs.Columns.{AreOfComponents}
 use Rattle.office_views.specs.Known.{known_among}
 use Rattle.office_views.specs.Lists.{AreKept}
 use Rattle.office_views.specs.Tallied.{AreTallies, CountsMore, HaveRoom}
-use Rattle.office_views.proofs.ListLemmas.{all_given, all_map, ascends_map, few_given, given_ascend}
+use Rattle.office_views.proofs.ListLemmas.{all_given, all_map, ascends_map, few_given, given_ascend, given_more}
 use Rattle.office_views.proofs.TallyLemmas.{room_for, tallied_more}
 
 -- a component as the register has it, on a day
@@ -86,15 +86,11 @@ all_listed f day unit i facts entries numbers x up kept are end is =
 
 -- ---- with one more member
 
-module _ (facts : List Entry) (numbers : List ℕ) (i number : ℕ) (within : i < length numbers) (is : number ≡ get_or numbers i number) where
-  pub known_more : known_among facts (take (i + 1) numbers)
-      ≡ known_among facts (take i numbers) ++ option_to_list (option_map (known_of facts) (equipment_of number facts))
-  known_more =
-      ap (known_among facts) (take_more numbers i number within ∙ ap (λ n. take i numbers ++ n ∷ []) (sym is))
-      ∙ filter_map-append (λ number. option_map (known_of facts) (equipment_of number facts)) (take i numbers) (number ∷ [])
-      ∙ ap (λ xs. known_among facts (take i numbers) ++ xs)
-      (cons_option_is (option_map (known_of facts) (equipment_of number facts)) []
-      ∙ append-nil (option_to_list (option_map (known_of facts) (equipment_of number facts))))
+-- the number at a place is that of a member
+pub member_at : (unit : ℕ) (facts entries : List Entry) (numbers : List ℕ) (i : ℕ) → AreKept facts entries → numbers ≡ members_of unit entries
+    → i < length numbers → Contains (members_of unit facts) (get_or numbers i 0)
+member_at unit facts entries numbers i kept are within =
+    subst (λ ns. Contains ns (get_or numbers i 0)) (are ∙ members_are unit facts entries kept.register) (Contains-get_or numbers i 0 within)
 
 -- the lists of some components and of more
 pub tag_list-append : (day : ℕ) (xs ys : List Known) → tag_list day (xs ++ ys) ≡ tag_list day xs ++ tag_list day ys
@@ -109,10 +105,12 @@ pub due_list-append : (startup day : ℕ) (skipped : List Bool) (xs ys : List Kn
     → due_list startup day skipped (xs ++ ys) ≡ due_list startup day skipped xs ++ due_list startup day skipped ys
 due_list-append startup day skipped xs ys = flat_map-append (λ c. duties_of c.item c.classes startup c.events skipped day) xs ys
 
-module _ (facts : List Entry) (numbers : List ℕ) (i number : ℕ) (within : i < length numbers) (is : number ≡ get_or numbers i number)
-    (known : List Known) (known_is : known ≡ option_to_list (option_map (known_of facts) (equipment_of number facts))) where
+module _ (facts : List Entry) (numbers : List ℕ) (i : ℕ) (within : i < length numbers)
+    (known : List Known) (known_is : known ≡ option_to_list (option_map (known_of facts) (equipment_of (get_or numbers i 0) facts))) where
   next_is : known_among facts (take i numbers) ++ known ≡ known_among facts (take (i + 1) numbers)
-  next_is = ap (λ k. known_among facts (take i numbers) ++ k) known_is ∙ sym (known_more facts numbers i number within is)
+  next_is =
+      ap (λ k. known_among facts (take i numbers) ++ k) known_is
+      ∙ sym (given_more (λ number. option_map (known_of facts) (equipment_of number facts)) numbers i 0 within)
 
   -- a list of a unit, where the list of some components and of more is those of both
   pub list_more : {X : Type 0} (f : List Known → List X) → ((xs ys : List Known) → f (xs ++ ys) ≡ f xs ++ f ys) → (old new : List X)
@@ -128,13 +126,15 @@ module _ (facts : List Entry) (numbers : List ℕ) (i number : ℕ) (within : i 
       (tallied_more startup day quarter (known_among facts (take i numbers)) known old new are counts)
 
 -- there is room for one more of the members of a unit
-pub room_for_member : (startup day quarter : ℕ) (facts all : List Entry) (unit i : ℕ) (tallies : List Tally) (numbers : List ℕ)
-    → AllByRecursion IsInRange all → IsEachOnce all → numbers ≡ members_of unit all → i < length numbers
-    → AreTallies startup day (known_among facts (take i numbers)) quarter tallies → HaveRoom tallies
-room_for_member startup day quarter facts all unit i tallies numbers in_range once are within counted =
-    let most : length numbers ≤ MOST_COMPONENTS = subst (λ ns. length ns ≤ MOST_COMPONENTS) (sym are) (members_fit all unit in_range once) in
-    let given = few_given (λ number. option_map (known_of facts) (equipment_of number facts)) (take i numbers) in
-    room_for startup day quarter (known_among facts (take i numbers)) tallies counted
+pub room_for_member : (startup day quarter : ℕ) (known facts entries : List Entry) (unit i : ℕ) (tallies : List Tally) (numbers : List ℕ)
+    → AreKept facts entries → numbers ≡ members_of unit entries → i < length numbers
+    → AreTallies startup day (known_among known (take i numbers)) quarter tallies → HaveRoom tallies
+room_for_member startup day quarter known facts entries unit i tallies numbers kept are within counted =
+    let members = are ∙ members_are unit facts entries kept.register in
+    let most : length numbers ≤ MOST_COMPONENTS =
+        subst (λ (ns : List ℕ). length ns ≤ MOST_COMPONENTS) (sym members) (members_fit facts unit kept.in_range kept.once) in
+    let given = few_given (λ number. option_map (known_of known) (equipment_of number known)) (take i numbers) in
+    room_for startup day quarter (known_among known (take i numbers)) tallies counted
     (omega (arith, most, within, given, length-take-le i numbers (omega (arith, within))))
 
 -- ---- the sheets of a unit
@@ -148,7 +148,7 @@ known_has_number facts number c is =
       | inr some ↦
           let known : Some (known_of facts some.0) ≡ Some c = rw some.1 at is in
           let same : known_of facts some.0 ≡ c = cc in
-          (some.0, some.1, ap (λ k. k.item.component) (sym same) ∙ (components_are_members facts number some.0 some.1).0)
+          (some.0, some.1, ap (λ (k : Known). k.item.component) (sym same) ∙ (components_are_members facts number some.0 some.1).0)
     ]
 
 -- the sheets of a unit's components are of distinct ones, in ascending order
@@ -157,10 +157,10 @@ pub sheets_are_distinct : (facts : List Entry) (numbers : List ℕ) → AllByRec
 sheets_are_distinct facts numbers in_range up =
     let f : ℕ → Option Known = λ number. option_map (known_of facts) (equipment_of number facts) in
     record {
-      ascend = ascends_map (λ a b. nat_lt a.component b.component) sheet_of (filter_map f numbers)
-          (given_ascend (λ c. c.item.component) f (λ number c is. (known_has_number facts number c is).2) numbers up);
-      each = all_map (λ sheet. sheet.component ≤ MOST_COMPONENTS) sheet_of (filter_map f numbers)
-          (all_given (λ c. c.item.component ≤ MOST_COMPONENTS) f numbers (λ number c is.
+      ascend = ascends_map (λ (a b : Sheet). nat_lt a.component b.component) sheet_of (filter_map f numbers)
+          (given_ascend (λ (c : Known). c.item.component) f (λ number c is. (known_has_number facts number c is).2) numbers up);
+      each = all_map (λ (sheet : Sheet). sheet.component ≤ MOST_COMPONENTS) sheet_of (filter_map f numbers)
+          (all_given (λ (c : Known). c.item.component ≤ MOST_COMPONENTS) f numbers (λ number c is.
           let found = known_has_number facts number c is in
           let stands = components_stand_in_range facts number found.0 in_range found.1 in
           subst (λ n. n ≤ MOST_COMPONENTS) (sym found.2) stands.component.1));
@@ -213,7 +213,7 @@ started_in_bound day number facts entries unit up kept is =
             | inl come ↦
                 let here : Some some.0 ≡ Some unit = rw come at started in
                 let same : some.0 ≡ unit = cc in
-                subst (λ u. u.startup ≤ LAST_FACT_DAY) same (kept.startups number some.0 some.1)
+                subst (λ (u : UnitEntry). u.startup ≤ LAST_FACT_DAY) same (kept.startups number some.0 some.1)
             | inr not_come ↦ let never : None ≡ Some unit = rw not_come at started in absurd cc
           ]
     ]

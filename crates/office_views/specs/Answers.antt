@@ -1,5 +1,6 @@
 -- What the views answer: a text or what there is none of, and a report.
 use Rattle.std.specs.Prelude.{◌≡◌, ℕ, if◌then◌else◌, Option, Some, None, Result, Ok, Err, List}
+use Rattle.std.specs.declared.alloc.AllocError.{AllocError}
 use Rattle.ldar_facts.specs.Facts.{Entry}
 use Rattle.ldar_law.specs.declared.reply.Reply.{Reply}
 use Rattle.ldar_law.specs.declared.reply.Reply.TheVariants as replies
@@ -54,6 +55,11 @@ Tells (Err WantsMemory) asked = (report : Report) × (asked ≡ Ok report)
 abbrev pub IsText : Reply → Type 0
 IsText reply = (text : List ℕ) × (reply ≡ replies.Shown text)
 
--- .. there is one, and it shows a text
-abbrev pub IsTextOf : Option Reply → Type 0
-IsTextOf answer = (text : List ℕ) × (answer ≡ Some (replies.Shown text))
+-- the reply is what is shown; no memory only where it shows a text
+abbrev pub Shows : Result Shown AllocError → Reply → Type 0
+Shows (Ok answer) reply = reply_of answer ≡ reply
+Shows (Err memory) reply = IsText reply
+
+-- .. if the request is a view, and so has a reply
+abbrev pub IsShown : Result Shown AllocError → Option Reply → Type 0
+IsShown result reply = (told : Reply) × (reply ≡ Some told) × Shows result told

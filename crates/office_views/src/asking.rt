@@ -1,10 +1,10 @@
-ghost use Rattle.std.specs.Prelude.{◌≡◌, Some, IfOk, OnErr};
+ghost use Rattle.std.specs.Prelude.{◌≡◌};
 ghost use Rattle.list_words.specs.Order.{Ascends};
 ghost use Rattle.ldar_facts.specs.Facts.{goes_first};
 ghost use Rattle.fact_store.specs.Kept.{facts_in};
 ghost use Rattle.history_laws.specs.DayLaws.{up_to};
-ghost use Rattle.ldar_law.specs.Shown.{view_of, view_day};
-ghost use Rattle.office_views.specs.Answers.{reply_of, IsView, IsTextOf};
+ghost use Rattle.ldar_law.specs.Shown as law;
+ghost use Rattle.office_views.specs.Answers.{IsShown, IsView};
 ghost use Rattle.office_views.specs.Lists.{AreKept};
 
 use crate::answers::{delays_view, due_view, tags_view};
@@ -21,13 +21,20 @@ use ldar_law::Request;
 use std::alloc::Global;
 use std::sync::ledger::Ledger;
 
-/// The facts of a store, read up to a day.
-pub fn read_on(alloc: Global, store: &FactStore, day: Day) -> Lists<'_>
-    requires ordered { Ascends goes_first (facts_in store.now) }
-    ensures store { result.store.now ≡ store.now }
-    ensures day { result.day ≡ day }
+/// The day of a view.
+fn view_day(request: &Request) -> Day
+    requires view { IsView request.now }
+    ensures value { result ≡ law.view_day request.now }
 {
-    Lists { alloc, store, day }
+    match request {
+        Request::Due { day, .. } => *day,
+        Request::Tags { day, .. } => *day,
+        Request::Delays { day, .. } => *day,
+        Request::Route { day, .. } => *day,
+        Request::Percent { day, .. } => *day,
+        Request::Report { day, .. } => *day,
+        Request::Sync(_) => unreachable!(),
+    }
 }
 
 /// What a view shows of the facts of a store, with the register of its entries.
@@ -41,22 +48,22 @@ pub fn answer<L: Ledger>(
     requires view { IsView request.now }
     requires ordered { Ascends goes_first (facts_in store.now) }
     requires kept { AreKept (facts_in store.now) (facts_in register.now) }
-    ensures value { IfOk result (λ shown. view_of request.now (up_to (view_day request.now) (facts_in store.now)) ≡ Some (reply_of shown)) }
-    ensures text { OnErr result (IsTextOf (view_of request.now (up_to (view_day request.now) (facts_in store.now)))) }
+    ensures value { IsShown result (law.view_of request.now (up_to (law.view_day request.now) (facts_in store.now))) }
 {
+    let lists = Lists {
+        alloc,
+        store,
+        day: view_day(request),
+    };
     match request {
-        Request::Due { unit, day } => due_view(&read_on(alloc, store, *day), register, *unit, steps),
-        Request::Tags { unit, day } => tags_view(&read_on(alloc, store, *day), register, *unit, steps),
-        Request::Delays { unit, day } => delays_view(&read_on(alloc, store, *day), register, *unit, steps),
-        Request::Route { unit, day, stops } => {
-            route_view(&read_on(alloc, store, *day), register, *unit, *stops, steps)
+        Request::Due { unit, .. } => due_view(&lists, register, *unit, steps),
+        Request::Tags { unit, .. } => tags_view(&lists, register, *unit, steps),
+        Request::Delays { unit, .. } => delays_view(&lists, register, *unit, steps),
+        Request::Route { unit, stops, .. } => route_view(&lists, register, *unit, *stops, steps),
+        Request::Percent { unit, quarter, .. } => {
+            percent_view(&lists, register, *unit, *quarter, steps)
         }
-        Request::Percent { unit, quarter, day } => {
-            percent_view(&read_on(alloc, store, *day), register, *unit, *quarter, steps)
-        }
-        Request::Report { unit, half, day } => {
-            report_view(&read_on(alloc, store, *day), register, *unit, *half, steps)
-        }
+        Request::Report { unit, half, .. } => report_view(&lists, register, *unit, *half, steps),
         Request::Sync(_) => unreachable!(),
     }
 }

@@ -1,4 +1,4 @@
-ghost use Rattle.std.specs.Prelude.{◌≡◌, ◌+◌, ◌-◌, ◌++◌, IfOk, OnOk};
+ghost use Rattle.std.specs.Prelude.{◌≡◌, ◌+◌, ◌-◌, ◌≤◌, ◌++◌, IfOk, OnOk};
 ghost use Rattle.std.specs.Option.{option_to_list};
 ghost use Rattle.list_words.specs.Order.{Ascends};
 ghost use Rattle.ldar_days.specs.Calendar.{end_by};
@@ -46,12 +46,12 @@ pub fn classes_of(alloc: Global, number: u16, facts: &[(Key, Fact)]) -> Result<V
 
 /// The shutdown that begins on a day and lasts so many days.
 fn stop_from(first: Day, days: u16) -> Stop
+    requires days { 1 ≤ days }
     ensures value { result ≡ record { first = first; last = end_by (first + days - 1) } }
 {
-    let end = first.number() + u32::from(days);
     Stop {
         first,
-        last: Day::at(0).plus_days(end.saturating_sub(1)),
+        last: first.plus_days(u32::from(days) - 1),
     }
 }
 

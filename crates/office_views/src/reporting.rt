@@ -1,11 +1,14 @@
-ghost use Rattle.std.specs.Prelude.{◌≡◌, ◌≤◌, true, IfOk, OnErr, IsTrue};
+ghost use Rattle.std.specs.Prelude.{◌≡◌, ◌≤◌, true, if◌then◌else◌, Ok, Err, IfOk, IsTrue};
 ghost use Rattle.fact_store.specs.Kept.{facts_in};
 ghost use Rattle.ldar_law.specs.declared.numbers.TheConstants.{LAST_FACT_DAY};
+ghost use Rattle.ldar_law.specs.declared.reply.Reply.TheVariants as replies;
+ghost use Rattle.ldar_law.specs.declared.request.What.TheVariants.{Half as NoHalf};
 ghost use Rattle.ldar_law.specs.Reports as reports;
 ghost use Rattle.ldar_law.specs.Shown as law;
-ghost use Rattle.office_views.specs.Answers.{reply_of, half_text_of, report_asked as says_asked, IsText, Tells};
+ghost use Rattle.office_views.specs.Answers.{half_text_of, report_asked as says_asked, Shows, Tells};
 ghost use Rattle.office_views.specs.Lists.{AreKept, facts_by};
 
+use crate::answers::shown;
 use crate::lists::Lists;
 use crate::register_on::unit_at;
 use crate::sheets::sheets_of_unit;
@@ -81,6 +84,25 @@ fn half_text<L: Ledger>(
     report_text(lists.alloc, first_month(unit.startup, half), &report)
 }
 
+/// What the view of a half of a process unit that was entered shows.
+fn half_of<L: Ledger>(
+    lists: &Lists<'_>,
+    register: &Register,
+    entry: &UnitEntry,
+    half: u16,
+    steps: &mut Steps<L>,
+) -> Result<Shown, Memory>
+    requires kept { AreKept (facts_in lists.now.store.now) (facts_in register.now) }
+    requires startup { entry.now.startup ≤ LAST_FACT_DAY }
+    ensures value { Shows result (if reports.has_half_begun entry.now.startup half lists.now.day
+        then replies.Shown (half_text_of entry.now half lists.now.day (facts_by lists.now)) else replies.NoSuch NoHalf) }
+{
+    if !has_begun(entry.startup, half, lists.day) {
+        return Ok(Shown::NoSuch(What::Half));
+    }
+    shown(half_text(lists, register, entry, half, steps))
+}
+
 /// What the view of a half of a process unit shows.
 pub fn report_view<L: Ledger>(
     lists: &Lists<'_>,
@@ -90,18 +112,31 @@ pub fn report_view<L: Ledger>(
     steps: &mut Steps<L>,
 ) -> Result<Shown, Memory>
     requires kept { AreKept (facts_in lists.now.store.now) (facts_in register.now) }
-    ensures value { IfOk result (λ answer. reply_of answer ≡ law.report_view unit half lists.now.day (facts_by lists.now)) }
-    ensures text { OnErr result (IsText (law.report_view unit half lists.now.day (facts_by lists.now))) }
+    ensures value { Shows result (law.report_view unit half lists.now.day (facts_by lists.now)) }
 {
     match unit_at(lists, register, unit) {
-        Some(entry) => {
-            if !has_begun(entry.startup, half, lists.day) {
-                return Ok(Shown::NoSuch(What::Half));
-            }
-            Ok(Shown::Text(half_text(lists, register, &entry, half, steps)?))
-        }
+        Some(entry) => half_of(lists, register, &entry, half, steps),
         None => Ok(Shown::NoSuch(What::Unit)),
     }
+}
+
+/// The report of a half of a process unit that was entered, or that there is none.
+fn report_of_half<L: Ledger>(
+    lists: &Lists<'_>,
+    register: &Register,
+    entry: &UnitEntry,
+    half: u16,
+    steps: &mut Steps<L>,
+) -> Result<Report, AskError>
+    requires kept { AreKept (facts_in lists.now.store.now) (facts_in register.now) }
+    requires startup { entry.now.startup ≤ LAST_FACT_DAY }
+    ensures value { Tells result (if reports.has_half_begun entry.now.startup half lists.now.day
+        then Ok (law.report_of_unit entry.now half lists.now.day (facts_by lists.now)) else Err NoHalf) }
+{
+    if !has_begun(entry.startup, half, lists.day) {
+        return Err(AskError::NoSuch(What::Half));
+    }
+    Ok(report_on(lists, register, entry, half, steps)?)
 }
 
 /// The report of a half of a process unit, or why there is none.
@@ -116,12 +151,7 @@ pub fn report_asked<L: Ledger>(
     ensures value { Tells result (says_asked unit half lists.now.day (facts_by lists.now)) }
 {
     match unit_at(lists, register, unit) {
-        Some(entry) => {
-            if !has_begun(entry.startup, half, lists.day) {
-                return Err(AskError::NoSuch(What::Half));
-            }
-            Ok(report_on(lists, register, &entry, half, steps)?)
-        }
+        Some(entry) => report_of_half(lists, register, &entry, half, steps),
         None => Err(AskError::NoSuch(What::Unit)),
     }
 }

@@ -1,11 +1,15 @@
-ghost use Rattle.std.specs.Prelude.{◌≡◌, ◌≤◌, IfOk, OnErr, ⊥};
+ghost use Rattle.std.specs.Prelude.{◌≡◌, ◌≤◌, nat_eq, if◌then◌else◌, IfOk};
 ghost use Rattle.fact_store.specs.Kept.{facts_in};
 ghost use Rattle.ldar_law.specs.declared.numbers.TheConstants.{LAST_FACT_DAY};
+ghost use Rattle.ldar_law.specs.declared.reply.Reply.TheVariants as replies;
+ghost use Rattle.ldar_law.specs.declared.request.What.TheVariants.{Stops as NoStops};
 ghost use Rattle.ldar_law.specs.Shown as law;
+ghost use Rattle.ldar_law.specs.Texts as texts;
 ghost use Rattle.ldar_law.specs.Units as units;
-ghost use Rattle.office_views.specs.Answers.{reply_of, IsText};
+ghost use Rattle.office_views.specs.Answers.{Shows};
 ghost use Rattle.office_views.specs.Lists.{AreKept, facts_by};
 
+use crate::answers::shown;
 use crate::due::duties_of_unit;
 use crate::lists::Lists;
 use crate::register_on::unit_at;
@@ -13,7 +17,7 @@ use crate::shown::Shown;
 use component_register::Register;
 use fact_store::Steps;
 use ldar_facts::Memory;
-use ldar_law::{Route, UnitEntry, What};
+use ldar_law::{Route, Text, UnitEntry, What};
 use route_planner::{RouteError, routes};
 use std::sync::ledger::Ledger;
 use view_texts::routes_text;
@@ -39,6 +43,45 @@ fn routes_of_unit<L: Ledger>(
     }
 }
 
+/// The text of the routes, each of at least one stop.
+fn route_on<L: Ledger>(
+    lists: &Lists<'_>,
+    register: &Register,
+    unit: u16,
+    entry: &UnitEntry,
+    stops: u16,
+    steps: &mut Steps<L>,
+) -> Result<Text, Memory>
+    requires kept { AreKept (facts_in lists.now.store.now) (facts_in register.now) }
+    requires startup { entry.now.startup ≤ LAST_FACT_DAY }
+    requires stops { 1 ≤ stops }
+    ensures value { IfOk result (λ text. text
+        ≡ texts.route_text unit lists.now.day stops (units.routes_of_unit entry.now lists.now.day (facts_by lists.now) stops)) }
+{
+    let found = routes_of_unit(lists, register, entry, stops, steps)?;
+    routes_text(lists.alloc, unit, lists.day, stops, &found)
+}
+
+/// What the view of the routes of a process unit that was entered shows.
+fn route_of<L: Ledger>(
+    lists: &Lists<'_>,
+    register: &Register,
+    unit: u16,
+    entry: &UnitEntry,
+    stops: u16,
+    steps: &mut Steps<L>,
+) -> Result<Shown, Memory>
+    requires kept { AreKept (facts_in lists.now.store.now) (facts_in register.now) }
+    requires startup { entry.now.startup ≤ LAST_FACT_DAY }
+    ensures value { Shows result (if nat_eq stops 0 then replies.NoSuch NoStops
+        else replies.Shown (texts.route_text unit lists.now.day stops (units.routes_of_unit entry.now lists.now.day (facts_by lists.now) stops))) }
+{
+    if stops == 0 {
+        return Ok(Shown::NoSuch(What::Stops));
+    }
+    shown(route_on(lists, register, unit, entry, stops, steps))
+}
+
 /// What the view of the routes of a process unit shows.
 pub fn route_view<L: Ledger>(
     lists: &Lists<'_>,
@@ -48,17 +91,10 @@ pub fn route_view<L: Ledger>(
     steps: &mut Steps<L>,
 ) -> Result<Shown, Memory>
     requires kept { AreKept (facts_in lists.now.store.now) (facts_in register.now) }
-    ensures value { IfOk result (λ answer. reply_of answer ≡ law.route_view unit lists.now.day stops (facts_by lists.now)) }
-    ensures text { OnErr result (IsText (law.route_view unit lists.now.day stops (facts_by lists.now))) }
+    ensures value { Shows result (law.route_view unit lists.now.day stops (facts_by lists.now)) }
 {
     match unit_at(lists, register, unit) {
-        Some(entry) => {
-            if stops == 0 {
-                return Ok(Shown::NoSuch(What::Stops));
-            }
-            let found = routes_of_unit(lists, register, &entry, stops, steps)?;
-            Ok(Shown::Text(routes_text(lists.alloc, unit, lists.day, stops, &found)?))
-        }
+        Some(entry) => route_of(lists, register, unit, &entry, stops, steps),
         None => Ok(Shown::NoSuch(What::Unit)),
     }
 }

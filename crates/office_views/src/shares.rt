@@ -1,13 +1,16 @@
-ghost use Rattle.std.specs.Prelude.{◌≡◌, ◌+◌, ◌-◌, ◌*◌, ◌≤◌, nat_le, IfOk, OnErr, IsTrue};
+ghost use Rattle.std.specs.Prelude.{◌≡◌, ◌+◌, ◌-◌, ◌*◌, ◌≤◌, nat_le, if◌then◌else◌, IfOk, IsTrue};
 ghost use Rattle.ldar_days.specs.Calendar.{first_day};
 ghost use Rattle.ldar_days.specs.Quarters.{first_quarter as first_quarter_of};
 ghost use Rattle.fact_store.specs.Kept.{facts_in};
 ghost use Rattle.ldar_law.specs.declared.numbers.TheConstants.{LAST_FACT_DAY};
+ghost use Rattle.ldar_law.specs.declared.reply.Reply.TheVariants as replies;
+ghost use Rattle.ldar_law.specs.declared.request.What.TheVariants.{Quarter as NoQuarter};
 ghost use Rattle.ldar_law.specs.Reports as reports;
 ghost use Rattle.ldar_law.specs.Shown as law;
-ghost use Rattle.office_views.specs.Answers.{reply_of, IsText};
+ghost use Rattle.office_views.specs.Answers.{Shows};
 ghost use Rattle.office_views.specs.Lists.{AreKept, facts_by};
 
+use crate::answers::shown;
 use crate::instruments::none_ready;
 use crate::lists::Lists;
 use crate::register_on::unit_at;
@@ -80,6 +83,25 @@ fn quarter_text<L: Ledger>(
     )
 }
 
+/// What the view of a quarter of a process unit that was entered shows.
+fn percent_of<L: Ledger>(
+    lists: &Lists<'_>,
+    register: &Register,
+    entry: &UnitEntry,
+    quarter: u16,
+    steps: &mut Steps<L>,
+) -> Result<Shown, Memory>
+    requires kept { AreKept (facts_in lists.now.store.now) (facts_in register.now) }
+    requires startup { entry.now.startup ≤ LAST_FACT_DAY }
+    ensures value { Shows result (if reports.has_quarter_begun entry.now.startup quarter lists.now.day
+        then replies.Shown (law.quarter_text entry.now quarter lists.now.day (facts_by lists.now)) else replies.NoSuch NoQuarter) }
+{
+    if !has_quarter_begun(entry.startup, quarter, lists.day) {
+        return Ok(Shown::NoSuch(What::Quarter));
+    }
+    shown(quarter_text(lists, register, entry, quarter, steps))
+}
+
 /// What the view of a quarter of a process unit shows.
 pub fn percent_view<L: Ledger>(
     lists: &Lists<'_>,
@@ -89,16 +111,10 @@ pub fn percent_view<L: Ledger>(
     steps: &mut Steps<L>,
 ) -> Result<Shown, Memory>
     requires kept { AreKept (facts_in lists.now.store.now) (facts_in register.now) }
-    ensures value { IfOk result (λ answer. reply_of answer ≡ law.percent_view unit quarter lists.now.day (facts_by lists.now)) }
-    ensures text { OnErr result (IsText (law.percent_view unit quarter lists.now.day (facts_by lists.now))) }
+    ensures value { Shows result (law.percent_view unit quarter lists.now.day (facts_by lists.now)) }
 {
     match unit_at(lists, register, unit) {
-        Some(entry) => {
-            if !has_quarter_begun(entry.startup, quarter, lists.day) {
-                return Ok(Shown::NoSuch(What::Quarter));
-            }
-            Ok(Shown::Text(quarter_text(lists, register, &entry, quarter, steps)?))
-        }
+        Some(entry) => percent_of(lists, register, &entry, quarter, steps),
         None => Ok(Shown::NoSuch(What::Unit)),
     }
 }

@@ -1,4 +1,4 @@
-ghost use Rattle.std.specs.Prelude.{◌≡◌, ℕ, ◌+◌, ◌≤◌, ◌↔◌, Some, None, IsTrue, [], ◌∷◌, ◌++◌, length, drop, slice_get, IfOk, OnOk, OnErr};
+ghost use Rattle.std.specs.Prelude.{◌≡◌, ℕ, ◌+◌, ◌≤◌, ◌↔◌, Some, None, IsTrue, [], ◌∷◌, ◌++◌, length, drop, slice_get, OnOk, OnErr};
 ghost use Rattle.ldar_facts.specs.Facts.{facts_of, facts_to};
 ghost use Rattle.fact_store.specs.Kept.{facts_in};
 ghost use Rattle.ldar_law.specs.declared.verdict.Verdict.TheVariants.{Pass};
@@ -7,11 +7,12 @@ ghost use Rattle.ldar_law.specs.Shown as law;
 ghost use Rattle.ldar_law.specs.Slices.{register_facts};
 ghost use Rattle.ldar_law.specs.Verdicts.{verdict_on};
 ghost use Rattle.office_views.specs.Answers as asked;
-ghost use Rattle.office_views.specs.Answers.{reply_of, IsTextOf, IsView, Tells};
+ghost use Rattle.office_views.specs.Answers.{IsShown, IsView, Tells};
 
-use crate::asking::{answer, read_on};
+use crate::asking::answer;
 use crate::comparing::is_batch_of;
 use crate::header::{Header, facts_of_all, push_headers};
+use crate::lists::Lists;
 use crate::reporting::report_asked;
 use crate::shown::{AskError, Shown};
 use crate::taking::{put_entries, put_facts};
@@ -117,8 +118,7 @@ impl Views {
     /// What a view shows of the adopted batches as known on its day. What there is none of takes no memory to say.
     pub fn ask<L: Ledger>(&mut self, request: &Request, steps: &mut Steps<L>) -> Result<Shown, Memory>
         requires view { IsView request.now }
-        ensures value { IfOk result (λ answer. law.shown self.old.adopted request.now ≡ Some (reply_of answer)) }
-        ensures text { OnErr result (IsTextOf (law.shown self.old.adopted request.now)) }
+        ensures value { IsShown result (law.shown self.old.adopted request.now) }
         ensures unchanged { self.new ≡ self.old }
     {
         answer(self.alloc, &self.store, &self.register, request, steps)
@@ -136,7 +136,11 @@ impl Views {
         ensures value { Tells result (asked.report_asked unit half day (facts_to day self.old.adopted)) }
         ensures unchanged { self.new ≡ self.old }
     {
-        let lists = read_on(self.alloc, &self.store, day);
+        let lists = Lists {
+            alloc: self.alloc,
+            store: &self.store,
+            day,
+        };
         report_asked(&lists, &self.register, unit, half, steps)
     }
 

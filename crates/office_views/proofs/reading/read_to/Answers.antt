@@ -10,5 +10,4 @@ loop-place-preserved g c =
     let fact = c.fact.result.1.now in
     c.in_ok-add.ensures.put ∙ ap (λ o. c.loop-place.facts.items ++ option_to_list o) c.if_come.ensures.value
     ∙ ap (λ xs. xs ++ option_to_list (cond (nat_le key.day c.args.day) (Some (key, fact)) None)) c.loop-place.invariant
-    ∙ sym (read_more arrived c.args.day c.args.places.now c.loop-place.place-index c.place-item.result (key, fact)
-    c.loop-place-test.true c.place-item.is c.fact.ensures.value)
+    ∙ sym (read_more arrived c.args.day c.args.places.now c.loop-place.place-index _ (key, fact) c.loop-place-test.true c.fact.ensures.value)

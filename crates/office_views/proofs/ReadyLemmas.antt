@@ -1,0 +1,54 @@
+-- Instruments that are ready, and what is known of a component.
+use Rattle.std.proofs.Common.{◌≡◌, ℕ, ◌<◌, Bool, true, false, cond, Option, Some, None, List, refl, sym, ap, ◌∙◌, subst, inl, inr}
+use Rattle.std.specs.BTreeMap.{is_at}
+use Rattle.std.specs.Ordering.{is_eq, nat_cmp, MatchOrdering}
+use Rattle.std.specs.declared.cmp.Ordering.{Ordering}
+use Rattle.std.specs.declared.cmp.Ordering.TheVariants.{Less, Equal, Greater}
+use Rattle.std.proofs.lemmas.Bool.{cases_Bool}
+use Rattle.std.proofs.lemmas.Cmp.{ranked}
+use Rattle.ldar_facts.specs.declared.class.Class.{Class}
+use Rattle.ldar_facts.specs.declared.key.Key.{Key}
+use Rattle.ldar_facts.specs.Facts.{Entry}
+use Rattle.ldar_law.specs.declared.delay.Stop.{Stop}
+use Rattle.ldar_law.specs.declared.equipment.Equipment.{Equipment}
+use Rattle.ldar_law.specs.declared.event.Event.{Event}
+use Rattle.ldar_law.specs.declared.tag.Tag.{Tag}
+use Rattle.ldar_law.specs.Equipment.{classes_of, stops_of}
+use Rattle.ldar_law.specs.Events.{events_in}
+use Rattle.ldar_law.specs.Slices.{facts_of_instrument}
+use Rattle.ldar_law.specs.Tags.{tags_of}
+use Rattle.ldar_law.specs.Units.{Known, known_of}
+use Rattle.method21_reading.specs.Instruments.{Apart, AreThoseOf}
+use Rattle.office_views.specs.Lists.{AreReady}
+
+tie_is : (o : Ordering) → is_eq o ≡ true → o ≡ Equal
+tie_is Less e = cc
+tie_is Equal e = refl
+tie_is Greater e = cc
+
+-- numbers that tie are one
+nat_tied : (x y : ℕ) → is_eq (nat_cmp x y) ≡ true → x ≡ y
+nat_tied x y e =
+    subst (λ o. MatchOrdering o (x < y) (x ≡ y) (y < x)) (tie_is (nat_cmp x y) e) (ranked x y (nat_cmp x y) refl)
+
+-- with one instrument more
+pub ready_with : (old new : ℕ → Option Apart) (facts : List Entry) (number : ℕ) (instrument : Apart) → AreReady old facts
+    → AreThoseOf (facts_of_instrument number facts) instrument
+    → ((q : ℕ) → new q ≡ cond (is_at (nat_cmp number) q) (Some instrument) (old q)) → AreReady new facts
+ready_with old new facts number instrument ready those updates q other is =
+    elim (cases_Bool (is_at (nat_cmp number) q)) [
+      | inl here ↦
+          let found : Some instrument ≡ Some other = ap (λ b. cond b (Some instrument) (old q)) (sym here) ∙ sym (updates q) ∙ is in
+          let same : instrument ≡ other = cc in
+          subst (λ n. AreThoseOf (facts_of_instrument n facts) other) (nat_tied number q here)
+          (subst (AreThoseOf (facts_of_instrument number facts)) same those)
+      | inr elsewhere ↦ ready q other (ap (λ b. cond b (Some instrument) (old q)) (sym elsewhere) ∙ sym (updates q) ∙ is)
+    ]
+
+-- what is known of a component, from what the calls below give
+pub known_is : (facts : List Entry) (item : Equipment) (classes : List (Key × Class)) (events : List Event) (tags : List Tag) (stops : List Stop)
+    → classes ≡ classes_of item.component facts → events ≡ events_in item classes facts
+    → tags ≡ tags_of item.component item.kind events stops → stops ≡ stops_of item.unit facts
+    → record { item = item; classes = classes; events = events; tags = tags } ≡ known_of facts item
+known_is facts item classes events tags stops classes_are events_are tags_are stops_are =
+    rw (tags_are, events_are, classes_are, stops_are) refl
