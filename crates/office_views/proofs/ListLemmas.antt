@@ -27,6 +27,11 @@ given_more f xs i d within =
     ap (filter_map f) (take_more xs i d within) ∙ filter_map-append f (take i xs) (get_or xs i d ∷ [])
     ∙ ap (λ ys. filter_map f (take i xs) ++ ys) (cons_option_is (f (get_or xs i d)) [] ∙ append-nil (option_to_list (f (get_or xs i d))))
 
+-- .. where it stands there
+pub given_next : {X Y : Type 0} (f : X → Option Y) (xs : List X) (i : ℕ) (x : X) → i < length xs → x ≡ get_or xs i x
+    → filter_map f (take (i + 1) xs) ≡ filter_map f (take i xs) ++ option_to_list (f x)
+given_next f xs i x within is = given_more f xs i x within ∙ ap (λ y. filter_map f (take i xs) ++ option_to_list (f y)) (sym is)
+
 -- a list of what each element gives, with one more
 pub mapped_more : {X Y : Type 0} (f : X → Y) (xs : List X) (i : ℕ) (x : X) → i < length xs → x ≡ get_or xs i x
     → map f (take (i + 1) xs) ≡ map f (take i xs) ++ f x ∷ []

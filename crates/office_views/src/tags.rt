@@ -100,10 +100,10 @@ pub fn tags_of(
     let delays = delays_among(alloc, events)?;
     let attempts = attempt_days(alloc, events)?;
     let spans = spans_of(alloc, kind, events)?;
-    let mut tags = Vec::with_capacity(alloc, spans.len())?;
+    let mut tags = Vec::new(alloc);
     for span in &spans {
         let own = delays_within(alloc, span, &delays)?;
-        tags.push_reserved(tag_of(component, span, &own, &attempts, stops));
+        tags.push(tag_of(component, span, &own, &attempts, stops))?;
     }
     Ok(tags)
 }

@@ -1,4 +1,4 @@
-use Rattle.std.proofs.Common.{◌++◌, [], ◌∷◌, sym, ap, ◌∙◌, arith}
+use Rattle.std.proofs.Common.{◌++◌, [], ◌∷◌, filter, sym, ap, ◌∙◌}
 use Rattle.ldar_law.specs.Tags as law
 use Rattle.office_views.proofs.ListLemmas.{mapped_more}
 use Rattle.office_views.proofs.tags.tags_of.Goals as goal
@@ -11,9 +11,5 @@ loop-span-preserved c =
     let tag = law.tag_of c.args.component events c.args.stops.now in
     let made = c.tag_of.ensures.value events (c.deref-2.ensures.value ∙ c.in_ok-attempts.ensures.value)
         (c.deref.ensures.value ∙ c.in_ok-own.ensures.value ∙ ap (λ ds. filter (λ d. law.is_within span d.key) ds) c.in_ok-delays.ensures.value) in
-    record {
-      made = c.push_reserved.ensures.items ∙ ap (λ t. l.tags.items ++ t ∷ []) made ∙ ap (λ ts. ts ++ tag span ∷ []) l.invariant.made
-          ∙ sym (mapped_more tag c.in_ok-spans.spans.items l.span-index span c.loop-span-test.true c.span-item.is);
-      long = omega arith;
-      room = omega arith;
-    }
+    c.in_ok-push.ensures.items ∙ ap (λ t. l.tags.items ++ t ∷ []) made ∙ ap (λ ts. ts ++ tag span ∷ []) l.invariant
+    ∙ sym (mapped_more tag c.in_ok-spans.spans.items l.span-index span c.loop-span-test.true c.span-item.is)

@@ -14,8 +14,8 @@ known_of-requires-clause-stops g c =
         c.requires.kept c.requires.member c.in-Some.ensures.value in
     c.requires.stops ∙ ap (λ u. stops_of u (facts_by lists)) (sym stands)
 
-pub returns-in_ok-known_of-clause-value : goal.returns-in_ok-known_of-clause-value
-returns-in_ok-known_of-clause-value g c =
+pub returns-in_ok-known_of-in-Some-clause-value : goal.returns-in_ok-known_of-in-Some-clause-value
+returns-in_ok-known_of-in-Some-clause-value g c =
     let lists = c.args.lists.now in
     ap Some c.in_ok-known_of.ensures.value
     ∙ ap (option_map (known_of (facts_by lists))) (c.in-Some.ensures.value

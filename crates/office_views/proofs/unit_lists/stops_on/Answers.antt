@@ -5,9 +5,11 @@ use Rattle.ldar_law.proofs.SliceLemmas.{unit_facts_suffice}
 use Rattle.office_views.specs.Lists.{facts_by}
 use Rattle.office_views.proofs.unit_lists.stops_on.Goals as goal
 
-pub returns-clause-value : goal.returns-clause-value
-returns-clause-value g c =
+pub returns : goal.returns
+returns g c =
     let facts = facts_by c.args.lists.now in
-    IfOk-weaker c.stops_of.result (λ xs. xs.items ≡ stops_of c.args.unit c.deref.result.now) (λ xs. xs.items ≡ stops_of c.args.unit facts)
-    (λ xs is. is ∙ ap (stops_of c.args.unit) (c.deref.ensures.value ∙ c.in_ok-own.ensures.value) ∙ (unit_facts_suffice c.args.unit facts).stops)
-    c.stops_of.ensures.value
+    record {
+      value = IfOk-weaker c.stops_of.result (λ xs. xs.items ≡ stops_of c.args.unit c.deref.result.now) (λ xs. xs.items ≡ stops_of c.args.unit facts)
+          (λ xs is. is ∙ ap (stops_of c.args.unit) (c.deref.ensures.value ∙ c.in_ok-own.ensures.value) ∙ (unit_facts_suffice c.args.unit facts).stops)
+          c.stops_of.ensures.value;
+    }
