@@ -1,4 +1,4 @@
-ghost use Rattle.std.specs.Prelude.{◌≡◌, List, IfOk, filter, filter_map, option_and_then, option_map, slice_get};
+ghost use Rattle.std.specs.Prelude.{◌≡◌, List, [], ◌∷◌, ◌++◌, IfOk, OnOk, filter, filter_map, option_and_then, option_map, slice_get};
 ghost use Rattle.ldar_law.specs.declared.event.Event.{Event as SomeEvent};
 ghost use Rattle.ldar_law.specs.Tags as law;
 
@@ -87,6 +87,22 @@ fn tag_of(component: u16, span: &Span, delays: &[DelayEntry], attempts: &[Day], 
     }
 }
 
+/// Adds the tag of a span.
+fn add_tag(
+    tags: &mut Vec<Tag>,
+    component: u16,
+    span: &Span,
+    delays: &[DelayEntry],
+    attempts: &[Day],
+    stops: &[Stop],
+) -> Result<(), Memory>
+    ensures put { (events : List SomeEvent) → attempts.now ≡ law.attempt_days events → delays.now ≡ law.delays_of span.now events
+        → OnOk result (tags.new.items ≡ tags.old.items ++ law.tag_of component events stops.now span.now ∷ []) }
+{
+    tags.push(tag_of(component, span, delays, attempts, stops))?;
+    Ok(())
+}
+
 /// The tags of a component, in the order of their detection (40 CFR 60.486a(b), (c), 60.482-9a).
 pub fn tags_of(
     alloc: Global,
@@ -103,7 +119,7 @@ pub fn tags_of(
     let mut tags = Vec::new(alloc);
     for span in &spans {
         let own = delays_within(alloc, span, &delays)?;
-        tags.push(tag_of(component, span, &own, &attempts, stops))?;
+        add_tag(&mut tags, component, span, &own, &attempts, stops)?;
     }
     Ok(tags)
 }

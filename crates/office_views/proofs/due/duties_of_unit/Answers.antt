@@ -7,6 +7,9 @@ use Rattle.office_views.specs.Lists.{facts_by}
 use Rattle.office_views.proofs.UnitLemmas.{all_listed, due_list-append, list_more, member_at}
 use Rattle.office_views.proofs.due.duties_of_unit.Goals as goal
 
+pub skipped_on-requires-clause-ready : goal.skipped_on-requires-clause-ready
+skipped_on-requires-clause-ready g c = c.none_ready-ready.ensures.ready (facts_by c.args.lists.now)
+
 pub loop-number-init : goal.loop-number-init
 loop-number-init g c = record {
   listed = c.new-all.ensures.items;
@@ -29,7 +32,7 @@ loop-number-preserved g c =
     record {
       listed = list_more (facts_by lists) c.members-number-items.result.now l.number-index c.loop-number-test.true known (ap option_to_list c.in_ok-known.ensures.value)
           (due_list startup lists.day skipped) (due_list-append startup lists.day skipped) l.all.items c.add_duties.new.all.items l.invariant.listed
-          (c.in_ok-add_duties.ensures.put ∙ ap (λ sk. l.all.items ++ due_list startup lists.day sk known) c.deref-2.ensures.value);
+          (c.in_ok-add_duties.ensures.put ∙ ap (λ sk. l.all.items ++ due_list startup lists.day sk known) c.deref-in-loop-number.ensures.value);
       ready = c.in_ok-known.ensures.ready;
     }
 

@@ -9,7 +9,7 @@ loop-span-preserved c =
     let events = c.args.events.now in
     let span = c.span-item.result in
     let tag = law.tag_of c.args.component events c.args.stops.now in
-    let made = c.tag_of.ensures.value events (c.deref-2.ensures.value ∙ c.in_ok-attempts.ensures.value)
+    let put = c.in_ok-add_tag.ensures.put events (c.deref-2.ensures.value ∙ c.in_ok-attempts.ensures.value)
         (c.deref.ensures.value ∙ c.in_ok-own.ensures.value ∙ ap (λ ds. filter (λ d. law.is_within span d.key) ds) c.in_ok-delays.ensures.value) in
-    c.in_ok-push.ensures.items ∙ ap (λ t. l.tags.items ++ t ∷ []) made ∙ ap (λ ts. ts ++ tag span ∷ []) l.invariant
+    put ∙ ap (λ ts. ts ++ tag span ∷ []) l.invariant
     ∙ sym (mapped_more tag c.in_ok-spans.spans.items l.span-index span c.loop-span-test.true c.span-item.is)

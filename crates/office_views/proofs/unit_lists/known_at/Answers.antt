@@ -17,7 +17,7 @@ known_of-requires-clause-stops g c =
 pub returns-in_ok-known_of-in-Some-clause-value : goal.returns-in_ok-known_of-in-Some-clause-value
 returns-in_ok-known_of-in-Some-clause-value g c =
     let lists = c.args.lists.now in
-    ap Some c.in_ok-known_of.ensures.value
+    ap Some c.in_ok-known_of-in-Some.ensures.value
     ∙ ap (option_map (known_of (facts_by lists))) (c.in-Some.ensures.value
     ∙ component_is lists.day c.args.number (facts_in lists.store.now) (facts_in c.args.register.now) lists.ordered c.requires.kept.register)
 
