@@ -2,7 +2,7 @@
 use Rattle.std.proofs.Common.{◌≡◌, ℕ, zero, suc, ◌+◌, ◌-◌, ◌<◌, ◌≤◌, Bool, true, nat_lt, Option, Some, None, List, [], ◌∷◌, ◌++◌, length, take, drop, map, get_or, refl, sym, ap, ◌∙◌, subst, arith}
 use Rattle.std.specs.List.{AllByRecursion, cons_option, filter_map, range_with_len}
 use Rattle.std.specs.Option.{IfSome, option_to_list}
-use Rattle.std.proofs.lemmas.List.{take_more, drop_more, drop_all, append_assoc, append-nil, map_more, length-map}
+use Rattle.std.proofs.lemmas.List.{take_at, take_more, drop_more, drop_all, append_assoc, append-nil, map_more, length-map}
 use Rattle.std.proofs.lemmas.List.Elements.{filter_map-append}
 use Rattle.std.proofs.lemmas.List.FromFn.{get_or-map-range_with_len, length-map-range_with_len, map-range_with_len_more}
 use Rattle.list_words.specs.Order.{Ascends}
@@ -77,6 +77,12 @@ unfolding until
 number_last f last some =
     let more : last + 1 - 1 ≡ (last - 1 + 1 - 1) + 1 = omega arith in
     ap (λ n. map f (range_with_len 1 n)) more ∙ map-range_with_len_more f 1 (last - 1 + 1 - 1) last (omega arith)
+
+-- .. which are its front
+pub number_front : {Y : Type 0} (f : ℕ → Y) (last : ℕ) → 1 ≤ last → take (last - 1) (map f (from_to 1 last)) ≡ map f (from_to 1 (last - 1))
+number_front f last some =
+    ap (take (last - 1)) (number_last f last some)
+    ∙ take_at (map f (from_to 1 (last - 1))) (f last ∷ []) (last - 1) (numbers_long f (last - 1))
 
 -- ---- in order
 

@@ -24,7 +24,10 @@ use view_texts::{delays_text, due_text, tags_text};
 pub fn shown(text: Result<Text, Memory>) -> Result<Shown, Memory>
     ensures value { (bytes : List ℕ) → IfOk text (λ text. text ≡ bytes) → Shows result (replies.Shown bytes) }
 {
-    Ok(Shown::Text(text?))
+    match text {
+        Ok(text) => Ok(Shown::Text(text)),
+        Err(memory) => Err(memory),
+    }
 }
 
 /// The text of the tags of a process unit; `unit` is the number that was asked.

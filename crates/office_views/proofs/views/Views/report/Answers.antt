@@ -10,11 +10,11 @@ invariant_of-lists g c =
     let sound = c.self.invariant.0 in
     record { ordered = stored_ascend sound.0 inside.store inside.register inside.headers.items inside.adopted sound.1 }
 
-pub report_asked-requires-clause-kept : goal.report_asked-requires-clause-kept
-report_asked-requires-clause-kept g c =
+pub report_asked-requires : goal.report_asked-requires
+report_asked-requires g c =
     let inside = c.self.inside in
     let sound = c.self.invariant.0 in
-    stored_kept sound.0 inside.store inside.register inside.headers.items inside.adopted sound.1
+    record { kept = stored_kept sound.0 inside.store inside.register inside.headers.items inside.adopted sound.1 }
 
 pub returns-clause-value : goal.returns-clause-value
 returns-clause-value g c =
