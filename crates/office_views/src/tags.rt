@@ -68,26 +68,7 @@ fn closed_on(span: &Span) -> Option<Day>
     }
 }
 
-/// A tag with its due days, by the delays of its own, the component's attempts and its process unit's shutdowns.
-fn tag_of(component: u16, span: &Span, delays: &[DelayEntry], attempts: &[Day], stops: &[Stop]) -> Tag
-    ensures value { (events : List SomeEvent) → attempts.now ≡ law.attempt_days events → delays.now ≡ law.delays_of span.now events
-        → result ≡ law.tag_of component events stops.now span.now }
-{
-    let detected = span.detected.day;
-    let repair = repair_of(detected, delays, attempts, stops);
-    Tag {
-        component,
-        detected,
-        attempt_due: attempt_by(detected),
-        attempted: span.attempted,
-        repair_due: repair.due,
-        closed: closed_on(span),
-        delay: delay_at(delays, repair.counted),
-        removable: span.removable,
-    }
-}
-
-/// Adds the tag of a span.
+/// Adds the tag of a span with its due days, by the delays of its own, the component's attempts and its process unit's shutdowns.
 fn add_tag(
     tags: &mut Vec<Tag>,
     component: u16,
@@ -99,7 +80,18 @@ fn add_tag(
     ensures put { (events : List SomeEvent) → attempts.now ≡ law.attempt_days events → delays.now ≡ law.delays_of span.now events
         → OnOk result (tags.new.items ≡ tags.old.items ++ law.tag_of component events stops.now span.now ∷ []) }
 {
-    tags.push(tag_of(component, span, delays, attempts, stops))?;
+    let detected = span.detected.day;
+    let repair = repair_of(detected, delays, attempts, stops);
+    tags.push(Tag {
+        component,
+        detected,
+        attempt_due: attempt_by(detected),
+        attempted: span.attempted,
+        repair_due: repair.due,
+        closed: closed_on(span),
+        delay: delay_at(delays, repair.counted),
+        removable: span.removable,
+    })?;
     Ok(())
 }
 
