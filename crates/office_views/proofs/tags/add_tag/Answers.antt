@@ -11,6 +11,3 @@ returns c = record {
       c.repair_of-repair.result.due c.repair_of-repair.result.counted c.delay_at.result c.closed_on.result days delays c.attempt_by.ensures.value
       c.repair_of-repair.ensures.due c.repair_of-repair.ensures.counted c.delay_at.ensures.value c.closed_on.ensures.value);
 }
-
-pub returns-in_err-push : goal.returns-in_err-push
-returns-in_err-push c = record { put = λ events days delays. tt }
