@@ -113,8 +113,10 @@ module _ {X : Type 0} (number : X → ℕ) (f : ℕ → Option X) (numbered : (n
   given_ascend (n ∷ ns) up =
       elim (f n) as (λ o. f n ≡ o → Ascends (λ a b. nat_lt (number a) (number b)) (cons_option o (filter_map f ns))) [
         | None ↦ λ is. given_ascend ns up.1
-        | Some x ↦ λ is. (subst (λ m. AllByRecursion (λ y. nat_lt m (number y) ≡ true) (filter_map f ns)) (sym (numbered n x is)) (given_above n ns up.0),
-            given_ascend ns up.1)
+        | Some x ↦ λ is. (
+          subst (λ m. AllByRecursion (λ y. nat_lt m (number y) ≡ true) (filter_map f ns)) (sym (numbered n x is)) (given_above n ns up.0),
+          given_ascend ns up.1,
+        )
       ] refl
 
 -- what holds of what each number gives

@@ -63,8 +63,10 @@ module _ {X : Type 0} (key : X → Key) (f : Entry → Option X) (keyed : (e : E
   given_in_order (e ∷ es) up =
       elim (f e) as (λ o. f e ≡ o → Ascends (λ a b. is_earlier (key a) (key b)) (cons_option o (filter_map f es))) [
         | None ↦ λ is. given_in_order es up.1
-        | Some x ↦ λ is. (subst (λ k. AllByRecursion (λ y. is_earlier k (key y) ≡ true) (filter_map f es)) (sym (keyed e x is)) (given_later e.0 es up.0),
-            given_in_order es up.1)
+        | Some x ↦ λ is. (
+          subst (λ k. AllByRecursion (λ y. is_earlier k (key y) ≡ true) (filter_map f es)) (sym (keyed e x is)) (given_later e.0 es up.0),
+          given_in_order es up.1,
+        )
       ] refl
 
 -- the classes of a component

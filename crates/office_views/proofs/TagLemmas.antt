@@ -19,17 +19,17 @@ pub tag_is : (component : ℕ) (events : List Event) (stops : List Stop) (span :
     → delay ≡ option_and_then (slice_get delays) place
     → closed ≡ option_map (λ key. key.day) span.closed
     → record {
-        component = component;
-        detected = span.detected.day;
-        attempt_due = attempt;
-        attempted = span.attempted;
-        repair_due = due;
-        closed = closed;
-        delay = delay;
-        removable = span.removable;
-      } ≡ tag_of component events stops span
+      component = component;
+      detected = span.detected.day;
+      attempt_due = attempt;
+      attempted = span.attempted;
+      repair_due = due;
+      closed = closed;
+      delay = delay;
+      removable = span.removable;
+    } ≡ tag_of component events stops span
 unfolding tag_of
 tag_is component events stops span days delays attempt due place delay closed days_are delays_are attempt_is due_is place_is delay_is closed_is =
     let counts : delay ≡ counted_delay span.detected.day days stops delays =
-        delay_is ∙ ap (option_and_then (slice_get delays)) place_is ∙ counted_place_is_of_delay span.detected.day days stops delays in
+    delay_is ∙ ap (option_and_then (slice_get delays)) place_is ∙ counted_place_is_of_delay span.detected.day days stops delays in
     cc

@@ -66,7 +66,7 @@ pub unit_of_member : (day unit number : ℕ) (facts entries : List Entry) (item 
 unit_of_member day unit number facts entries item kept held is =
     let stands = members_stand_in_unit facts unit number kept.once held in
     let there : equipment_of number entries ≡ Some stands.0 =
-        ap (equipment_of number) kept.register ∙ (register_facts_suffice number facts).0.equipment ∙ stands.1 in
+    ap (equipment_of number) kept.register ∙ (register_facts_suffice number facts).0.equipment ∙ stands.1 in
     begun_unit day stands.0 item (sym (is ∙ ap (option_and_then (if_begun day)) there)) ∙ stands.3
 
 -- the components of a unit on a day are found among these
@@ -132,7 +132,7 @@ pub room_for_member : (startup day quarter : ℕ) (known facts entries : List En
 room_for_member startup day quarter known facts entries unit i tallies numbers kept are within counted =
     let members = are ∙ members_are unit facts entries kept.register in
     let most : length numbers ≤ MOST_COMPONENTS =
-        subst (λ (ns : List ℕ). length ns ≤ MOST_COMPONENTS) (sym members) (members_fit facts unit kept.in_range kept.once) in
+    subst (λ (ns : List ℕ). length ns ≤ MOST_COMPONENTS) (sym members) (members_fit facts unit kept.in_range kept.once) in
     let given = few_given (λ number. option_map (known_of known) (equipment_of number known)) (take i numbers) in
     room_for startup day quarter (known_among known (take i numbers)) tallies counted
     (omega (arith, most, within, given, length-take-le i numbers (omega (arith, within))))
@@ -204,11 +204,11 @@ started_in_bound day number facts entries unit up kept is =
     elim (cases_Option (unit_entry_of number facts)) [
       | inl none ↦
           let never : None ≡ Some unit =
-              ap (option_and_then (if_started day)) (sym none) ∙ sym (units_up_to_a_day day number facts (ascending_are_in_order facts up)).entry ∙ is in
+          ap (option_and_then (if_started day)) (sym none) ∙ sym (units_up_to_a_day day number facts (ascending_are_in_order facts up)).entry ∙ is in
           absurd cc
       | inr some ↦
           let started : if_started day some.0 ≡ Some unit =
-              ap (option_and_then (if_started day)) (sym some.1) ∙ sym (units_up_to_a_day day number facts (ascending_are_in_order facts up)).entry ∙ is in
+          ap (option_and_then (if_started day)) (sym some.1) ∙ sym (units_up_to_a_day day number facts (ascending_are_in_order facts up)).entry ∙ is in
           elim (cases_Bool (nat_le some.0.startup day)) [
             | inl come ↦
                 let here : Some some.0 ≡ Some unit = rw come at started in

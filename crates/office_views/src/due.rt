@@ -52,7 +52,14 @@ fn skipped_on<L: Ledger>(
     ensures ready { OnOk result (AreReady (λ n. get nat_cmp ready.new n) (facts_by lists.now)) }
 {
     let quarter = quarter_at(unit.startup, lists.day);
-    let tallies = tallies_of_unit(ready, lists, register, unit, quarter.saturating_sub(1), steps)?;
+    let tallies = tallies_of_unit(
+        ready,
+        lists,
+        register,
+        unit,
+        quarter.saturating_sub(1),
+        steps,
+    )?;
     let elections = elections_on(lists, unit.unit, steps)?;
     all_skipped(lists.alloc, &tallies, &elections, unit.startup, quarter)
 }
@@ -118,8 +125,17 @@ pub fn duties_of_unit<L: Ledger>(
     let stops = stops_on(lists, unit.unit, steps)?;
     let mut all = Vec::new(lists.alloc);
     for number in register.members(unit.unit) {
-        let known = known_at(&mut ready, lists, register, unit.unit, *number, &stops, steps)?;
-        add_duties(lists.alloc, &mut all, unit.startup, &skipped, lists.day, &known)?;
+        let known = known_at(
+            &mut ready, lists, register, unit.unit, *number, &stops, steps,
+        )?;
+        add_duties(
+            lists.alloc,
+            &mut all,
+            unit.startup,
+            &skipped,
+            lists.day,
+            &known,
+        )?;
     }
     Ok(all)
 }

@@ -25,14 +25,24 @@ fn class_at(number: u16, e: &(Key, Fact)) -> Option<(Key, Class)>
     ensures value { result ≡ law.class_at number e.now }
 {
     match e.1.body {
-        FactBody::Class { component, class } => { if component == number { Some((e.0, class)) } else { None } }
+        FactBody::Class { component, class } => {
+            if component == number {
+                Some((e.0, class))
+            } else {
+                None
+            }
+        }
         _ => None,
     }
 }
 
 /// The classes that some facts enter for a component, in their order.
 #[tactic(auto, using(crate::proofs::ListLemmas::given_pushed))]
-pub fn classes_of(alloc: Global, number: u16, facts: &[(Key, Fact)]) -> Result<Vec<(Key, Class)>, Memory>
+pub fn classes_of(
+    alloc: Global,
+    number: u16,
+    facts: &[(Key, Fact)],
+) -> Result<Vec<(Key, Class)>, Memory>
     requires ordered { Ascends goes_first facts.now }
     ensures value { IfOk result (λ classes. classes.items ≡ law.classes_of number facts.now) }
     ensures ordered { IfOk result (λ classes. Ascends (λ a b. is_earlier a.0 b.0) classes.items) }

@@ -54,7 +54,13 @@ impl Lists<'_> {
         ensures value { IfOk result (λ facts. facts.items ≡ law.facts_of_component component (facts_by self.now)) }
         ensures ordered { IfOk result (λ facts. Ascends goes_first facts.items) }
     {
-        read_to(self.alloc, self.store, self.day, self.store.of_component(component), steps)
+        read_to(
+            self.alloc,
+            self.store,
+            self.day,
+            self.store.of_component(component),
+            steps,
+        )
     }
 
     /// The facts that name a process unit, in key order.
@@ -66,7 +72,13 @@ impl Lists<'_> {
         ensures value { IfOk result (λ facts. facts.items ≡ law.facts_of_unit unit (facts_by self.now)) }
         ensures ordered { IfOk result (λ facts. Ascends goes_first facts.items) }
     {
-        read_to(self.alloc, self.store, self.day, self.store.of_unit(unit), steps)
+        read_to(
+            self.alloc,
+            self.store,
+            self.day,
+            self.store.of_unit(unit),
+            steps,
+        )
     }
 
     /// The calibrations, precision tests and drift assessments of an instrument, in key order.
@@ -78,6 +90,12 @@ impl Lists<'_> {
         ensures value { IfOk result (λ facts. facts.items ≡ law.facts_of_instrument instrument (facts_by self.now)) }
         ensures ordered { IfOk result (λ facts. Ascends goes_first facts.items) }
     {
-        read_to(self.alloc, self.store, self.day, self.store.of_instrument(instrument), steps)
+        read_to(
+            self.alloc,
+            self.store,
+            self.day,
+            self.store.of_instrument(instrument),
+            steps,
+        )
     }
 }

@@ -73,7 +73,9 @@ pub fn sheets_of_unit<L: Ledger>(
     let mut ready = none_ready(lists.alloc);
     let mut sheets = Vec::new(lists.alloc);
     for number in register.members(unit.unit) {
-        let known = known_at(&mut ready, lists, register, unit.unit, *number, &stops, steps)?;
+        let known = known_at(
+            &mut ready, lists, register, unit.unit, *number, &stops, steps,
+        )?;
         add_sheet(lists.alloc, &mut sheets, known)?;
     }
     Ok(sheets)

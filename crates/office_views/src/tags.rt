@@ -36,7 +36,11 @@ fn attempt_days(alloc: Global, events: &[Event]) -> Result<Vec<Day>, Memory>
 }
 
 /// The delays of a tag, of those of its component.
-fn delays_within(alloc: Global, span: &Span, delays: &[DelayEntry]) -> Result<Vec<DelayEntry>, Memory>
+fn delays_within(
+    alloc: Global,
+    span: &Span,
+    delays: &[DelayEntry],
+) -> Result<Vec<DelayEntry>, Memory>
     ensures value { IfOk result (λ own. own.items ≡ filter (λ d. law.is_within span.now d.key) delays.now) }
 {
     let mut own = Vec::new(alloc);

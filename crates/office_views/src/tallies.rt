@@ -29,11 +29,18 @@ use std::sync::ledger::Ledger;
 fn has_delay_on(day: Day, tags: &[Tag]) -> bool
     ensures value { result ≡ percent.has_delay_on day tags.now }
 {
-    tags.iter().any(|tag| tag.is_open_on(day) && tag.is_delayed())
+    tags.iter()
+        .any(|tag| tag.is_open_on(day) && tag.is_delayed())
 }
 
 /// Of each quarter up to one, whether a repair is delayed on the day on which the quarter is judged.
-fn delayed_to(alloc: Global, startup: Day, quarter: u16, day: Day, tags: &[Tag]) -> Result<Vec<bool>, Memory>
+fn delayed_to(
+    alloc: Global,
+    startup: Day,
+    quarter: u16,
+    day: Day,
+    tags: &[Tag],
+) -> Result<Vec<bool>, Memory>
     requires startup { startup ≤ LAST_FACT_DAY }
     ensures value { IfOk result (λ delayed. delayed.items
         ≡ map (λ q. percent.has_delay_on (percent.judging_day startup q day) tags.now) (from_to 1 quarter)) }
@@ -46,7 +53,13 @@ fn delayed_to(alloc: Global, startup: Day, quarter: u16, day: Day, tags: &[Tag])
 }
 
 /// What a component adds to the counts of each quarter up to one.
-fn marks_of(alloc: Global, startup: Day, quarter: u16, day: Day, known: &Known) -> Result<Vec<Mark>, Memory>
+fn marks_of(
+    alloc: Global,
+    startup: Day,
+    quarter: u16,
+    day: Day,
+    known: &Known,
+) -> Result<Vec<Mark>, Memory>
     requires startup { startup ≤ LAST_FACT_DAY }
     requires ordered { IsOrdered known.now }
     ensures value { IfOk result (λ marks. marks.items ≡ map (λ q. law.mark_in startup day q (in_law known.now)) (from_to 1 quarter)) }
@@ -138,7 +151,14 @@ pub fn tallies_of_unit<L: Ledger>(
     let mut tallies = none_counted(lists.alloc, quarter)?;
     for number in register.members(unit.unit) {
         let known = known_at(ready, lists, register, unit.unit, *number, &stops, steps)?;
-        add_component(lists.alloc, &mut tallies, unit.startup, quarter, lists.day, &known)?;
+        add_component(
+            lists.alloc,
+            &mut tallies,
+            unit.startup,
+            quarter,
+            lists.day,
+            &known,
+        )?;
     }
     Ok(tallies)
 }

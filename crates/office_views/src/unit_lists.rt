@@ -71,7 +71,11 @@ fn add_shown(tags: &mut Vec<Tag>, day: Day, more: &[Tag]) -> Result<(), Memory>
 }
 
 /// The shutdowns of a process unit up to the day.
-pub fn stops_on<L: Ledger>(lists: &Lists<'_>, unit: u8, steps: &mut Steps<L>) -> Result<Vec<Stop>, Memory>
+pub fn stops_on<L: Ledger>(
+    lists: &Lists<'_>,
+    unit: u8,
+    steps: &mut Steps<L>,
+) -> Result<Vec<Stop>, Memory>
     ensures value { IfOk result (λ stops. stops.items ≡ equipment.stops_of unit (facts_by lists.now)) }
 {
     let own = lists.of_unit(unit, steps)?;
@@ -79,7 +83,11 @@ pub fn stops_on<L: Ledger>(lists: &Lists<'_>, unit: u8, steps: &mut Steps<L>) ->
 }
 
 /// The elections of a process unit up to the day.
-pub fn elections_on<L: Ledger>(lists: &Lists<'_>, unit: u8, steps: &mut Steps<L>) -> Result<Vec<ElectionEntry>, Memory>
+pub fn elections_on<L: Ledger>(
+    lists: &Lists<'_>,
+    unit: u8,
+    steps: &mut Steps<L>,
+) -> Result<Vec<ElectionEntry>, Memory>
     ensures value { IfOk result (λ elections. elections.items ≡ equipment.elections_of unit (facts_by lists.now)) }
     ensures ordered { IfOk result (λ elections. Ascends (λ a b. is_earlier a.key b.key) elections.items) }
 {
@@ -101,7 +109,9 @@ pub fn tags_of_unit<L: Ledger>(
     let mut ready = none_ready(lists.alloc);
     let mut tags = Vec::new(lists.alloc);
     for number in register.members(unit.unit) {
-        let known = known_at(&mut ready, lists, register, unit.unit, *number, &stops, steps)?;
+        let known = known_at(
+            &mut ready, lists, register, unit.unit, *number, &stops, steps,
+        )?;
         add_tags(&mut tags, lists.day, &known)?;
     }
     Ok(tags)
@@ -155,7 +165,9 @@ pub fn delays_of_unit<L: Ledger>(
     let mut ready = none_ready(lists.alloc);
     let mut lines = Vec::new(lists.alloc);
     for number in register.members(unit.unit) {
-        let known = known_at(&mut ready, lists, register, unit.unit, *number, &stops, steps)?;
+        let known = known_at(
+            &mut ready, lists, register, unit.unit, *number, &stops, steps,
+        )?;
         add_lines(&mut lines, &known)?;
     }
     Ok(lines)

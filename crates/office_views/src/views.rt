@@ -116,7 +116,11 @@ impl Views {
     }
 
     /// What a view shows of the adopted batches as known on its day. What there is none of takes no memory to say.
-    pub fn ask<L: Ledger>(&mut self, request: &Request, steps: &mut Steps<L>) -> Result<Shown, Memory>
+    pub fn ask<L: Ledger>(
+        &mut self,
+        request: &Request,
+        steps: &mut Steps<L>,
+    ) -> Result<Shown, Memory>
         requires view { IsView request.now }
         ensures value { IsShown result (law.shown self.old.adopted request.now) }
         ensures unchanged { self.new ≡ self.old }

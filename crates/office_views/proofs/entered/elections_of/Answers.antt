@@ -11,5 +11,5 @@ returns-clause-ordered c =
     let a = c.args in
     let facts = a.facts.now in
     let made = given_done (λ e. election_entered a.number e.0 e.1.body) c.loop-e.elections.items (elections_of a.number facts) facts c.loop-e.e-index
-        (omega arith) c.loop-e.invariant in
+    (omega arith) c.loop-e.invariant in
     subst (Ascends (λ a b. is_earlier a.key b.key)) (sym made) (elections_in_order a.number facts c.requires.ordered)

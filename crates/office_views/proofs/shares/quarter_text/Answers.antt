@@ -52,13 +52,13 @@ returns g c =
     let before : quarter - 1 < quarter = omega (arith, c.requires.quarter) in
     let again : quarter - 1 + 1 ≡ quarter = omega (arith, c.requires.quarter) in
     let tally_is = c.index.ensures ∙ ap (λ ts. get_or ts past tally) c.in_ok-tallies.ensures.value
-        ∙ ap (λ k. get_or (map own (from_to 1 quarter)) k tally) c.from-past.ensures ∙ number_at own quarter (quarter - 1) tally before ∙ ap own again in
+    ∙ ap (λ k. get_or (map own (from_to 1 quarter)) k tally) c.from-past.ensures ∙ number_at own quarter (quarter - 1) tally before ∙ ap own again in
     let front = ap (take past) (c.deref.ensures.value ∙ c.in_ok-tallies.ensures.value)
-        ∙ ap (λ k. take k (map own (from_to 1 quarter))) c.from-past.ensures ∙ number_front own quarter c.requires.quarter in
+    ∙ ap (λ k. take k (map own (from_to 1 quarter))) c.from-past.ensures ∙ number_front own quarter c.requires.quarter in
     let skipped = c.skipped-is_skipped.ensures.value ∙ ap (λ ts. is_skipped ts c.deref-2.result.now unit.startup quarter) front
-        ∙ ap (λ es. is_skipped (map own (from_to 1 (quarter - 1))) es unit.startup quarter) (c.deref-2.ensures.value ∙ c.in_ok-elections.ensures.value) in
+    ∙ ap (λ es. is_skipped (map own (from_to 1 (quarter - 1))) es unit.startup quarter) (c.deref-2.ensures.value ∙ c.in_ok-elections.ensures.value) in
     let same = quarter_is unit quarter lists.day facts c.from.result tally c.is_good.result c.skipped-is_skipped.result c.from.ensures tally_is
-        c.is_good.ensures.value skipped in
+    c.is_good.ensures.value skipped in
     record {
       value = IfOk-weaker c.percent_text.result
           (λ text. text ≡ percent_text c.from.result quarter tally c.is_good.result c.skipped-is_skipped.result)

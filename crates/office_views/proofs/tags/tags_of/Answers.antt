@@ -11,8 +11,8 @@ loop-span-preserved c =
     let span = c.span-item.result in
     let tag = law.tag_of c.args.component events c.args.stops.now in
     let put = c.in_ok-add_tag.ensures.put events (c.deref-in-loop-span-2.ensures.value ∙ c.in_ok-attempts.ensures.value)
-        (c.deref-in-loop-span.ensures.value ∙ c.in_ok-own.ensures.value
-        ∙ ap (λ ds. filter (λ d. law.is_within span d.key) ds) (c.deref.ensures.value ∙ c.in_ok-delays.ensures.value)) in
+    (c.deref-in-loop-span.ensures.value ∙ c.in_ok-own.ensures.value
+    ∙ ap (λ ds. filter (λ d. law.is_within span d.key) ds) (c.deref.ensures.value ∙ c.in_ok-delays.ensures.value)) in
     put ∙ ap (λ ts. ts ++ tag span ∷ []) l.invariant
     ∙ sym (mapped_more tag c.deref-span-items.result.now l.span-index span c.loop-span-test.true c.span-item.is)
 

@@ -16,10 +16,10 @@ returns c =
     let delayed = c.deref.result.now in
     let events = c.as_slice-3.result.now in
     let told = c.deref.ensures.value ∙ c.in_ok-delayed.ensures.value
-        ∙ ap (λ tags. map (λ q. has_delay_on (judging_day a.startup q a.day) tags) numbers) c.as_slice.ensures.value in
+    ∙ ap (λ tags. map (λ q. has_delay_on (judging_day a.startup q a.day) tags) numbers) c.as_slice.ensures.value in
     let same = ap (λ classes. map (mark_for known.item classes a.startup events delayed a.day) numbers) c.as_slice-2.ensures.value
-        ∙ ap (λ es. map (mark_for known.item known.classes a.startup es delayed a.day) numbers) c.as_slice-3.ensures.value
-        ∙ marks_are a.startup a.day a.quarter (in_law known) delayed told in
+    ∙ ap (λ es. map (mark_for known.item known.classes a.startup es delayed a.day) numbers) c.as_slice-3.ensures.value
+    ∙ marks_are a.startup a.day a.quarter (in_law known) delayed told in
     record {
       value = IfOk-weaker c.marks_to.result
           (λ marks. marks.items ≡ map (mark_for known.item c.as_slice-2.result.now a.startup events delayed a.day) numbers)

@@ -11,7 +11,7 @@ pub known_of-requires-clause-stops : goal.known_of-requires-clause-stops
 known_of-requires-clause-stops g c =
     let lists = c.args.lists.now in
     let stands = unit_of_member lists.day c.args.unit c.args.number (facts_in lists.store.now) (facts_in c.args.register.now) c.in-Some.item
-        c.requires.kept c.requires.member c.in-Some.ensures.value in
+    c.requires.kept c.requires.member c.in-Some.ensures.value in
     c.requires.stops ∙ ap (λ u. stops_of u (facts_by lists)) (sym stands)
 
 pub returns-in_ok-known_of-in-Some-clause-value : goal.returns-in_ok-known_of-in-Some-clause-value
