@@ -1,6 +1,15 @@
 pub mod AdoptLemmas
+pub mod AnswerLemmas
 pub mod HeaderLemmas
+pub mod KeptLemmas
 pub mod KeyLemmas
+pub mod ListLemmas
+pub mod MonthLemmas
 pub mod PlaceLemmas
+pub mod ReadLemmas
+pub mod ReadyLemmas
 pub mod SoundLemmas
+pub mod TagLemmas
 pub mod TakingLemmas
+pub mod TallyLemmas
+pub mod UnitLemmas

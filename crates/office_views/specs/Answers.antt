@@ -1,5 +1,6 @@
 -- What the views answer: a text or what there is none of, and a report.
-use Rattle.std.specs.Prelude.{ℕ, if◌then◌else◌, Some, None, Result, Ok, Err, List}
+use Rattle.std.specs.Prelude.{◌≡◌, ℕ, if◌then◌else◌, Option, Some, None, Result, Ok, Err, List}
+use Rattle.std.specs.declared.alloc.AllocError.{AllocError}
 use Rattle.ldar_facts.specs.Facts.{Entry}
 use Rattle.ldar_law.specs.declared.reply.Reply.{Reply}
 use Rattle.ldar_law.specs.declared.reply.Reply.TheVariants as replies
@@ -9,8 +10,12 @@ use Rattle.ldar_law.specs.declared.request.Request.TheVariants.{Sync, Due, Tags,
 use Rattle.ldar_law.specs.declared.request.What.{What}
 use Rattle.ldar_law.specs.declared.request.What.TheVariants.{Unit as NoUnit, Half as NoHalf}
 use Rattle.ldar_law.specs.Equipment.{unit_entry_of}
-use Rattle.ldar_law.specs.Reports.{has_half_begun}
+use Rattle.ldar_law.specs.declared.unit_entry.UnitEntry.{UnitEntry}
+use Rattle.ldar_law.specs.Reports.{has_half_begun, half_month}
 use Rattle.ldar_law.specs.Shown.{report_of_unit}
+use Rattle.ldar_law.specs.Texts.{report_text}
+use Rattle.office_views.specs.declared.shown.AskError.{AskError}
+use Rattle.office_views.specs.declared.shown.AskError.TheVariants.{NoSuch as NoneOf, Memory as WantsMemory}
 use Rattle.office_views.specs.declared.shown.Shown.{Shown}
 use Rattle.office_views.specs.declared.shown.Shown.TheVariants.{Text, NoSuch}
 
@@ -35,3 +40,26 @@ report_asked unit half day facts = elim (unit_entry_of unit facts) [
   | None ↦ Err NoUnit
   | Some entry ↦ if has_half_begun entry.startup half day then Ok (report_of_unit entry half day facts) else Err NoHalf
 ]
+
+-- the text of the report of a half
+abbrev pub half_text_of : UnitEntry → ℕ → ℕ → List Entry → List ℕ
+half_text_of unit half day facts = report_text (half_month unit.startup half) (report_of_unit unit half day facts)
+
+-- what is told of a report that was asked for: the report, or what there is none of; no memory only where there is a report
+abbrev pub Tells : Result Report AskError → Result Report What → Type 0
+Tells (Ok report) asked = asked ≡ Ok report
+Tells (Err (NoneOf what)) asked = asked ≡ Err what
+Tells (Err WantsMemory) asked = (report : Report) × (asked ≡ Ok report)
+
+-- the reply shows a text
+abbrev pub IsText : Reply → Type 0
+IsText reply = (text : List ℕ) × (reply ≡ replies.Shown text)
+
+-- the reply is what is shown; no memory only where it shows a text
+abbrev pub Shows : Result Shown AllocError → Reply → Type 0
+Shows (Ok answer) reply = reply_of answer ≡ reply
+Shows (Err memory) reply = IsText reply
+
+-- .. if the request is a view, and so has a reply
+abbrev pub IsShown : Result Shown AllocError → Option Reply → Type 0
+IsShown result reply = (told : Reply) × (reply ≡ Some told) × Shows result told

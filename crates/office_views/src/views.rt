@@ -1,17 +1,26 @@
 ghost use Rattle.std.specs.Prelude.{◌≡◌, ℕ, ◌+◌, ◌≤◌, ◌↔◌, Some, None, IsTrue, [], ◌∷◌, ◌++◌, length, drop, slice_get, OnOk, OnErr};
-ghost use Rattle.ldar_facts.specs.Facts.{facts_of};
+ghost use Rattle.ldar_facts.specs.Facts.{facts_of, facts_to};
 ghost use Rattle.fact_store.specs.Kept.{facts_in};
 ghost use Rattle.ldar_law.specs.declared.verdict.Verdict.TheVariants.{Pass};
 ghost use Rattle.ldar_law.specs.Machine.{batch_at, IsNew};
+ghost use Rattle.ldar_law.specs.Shown as law;
 ghost use Rattle.ldar_law.specs.Slices.{register_facts};
 ghost use Rattle.ldar_law.specs.Verdicts.{verdict_on};
+ghost use Rattle.office_views.specs.Answers as asked;
+ghost use Rattle.office_views.specs.Answers.{IsShown, IsView, Tells};
 
+use crate::asking::answer;
 use crate::comparing::is_batch_of;
 use crate::header::{Header, facts_of_all, push_headers};
+use crate::lists::Lists;
+use crate::reporting::report_asked;
+use crate::shown::{AskError, Shown};
 use crate::taking::{put_entries, put_facts};
 use component_register::Register;
 use fact_store::{FactStore, Steps};
+use ldar_days::Day;
 use ldar_facts::{Batch, Memory};
+use ldar_law::{Report, Request};
 use std::alloc::Global;
 use std::marker::Model;
 use std::sync::ledger::Ledger;
@@ -104,6 +113,39 @@ impl Views {
         put_entries(&mut self.register, batch);
         self.adopted += 1;
         self.facts += batch.facts.as_slice().len();
+    }
+
+    /// What a view shows of the adopted batches as known on its day. What there is none of takes no memory to say.
+    pub fn ask<L: Ledger>(
+        &mut self,
+        request: &Request,
+        steps: &mut Steps<L>,
+    ) -> Result<Shown, Memory>
+        requires view { IsView request.now }
+        ensures value { IsShown result (law.shown self.old.adopted request.now) }
+        ensures unchanged { self.new ≡ self.old }
+    {
+        answer(self.alloc, &self.store, &self.register, request, steps)
+    }
+
+    /// The report of a half of a process unit as known on a day (40 CFR 60.487a(c)), or what there is none of, which takes
+    /// no memory to say.
+    pub fn report<L: Ledger>(
+        &mut self,
+        unit: u16,
+        half: u16,
+        day: Day,
+        steps: &mut Steps<L>,
+    ) -> Result<Report, AskError>
+        ensures value { Tells result (asked.report_asked unit half day (facts_to day self.old.adopted)) }
+        ensures unchanged { self.new ≡ self.old }
+    {
+        let lists = Lists {
+            alloc: self.alloc,
+            store: &self.store,
+            day,
+        };
+        report_asked(&lists, &self.register, unit, half, steps)
     }
 
     /// Whether the adopted batch at a position, from 1, is just this one.

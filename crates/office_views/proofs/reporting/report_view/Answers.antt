@@ -1,0 +1,25 @@
+use Rattle.std.proofs.Common.{nat_eq, if◌then◌else◌, sym, subst}
+use Rattle.ldar_law.specs.declared.reply.Reply.TheVariants as replies
+use Rattle.ldar_law.specs.declared.request.What.TheVariants.{Half as NoHalf}
+use Rattle.ldar_law.specs.Reports.{has_half_begun}
+use Rattle.office_views.specs.Answers.{half_text_of, Shows}
+use Rattle.office_views.specs.Lists.{facts_by}
+use Rattle.office_views.proofs.AnswerLemmas.{no_unit_shown, unit_shown}
+use Rattle.office_views.proofs.reporting.report_view.Goals as goal
+
+pub returns-in-Some : goal.returns-in-Some
+returns-in-Some g c =
+    let a = c.args in
+    let day = a.lists.now.day in
+    let facts = facts_by a.lists.now in
+    record {
+      value = subst (Shows c.half_of.result) (sym (unit_shown a.unit facts (λ entry. if has_half_begun entry.startup a.half day then replies.Shown (half_text_of entry a.half day facts) else replies.NoSuch NoHalf) c.in-Some.entry (sym c.in-Some.ensures.value)))
+          c.half_of.ensures.value;
+    }
+
+pub returns-in-None : goal.returns-in-None
+returns-in-None g c =
+    let a = c.args in
+    let day = a.lists.now.day in
+    let facts = facts_by a.lists.now in
+    record { value = sym (no_unit_shown a.unit facts (λ entry. if has_half_begun entry.startup a.half day then replies.Shown (half_text_of entry a.half day facts) else replies.NoSuch NoHalf) (sym c.in-None.ensures.value)) }

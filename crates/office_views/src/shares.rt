@@ -1,0 +1,120 @@
+ghost use Rattle.std.specs.Prelude.{◌≡◌, ◌+◌, ◌-◌, ◌*◌, ◌≤◌, nat_le, if◌then◌else◌, IfOk, IsTrue};
+ghost use Rattle.ldar_days.specs.Calendar.{first_day};
+ghost use Rattle.ldar_days.specs.Quarters.{first_quarter as first_quarter_of};
+ghost use Rattle.fact_store.specs.Kept.{facts_in};
+ghost use Rattle.ldar_law.specs.declared.numbers.TheConstants.{LAST_FACT_DAY};
+ghost use Rattle.ldar_law.specs.declared.reply.Reply.TheVariants as replies;
+ghost use Rattle.ldar_law.specs.declared.request.What.TheVariants.{Quarter as NoQuarter};
+ghost use Rattle.ldar_law.specs.Reports as reports;
+ghost use Rattle.ldar_law.specs.Shown as law;
+ghost use Rattle.office_views.specs.Answers.{Shows};
+ghost use Rattle.office_views.specs.Lists.{AreKept, facts_by};
+
+use crate::answers::shown;
+use crate::instruments::none_ready;
+use crate::lists::Lists;
+use crate::register_on::unit_at;
+use crate::shown::Shown;
+use crate::tallies::tallies_of_unit;
+use crate::unit_lists::elections_on;
+use component_register::Register;
+use fact_store::Steps;
+use ldar_days::{Day, first_quarter};
+use ldar_facts::Memory;
+use ldar_law::{Text, UnitEntry, What};
+use skip_periods::skipped;
+use std::sync::ledger::Ledger;
+use view_texts::percent_text;
+
+/// The first month of a quarter, which may be past the calendar's end.
+fn quarter_month(startup: Day, quarter: u16) -> u32
+    requires startup { startup ≤ LAST_FACT_DAY }
+    requires quarter { 1 ≤ quarter }
+    ensures value { result ≡ first_quarter_of startup + 3 * quarter - 3 }
+    ensures in_range { 24_096 ≤ result }
+{
+    first_quarter(startup).number() + 3 * (u32::from(quarter) - 1)
+}
+
+/// Whether a month's first day is the day or before it. Months are numbers, since one may be past the calendar's end.
+#[tactic(auto, using(crate::proofs::MonthLemmas::begun))]
+fn has_month_begun(month: u32, day: Day) -> bool
+    requires in_range { 24_096 ≤ month }
+    ensures value { result ≡ nat_le (first_day month) day }
+{
+    month <= day.month().number()
+}
+
+/// Whether a quarter of a process unit has begun by a day. Quarters count from 1.
+fn has_quarter_begun(startup: Day, quarter: u16, day: Day) -> bool
+    requires startup { startup ≤ LAST_FACT_DAY }
+    ensures value { result ≡ reports.has_quarter_begun startup quarter day }
+    ensures from_one { IsTrue result → 1 ≤ quarter }
+{
+    1 <= quarter && has_month_begun(quarter_month(startup, quarter), day)
+}
+
+/// The text of a quarter that has begun: its counts, whether they are good, and whether it is skipped.
+fn quarter_text<L: Ledger>(
+    lists: &Lists<'_>,
+    register: &Register,
+    unit: &UnitEntry,
+    quarter: u16,
+    steps: &mut Steps<L>,
+) -> Result<Text, Memory>
+    requires kept { AreKept (facts_in lists.now.store.now) (facts_in register.now) }
+    requires startup { unit.now.startup ≤ LAST_FACT_DAY }
+    requires quarter { 1 ≤ quarter }
+    ensures value { IfOk result (λ text. text ≡ law.quarter_text unit.now quarter lists.now.day (facts_by lists.now)) }
+{
+    let mut ready = none_ready(lists.alloc);
+    let tallies = tallies_of_unit(&mut ready, lists, register, unit, quarter, steps)?;
+    let elections = elections_on(lists, unit.unit, steps)?;
+    let past = usize::from(quarter - 1);
+    let tally = tallies[past];
+    let is_skipped = skipped(&tallies[..past], &elections, unit.startup, quarter);
+    percent_text(
+        lists.alloc,
+        u16::from(unit.unit),
+        quarter,
+        tally,
+        tally.is_good(),
+        is_skipped,
+    )
+}
+
+/// What the view of a quarter of a process unit that was entered shows.
+fn percent_of<L: Ledger>(
+    lists: &Lists<'_>,
+    register: &Register,
+    entry: &UnitEntry,
+    quarter: u16,
+    steps: &mut Steps<L>,
+) -> Result<Shown, Memory>
+    requires kept { AreKept (facts_in lists.now.store.now) (facts_in register.now) }
+    requires startup { entry.now.startup ≤ LAST_FACT_DAY }
+    ensures value { Shows result (if reports.has_quarter_begun entry.now.startup quarter lists.now.day
+        then replies.Shown (law.quarter_text entry.now quarter lists.now.day (facts_by lists.now)) else replies.NoSuch NoQuarter) }
+{
+    if !has_quarter_begun(entry.startup, quarter, lists.day) {
+        return Ok(Shown::NoSuch(What::Quarter));
+    }
+    shown(quarter_text(lists, register, entry, quarter, steps))
+}
+
+/// What the view of a quarter of a process unit shows.
+pub fn percent_view<L: Ledger>(
+    lists: &Lists<'_>,
+    register: &Register,
+    unit: u16,
+    quarter: u16,
+    steps: &mut Steps<L>,
+) -> Result<Shown, Memory>
+    requires kept { AreKept (facts_in lists.now.store.now) (facts_in register.now) }
+    ensures value { Shows result (law.percent_view unit quarter lists.now.day (facts_by lists.now)) }
+{
+    match unit_at(lists, register, unit) {
+        Some(entry) => percent_of(lists, register, &entry, quarter, steps),
+        None => Ok(Shown::NoSuch(What::Unit)),
+    }
+}

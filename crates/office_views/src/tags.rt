@@ -1,0 +1,121 @@
+ghost use Rattle.std.specs.Prelude.{◌≡◌, List, [], ◌∷◌, ◌++◌, IfOk, OnOk, filter, filter_map, option_and_then, option_map, slice_get};
+ghost use Rattle.ldar_law.specs.declared.event.Event.{Event as SomeEvent};
+ghost use Rattle.ldar_law.specs.Tags as law;
+
+use crate::entered::add;
+use delay_of_repair::repair_of;
+use ldar_days::Day;
+use ldar_facts::{Kind, Memory};
+use ldar_law::{DelayEntry, Event, Span, Stop, Tag, attempt_by};
+use leak_tags::spans_of;
+use std::alloc::Global;
+
+/// The delays among some events, in order.
+#[tactic(auto, using(crate::proofs::ListLemmas::given_pushed))]
+fn delays_among(alloc: Global, events: &[Event]) -> Result<Vec<DelayEntry>, Memory>
+    ensures value { IfOk result (λ delays. delays.items ≡ filter_map law.delay_entry events.now) }
+{
+    let mut delays = Vec::new(alloc);
+    for e in events {
+        add(&mut delays, &e.delay_entry())?;
+    }
+    Ok(delays)
+}
+
+/// The days of the attempts among some events, in order.
+fn attempt_days(alloc: Global, events: &[Event]) -> Result<Vec<Day>, Memory>
+    ensures value { IfOk result (λ days. days.items ≡ law.attempt_days events.now) }
+{
+    let mut days = Vec::new(alloc);
+    for e in events {
+        if e.what.is_attempt() {
+            days.push(e.key.day)?;
+        }
+    }
+    Ok(days)
+}
+
+/// The delays of a tag, of those of its component.
+fn delays_within(
+    alloc: Global,
+    span: &Span,
+    delays: &[DelayEntry],
+) -> Result<Vec<DelayEntry>, Memory>
+    ensures value { IfOk result (λ own. own.items ≡ filter (λ d. law.is_within span.now d.key) delays.now) }
+{
+    let mut own = Vec::new(alloc);
+    for delay in delays {
+        if span.is_within(&delay.key) {
+            own.push(*delay)?;
+        }
+    }
+    Ok(own)
+}
+
+/// The delay at a place, if there is one.
+fn delay_at(delays: &[DelayEntry], place: Option<usize>) -> Option<DelayEntry>
+    ensures value { result ≡ option_and_then (slice_get delays.now) place }
+{
+    match place {
+        Some(place) => delays.get(place).copied(),
+        None => None,
+    }
+}
+
+/// The day on which the tag of a span was closed, if it was.
+fn closed_on(span: &Span) -> Option<Day>
+    ensures value { result ≡ option_map (λ key. key.day) span.now.closed }
+{
+    match span.closed {
+        Some(key) => Some(key.day),
+        None => None,
+    }
+}
+
+/// Adds the tag of a span with its due days, by the delays of its own, the component's attempts and its process unit's shutdowns.
+fn add_tag(
+    tags: &mut Vec<Tag>,
+    component: u16,
+    span: &Span,
+    delays: &[DelayEntry],
+    attempts: &[Day],
+    stops: &[Stop],
+) -> Result<(), Memory>
+    ensures put { (events : List SomeEvent) → attempts.now ≡ law.attempt_days events → delays.now ≡ law.delays_of span.now events
+        → OnOk result (tags.new.items ≡ tags.old.items ++ law.tag_of component events stops.now span.now ∷ []) }
+{
+    let detected = span.detected.day;
+    let repair = repair_of(detected, delays, attempts, stops);
+    tags.push(Tag {
+        component,
+        detected,
+        attempt_due: attempt_by(detected),
+        attempted: span.attempted,
+        repair_due: repair.due,
+        closed: closed_on(span),
+        delay: delay_at(delays, repair.counted),
+        removable: span.removable,
+    })?;
+    Ok(())
+}
+
+/// The tags of a component, in the order of their detection (40 CFR 60.486a(b), (c), 60.482-9a).
+pub fn tags_of(
+    alloc: Global,
+    component: u16,
+    kind: Kind,
+    events: &[Event],
+    stops: &[Stop],
+) -> Result<Vec<Tag>, Memory>
+    ensures value { IfOk result (λ tags. tags.items ≡ law.tags_of component kind events.now stops.now) }
+{
+    let delays = delays_among(alloc, events)?;
+    let attempts = attempt_days(alloc, events)?;
+    let spans = spans_of(alloc, kind, events)?;
+    let mut tags = Vec::new(alloc);
+    for span in &spans {
+        let own = delays_within(alloc, span, &delays)?;
+        add_tag(&mut tags, component, span, &own, &attempts, stops)?;
+    }
+    Ok(tags)
+}
