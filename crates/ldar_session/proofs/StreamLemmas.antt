@@ -10,6 +10,7 @@ use Rattle.ldar_facts.proofs.GrammarLaws.{no_proper_front}
 use Rattle.ldar_law.specs.declared.request.Request.{Request}
 use Rattle.ldar_law.specs.declared.request.Request.TheVariants.{Sync, Due, Tags, Delays, Route, Percent, Report as ReportView}
 use Rattle.ldar_law.specs.Machine.{Turn}
+use Rattle.ldar_law.specs.Replies.{reply_text}
 use Rattle.ldar_session.specs.Served.{Served, items_of}
 use Rattle.ldar_session.specs.Batches.{Asks, IsBatch, IsSpelling}
 use Rattle.ldar_session.proofs.BatchLemmas.{items_of-map}
@@ -27,14 +28,15 @@ asks_spelling item (Percent unit quarter day) asks = absurd asks
 asks_spelling item (ReportView unit half day) asks = absurd asks
 
 -- .. also where it is the item of a turn
-asked_spelling : (item : List ℕ) (turn : Option Turn) → MatchOption turn ⊥ (λ t. Asks item t.request) → IsSpelling item
-asked_spelling item None is = absurd is
-asked_spelling item (Some turn) is = asks_spelling item turn.request is
+asked_spelling : (item text : List ℕ) (turn : Option Turn) → MatchOption turn ⊥ (λ t. Asks item t.request × (text ≡ reply_text t.reply))
+    → IsSpelling item
+asked_spelling item text None is = absurd is
+asked_spelling item text (Some turn) is = asks_spelling item turn.request is.0
 
 -- the items that were served spell batches
 pub are_spellings : (served : List Served) → AllByRecursion IsBatch served → AllByRecursion IsSpelling (map (λ (s : Served). s.item) served)
 are_spellings [] each = tt
-are_spellings (s ∷ served) each = (asked_spelling s.item s.turn each.0, are_spellings served each.1)
+are_spellings (s ∷ served) each = (asked_spelling s.item s.text s.turn each.0, are_spellings served each.1)
 
 -- ---- one way to cut
 

@@ -20,17 +20,13 @@ Asks item (Route unit day stops) = ⊥
 Asks item (Percent unit quarter day) = ⊥
 Asks item (ReportView unit half day) = ⊥
 
--- an item is a batch, and its turn asked to keep it
+-- an item is a batch, its turn asked to keep it, and it is said the line of the reply
 abbrev pub IsBatch : Served → Type 0
-IsBatch s = MatchOption s.turn ⊥ (λ turn. Asks s.item turn.request)
+IsBatch s = MatchOption s.turn ⊥ (λ turn. Asks s.item turn.request × (s.text ≡ reply_text turn.reply))
 
 -- the bytes spell a batch
 abbrev pub IsSpelling : List ℕ → Type 0
 IsSpelling bytes = (batch : Batch) × Spells bytes batch
-
--- what is said to an item: the line of its reply
-abbrev pub line_of : Served → List ℕ
-line_of s = elim s.turn [ None ↦ [] | Some turn ↦ reply_text turn.reply ]
 
 -- these items ask these requests, one each
 abbrev pub AsksEach : List (List ℕ) → List Request → Type 0
