@@ -23,7 +23,7 @@ use Rattle.handheld_http.specs.Requests.{Means}
 use Rattle.handheld_http.proofs.ItemLaws.{Begins-take, Begins-unique, whole_front, more_is_none_with, refused_is_none_with}
 use Rattle.handheld_http.proofs.MeaningLaws.{one_meaning_with, items_mean_with}
 use Rattle.ldar_session.specs.Served.{Served, Stretch, items_of, texts_of, turns_of}
-use Rattle.ldar_session.specs.Requests.{AreRequests, AsksAs, AsksEach, IsAnswered, IsGroup, IsRequest, NoneJoins, StandInFront, answers_text, closes_before}
+use Rattle.ldar_session.specs.Requests.{AreRequests, AsksAs, AsksEach, CannotJoin, IsAnswered, IsGroup, IsRequest, NoneJoins, StandInFront, answers_text, closes_before}
 use Rattle.ldar_session.proofs.Stretches.{stretch_call}
 
 -- ---- behind which item a connection is closed
@@ -227,7 +227,7 @@ same_asked bytes head body closing asked cut means used other within is =
 
 -- where it asks for no batch of a handheld other than 0, none joins
 pub none_joins_cut : (bytes : List ℕ) (head body : ℕ) (closing : Bool) (asked : Asked) → IsCut bytes (Whole head body closing)
-    → Means (take (head + body) bytes) asked → ((batch : Batch) → asked ≡ Asks (Sync batch) → batch.handheld ≡ 0) → NoneJoins bytes
+    → Means (take (head + body) bytes) asked → CannotJoin asked → NoneJoins bytes
 none_joins_cut bytes head body closing asked cut means none used batch within is =
     none batch (same_asked bytes head body closing asked cut means used (Asks (Sync batch)) within is)
 

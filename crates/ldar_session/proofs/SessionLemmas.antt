@@ -1,29 +1,32 @@
 -- What a connection of HTTP requests keeps as it goes on, and at its ends.
-use Rattle.std.proofs.Common.{◌≡◌, ◌⊎◌, inl, inr, ℕ, ◌+◌, ◌-◌, ◌<◌, ◌≤◌, Bool, true, false, cond, not, nat_lt, List, [], ◌∷◌, ◌++◌, length, map, drop, take, Option, Some, None, Result, Ok, Err, codes}
+use Rattle.std.proofs.Common.{◌≡◌, ◌⊎◌, inl, inr, ℕ, ◌+◌, ◌-◌, ◌<◌, ◌≤◌, Bool, true, false, cond, not, nat_lt, List, [], ◌∷◌, ◌++◌, length, map, drop, take, get_or, Option, Some, None, Result, Ok, Err, codes}
 use Rattle.std.proofs.Common.{refl, sym, ap, subst, ◌∙◌, append_assoc, length-append, arith}
 use Rattle.std.specs.Str.Parse.{digits_value}
-use Rattle.std.proofs.lemmas.List.{append-nil, length-map, length-drop}
+use Rattle.std.proofs.lemmas.Bool.{cases_lt}
+use Rattle.std.proofs.lemmas.List.{append-nil, get_or-drop, length-map, length-drop}
 use Rattle.std.proofs.lemmas.Grind.{flat_map-append}
 use Rattle.memchr.specs.Find.{OccursAt, Nowhere}
 use Rattle.ldar_law.specs.declared.request.Request.{Request}
 use Rattle.ldar_law.specs.Machine.{Call}
 use Rattle.ldar_ports.specs.Sink.{Piece, Puts, bytes_of}
+use Rattle.ldar_ports.specs.Window.{WindowState, after_taking}
 use Rattle.handheld_http.specs.declared.answer.Answer.TheVariants.{Not as AsksNothing, Status}
 use Rattle.handheld_http.specs.declared.answer.Asked.TheVariants.{Not}
 use Rattle.handheld_http.specs.declared.answer.Refusal.{Refusal}
+use Rattle.handheld_http.specs.declared.outcome.Cut.TheVariants.{Whole, More}
 use Rattle.handheld_http.specs.Answers.{answer_bytes, IsRefusalStatus}
-use Rattle.handheld_http.specs.Cuts.{BeginsRequest, Refuses, HasNoHeadYet}
+use Rattle.handheld_http.specs.Cuts.{BeginsRequest, Refuses, HasNoHeadYet, IsCut}
 use Rattle.handheld_http.specs.Heads.{Pair, empty_line, longest_body, body_length, length_by, stated_length, is_number, is_post, count_named, value_of, pairs_of}
 use Rattle.handheld_http.specs.Items.{IsWhole}
 use Rattle.handheld_http.specs.Requests.{Means}
-use Rattle.handheld_http.proofs.ItemLaws.{SameBefore-append, body_length_le}
+use Rattle.handheld_http.proofs.ItemLaws.{SameBefore-append, body_length_le, head_tells_cut_with}
 use Rattle.handheld_http.proofs.Places.{OccursAt-same}
 use Rattle.ldar_session.specs.declared.ended.TheConstants.{MOST_ANSWERS}
 use Rattle.ldar_session.specs.declared.ended.Ended.{Ended}
 use Rattle.ldar_session.specs.declared.ended.Ended.TheVariants.{Done, Stopped, CutShort, Refused, ReadFault, WriteFault, Memory}
 use Rattle.ldar_session.specs.Served.{Served, Stretch, items_of}
 use Rattle.ldar_session.specs.Requests.{AreRequests, IsAnswered, IsRequest, IsTurnedAway, StandInFront}
-use Rattle.ldar_session.specs.Session.{Ends, EndsInput, EndsRefused, EndsWithin, HasNoneWithin, TurnsAway}
+use Rattle.ldar_session.specs.Session.{BeginsOf, Ends, EndsInput, EndsRefused, EndsWithin, HasNoneWithin, TurnsAway}
 use Rattle.ldar_session.proofs.BatchLemmas.{items_of-map}
 use Rattle.ldar_session.proofs.RequestLemmas.{length-asked_each}
 use Rattle.ldar_session.proofs.Stretches.{stretch_put}
@@ -132,6 +135,43 @@ no_head_yet bytes short none = record {
   endless = λ k fits there. none k there.fits there;
   short = short;
 }
+
+-- what an empty line can stand in that ends behind what was searched
+pub none_behind : (bytes rest : List ℕ) (searched : ℕ) → rest ≡ drop (searched - 3) bytes → searched ≤ length bytes → HasNoneWithin bytes searched
+    → Nowhere (OccursAt rest empty_line) 0 (length rest + 1) → HasNoneWithin bytes (length bytes)
+none_behind bytes rest searched is inside none nowhere k fits there =
+    elim (cases_lt searched (k + 4)) [
+      | inl late ↦
+          let m = searched - 3 in
+          let long : length rest ≡ length bytes - m = ap length is ∙ length-drop m bytes in
+          let at : m + (k - m) ≡ k = omega (arith, late) in
+          let moved : OccursAt rest empty_line (k - m) = record {
+            fits = omega (arith, long, fits, late);
+            reads = λ j lt. ap (λ (l : List ℕ). get_or l (k - m + j) 0) is ∙ get_or-drop m bytes (k - m + j) 0
+                ∙ ap (λ i. get_or bytes i 0) (omega (arith, at)) ∙ there.reads j lt;
+          } in
+          nowhere (k - m) (omega arith) (omega (arith, long, fits, late)) moved
+      | inr early ↦ none k (omega (arith, early)) there
+    ]
+
+-- of a request that was begun more is awaited, as long as bytes of it are missing
+pub awaited : (old taken now : List ℕ) (whole : ℕ) → BeginsOf old whole → now ≡ old ++ taken → length now < whole → IsCut now More
+awaited old taken now whole begun is short =
+    subst (λ (l : List ℕ). IsCut l More) (sym is)
+    ((head_tells_cut_with old taken begun.0 begun.1 begun.2 begun.3).1 (omega (arith, ap length is, short, begun.4)))
+
+-- .. and it is there once they have come
+pub arrived : (old taken now : List ℕ) (head body : ℕ) (closing : Bool) → BeginsRequest old head body closing → now ≡ old ++ taken
+    → head + body ≤ length now → IsCut now (Whole head body closing)
+arrived old taken now head body closing begins is there =
+    subst (λ (l : List ℕ). IsCut l (Whole head body closing)) (sym is)
+    ((head_tells_cut_with old taken head body closing begins).0 (omega (arith, ap length is, there)))
+
+-- bytes that were taken twice
+pub taken_twice : (old middle new : WindowState) (first second : List ℕ) → middle ≡ after_taking old first → new ≡ after_taking middle second
+    → new ≡ after_taking old (first ++ second)
+taken_twice old middle new first second one two =
+    two ∙ ap (λ (w : WindowState). after_taking w second) one ∙ ap (λ (l : List ℕ). record old { bytes = l }) (append_assoc old.bytes first second)
 
 -- ---- statuses
 

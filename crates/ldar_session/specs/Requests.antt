@@ -1,5 +1,5 @@
 -- Items that are HTTP requests, what each is answered, and requests at the front of some bytes.
-use Rattle.std.specs.Prelude.{◌≡◌, ◌+◌, ◌<◌, ◌≤◌, ◌⊎◌, ℕ, Bool, true, false, List, [], ◌∷◌, ◌++◌, length, map, take, drop, Option, Some, None, Result, Ok, Err}
+use Rattle.std.specs.Prelude.{◌≡◌, ◌≢◌, ◌+◌, ◌<◌, ◌≤◌, ◌⊎◌, ℕ, Bool, true, false, List, [], ◌∷◌, ◌++◌, length, map, take, drop, Option, Some, None, Result, Ok, Err}
 use Rattle.std.specs.List.{flat_map, AllByRecursion}
 use Rattle.ldar_facts.specs.declared.batch.Batch.{Batch}
 use Rattle.ldar_law.specs.declared.reply.Reply.{Reply}
@@ -18,6 +18,7 @@ use Rattle.handheld_http.specs.Requests.{Means}
 use Rattle.ldar_session.specs.declared.extent.Extent.{Extent}
 use Rattle.ldar_session.specs.declared.together.Asking.{Asking}
 use Rattle.ldar_session.specs.declared.together.Asking.TheVariants.{Together, Nothing}
+use Rattle.ldar_session.specs.declared.together.Other.{Other}
 use Rattle.ldar_session.specs.declared.ended.Ended.{Ended}
 use Rattle.ldar_session.specs.Served.{Served}
 
@@ -75,6 +76,16 @@ AsksEach closing (item ∷ items) (request ∷ requests) = AsksAs (closes_before
 -- no batch of a handheld other than 0 is asked for at the front of the bytes
 abbrev pub NoneJoins : List ℕ → Type 0
 NoneJoins bytes = (used : ℕ) (batch : Batch) → used ≤ length bytes → Means (take used bytes) (Asks (Sync batch)) → batch.handheld ≡ 0
+
+-- no batch of a handheld other than 0 is asked for
+abbrev pub CannotJoin : Asked → Type 0
+CannotJoin asked = (batch : Batch) → asked ≡ Asks (Sync batch) → batch.handheld ≡ 0
+
+-- a batch of a handheld other than 0 is asked for at the front of the bytes
+pub record IsOther (bytes : List ℕ) (other : Other) : Type 0 where
+  pub within : other.used ≤ length bytes
+  pub asks : AsksAs other.closing (take other.used bytes) (Sync other.batch)
+  pub joins : other.batch.handheld ≢ 0
 
 -- the items of these requests are the bytes at the front, so many of them
 pub record StandInFront (bytes : List ℕ) (requests : List Request) (closing : Bool) (used : ℕ) : Type 0 where

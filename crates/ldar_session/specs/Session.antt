@@ -2,10 +2,8 @@
 use Rattle.std.specs.Prelude.{◌≡◌, ◌<◌, ◌≤◌, ◌+◌, ◌⊎◌, ℕ, Bool, true, false, List, [], ◌∷◌, ◌++◌, length, drop, Option, Result, Ok, Err}
 use Rattle.memchr.specs.Find.{OccursAt}
 use Rattle.ldar_ports.specs.Source.{HasEnded}
-use Rattle.handheld_http.specs.declared.outcome.Cut.TheVariants.{Whole, More}
-use Rattle.handheld_http.specs.declared.outcome.Front.{Front}
-use Rattle.handheld_http.specs.declared.outcome.Front.TheVariants.{Head, Unended, Refused as FrontRefused}
-use Rattle.handheld_http.specs.Cuts.{BeginsRequest, Refuses, IsCut, IsFront}
+use Rattle.handheld_http.specs.declared.outcome.Cut.TheVariants.{More}
+use Rattle.handheld_http.specs.Cuts.{BeginsRequest, Refuses, IsCut}
 use Rattle.handheld_http.specs.Heads.{empty_line}
 use Rattle.ldar_session.specs.declared.arriving.Arrival.{Arrival}
 use Rattle.ldar_session.specs.declared.arriving.Arrival.TheVariants.{Request, Refused as TurnedAway}
@@ -81,11 +79,10 @@ Ends Memory served rest left unsaid = EndsWithin served ⊎ ((at : ℕ) × EndsR
 abbrev pub HasNoneWithin : List ℕ → ℕ → Type 0
 HasNoneWithin bytes n = (k : ℕ) → k + 4 ≤ n → ¬ (OccursAt bytes empty_line k)
 
--- what is known of a head that has ended or is refused
-abbrev pub IsKnown : List ℕ → Front → Type 0
-IsKnown bytes (Head head body closing) = BeginsRequest bytes head body closing
-IsKnown bytes Unended = ⊥
-IsKnown bytes (FrontRefused status) = Refuses bytes status
+-- a head has arrived at the front, with the body that it states or a part of it, or bytes that are refused
+abbrev pub IsBegun : List ℕ → Arrival → Type 0
+IsBegun bytes (Request extent) = BeginsRequest bytes extent.head extent.body extent.closing
+IsBegun bytes (TurnedAway status) = Refuses bytes status
 
 -- the bytes begin a request of so many
 abbrev pub BeginsOf : List ℕ → ℕ → Type 0

@@ -1,10 +1,10 @@
-ghost use Rattle.std.specs.Prelude.{◌≡◌, ◌<◌, ◌≤◌, ℕ, List, Bool, false, length, Option, Err, IfOk, OnOk, IfErr};
+ghost use Rattle.std.specs.Prelude.{◌≡◌, ◌+◌, ◌-◌, ◌<◌, ◌≤◌, ℕ, List, false, length, drop, Option, Err, IfOk, OnOk, IfErr};
 ghost use Rattle.disk_model.specs.Faults.{Rose};
 ghost use Rattle.handheld_http.specs.declared.outcome.Cut.TheVariants.{More};
 ghost use Rattle.handheld_http.specs.Cuts.{IsCut, IsFront};
 ghost use Rattle.ldar_ports.specs.Source.{Takes, HasEnded};
 ghost use Rattle.ldar_ports.specs.Window.{after_taking};
-ghost use Rattle.ldar_session.specs.Session.{BeginsOf, EndsInput, HasNoneWithin, IsArrival, IsKnown};
+ghost use Rattle.ldar_session.specs.Session.{BeginsOf, EndsInput, HasNoneWithin, IsArrival, IsBegun};
 
 use crate::ended::Ended;
 use crate::extent::Extent;
@@ -39,33 +39,25 @@ pub fn next_arrival<S: Source>(source: &mut S, window: &mut Window) -> Result<Ar
     ensures count { S.faults source.old ≤ S.faults source.new }
     ensures cause { result ≡ Err Ended.ReadFault → Rose (S.faults source.old) (S.faults source.new) }
 {
-    let extent = match next_head(source, window) {
-        Ok(Front::Head {
-            head,
-            body,
-            closing,
-        }) => Extent {
-            head,
-            body,
-            closing,
-        },
-        Ok(Front::Refused { status }) => return Ok(Arrival::Refused { status }),
-        Ok(Front::Unended) => unreachable!(),
-        Err(ended) => return Err(ended),
-    };
-    match await_body(source, window, extent.head + extent.body) {
-        Ok(()) => Ok(Arrival::Request(extent)),
+    match next_head(source, window) {
+        Ok(Arrival::Request(extent)) => {
+            match await_body(source, window, extent.head + extent.body) {
+                Ok(()) => Ok(Arrival::Request(extent)),
+                Err(ended) => Err(ended),
+            }
+        }
+        Ok(Arrival::Refused { status }) => Ok(Arrival::Refused { status }),
         Err(ended) => Err(ended),
     }
 }
 
-/// What is known of the next request by its head, once the head has ended or is refused.
-fn next_head<S: Source>(source: &mut S, window: &mut Window) -> Result<Front, Ended>
+/// The next request, once its head is in hand, or has turned out to be refused.
+fn next_head<S: Source>(source: &mut S, window: &mut Window) -> Result<Arrival, Ended>
     requires size { window.old.size ≡ REQUEST_WINDOW }
     requires room { length window.old.bytes ≤ REQUEST_WINDOW }
     ensures taken { (taken : List ℕ) × Takes (S.left source.old) taken (S.left source.new)
         × (window.new ≡ after_taking window.old taken) }
-    ensures known { IfOk result (IsKnown window.new.bytes) }
+    ensures begun { IfOk result (IsBegun window.new.bytes) }
     ensures ended { IfErr result (λ ended. EndsInput ended window.new.bytes (S.left source.new)) }
     ensures in_range { length window.new.bytes ≤ REQUEST_WINDOW }
     ensures count { S.faults source.old ≤ S.faults source.new }
@@ -74,14 +66,24 @@ fn next_head<S: Source>(source: &mut S, window: &mut Window) -> Result<Front, En
     let mut searched = 0;
     'coming: loop {
         match front_behind(window.bytes(), searched) {
+            Front::Head {
+                head,
+                body,
+                closing,
+            } => {
+                return Ok(Arrival::Request(Extent {
+                    head,
+                    body,
+                    closing,
+                }));
+            }
+            Front::Refused { status } => return Ok(Arrival::Refused { status }),
             Front::Unended => {}
-            known => return Ok(known),
         }
         searched = window.bytes().len();
-        match window.take_from(source) {
-            Ok(0) => return Err(ended_within(window.bytes())),
-            Ok(_) => {}
-            Err(_) => return Err(Ended::ReadFault),
+        match take_more(source, window) {
+            Ok(()) => {}
+            Err(ended) => return Err(ended),
         }
     }
 }
@@ -100,16 +102,35 @@ fn await_body<S: Source>(source: &mut S, window: &mut Window, whole: usize) -> R
     ensures cause { result ≡ Err Ended.ReadFault → Rose (S.faults source.old) (S.faults source.new) }
 {
     'coming: while window.bytes().len() < whole {
-        match window.take_from(source) {
-            Ok(0) => return Err(ended_within(window.bytes())),
-            Ok(_) => {}
-            Err(_) => return Err(Ended::ReadFault),
+        match take_more(source, window) {
+            Ok(()) => {}
+            Err(ended) => return Err(ended),
         }
     }
     Ok(())
 }
 
+/// Takes bytes once, where more is awaited in front of those in hand.
+fn take_more<S: Source>(source: &mut S, window: &mut Window) -> Result<(), Ended>
+    requires awaits { IsCut window.old.bytes More }
+    requires room { length window.old.bytes < window.old.size }
+    ensures taken { (taken : List ℕ) × Takes (S.left source.old) taken (S.left source.new)
+        × (window.new ≡ after_taking window.old taken) }
+    ensures some { OnOk result (length window.old.bytes < length window.new.bytes) }
+    ensures ended { IfErr result (λ ended. EndsInput ended window.new.bytes (S.left source.new)) }
+    ensures in_range { length window.new.bytes ≤ window.old.size }
+    ensures count { S.faults source.old ≤ S.faults source.new }
+    ensures cause { result ≡ Err Ended.ReadFault → Rose (S.faults source.old) (S.faults source.new) }
+{
+    match window.take_from(source) {
+        Ok(0) => Err(ended_within(window.bytes())),
+        Ok(_) => Ok(()),
+        Err(_) => Err(Ended::ReadFault),
+    }
+}
+
 /// What is known of the request at the front, where no head ends within so many of the bytes.
+#[tactic(auto, using(crate::proofs::SessionLemmas::no_head_yet))]
 fn front_behind(bytes: &[u8], searched: usize) -> Front
     requires within { searched ≤ length bytes.now }
     requires none { HasNoneWithin bytes.now searched }
@@ -121,13 +142,24 @@ fn front_behind(bytes: &[u8], searched: usize) -> Front
     head_of(bytes)
 }
 
-/// Whether an empty line ends behind so many bytes, where none ends within them. Of those it reads the last three alone.
+/// Whether an empty line ends behind so many bytes, where none ends within them.
 fn ends_behind(bytes: &[u8], searched: usize) -> bool
     requires within { searched ≤ length bytes.now }
     requires none { HasNoneWithin bytes.now searched }
     ensures none { result ≡ false → HasNoneWithin bytes.now (length bytes.now) }
 {
-    memmem::find(&bytes[searched.saturating_sub(3)..], EMPTY_LINE).is_some()
+    let Some(_) = memmem::find(behind(bytes, searched), EMPTY_LINE) else {
+        return false;
+    };
+    true
+}
+
+/// What an empty line can stand in that ends behind so many bytes: the last three of them, and those behind.
+fn behind(bytes: &[u8], searched: usize) -> &[u8]
+    requires { searched ≤ length bytes.now }
+    ensures { result.now ≡ drop (searched - 3) bytes.now }
+{
+    &bytes[searched.saturating_sub(3)..]
 }
 
 /// How an input ended with these bytes in hand, in front of which more is awaited.

@@ -1,8 +1,9 @@
 ghost use Rattle.std.specs.Prelude.{◌≡◌, ◌≢◌, ◌+◌, ◌<◌, ◌≤◌, ◌⊎◌, true, false, length, drop, take, IfOk, OnOk, IfNone, IfSome};
 ghost use Rattle.std.specs.List.{AllByRecursion};
+ghost use Rattle.handheld_http.specs.declared.answer.Asked.TheVariants.{Request as Asks};
 ghost use Rattle.ldar_law.specs.declared.request.Request.TheVariants.{Sync};
 ghost use Rattle.office_book.specs.Asking.{IsFromHandheld};
-ghost use Rattle.ldar_session.specs.Requests.{AsksAs, IsAsking, IsGroup, NoneJoins, StandInFront, WasCut};
+ghost use Rattle.ldar_session.specs.Requests.{AsksAs, CannotJoin, IsAsking, IsGroup, IsOther, NoneJoins, StandInFront, WasCut};
 
 use crate::Memory;
 use crate::asking::is_asked_alone;
@@ -26,6 +27,14 @@ pub enum Asking {
     Together(Requests),
     /// It asks the office nothing.
     Nothing(Refusal),
+}
+
+/// A batch that is asked for, and the request that asks for it: of so many bytes, closing or not.
+#[derive(Drop)]
+pub struct Other {
+    pub batch: Batch,
+    pub used: usize,
+    pub closing: bool,
 }
 
 /// What the request at the front asks: with a batch of a handheld other than 0, at most so many such batches that are
@@ -108,39 +117,69 @@ fn add_others(
     Ok(())
 }
 
-/// A batch that is asked for, and the request that asks for it: of so many bytes, closing or not.
-#[derive(Drop)]
-struct Other {
-    batch: Batch,
-    used: usize,
-    closing: bool,
-}
-
 /// The request at the front, where it asks for a batch of a handheld other than 0.
+#[tactic(auto, using(crate::proofs::RequestLemmas::none_joins_more, crate::proofs::RequestLemmas::none_joins_refused))]
 fn next_other(alloc: Global, bytes: &[u8]) -> Result<Option<Other>, Memory>
     ensures none { IfOk result (λ found. IfNone found (NoneJoins bytes.now)) }
-    ensures found { IfOk result (λ found. IfSome found (λ other. (other.used ≤ length bytes.now)
-        × AsksAs other.closing (take other.used bytes.now) (Sync other.batch) × (other.batch.handheld ≢ 0))) }
+    ensures found { IfOk result (λ found. IfSome found (IsOther bytes.now)) }
 {
-    let Cut::Whole {
-        head,
-        body,
-        closing,
-    } = cut(bytes)
-    else {
-        return Ok(None);
-    };
-    match request_of(alloc, bytes, head)? {
+    match cut(bytes) {
+        Cut::Whole {
+            head,
+            body,
+            closing,
+        } => other_of(
+            alloc,
+            bytes,
+            Extent {
+                head,
+                body,
+                closing,
+            },
+        ),
+        Cut::More => Ok(None),
+        Cut::Refused { .. } => Ok(None),
+    }
+}
+
+/// The request that was cut, where it asks for a batch of a handheld other than 0.
+#[tactic(auto, using(crate::proofs::RequestLemmas::none_joins_cut, crate::proofs::RequestLemmas::cut_asks))]
+fn other_of(alloc: Global, bytes: &[u8], extent: Extent) -> Result<Option<Other>, Memory>
+    requires { WasCut bytes.now extent }
+    ensures none { IfOk result (λ found. IfNone found (NoneJoins bytes.now)) }
+    ensures found { IfOk result (λ found. IfSome found (IsOther bytes.now)) }
+{
+    let asked = request_of(alloc, bytes, extent.head)?;
+    match joining(asked) {
+        Some(batch) => Ok(Some(Other {
+            batch,
+            used: extent.head + extent.body,
+            closing: extent.closing,
+        })),
+        None => Ok(None),
+    }
+}
+
+/// The batch that is asked for, where it is one of a handheld other than 0.
+fn joining(asked: Asked) -> Option<Batch>
+    ensures none { IfNone result (CannotJoin asked) }
+    ensures found { IfSome result (λ batch. (asked ≡ Asks (Sync batch)) × (batch.handheld ≢ 0)) }
+{
+    match asked {
         Asked::Request(Request::Sync(batch)) => {
             if batch.handheld == 0 {
-                return Ok(None);
+                return None;
             }
-            Ok(Some(Other {
-                batch,
-                used: head + body,
-                closing,
-            }))
+            Some(batch)
         }
-        Asked::Request(_) | Asked::Not(_) => Ok(None),
+        Asked::Request(
+            Request::Due { .. }
+            | Request::Tags { .. }
+            | Request::Delays { .. }
+            | Request::Route { .. }
+            | Request::Percent { .. }
+            | Request::Report { .. },
+        )
+        | Asked::Not(_) => None,
     }
 }
