@@ -64,11 +64,11 @@ ends_away Memory at served rest left unsaid turns away = inr (at, away)
 -- ---- answers without a turn
 
 -- bytes that are refused, and their answer
-pub away_of : List ℕ → ℕ → Served
+abbrev pub away_of : List ℕ → ℕ → Served
 away_of bytes status = record { item = bytes; turn = None; text = answer_bytes (Status status) true }
 
 -- a request that asks the office nothing, and its answer
-pub unasked_of : List ℕ → Bool → Refusal → Served
+abbrev pub unasked_of : List ℕ → Bool → Refusal → Served
 unasked_of item closing refusal = record { item = item; turn = None; text = answer_bytes (AsksNothing refusal) closing }
 
 module _ {O : Type 0} (led : O → List Call → O → Type 0) (stays : (office : O) → led office [] office) (office : O) where
@@ -76,7 +76,6 @@ module _ {O : Type 0} (led : O → List Call → O → Type 0) (stays : (office 
   pub stretch_away : (bytes : List ℕ) (status : ℕ) (pieces pieces' : Option (List Piece)) (put : List Piece) (unsaid : List ℕ)
       → Refuses bytes status → Puts pieces put pieces' → answer_bytes (Status status) true ≡ bytes_of put ++ unsaid
       → Stretch IsAnswered led office office pieces pieces' (away_of bytes status ∷ []) unsaid × IsTurnedAway (away_of bytes status)
-  unfolding away_of
   stretch_away bytes status pieces pieces' put unsaid refused puts said =
       let away : IsTurnedAway (away_of bytes status) = record { status = status; refused = refused; unasked = refl; says = refl } in
       (stretch_put IsAnswered led stays office pieces pieces' put (away_of bytes status) unsaid refl (inr away) puts said, away)
@@ -86,7 +85,6 @@ module _ {O : Type 0} (led : O → List Call → O → Type 0) (stays : (office 
       → IsWhole item closing → Means item (Not refusal) → Puts pieces put pieces' → answer_bytes (AsksNothing refusal) closing ≡ bytes_of put ++ unsaid
       → Stretch IsAnswered led office office pieces pieces' (unasked_of item closing refusal ∷ []) unsaid
       × AreRequests closing (unasked_of item closing refusal ∷ [])
-  unfolding unasked_of
   stretch_unasked item closing refusal pieces pieces' put unsaid whole means puts said =
       let is : IsRequest closing (unasked_of item closing refusal) = record { whole = whole; asked = Not refusal; means = means; answer = refl } in
       (stretch_put IsAnswered led stays office pieces pieces' put (unasked_of item closing refusal) unsaid refl (inl (closing, is)) puts said, (is, tt))

@@ -13,7 +13,7 @@ use Rattle.handheld_http.specs.declared.answer.Asked.TheVariants.{Request as Ask
 use Rattle.handheld_http.specs.declared.outcome.Cut.TheVariants.{Whole}
 use Rattle.handheld_http.specs.Answers.{answer_bytes}
 use Rattle.handheld_http.specs.Cuts.{Refuses, IsCut}
-use Rattle.handheld_http.specs.Items.{IsWhole}
+use Rattle.handheld_http.specs.Items.{HasNoItem, IsWhole}
 use Rattle.handheld_http.specs.Requests.{Means}
 use Rattle.ldar_session.specs.declared.extent.Extent.{Extent}
 use Rattle.ldar_session.specs.declared.together.Asking.{Asking}
@@ -58,6 +58,10 @@ closes_before closing (x ∷ more) = false
 abbrev pub AreRequests : Bool → List Served → Type 0
 AreRequests closing [] = Unit {0}
 AreRequests closing (s ∷ served) = IsRequest (closes_before closing served) s × AreRequests closing served
+
+-- requests with bytes behind them: where none closes the connection, no request stands in front of these
+abbrev pub IsStream : List Served → List ℕ → Type 0
+IsStream served rest = (AreRequests false served × HasNoItem rest) ⊎ (AreRequests true served × (0 < length served))
 
 -- ---- requests at the front
 

@@ -130,7 +130,6 @@ fn take_more<S: Source>(source: &mut S, window: &mut Window) -> Result<(), Ended
 }
 
 /// What is known of the request at the front, where no head ends within so many of the bytes.
-#[tactic(auto, using(crate::proofs::SessionLemmas::no_head_yet))]
 fn front_behind(bytes: &[u8], searched: usize) -> Front
     requires within { searched ≤ length bytes.now }
     requires none { HasNoneWithin bytes.now searched }

@@ -118,7 +118,6 @@ fn add_others(
 }
 
 /// The request at the front, where it asks for a batch of a handheld other than 0.
-#[tactic(auto, using(crate::proofs::RequestLemmas::none_joins_more, crate::proofs::RequestLemmas::none_joins_refused))]
 fn next_other(alloc: Global, bytes: &[u8]) -> Result<Option<Other>, Memory>
     ensures none { IfOk result (λ found. IfNone found (NoneJoins bytes.now)) }
     ensures found { IfOk result (λ found. IfSome found (IsOther bytes.now)) }
@@ -143,7 +142,6 @@ fn next_other(alloc: Global, bytes: &[u8]) -> Result<Option<Other>, Memory>
 }
 
 /// The request that was cut, where it asks for a batch of a handheld other than 0.
-#[tactic(auto, using(crate::proofs::RequestLemmas::none_joins_cut, crate::proofs::RequestLemmas::cut_asks))]
 fn other_of(alloc: Global, bytes: &[u8], extent: Extent) -> Result<Option<Other>, Memory>
     requires { WasCut bytes.now extent }
     ensures none { IfOk result (λ found. IfNone found (NoneJoins bytes.now)) }
