@@ -1,5 +1,5 @@
 -- HTTP requests that stand in front of some bytes, and what was served of them.
-use Rattle.std.proofs.Common.{◌≡◌, ℕ, ◌+◌, ◌<◌, ◌≤◌, Bool, true, false, List, [], ◌∷◌, ◌++◌, length, map, take, drop, min, Option, Some, None, All, inl, inr}
+use Rattle.std.proofs.Common.{◌≡◌, ℕ, ◌+◌, ◌<◌, ◌≤◌, ◌⊎◌, Bool, true, false, List, [], ◌∷◌, ◌++◌, length, map, take, drop, min, Option, Some, None, All, inl, inr}
 use Rattle.std.proofs.Common.{refl, sym, ap, subst, ◌∙◌, append_assoc, length-append, length-take, arith}
 use Rattle.std.specs.List.{flat_map, AllByRecursion}
 use Rattle.std.proofs.lemmas.List.{append-nil, take-append-drop, drop-drop, length-drop, length-map}
@@ -241,3 +241,21 @@ pub none_joins_refused : (bytes : List ℕ) (status : ℕ) → Refuses bytes sta
 none_joins_refused bytes status refused used batch within is =
     let none = subst (λ (l : List ℕ). (n : ℕ) → n ≤ length l → ¬ (IsItem (take n l))) (append-nil bytes) (refused_is_none_with bytes [] (status, refused)) in
     absurd (none used within ((items_mean_with (take used bytes)).1 (Asks (Sync batch), is)))
+
+-- batches of handhelds in front are a group, where none joins them
+pub group_of : (bytes : List ℕ) (most : ℕ) (requests : List Request) (closing : Bool) (used : ℕ) → StandInFront bytes requests closing used
+    → 0 < length requests → length requests ≤ most → AllByRecursion IsFromHandheld requests
+    → (length requests ≡ most) ⊎ ((closing ≡ true) ⊎ NoneJoins (drop used bytes)) → IsGroup bytes most requests closing used
+group_of bytes most requests closing used stand some fits each full = record {
+  stand = stand;
+  some = some;
+  fits = fits;
+  alike = λ several. each;
+  full = elim full [
+    | inl are ↦ inl are
+    | inr rest ↦ elim rest [
+        | inl closed ↦ inr (inl closed)
+        | inr none ↦ inr (inr (inr none))
+      ]
+  ];
+}

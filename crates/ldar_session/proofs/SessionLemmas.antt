@@ -67,6 +67,10 @@ ends_away Memory at served rest left unsaid turns away = inr (at, away)
 abbrev pub away_of : List ℕ → ℕ → Served
 away_of bytes status = record { item = bytes; turn = None; text = answer_bytes (Status status) true }
 
+-- they are all that is in hand
+pub away_in_hand : (bytes : List ℕ) (status : ℕ) → bytes ≡ items_of (away_of bytes status ∷ []) ++ []
+away_in_hand bytes status = sym (append-nil (bytes ++ []) ∙ append-nil bytes)
+
 -- a request that asks the office nothing, and its answer
 abbrev pub unasked_of : List ℕ → Bool → Refusal → Served
 unasked_of item closing refusal = record { item = item; turn = None; text = answer_bytes (AsksNothing refusal) closing }

@@ -2,6 +2,7 @@ ghost use Rattle.std.specs.Prelude.{◌≡◌, ◌<◌, ◌≤◌, ◌⊎◌, �
 ghost use Rattle.std.specs.List.{AllByRecursion};
 ghost use Rattle.disk_model.specs.Faults.{Rose};
 ghost use Rattle.handheld_http.specs.Answers.{answer_bytes, IsSent};
+ghost use Rattle.handheld_http.specs.declared.answer.Answer.TheVariants.{Not};
 ghost use Rattle.ldar_ports.specs.Sink.{Piece, Puts, IsStamped, bytes_of};
 ghost use Rattle.office_book.specs.Asking.{MayShareFrame, HasRule};
 ghost use Rattle.ldar_session.specs.Requests.{AreRequests, AsksEach, IsAnswered, Serves, WasCut, answers_text};
@@ -14,7 +15,7 @@ use crate::ended::Ended;
 use crate::extent::Extent;
 use crate::together::{Asking, asking_of};
 use disk_model::Disk;
-use handheld_http::{Answer, reply_bytes};
+use handheld_http::{Answer, Refusal, reply_bytes};
 use ldar_facts::FRAME_BATCHES;
 use ldar_law::{Reply, Request};
 use ldar_ports::{Sink, put_all};
@@ -65,8 +66,7 @@ pub fn answer_front<O: Office, K: Sink>(
             }
         }
         Asking::Nothing(refusal) => {
-            let answer = Answer::Not(refusal);
-            match put_answer(alloc, sink, office.beside(), &answer, first.closing) {
+            match put_refusal(alloc, sink, office.beside(), refusal, first.closing) {
                 Ok(()) => Ok(Step {
                     used: first.head + first.body,
                     answers: 1,
@@ -122,6 +122,25 @@ fn text_of(alloc: Global, replies: Vec<Reply>, closing: bool) -> Result<Vec<u8>,
         reply_bytes(alloc, &answer, closing && rest.is_empty(), &mut text)?;
     }
     Ok(text)
+}
+
+/// Puts the answer to a request that asks the office nothing.
+fn put_refusal<K: Sink, D: Disk>(
+    alloc: Global,
+    sink: &mut K,
+    beside: &D,
+    refusal: Refusal,
+    closing: bool,
+) -> Result<(), Ended>
+    ensures puts { (put : List Piece) × (unsaid : List ℕ)
+        × Puts (K.pieces sink.old) put (K.pieces sink.new)
+        × (answer_bytes (Not refusal) closing ≡ bytes_of put ++ unsaid)
+        × OnOk result (unsaid ≡ []) }
+    ensures only { IfErr result (λ ended. (ended ≡ Ended.WriteFault) ⊎ (ended ≡ Ended.Memory)) }
+    ensures count { K.faults sink.old ≤ K.faults sink.new }
+    ensures cause { result ≡ Err Ended.WriteFault → Rose (K.faults sink.old) (K.faults sink.new) }
+{
+    put_answer(alloc, sink, beside, &Answer::Not(refusal), closing)
 }
 
 /// Puts one answer to a request that asks the office nothing, or to bytes that are refused.
