@@ -1,12 +1,15 @@
 -- Bytes are cut into requests in one way.
-use Rattle.std.proofs.Common.{◌≡◌, ℕ, ◌<◌, ◌≤◌, ◌⊎◌, inl, inr, Bool, true, false, List, [], ◌∷◌, ◌++◌, length, map, take, drop, Option}
+use Rattle.std.proofs.Common.{◌≡◌, ℕ, zero, suc, ◌<◌, ◌≤◌, ◌⊎◌, inl, inr, Bool, true, false, List, [], ◌∷◌, ◌++◌, length, map, take, drop, Option}
 use Rattle.std.proofs.Common.{refl, sym, ap, subst, ◌∙◌, append_assoc, length-append, arith}
 use Rattle.std.specs.List.{flat_map, AllByRecursion}
 use Rattle.std.proofs.lemmas.List.{append-nil}
 use Rattle.std.proofs.Math.Seq.{take-append_seam}
 use Rattle.handheld_http.specs.Items.{IsItem, IsWhole, HasNoItem}
-use Rattle.handheld_http.proofs.ItemLaws.{Begins-unique, no_proper_front_with}
+use Rattle.handheld_http.proofs.ItemLaws.{Begins-unique, items_in_range, more_is_none_with, no_proper_front_with, refused_is_none_with}
+use Rattle.ldar_session.specs.declared.ended.Ended.{Ended}
+use Rattle.ldar_session.specs.declared.ended.Ended.TheVariants.{Done, Stopped, CutShort, Refused, ReadFault, WriteFault, Memory}
 use Rattle.ldar_session.specs.Served.{Served, items_of}
+use Rattle.ldar_session.specs.Session.{Ends, EndsOpen, LeavesNone}
 use Rattle.ldar_session.specs.Requests.{AreRequests, IsRequest, IsStream}
 use Rattle.ldar_session.proofs.StreamLemmas.{cut_in_order, cut_both, items_of-items, same_front, same_behind}
 
@@ -101,3 +104,39 @@ one_stream served other rest left is is' same =
     let are = same_requests served other rest left is is' same in
     let bytes : items_of served ≡ items_of other = items_of-items served ∙ ap (flat_map (λ (l : List ℕ). l)) are ∙ sym (items_of-items other) in
     (are, same_behind (items_of served) (items_of other) rest left bytes same)
+
+-- ---- what is left
+
+-- no request is empty
+none_in_nothing : HasNoItem []
+none_in_nothing zero within item = absurd (omega (arith, (items_in_range [] item).0))
+none_in_nothing (suc n) within item = absurd (omega (arith, within))
+
+-- behind requests that stay open the input gave none more
+leaves_open : (ended : Ended) (served : List Served) (rest : List ℕ) (left : Option (List ℕ)) (unsaid : List ℕ) → EndsOpen ended served rest left unsaid
+    → IsStream served rest
+leaves_open Done served rest left unsaid ends = inl (ends.are, subst HasNoItem (sym ends.input.0) none_in_nothing)
+leaves_open Stopped served rest left unsaid ends = absurd ends.input
+leaves_open (CutShort got) served rest left unsaid ends = inl (ends.are, (more_is_none_with rest ends.input.2).0)
+leaves_open (Refused at) served rest left unsaid ends = absurd ends.input
+leaves_open ReadFault served rest left unsaid ends = inl (ends.are, (more_is_none_with rest ends.input).0)
+leaves_open WriteFault served rest left unsaid ends = absurd ends.input
+leaves_open Memory served rest left unsaid ends = absurd ends.input
+
+-- no whole request was left unanswered
+pub leaves_none : (ended : Ended) (served : List Served) (rest : List ℕ) (left : Option (List ℕ)) (unsaid : List ℕ) → Ends ended served rest left unsaid
+    → LeavesNone ended served rest
+leaves_none Done served rest left unsaid (inl stays) = leaves_open Done served rest left unsaid stays
+leaves_none Done served rest left unsaid (inr closed) = inr (closed.are, closed.some)
+leaves_none Stopped served rest left unsaid ends = ends.most
+leaves_none (CutShort got) served rest left unsaid ends = leaves_open (CutShort got) served rest left unsaid ends
+leaves_none (Refused at) served rest left unsaid (ends, said) = (
+  ends.before,
+  ends.last,
+  ends.served_are,
+  ends.counted,
+  inl (ends.are, refused_is_none_with ends.last.item rest (ends.away.status, ends.away.refused)),
+)
+leaves_none ReadFault served rest left unsaid ends = leaves_open ReadFault served rest left unsaid ends
+leaves_none WriteFault served rest left unsaid ends = tt
+leaves_none Memory served rest left unsaid ends = tt

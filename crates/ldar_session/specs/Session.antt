@@ -11,7 +11,7 @@ use Rattle.ldar_session.specs.declared.answering.Step.{Step}
 use Rattle.ldar_session.specs.declared.ended.TheConstants.{MOST_ANSWERS}
 use Rattle.ldar_session.specs.declared.ended.Ended.{Ended}
 use Rattle.ldar_session.specs.declared.ended.Ended.TheVariants.{Done, Stopped, CutShort, Refused, ReadFault, WriteFault, Memory}
-use Rattle.ldar_session.specs.Requests.{AreRequests, IsTurnedAway, WasCut}
+use Rattle.ldar_session.specs.Requests.{AreRequests, IsStream, IsTurnedAway, WasCut}
 use Rattle.ldar_session.specs.Served.{Served, items_of}
 
 -- ---- how a connection ends
@@ -72,6 +72,18 @@ Ends (Refused at) served rest left unsaid = EndsRefused at served × (unsaid ≡
 Ends ReadFault served rest left unsaid = EndsOpen ReadFault served rest left unsaid
 Ends WriteFault served rest left unsaid = EndsWithin served ⊎ ((at : ℕ) × EndsRefused at served)
 Ends Memory served rest left unsaid = EndsWithin served ⊎ ((at : ℕ) × EndsRefused at served)
+
+-- No whole request was left unanswered: none stands in front of the bytes behind those answered, but where the last closes the connection, or the most
+-- were answered; or a write failed or memory was wanting, of which nothing is said here.
+abbrev pub LeavesNone : Ended → List Served → List ℕ → Type 0
+LeavesNone Done served rest = IsStream served rest
+LeavesNone Stopped served rest = length served ≡ MOST_ANSWERS
+LeavesNone (CutShort got) served rest = IsStream served rest
+LeavesNone (Refused at) served rest =
+    (before : List Served) × (last : Served) × (served ≡ before ++ last ∷ []) × (at ≡ length (items_of before)) × IsStream before (last.item ++ rest)
+LeavesNone ReadFault served rest = IsStream served rest
+LeavesNone WriteFault served rest = Unit {0}
+LeavesNone Memory served rest = Unit {0}
 
 -- ---- what stands at the front
 
