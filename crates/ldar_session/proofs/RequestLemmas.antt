@@ -1,20 +1,17 @@
 -- HTTP requests that stand in front of some bytes, and what was served of them.
-use Rattle.std.proofs.Common.{◌≡◌, ℕ, ◌+◌, ◌<◌, ◌≤◌, ◌⊎◌, Bool, true, false, List, [], ◌∷◌, ◌++◌, length, map, take, drop, min, Option, Some, None, All, inl, inr}
-use Rattle.std.proofs.Common.{refl, sym, ap, subst, ◌∙◌, append_assoc, length-append, length-take, arith}
+use Rattle.std.proofs.Common.{◌≡◌, ℕ, ◌+◌, ◌<◌, ◌≤◌, ◌⊎◌, Bool, true, false, List, [], ◌∷◌, ◌++◌, length, map, take, drop, min, Option, Some, All, inl, inr}
+use Rattle.std.proofs.Common.{refl, sym, ap, subst, ◌∙◌, append_assoc, length-take, arith}
 use Rattle.std.specs.List.{flat_map, AllByRecursion}
 use Rattle.std.proofs.lemmas.List.{append-nil, take-append-drop, drop-drop, length-drop, length-map}
 use Rattle.std.proofs.lemmas.Grind.{flat_map-append}
-use Rattle.ldar_facts.specs.declared.batch.Batch.{Batch}
-use Rattle.ldar_law.specs.declared.reply.Reply.{Reply}
 use Rattle.ldar_law.specs.declared.request.Request.{Request}
 use Rattle.ldar_law.specs.declared.request.Request.TheVariants.{Sync}
 use Rattle.ldar_law.specs.Machine.{Call, Turn}
 use Rattle.ldar_ports.specs.Sink.{Piece, Puts, IsStamped, bytes_of}
 use Rattle.office_book.specs.Asking.{IsFromHandheld, requests_of, replies_of}
-use Rattle.handheld_http.specs.declared.answer.Answer.TheVariants.{Reply as ToRequest, Not as AsksNothing}
+use Rattle.handheld_http.specs.declared.answer.Answer.TheVariants.{Reply as ToRequest}
 use Rattle.handheld_http.specs.declared.answer.Asked.{Asked}
-use Rattle.handheld_http.specs.declared.answer.Asked.TheVariants.{Request as Asks, Not}
-use Rattle.handheld_http.specs.declared.answer.Refusal.{Refusal}
+use Rattle.handheld_http.specs.declared.answer.Asked.TheVariants.{Request as Asks}
 use Rattle.handheld_http.specs.declared.outcome.Cut.TheVariants.{Whole, More}
 use Rattle.handheld_http.specs.Answers.{answer_bytes}
 use Rattle.handheld_http.specs.Cuts.{Refuses, IsCut}
@@ -22,7 +19,7 @@ use Rattle.handheld_http.specs.Items.{IsItem, IsWhole}
 use Rattle.handheld_http.specs.Requests.{Means}
 use Rattle.handheld_http.proofs.ItemLaws.{Begins-take, Begins-unique, whole_front, more_is_none_with, refused_is_none_with}
 use Rattle.handheld_http.proofs.MeaningLaws.{one_meaning_with, items_mean_with}
-use Rattle.ldar_session.specs.Served.{Served, Stretch, items_of, texts_of, turns_of}
+use Rattle.ldar_session.specs.Served.{Served, Stretch, texts_of, turns_of}
 use Rattle.ldar_session.specs.Requests.{AreRequests, AsksAs, AsksEach, CannotJoin, IsAnswered, IsGroup, IsRequest, NoneJoins, StandInFront, answers_text, closes_before}
 use Rattle.ldar_session.proofs.Stretches.{stretch_call}
 
@@ -254,8 +251,8 @@ group_of bytes most requests closing used stand some fits each full = record {
   full = elim full [
     | inl are ↦ inl are
     | inr rest ↦ elim rest [
-        | inl closed ↦ inr (inl closed)
-        | inr none ↦ inr (inr (inr none))
-      ]
+      | inl closed ↦ inr (inl closed)
+      | inr none ↦ inr (inr (inr none))
+    ]
   ];
 }

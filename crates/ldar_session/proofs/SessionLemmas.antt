@@ -1,10 +1,9 @@
 -- What a connection of HTTP requests keeps as it goes on, and at its ends.
-use Rattle.std.proofs.Common.{◌≡◌, ◌⊎◌, inl, inr, ℕ, ◌+◌, ◌-◌, ◌<◌, ◌≤◌, Bool, true, false, cond, not, nat_lt, List, [], ◌∷◌, ◌++◌, length, map, drop, take, get_or, Option, Some, None, Result, Ok, Err, codes}
-use Rattle.std.proofs.Common.{refl, sym, ap, subst, ◌∙◌, append_assoc, length-append, arith}
+use Rattle.std.proofs.Common.{◌≡◌, ◌⊎◌, inl, inr, ℕ, ◌+◌, ◌-◌, ◌<◌, ◌≤◌, Bool, true, false, cond, not, nat_lt, List, [], ◌∷◌, ◌++◌, length, map, drop, get_or, Option, Some, None, Result, Ok, Err, codes}
+use Rattle.std.proofs.Common.{refl, sym, ap, subst, ◌∙◌, append_assoc, arith}
 use Rattle.std.specs.Str.Parse.{digits_value}
 use Rattle.std.proofs.lemmas.Bool.{cases_lt}
 use Rattle.std.proofs.lemmas.List.{append-nil, get_or-drop, length-map, length-drop}
-use Rattle.std.proofs.lemmas.Grind.{flat_map-append}
 use Rattle.memchr.specs.Find.{OccursAt, Nowhere}
 use Rattle.ldar_law.specs.declared.request.Request.{Request}
 use Rattle.ldar_law.specs.Machine.{Call}
@@ -188,9 +187,9 @@ stated_status value status e =
     elim (either (not (is_number value)) 400 status _ e) [
       | inl same ↦ inl (sym same)
       | inr e' ↦ elim (either (nat_lt longest_body (digits_value 10 value)) 413 status (Ok (digits_value 10 value)) e') [
-          | inl same ↦ inr (inr (inl (sym same)))
-          | inr e'' ↦ absurd cc
-        ]
+        | inl same ↦ inr (inr (inl (sym same)))
+        | inr e'' ↦ absurd cc
+      ]
     ]
 
 -- .. and where none is stated, with 411
@@ -208,9 +207,9 @@ body_status method fields status e =
     elim (either (nat_lt 0 (count_named (codes "Transfer-Encoding") fields)) 501 status _ e) [
       | inl same ↦ inr (inr (inr (inr (sym same))))
       | inr e' ↦ elim (either (nat_lt 1 (count_named (codes "Content-Length") fields)) 400 status _ e') [
-          | inl same ↦ inl (sym same)
-          | inr e'' ↦ length_status method (value_of (codes "Content-Length") fields) status e''
-        ]
+        | inl same ↦ inl (sym same)
+        | inr e'' ↦ length_status method (value_of (codes "Content-Length") fields) status e''
+      ]
     ]
 
 -- bytes are refused with one of the statuses

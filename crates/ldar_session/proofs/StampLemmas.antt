@@ -1,7 +1,7 @@
 -- Stamps of what was put, beside the clocks of turns.
 use Rattle.std.proofs.Common.{◌≡◌, ℕ, zero, suc, ◌+◌, ◌≤◌, List, [], ◌∷◌, ◌++◌, length, take, drop, replicate, Option, Some, None, MatchOption, All}
 use Rattle.std.proofs.Common.{refl, sym, subst, length-append, arith}
-use Rattle.std.specs.List.{flat_map, AllByRecursion}
+use Rattle.std.specs.List.{AllByRecursion}
 use Rattle.std.specs.Option.{option_to_list}
 use Rattle.std.proofs.lemmas.List.{take-append-le, drop-append-le, length-drop, length-replicate}
 use Rattle.ldar_law.specs.Machine.{Turn}

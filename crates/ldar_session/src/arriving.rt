@@ -22,9 +22,7 @@ const EMPTY_LINE: &[u8] = &[13, 10, 13, 10];
 pub enum Arrival {
     Request(Extent),
     /// Bytes that are refused with this status.
-    Refused {
-        status: u16,
-    },
+    Refused { status: u16 },
 }
 
 /// The next request, once it is in hand. Its head is read once, however the bytes of head and body come.

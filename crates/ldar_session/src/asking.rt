@@ -46,7 +46,11 @@ pub fn serve<O: Office, K: Sink>(
 }
 
 /// Asks an office at once. Where memory is wanting, nothing is asked.
-pub fn ask<O: Office>(alloc: Global, office: &mut O, requests: &[Request]) -> Result<Vec<Reply>, Memory>
+pub fn ask<O: Office>(
+    alloc: Global,
+    office: &mut O,
+    requests: &[Request],
+) -> Result<Vec<Reply>, Memory>
     requires some { 0 < length requests.now }
     requires fits { length requests.now ≤ FRAME_BATCHES }
     requires alike { MayShareFrame requests.now }

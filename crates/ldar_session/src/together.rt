@@ -39,12 +39,7 @@ pub struct Other {
 
 /// What the request at the front asks: with a batch of a handheld other than 0, at most so many such batches that are
 /// whole in the bytes.
-pub fn asking_of(
-    alloc: Global,
-    bytes: &[u8],
-    first: Extent,
-    most: usize,
-) -> Result<Asking, Memory>
+pub fn asking_of(alloc: Global, bytes: &[u8], first: Extent, most: usize) -> Result<Asking, Memory>
     requires some { 0 < most }
     requires cut { WasCut bytes.now first }
     ensures value { IfOk result (IsAsking bytes.now first most) }
@@ -87,12 +82,7 @@ fn requests_from(
 
 /// Adds the batches behind those of a group, up to a closing one, or to a request that is none of a handheld other than
 /// 0, or until they are so many.
-fn add_others(
-    alloc: Global,
-    bytes: &[u8],
-    most: usize,
-    group: &mut Requests,
-) -> Result<(), Memory>
+fn add_others(alloc: Global, bytes: &[u8], most: usize, group: &mut Requests) -> Result<(), Memory>
     requires stand { StandInFront bytes.now group.old.requests.items group.old.closing group.old.used }
     requires fits { length group.old.requests.items ≤ most }
     requires each { AllByRecursion IsFromHandheld group.old.requests.items }

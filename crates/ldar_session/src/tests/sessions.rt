@@ -5,11 +5,16 @@ use std::alloc::{AllocError, Global};
 use std::test::Fail;
 
 // A batch of handheld 7 as a request, and a view behind it.
-const SYNC: &[u8] = b"POST /sync HTTP/1.1\r\nHost: office\r\nContent-Length: 116\r\n\r\n{\"handheld\":7,\"number\":12,\"facts\":[{\"kind\":\"calibration\",\"day\":\"2024-02-20\",\"minute\":600,\"instrument\":1,\"gas\":500}]}";
+const SYNC: &[u8] =
+    b"POST /sync HTTP/1.1\r\nHost: office\r\nContent-Length: 116\r\n\r\n{\"handheld\":7,\"number\":12,\"facts\":[{\"kind\":\"calibration\",\"day\":\"2024-02-20\",\"minute\":600,\"instrument\":1,\"gas\":500}]}";
+
 const VIEW: &[u8] = b"GET /percent/1/16/2024-03-31 HTTP/1.1\r\nHost: office\r\n\r\n";
 
-const RECEIPT: &[u8] = b"HTTP/1.1 200 OK\r\nContent-Type: text/plain\r\nContent-Length: 16\r\n\r\nreceipt 7 12 12\n";
-const NO_UNIT: &[u8] = b"HTTP/1.1 404 Not Found\r\nContent-Type: text/plain\r\nContent-Length: 13\r\n\r\nno such unit\n";
+const RECEIPT: &[u8] =
+    b"HTTP/1.1 200 OK\r\nContent-Type: text/plain\r\nContent-Length: 16\r\n\r\nreceipt 7 12 12\n";
+
+const NO_UNIT: &[u8] =
+    b"HTTP/1.1 404 Not Found\r\nContent-Type: text/plain\r\nContent-Length: 13\r\n\r\nno such unit\n";
 
 // The bytes of some parts, one after the other.
 fn joined(alloc: Global, parts: &[&[u8]]) -> Result<Vec<u8>, AllocError> {
@@ -36,19 +41,16 @@ fn spoken(
 }
 
 // Appends a request that asks to keep a batch, with a handheld and a number of one digit.
-fn add_sync(
-    bytes: &mut Vec<u8>,
-    handheld: u8,
-    number: u8,
-    field: &[u8],
-) -> Result<(), AllocError> {
+fn add_sync(bytes: &mut Vec<u8>, handheld: u8, number: u8, field: &[u8]) -> Result<(), AllocError> {
     bytes.extend_from_slice(b"POST /sync HTTP/1.1\r\nContent-Length: 115\r\n")?;
     bytes.extend_from_slice(field)?;
     bytes.extend_from_slice(b"\r\n{\"handheld\":")?;
     bytes.push(handheld)?;
     bytes.extend_from_slice(b",\"number\":")?;
     bytes.push(number)?;
-    bytes.extend_from_slice(b",\"facts\":[{\"kind\":\"calibration\",\"day\":\"2024-02-20\",\"minute\":600,\"instrument\":1,\"gas\":500}]}")?;
+    bytes.extend_from_slice(
+        b",\"facts\":[{\"kind\":\"calibration\",\"day\":\"2024-02-20\",\"minute\":600,\"instrument\":1,\"gas\":500}]}",
+    )?;
     Ok(())
 }
 
@@ -149,7 +151,8 @@ fn refused_bytes_end_it(rt: HostRuntime) -> Result<(), Fail> {
 #[test]
 fn a_head_without_an_end_is_refused(rt: HostRuntime) -> Result<(), Fail> {
     let alloc = rt.alloc();
-    let want = b"HTTP/1.1 431 Request Header Fields Too Large\r\nContent-Type: text/plain\r\nContent-Length: 15\r\nConnection: close\r\n\r\nhead too large\n";
+    let want =
+        b"HTTP/1.1 431 Request Header Fields Too Large\r\nContent-Type: text/plain\r\nContent-Length: 15\r\nConnection: close\r\n\r\nhead too large\n";
     let mut bytes = Vec::new(alloc);
     bytes.resize(8_191, b'a')?;
     let (ended, said) = spoken(alloc, &mut Notebook::new(), &bytes, 100)?;
@@ -166,7 +169,8 @@ fn a_head_without_an_end_is_refused(rt: HostRuntime) -> Result<(), Fail> {
 fn a_closing_request_is_the_last_that_is_answered(rt: HostRuntime) -> Result<(), Fail> {
     let alloc = rt.alloc();
     let old = b"GET /nothing HTTP/1.0\r\n\r\n".as_slice();
-    let answer = b"HTTP/1.1 404 Not Found\r\nContent-Type: text/plain\r\nContent-Length: 13\r\nConnection: close\r\n\r\nno such path\n";
+    let answer =
+        b"HTTP/1.1 404 Not Found\r\nContent-Type: text/plain\r\nContent-Length: 13\r\nConnection: close\r\n\r\nno such path\n";
     let bytes = joined(alloc, &[SYNC, old, SYNC])?;
     let want = joined(alloc, &[RECEIPT, answer])?;
     for size in [1, 1_000] {
@@ -195,13 +199,19 @@ fn batches_whose_requests_are_in_hand_are_asked_together(rt: HostRuntime) -> Res
     let (ended, said) = spoken(alloc, &mut office, &bytes, bytes.len())?;
     assert_eq!(rt; ended, Ended::Done);
     assert_eq!(rt; office.calls, [16, 1, 1, 2, 1, 2, 0, 0]);
-    let end = b"503 Service Unavailable\r\nContent-Type: text/plain\r\nContent-Length: 11\r\n\r\ndisk fault\nHTTP/1.1 422 Unprocessable Entity\r\nContent-Type: text/plain\r\nContent-Length: 25\r\n\r\ndenied 1 1 60.486a(e)(1)\nHTTP/1.1 404 Not Found\r\nContent-Type: text/plain\r\nContent-Length: 13\r\n\r\nno such unit\nHTTP/1.1 200 OK\r\nContent-Type: text/plain\r\nContent-Length: 14\r\n\r\nreceipt 7 3 3\nHTTP/1.1 200 OK\r\nContent-Type: text/plain\r\nContent-Length: 14\r\nConnection: close\r\n\r\nreceipt 7 4 4\n";
+    let end =
+        b"503 Service Unavailable\r\nContent-Type: text/plain\r\nContent-Length: 11\r\n\r\ndisk fault\nHTTP/1.1 422 Unprocessable Entity\r\nContent-Type: text/plain\r\nContent-Length: 25\r\n\r\ndenied 1 1 60.486a(e)(1)\nHTTP/1.1 404 Not Found\r\nContent-Type: text/plain\r\nContent-Length: 13\r\n\r\nno such unit\nHTTP/1.1 200 OK\r\nContent-Type: text/plain\r\nContent-Length: 14\r\n\r\nreceipt 7 3 3\nHTTP/1.1 200 OK\r\nContent-Type: text/plain\r\nContent-Length: 14\r\nConnection: close\r\n\r\nreceipt 7 4 4\n";
     assert!(rt; said.ends_with(end.as_slice()));
     Ok(())
 }
 
 // A request with a body of so many bytes, which begins with so many facts in a batch and ends with blanks.
-fn long_sync(alloc: Global, facts: usize, length: &[u8], blanks: usize) -> Result<Vec<u8>, AllocError> {
+fn long_sync(
+    alloc: Global,
+    facts: usize,
+    length: &[u8],
+    blanks: usize,
+) -> Result<Vec<u8>, AllocError> {
     let mut bytes = joined(
         alloc,
         &[
@@ -214,7 +224,9 @@ fn long_sync(alloc: Global, facts: usize, length: &[u8], blanks: usize) -> Resul
         if n > 0 {
             bytes.push(b',')?;
         }
-        bytes.extend_from_slice(b"{\"kind\":\"calibration\",\"day\":\"2024-02-20\",\"minute\":600,\"instrument\":1,\"gas\":500}")?;
+        bytes.extend_from_slice(
+            b"{\"kind\":\"calibration\",\"day\":\"2024-02-20\",\"minute\":600,\"instrument\":1,\"gas\":500}",
+        )?;
     }
     bytes.extend_from_slice(b"]}")?;
     for _ in 0..blanks {
@@ -234,7 +246,8 @@ fn the_longest_body_is_read(rt: HostRuntime) -> Result<(), Fail> {
     let bytes = long_sync(alloc, 513, b"262144", 262_144 - 35 - 513 * 79 - 512 - 2)?;
     let bytes = joined(alloc, &[&bytes, SYNC])?;
     let (ended, said) = spoken(alloc, &mut Notebook::new(), &bytes, 100_000)?;
-    let refusal = b"HTTP/1.1 400 Bad Request\r\nContent-Type: text/plain\r\nContent-Length: 12\r\n\r\nbad request\n";
+    let refusal =
+        b"HTTP/1.1 400 Bad Request\r\nContent-Type: text/plain\r\nContent-Length: 12\r\n\r\nbad request\n";
     let want = joined(alloc, &[refusal, RECEIPT])?;
     assert_eq!(rt; ended, Ended::Done);
     assert_eq!(rt; said.as_slice(), want.as_slice());

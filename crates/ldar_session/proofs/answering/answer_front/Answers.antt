@@ -1,4 +1,4 @@
-use Rattle.std.proofs.Common.{◌≡◌, ◌+◌, ◌++◌, [], ◌∷◌, List, length, take, drop, false, refl, sym, ap, subst, ◌∙◌, take-append-drop, arith}
+use Rattle.std.proofs.Common.{◌+◌, ◌++◌, [], ◌∷◌, take, drop, false, refl, sym, ap, subst, ◌∙◌, take-append-drop, arith}
 use Rattle.std.proofs.lemmas.List.{append-nil}
 use Rattle.handheld_http.proofs.ItemLaws.{whole_front}
 use Rattle.ldar_session.specs.Requests.{AsksEach, IsAnswered}

@@ -4,7 +4,7 @@ use Rattle.ldar_ports.specs.Source.{Takes}
 use Rattle.ldar_ports.proofs.TakesLemmas.{takes_none}
 use Rattle.ldar_session.specs.Requests.{AreRequests, IsAnswered}
 use Rattle.ldar_session.specs.Served.{Served, Stretch, items_of}
-use Rattle.ldar_session.specs.Session.{Ends, EndsRefused}
+use Rattle.ldar_session.specs.Session.{EndsRefused}
 use Rattle.ldar_session.proofs.DockLemmas.{takes_behind, items_before}
 use Rattle.ldar_session.proofs.RequestLemmas.{are_more, are_some_more}
 use Rattle.ldar_session.proofs.SessionLemmas.{away_in_hand, away_of, ends_away, ends_open, ends_within, stretch_away}
@@ -183,8 +183,15 @@ loop-answers-preserved g c =
     let stay = subst (λ (b : Bool). AreRequests b more) c.if-step.false step.are in
     let within : used ≤ length window = subst (λ (l : List ℕ). used ≤ length l) shown step.within in
     let bytes : length (items_of more) ≡ used =
-    omega (arith, ap length front, length-append (items_of more) talk.1, ap length rest, ap length (ap (λ w. w.bytes) c.drop_front.ensures.value),
-    length-drop used window, within) in
+    omega (
+      arith,
+      ap length front,
+      length-append (items_of more) talk.1,
+      ap length rest,
+      ap length (ap (λ w. w.bytes) c.drop_front.ensures.value),
+      length-drop used window,
+      within,
+    ) in
     let size = ap (λ w. w.size) taken.2 in
     let size' = ap (λ w. w.size) c.drop_front.ensures.value in (
       (

@@ -1,4 +1,4 @@
-use Rattle.std.proofs.Common.{◌≡◌, ◌≤◌, ◌+◌, ◌-◌, false, inr, List, ℕ, [], ◌∷◌, ◌++◌, length, take, drop, sym, ap, subst, length-append, length-drop, arith}
+use Rattle.std.proofs.Common.{◌≡◌, ◌≤◌, ◌+◌, ◌-◌, inr, List, ℕ, [], ◌∷◌, ◌++◌, length, take, drop, sym, ap, subst, length-append, length-drop, arith}
 use Rattle.std.specs.List.{AllByRecursion}
 use Rattle.std.proofs.lemmas.List.{take_all}
 use Rattle.list_words.proofs.Members.{all_append}

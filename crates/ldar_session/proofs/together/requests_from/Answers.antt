@@ -1,4 +1,4 @@
-use Rattle.std.proofs.Common.{◌≡◌, ◌+◌, [], ◌∷◌, ◌++◌, length, inl, inr, refl, sym, ap, subst, ◌∙◌, arith}
+use Rattle.std.proofs.Common.{◌≡◌, ◌+◌, [], ◌∷◌, ◌++◌, length, refl, sym, ap, subst, ◌∙◌, arith}
 use Rattle.ldar_session.specs.Requests.{IsGroup, StandInFront}
 use Rattle.ldar_session.proofs.RequestLemmas.{asked_alone, group_of, request_stands}
 use Rattle.ldar_session.proofs.together.requests_from.Goals as goal
