@@ -20,7 +20,7 @@ use Rattle.handheld_http.specs.Requests.{Means}
 use Rattle.handheld_http.proofs.ItemLaws.{Begins-take, Begins-unique, whole_front, more_is_none_with, refused_is_none_with}
 use Rattle.handheld_http.proofs.MeaningLaws.{one_meaning_with, items_mean_with}
 use Rattle.ldar_session.specs.Served.{Served, Stretch, texts_of, turns_of}
-use Rattle.ldar_session.specs.Requests.{AreRequests, AsksAs, AsksEach, CannotJoin, IsAnswered, IsGroup, IsRequest, NoneJoins, StandInFront, answers_text, closes_before}
+use Rattle.ldar_session.specs.Requests.{AreRequests, AsksAs, AsksEach, CannotJoin, HasItsAnswer, IsGroup, IsRequest, NoneJoins, StandInFront, answers_text, closes_before}
 use Rattle.ldar_session.proofs.Stretches.{stretch_call}
 
 -- ---- behind which item a connection is closed
@@ -128,7 +128,7 @@ pub asked_each : (closing : Bool) (items : List (List ℕ)) (requests : List Req
 asked_each closing items requests call asks are = subst (λ l. AsksEach closing items l) (sym are) asks
 
 -- requests are answered
-pub are_answered : (closing : Bool) (served : List Served) → AreRequests closing served → AllByRecursion IsAnswered served
+pub are_answered : (closing : Bool) (served : List Served) → AreRequests closing served → AllByRecursion HasItsAnswer served
 are_answered closing [] are = tt
 are_answered closing (s ∷ served) are = (inl (closes_before closing served, are.0), are_answered closing served are.1)
 
@@ -149,10 +149,10 @@ are_some_more closing first (s ∷ more) one two = (closing, are_more closing fi
 pub stretch_answers : {O : Type 0} (led : O → List Call → O → Type 0) (old new : O) (call : Call) (closing : Bool) (items : List (List ℕ))
     (pieces pieces' : Option (List Piece)) (put : List Piece) (unsaid : List ℕ) (clock : ℕ) → AskedEach closing items call.turns → led old (call ∷ []) new
     → Puts pieces put pieces' → answers_text closing (replies_of call) ≡ bytes_of put ++ unsaid → All (IsStamped clock) put → call.end.clock ≤ clock
-    → Stretch IsAnswered led old new pieces pieces' (answered_in closing items call.turns) unsaid
+    → Stretch HasItsAnswer led old new pieces pieces' (answered_in closing items call.turns) unsaid
 stretch_answers led old new call closing items pieces pieces' put unsaid clock asked run puts said stamped late =
     let served = answered_in closing items call.turns in
-    stretch_call IsAnswered led old new call pieces pieces' put served unsaid clock run (turns_of-answered_in closing items call.turns asked)
+    stretch_call HasItsAnswer led old new call pieces pieces' put served unsaid clock run (turns_of-answered_in closing items call.turns asked)
     (are_answered closing served (are_requests closing items call.turns asked)) puts (texts_of-answered_in closing items call.turns asked ∙ said) stamped late
 
 -- ---- requests in front

@@ -24,7 +24,7 @@ use Rattle.ldar_session.specs.declared.ended.TheConstants.{MOST_ANSWERS}
 use Rattle.ldar_session.specs.declared.ended.Ended.{Ended}
 use Rattle.ldar_session.specs.declared.ended.Ended.TheVariants.{Done, Stopped, CutShort, Refused, ReadFault, WriteFault, Memory}
 use Rattle.ldar_session.specs.Served.{Served, Stretch, items_of}
-use Rattle.ldar_session.specs.Requests.{AreRequests, IsAnswered, IsRequest, IsTurnedAway, StandInFront}
+use Rattle.ldar_session.specs.Requests.{AreRequests, HasItsAnswer, IsRequest, IsTurnedAway, StandInFront}
 use Rattle.ldar_session.specs.Session.{BeginsOf, Ends, EndsInput, EndsRefused, EndsWithin, HasNoneWithin, TurnsAway}
 use Rattle.ldar_session.proofs.BatchLemmas.{items_of-map}
 use Rattle.ldar_session.proofs.RequestLemmas.{length-asked_each}
@@ -78,19 +78,19 @@ module _ {O : Type 0} (led : O → List Call → O → Type 0) (stays : (office 
   -- the answer to bytes that are refused, as far as it is said
   pub stretch_away : (bytes : List ℕ) (status : ℕ) (pieces pieces' : Option (List Piece)) (put : List Piece) (unsaid : List ℕ)
       → Refuses bytes status → Puts pieces put pieces' → answer_bytes (Status status) true ≡ bytes_of put ++ unsaid
-      → Stretch IsAnswered led office office pieces pieces' (away_of bytes status ∷ []) unsaid × IsTurnedAway (away_of bytes status)
+      → Stretch HasItsAnswer led office office pieces pieces' (away_of bytes status ∷ []) unsaid × IsTurnedAway (away_of bytes status)
   stretch_away bytes status pieces pieces' put unsaid refused puts said =
       let away : IsTurnedAway (away_of bytes status) = record { status = status; refused = refused; unasked = refl; says = refl } in
-      (stretch_put IsAnswered led stays office pieces pieces' put (away_of bytes status) unsaid refl (inr away) puts said, away)
+      (stretch_put HasItsAnswer led stays office pieces pieces' put (away_of bytes status) unsaid refl (inr away) puts said, away)
 
   -- the answer to a request that asks the office nothing, as far as it is said
   pub stretch_unasked : (item : List ℕ) (closing : Bool) (refusal : Refusal) (pieces pieces' : Option (List Piece)) (put : List Piece) (unsaid : List ℕ)
       → IsWhole item closing → Means item (Not refusal) → Puts pieces put pieces' → answer_bytes (AsksNothing refusal) closing ≡ bytes_of put ++ unsaid
-      → Stretch IsAnswered led office office pieces pieces' (unasked_of item closing refusal ∷ []) unsaid
+      → Stretch HasItsAnswer led office office pieces pieces' (unasked_of item closing refusal ∷ []) unsaid
       × AreRequests closing (unasked_of item closing refusal ∷ [])
   stretch_unasked item closing refusal pieces pieces' put unsaid whole means puts said =
       let is : IsRequest closing (unasked_of item closing refusal) = record { whole = whole; asked = Not refusal; means = means; answer = refl } in
-      (stretch_put IsAnswered led stays office pieces pieces' put (unasked_of item closing refusal) unsaid refl (inl (closing, is)) puts said, (is, tt))
+      (stretch_put HasItsAnswer led stays office pieces pieces' put (unasked_of item closing refusal) unsaid refl (inl (closing, is)) puts said, (is, tt))
 
 -- ---- requests in front that were served
 

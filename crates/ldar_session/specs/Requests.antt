@@ -46,8 +46,8 @@ pub record IsTurnedAway (s : Served) : Type 0 where
   pub says : s.text ≡ answer_bytes (Status status) true
 
 -- an item is a request, or bytes that are refused, and has its answer
-abbrev pub IsAnswered : Served → Type 0
-IsAnswered s = ((closing : Bool) × IsRequest closing s) ⊎ IsTurnedAway s
+abbrev pub HasItsAnswer : Served → Type 0
+HasItsAnswer s = ((closing : Bool) × IsRequest closing s) ⊎ IsTurnedAway s
 
 -- whether the connection is closed behind an item that has these behind it: where there are none, as said, and else it is not
 abbrev pub closes_before : {X : Type 0} → Bool → List X → Bool

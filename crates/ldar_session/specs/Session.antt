@@ -7,7 +7,7 @@ use Rattle.handheld_http.specs.Cuts.{BeginsRequest, Refuses, IsCut}
 use Rattle.handheld_http.specs.Heads.{empty_line}
 use Rattle.ldar_session.specs.declared.arriving.Arrival.{Arrival}
 use Rattle.ldar_session.specs.declared.arriving.Arrival.TheVariants.{Request, Refused as TurnedAway}
-use Rattle.ldar_session.specs.declared.answering.Step.{Step}
+use Rattle.ldar_session.specs.declared.answering.Progress.{Progress}
 use Rattle.ldar_session.specs.declared.ended.TheConstants.{MOST_ANSWERS}
 use Rattle.ldar_session.specs.declared.ended.Ended.{Ended}
 use Rattle.ldar_session.specs.declared.ended.Ended.TheVariants.{Done, Stopped, CutShort, Refused, ReadFault, WriteFault, Memory}
@@ -105,26 +105,26 @@ abbrev pub IsArrival : List ℕ → Arrival → Type 0
 IsArrival bytes (Request extent) = WasCut bytes extent
 IsArrival bytes (TurnedAway status) = Refuses bytes status
 
--- a step answered requests at the front of the bytes: all of it is said
-pub record IsStep (bytes : List ℕ) (most : ℕ) (step : Step) (served : List Served) (rest unsaid : List ℕ) : Type 0 where
+-- requests at the front of the bytes were answered, as many as this says and in as many bytes, and all of it is said
+pub record IsProgress (bytes : List ℕ) (most : ℕ) (progress : Progress) (served : List Served) (rest unsaid : List ℕ) : Type 0 where
   pub said : unsaid ≡ []
-  pub are : AreRequests step.closing served
+  pub are : AreRequests progress.closing served
   pub some : 0 < length served
   pub fits : length served ≤ most
-  pub answers : length served ≡ step.answers
-  pub within : step.used ≤ length bytes
-  pub behind : rest ≡ drop step.used bytes
+  pub answers : length served ≡ progress.answers
+  pub within : progress.used ≤ length bytes
+  pub behind : rest ≡ drop progress.used bytes
 
--- .. or a part of it may be unsaid
-pub record IsPartStep (most : ℕ) (served : List Served) : Type 0 where
+-- .. or some were, and a part of it may be unsaid
+pub record IsPartProgress (most : ℕ) (served : List Served) : Type 0 where
   pub closing : Bool
   pub are : AreRequests closing served
   pub fits : length served ≤ most
 
 -- what was served of the requests at the front
-abbrev pub StepsTo : Result Step Ended → List ℕ → ℕ → List Served → List ℕ → List ℕ → Type 0
-StepsTo (Ok step) bytes most served rest unsaid = IsStep bytes most step served rest unsaid
-StepsTo (Err ended) bytes most served rest unsaid = IsPartStep most served
+abbrev pub GoesOn : Result Progress Ended → List ℕ → ℕ → List Served → List ℕ → List ℕ → Type 0
+GoesOn (Ok progress) bytes most served rest unsaid = IsProgress bytes most progress served rest unsaid
+GoesOn (Err ended) bytes most served rest unsaid = IsPartProgress most served
 
 -- how a connection ended with the answer to refused bytes, of which this is unsaid
 abbrev pub TurnsAway : Ended → ℕ → List ℕ → Type 0

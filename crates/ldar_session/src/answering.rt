@@ -5,9 +5,9 @@ ghost use Rattle.handheld_http.specs.Answers.{answer_bytes, IsSent};
 ghost use Rattle.handheld_http.specs.declared.answer.Answer.TheVariants.{Not};
 ghost use Rattle.ldar_ports.specs.Sink.{Piece, Puts, IsStamped, bytes_of};
 ghost use Rattle.office_book.specs.Asking.{MayShareFrame, HasRule};
-ghost use Rattle.ldar_session.specs.Requests.{AreRequests, AsksEach, IsAnswered, Serves, WasCut, answers_text};
+ghost use Rattle.ldar_session.specs.Requests.{AreRequests, AsksEach, HasItsAnswer, Serves, WasCut, answers_text};
 ghost use Rattle.ldar_session.specs.Served.{Served, Stretch, items_of};
-ghost use Rattle.ldar_session.specs.Session.{StepsTo};
+ghost use Rattle.ldar_session.specs.Session.{GoesOn};
 
 use crate::Memory;
 use crate::asking::ask;
@@ -24,7 +24,7 @@ use std::alloc::Global;
 
 /// What was answered at once: requests in so many bytes, and whether the last closes the connection.
 #[derive(Clone, Copy)]
-pub struct Step {
+pub struct Progress {
     pub used: usize,
     pub answers: usize,
     pub closing: bool,
@@ -38,14 +38,14 @@ pub fn answer_front<O: Office, K: Sink>(
     bytes: &[u8],
     first: Extent,
     most: usize,
-) -> Result<Step, Ended>
+) -> Result<Progress, Ended>
     requires some { 0 < most }
     requires fits { most ≤ FRAME_BATCHES }
     requires cut { WasCut bytes.now first }
     ensures talk { (served : List Served) × (rest : List ℕ) × (unsaid : List ℕ)
-        × Stretch IsAnswered O.led office.old office.new (K.pieces sink.old) (K.pieces sink.new) served unsaid
+        × Stretch HasItsAnswer O.led office.old office.new (K.pieces sink.old) (K.pieces sink.new) served unsaid
         × (bytes.now ≡ items_of served ++ rest)
-        × StepsTo result bytes.now most served rest unsaid }
+        × GoesOn result bytes.now most served rest unsaid }
     ensures only { IfErr result (λ ended. (ended ≡ Ended.WriteFault) ⊎ (ended ≡ Ended.Memory)) }
     ensures count { K.faults sink.old ≤ K.faults sink.new }
     ensures cause { result ≡ Err Ended.WriteFault → Rose (K.faults sink.old) (K.faults sink.new) }
@@ -57,7 +57,7 @@ pub fn answer_front<O: Office, K: Sink>(
     match asking {
         Asking::Together(group) => {
             match answer_group(alloc, office, sink, &group.requests, group.closing) {
-                Ok(()) => Ok(Step {
+                Ok(()) => Ok(Progress {
                     used: group.used,
                     answers: group.requests.len(),
                     closing: group.closing,
@@ -67,7 +67,7 @@ pub fn answer_front<O: Office, K: Sink>(
         }
         Asking::Nothing(refusal) => {
             match put_refusal(alloc, sink, office.beside(), refusal, first.closing) {
-                Ok(()) => Ok(Step {
+                Ok(()) => Ok(Progress {
                     used: first.head + first.body,
                     answers: 1,
                     closing: first.closing,
@@ -91,7 +91,7 @@ fn answer_group<O: Office, K: Sink>(
     requires alike { MayShareFrame requests.now }
     ensures talk { (items : List (List ℕ)) → AsksEach closing items requests.now →
         (served : List Served) × (unsaid : List ℕ)
-        × Stretch IsAnswered O.led office.old office.new (K.pieces sink.old) (K.pieces sink.new) served unsaid
+        × Stretch HasItsAnswer O.led office.old office.new (K.pieces sink.old) (K.pieces sink.new) served unsaid
         × AreRequests closing served
         × Serves result items served unsaid }
     ensures only { IfErr result (λ ended. (ended ≡ Ended.WriteFault) ⊎ (ended ≡ Ended.Memory)) }

@@ -5,7 +5,7 @@ ghost use Rattle.handheld_http.specs.Cuts.{Refuses};
 ghost use Rattle.handheld_http.specs.declared.answer.Answer.TheVariants.{Status};
 ghost use Rattle.ldar_ports.specs.Sink.{Piece, Puts, bytes_of};
 ghost use Rattle.ldar_ports.specs.Source.{Takes};
-ghost use Rattle.ldar_session.specs.Requests.{AreRequests, IsAnswered};
+ghost use Rattle.ldar_session.specs.Requests.{AreRequests, HasItsAnswer};
 ghost use Rattle.ldar_session.specs.Served.{Served, Stretch, items_of};
 ghost use Rattle.ldar_session.specs.Session.{Ends, TurnsAway};
 
@@ -30,7 +30,7 @@ pub fn session<O: Office, S: Source, K: Sink>(
 ) -> Ended
     ensures talk { (served : List Served) × (rest : List ℕ) × (unsaid : List ℕ)
         × Takes (S.left source.old) (items_of served ++ rest) (S.left source.new)
-        × Stretch IsAnswered O.led office.old office.new (K.pieces sink.old) (K.pieces sink.new) served unsaid
+        × Stretch HasItsAnswer O.led office.old office.new (K.pieces sink.old) (K.pieces sink.new) served unsaid
         × Ends result served rest (S.left source.new) unsaid }
     ensures read_fault { result ≡ Ended.ReadFault → Rose (S.faults source.old) (S.faults source.new) }
     ensures write_fault { result ≡ Ended.WriteFault → Rose (K.faults sink.old) (K.faults sink.new) }
@@ -51,14 +51,14 @@ pub fn session<O: Office, S: Source, K: Sink>(
             Err(ended) => return ended,
         };
         let most = FRAME_BATCHES.min(MOST_ANSWERS - answers);
-        let step = match answer_front(alloc, office, sink, window.bytes(), first, most) {
-            Ok(step) => step,
+        let progress = match answer_front(alloc, office, sink, window.bytes(), first, most) {
+            Ok(progress) => progress,
             Err(ended) => return ended,
         };
-        window.drop_front(step.used);
-        before += step.used as u64;
-        answers += step.answers;
-        if step.closing {
+        window.drop_front(progress.used);
+        before += progress.used as u64;
+        answers += progress.answers;
+        if progress.closing {
             return ended_closed(answers);
         }
     }

@@ -205,6 +205,32 @@ fn batches_whose_requests_are_in_hand_are_asked_together(rt: HostRuntime) -> Res
     Ok(())
 }
 
+#[test]
+fn a_fault_of_the_streams_ends_a_session(rt: HostRuntime) -> Result<(), Fail> {
+    let alloc = rt.alloc();
+    let refused = b"POST /sync HTTP/1.1\r\n\r\n".as_slice();
+    let whole = joined(alloc, &[SYNC, SYNC, SYNC])?;
+    let cut = joined(alloc, &[SYNC, refused])?;
+    let cases = [
+        (&whole, [0], [9], Ended::ReadFault, 0),
+        (&whole, [1], [9], Ended::ReadFault, 1),
+        (&whole, [3], [9], Ended::ReadFault, 3),
+        (&whole, [9], [0], Ended::WriteFault, 0),
+        (&whole, [9], [1], Ended::WriteFault, 1),
+        (&whole, [9], [3], Ended::Done, 3),
+        (&cut, [9], [1], Ended::WriteFault, 1),
+    ];
+    for (bytes, reads, writes, want, answers) in cases {
+        let mut source = pieces(alloc, bytes, SYNC.len(), &reads)?;
+        let mut sink = StampedSink::new(alloc, &writes)?;
+        let ended = session(alloc, &mut Notebook::new(), &mut source, &mut sink);
+        assert_eq!(rt; ended, want);
+        assert_eq!(rt; sink.pieces().len(), answers);
+        assert!(rt; sink.bytes(alloc)?.ends_with(RECEIPT) || answers == 0);
+    }
+    Ok(())
+}
+
 // A request with a body of so many bytes, which begins with so many facts in a batch and ends with blanks.
 fn long_sync(
     alloc: Global,

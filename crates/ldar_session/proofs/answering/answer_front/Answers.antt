@@ -1,7 +1,7 @@
 use Rattle.std.proofs.Common.{◌+◌, ◌++◌, [], ◌∷◌, take, drop, false, refl, sym, ap, subst, ◌∙◌, take-append-drop, arith}
 use Rattle.std.proofs.lemmas.List.{append-nil}
 use Rattle.handheld_http.proofs.ItemLaws.{whole_front}
-use Rattle.ldar_session.specs.Requests.{AsksEach, IsAnswered}
+use Rattle.ldar_session.specs.Requests.{AsksEach, HasItsAnswer}
 use Rattle.ldar_session.proofs.SessionLemmas.{requests_part_served, requests_served, stretch_unasked, unasked_of}
 use Rattle.ldar_session.proofs.Stretches.{stretch_none}
 use Rattle.ldar_session.proofs.answering.answer_front.Goals as goal
@@ -12,7 +12,7 @@ returns-in-Err-clause-talk g c = (
   [],
   c.args.bytes.now,
   [],
-  stretch_none IsAnswered g.O.Office.led g.met.O.Office.stays c.args.office.now (g.K.Sink.pieces c.args.sink.now),
+  stretch_none HasItsAnswer g.O.Office.led g.met.O.Office.stays c.args.office.now (g.K.Sink.pieces c.args.sink.now),
   refl,
   record { closing = false; are = tt; fits = omega arith },
 )

@@ -1,7 +1,7 @@
 use Rattle.std.proofs.Common.{◌≡◌, ◌≤◌, ◌++◌, [], inl, inr, refl, sym, ap, subst, ◌∙◌}
 use Rattle.ldar_ports.specs.Sink.{bytes_of}
 use Rattle.office_book.specs.Asking.{replies_of}
-use Rattle.ldar_session.specs.Requests.{IsAnswered, answers_text}
+use Rattle.ldar_session.specs.Requests.{HasItsAnswer, answers_text}
 use Rattle.ldar_session.specs.Served.{Stretch, texts_of}
 use Rattle.ldar_session.proofs.Stretches.{stretch_none, stretch_unsaid}
 use Rattle.ldar_session.proofs.RequestLemmas.{answered_in, asked_each, are_answered, are_requests, map-item-answered_in, stretch_answers, turns_of-answered_in}
@@ -11,10 +11,10 @@ use Rattle.ldar_session.proofs.answering.answer_group.Goals as goal
 pub returns-in_default-clause-talk : goal.returns-in_default-clause-talk
 returns-in_default-clause-talk g c = λ items asks.
     let pieces = g.K.Sink.pieces c.args.sink.now in
-    let none = stretch_none IsAnswered g.O.Office.led g.met.O.Office.stays c.args.office.now pieces in (
+    let none = stretch_none HasItsAnswer g.O.Office.led g.met.O.Office.stays c.args.office.now pieces in (
       [],
       [],
-      subst (λ office. Stretch IsAnswered g.O.Office.led c.args.office.now office pieces pieces [] []) (sym c.in_default.ensures.unchanged) none,
+      subst (λ office. Stretch HasItsAnswer g.O.Office.led c.args.office.now office pieces pieces [] []) (sym c.in_default.ensures.unchanged) none,
       tt,
       inr refl,
     )
@@ -30,7 +30,7 @@ returns-in_default-text_of-clause-talk g c = λ items asks.
     let are = are_requests closing items call.turns each in (
       served,
       texts_of served,
-      stretch_unsaid IsAnswered g.O.Office.led c.args.office.now c.ask.new.office call (g.K.Sink.pieces c.args.sink.now) served asked.1
+      stretch_unsaid HasItsAnswer g.O.Office.led c.args.office.now c.ask.new.office call (g.K.Sink.pieces c.args.sink.now) served asked.1
           (turns_of-answered_in closing items call.turns each) (are_answered closing served are),
       are,
       inl (map-item-answered_in closing items call.turns each),

@@ -2,7 +2,7 @@ use Rattle.std.proofs.Common.{◌≡◌, ◌+◌, ◌<◌, ◌≤◌, ◌++◌, 
 use Rattle.std.proofs.lemmas.Grind.{flat_map-append}
 use Rattle.ldar_ports.specs.Source.{Takes}
 use Rattle.ldar_ports.proofs.TakesLemmas.{takes_none}
-use Rattle.ldar_session.specs.Requests.{AreRequests, IsAnswered}
+use Rattle.ldar_session.specs.Requests.{AreRequests, HasItsAnswer}
 use Rattle.ldar_session.specs.Served.{Served, Stretch, items_of}
 use Rattle.ldar_session.specs.Session.{EndsRefused}
 use Rattle.ldar_session.proofs.DockLemmas.{takes_behind, items_before}
@@ -18,7 +18,7 @@ returns-in_default-clause-talk g c = (
   [],
   [],
   takes_none (g.S.Source.left c.args.source.now),
-  stretch_none IsAnswered g.O.Office.led g.met.O.Office.stays c.args.office.now (g.K.Sink.pieces c.args.sink.now),
+  stretch_none HasItsAnswer g.O.Office.led g.met.O.Office.stays c.args.office.now (g.K.Sink.pieces c.args.sink.now),
   inl (record { closing = false; are = tt; most = omega arith }),
 )
 
@@ -32,7 +32,7 @@ loop-answers-init g c =
       (
         [],
         subst (λ (l : List ℕ). Takes left l left) (sym bytes) (takes_none left),
-        stretch_none IsAnswered g.O.Office.led g.met.O.Office.stays c.args.office.now (g.K.Sink.pieces c.args.sink.now),
+        stretch_none HasItsAnswer g.O.Office.led g.met.O.Office.stays c.args.office.now (g.K.Sink.pieces c.args.sink.now),
         tt,
         refl,
         refl,
@@ -75,7 +75,7 @@ returns-in-Ok-Refused-clause-talk g c =
       [],
       puts.1,
       subst (λ (l : List ℕ). Takes old l left) (items_before served (last ∷ []) window [] (away_in_hand window status)) takes,
-      stretch_more IsAnswered g.O.Office.led g.met.O.Office.joins c.args.office.now c.loop-answers.office c.loop-answers.office
+      stretch_more HasItsAnswer g.O.Office.led g.met.O.Office.joins c.args.office.now c.loop-answers.office c.loop-answers.office
           (g.K.Sink.pieces c.args.sink.now) (g.K.Sink.pieces c.loop-answers.sink) (g.K.Sink.pieces c.turn_away.new.sink) served (last ∷ []) puts.1
           so_far.2 away.0,
       ends_away c.turn_away.result c.loop-answers.before (served ++ last ∷ []) [] left puts.1 puts.4 ends,
@@ -121,7 +121,7 @@ returns-in-Err-answer_front-clause-talk g c =
       talk.1,
       talk.2,
       subst (λ (l : List ℕ). Takes old l left) (items_before served more window talk.1 front) takes,
-      stretch_more IsAnswered g.O.Office.led g.met.O.Office.joins c.args.office.now c.loop-answers.office c.answer_front.new.office
+      stretch_more HasItsAnswer g.O.Office.led g.met.O.Office.joins c.args.office.now c.loop-answers.office c.answer_front.new.office
           (g.K.Sink.pieces c.args.sink.now) (g.K.Sink.pieces c.loop-answers.sink) (g.K.Sink.pieces c.answer_front.new.sink) served more talk.2
           so_far.2 talk.3,
       ends_within c.in-Err-answer_front.ended (served ++ more) talk.1 left talk.2 c.in-Err-answer_front.ensures.only
@@ -129,8 +129,8 @@ returns-in-Err-answer_front-clause-talk g c =
     )
 
 -- the last that was answered closes the connection
-pub returns-then-step-clause-talk : goal.returns-then-step-clause-talk
-returns-then-step-clause-talk g c =
+pub returns-then-progress-clause-talk : goal.returns-then-progress-clause-talk
+returns-then-progress-clause-talk g c =
     let so_far = c.loop-answers.invariant.0 in
     let served = so_far.0 in
     let old = g.S.Source.left c.args.source.now in
@@ -141,21 +141,21 @@ returns-then-step-clause-talk g c =
     so_far.1 taken.1 (ap (λ w. w.bytes) taken.2) in
     let talk = c.in-Ok-answer_front.ensures.talk in
     let more = talk.0 in
-    let step = talk.5 in
+    let progress = talk.5 in
     let front = subst (λ (l : List ℕ). l ≡ items_of more ++ talk.1) c.bytes-in-loop-answers.ensures.value talk.4 in
-    let closes = subst (λ (b : Bool). AreRequests b more) c.if-step.true step.are in
-    let stretch = stretch_more IsAnswered g.O.Office.led g.met.O.Office.joins c.args.office.now c.loop-answers.office c.answer_front.new.office
+    let closes = subst (λ (b : Bool). AreRequests b more) c.if-progress.true progress.are in
+    let stretch = stretch_more HasItsAnswer g.O.Office.led g.met.O.Office.joins c.args.office.now c.loop-answers.office c.answer_front.new.office
     (g.K.Sink.pieces c.args.sink.now) (g.K.Sink.pieces c.loop-answers.sink) (g.K.Sink.pieces c.answer_front.new.sink) served more talk.2
     so_far.2 talk.3 in
-    let count : length (served ++ more) ≡ c.loop-answers.answers + c.in-Ok-answer_front.step.answers =
-    omega (arith, length-append served more, so_far.4, step.answers) in (
+    let count : length (served ++ more) ≡ c.loop-answers.answers + c.in-Ok-answer_front.progress.answers =
+    omega (arith, length-append served more, so_far.4, progress.answers) in (
       served ++ more,
       talk.1,
       [],
       subst (λ (l : List ℕ). Takes old l left) (items_before served more window talk.1 front) takes,
-      subst (λ (l : List ℕ). Stretch IsAnswered g.O.Office.led c.args.office.now c.answer_front.new.office
-          (g.K.Sink.pieces c.args.sink.now) (g.K.Sink.pieces c.answer_front.new.sink) (served ++ more) l) step.said stretch,
-      c.ended_closed.ensures.value (served ++ more) talk.1 left count (are_more true served more step.some so_far.3 closes),
+      subst (λ (l : List ℕ). Stretch HasItsAnswer g.O.Office.led c.args.office.now c.answer_front.new.office
+          (g.K.Sink.pieces c.args.sink.now) (g.K.Sink.pieces c.answer_front.new.sink) (served ++ more) l) progress.said stretch,
+      c.ended_closed.ensures.value (served ++ more) talk.1 left count (are_more true served more progress.some so_far.3 closes),
     )
 
 -- requests more are answered, none of which closes the connection, and all is said
@@ -171,17 +171,17 @@ loop-answers-preserved g c =
     so_far.1 taken.1 (ap (λ w. w.bytes) taken.2) in
     let talk = c.in-Ok-answer_front.ensures.talk in
     let more = talk.0 in
-    let step = talk.5 in
-    let used = c.in-Ok-answer_front.step.used in
+    let progress = talk.5 in
+    let used = c.in-Ok-answer_front.progress.used in
     let shown = c.bytes-in-loop-answers.ensures.value in
     let front = subst (λ (l : List ℕ). l ≡ items_of more ++ talk.1) shown talk.4 in
     let rest : talk.1 ≡ c.drop_front.new.self.bytes =
-    step.behind ∙ ap (λ (l : List ℕ). drop used l) shown ∙ sym (ap (λ w. w.bytes) c.drop_front.ensures.value) in
+    progress.behind ∙ ap (λ (l : List ℕ). drop used l) shown ∙ sym (ap (λ w. w.bytes) c.drop_front.ensures.value) in
     let behind = subst (λ (l : List ℕ). Takes old l left) (items_before served more window talk.1 front) takes in
-    let said = subst (λ (l : List ℕ). Stretch IsAnswered g.O.Office.led c.loop-answers.office c.answer_front.new.office
-    (g.K.Sink.pieces c.loop-answers.sink) (g.K.Sink.pieces c.answer_front.new.sink) more l) step.said talk.3 in
-    let stay = subst (λ (b : Bool). AreRequests b more) c.if-step.false step.are in
-    let within : used ≤ length window = subst (λ (l : List ℕ). used ≤ length l) shown step.within in
+    let said = subst (λ (l : List ℕ). Stretch HasItsAnswer g.O.Office.led c.loop-answers.office c.answer_front.new.office
+    (g.K.Sink.pieces c.loop-answers.sink) (g.K.Sink.pieces c.answer_front.new.sink) more l) progress.said talk.3 in
+    let stay = subst (λ (b : Bool). AreRequests b more) c.if-progress.false progress.are in
+    let within : used ≤ length window = subst (λ (l : List ℕ). used ≤ length l) shown progress.within in
     let bytes : length (items_of more) ≡ used =
     omega (
       arith,
@@ -197,14 +197,14 @@ loop-answers-preserved g c =
       (
         served ++ more,
         subst (λ (l : List ℕ). Takes old (items_of (served ++ more) ++ l) left) rest behind,
-        stretch_more IsAnswered g.O.Office.led g.met.O.Office.joins c.args.office.now c.loop-answers.office c.answer_front.new.office
+        stretch_more HasItsAnswer g.O.Office.led g.met.O.Office.joins c.args.office.now c.loop-answers.office c.answer_front.new.office
             (g.K.Sink.pieces c.args.sink.now) (g.K.Sink.pieces c.loop-answers.sink) (g.K.Sink.pieces c.answer_front.new.sink) served more [] so_far.2 said,
-        are_more false served more step.some so_far.3 stay,
-        omega (arith, length-append served more, so_far.4, step.answers),
+        are_more false served more progress.some so_far.3 stay,
+        omega (arith, length-append served more, so_far.4, progress.answers),
         omega (arith, ap length (flat_map-append (λ (s : Served). s.item) served more), length-append (items_of served) (items_of more), so_far.5, bytes),
       ),
-      omega (arith, step.answers, step.fits, c.min-most.ensures, c.loop-answers-test.true),
-      omega (arith, step.answers, step.some, within, c.next_arrival.ensures.in_range, c.loop-answers.invariant.2),
+      omega (arith, progress.answers, progress.fits, c.min-most.ensures, c.loop-answers-test.true),
+      omega (arith, progress.answers, progress.some, within, c.next_arrival.ensures.in_range, c.loop-answers.invariant.2),
       omega (arith, size, size', c.loop-answers.invariant.3),
       omega (arith, ap length (ap (λ w. w.bytes) c.drop_front.ensures.value), length-drop used window, c.next_arrival.ensures.in_range),
       omega (arith, c.next_arrival.ensures.count, c.loop-answers.invariant.5),
