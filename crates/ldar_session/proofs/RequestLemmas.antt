@@ -20,7 +20,8 @@ use Rattle.handheld_http.specs.Requests.{Means}
 use Rattle.handheld_http.proofs.ItemLaws.{Begins-take, Begins-unique, whole_front, more_is_none_with, refused_is_none_with}
 use Rattle.handheld_http.proofs.MeaningLaws.{one_meaning_with, items_mean_with}
 use Rattle.ldar_session.specs.Served.{Served, Stretch, texts_of, turns_of}
-use Rattle.ldar_session.specs.Requests.{AreRequests, AsksAs, AsksEach, CannotJoin, HasItsAnswer, IsGroup, IsRequest, NoneJoins, StandInFront, answers_text, closes_before}
+use Rattle.ldar_session.specs.Requests.{AreRequests, AsksAs, AsksEach, CannotJoin, HasItsAnswer, IsGroup, IsRequest, NoneJoins, StandInFront}
+use Rattle.ldar_session.specs.Requests.{answers_text, closes_before}
 use Rattle.ldar_session.proofs.Stretches.{stretch_call}
 
 -- ---- behind which item a connection is closed
@@ -98,14 +99,16 @@ request_in asks last says item turn is same same' = record {
 }
 
 -- each is a request, of which the last closes the connection or not
-pub are_requests : (closing : Bool) (items : List (List ℕ)) (turns : List Turn) → AskedEach closing items turns → AreRequests closing (answered_in closing items turns)
+pub are_requests : (closing : Bool) (items : List (List ℕ)) (turns : List Turn) → AskedEach closing items turns
+    → AreRequests closing (answered_in closing items turns)
 unfolding answered_in
 are_requests closing [] turns asked = tt
 are_requests closing (item ∷ items) [] asked = absurd asked
 are_requests closing (item ∷ items) (turn ∷ turns) asked =
     let one = closes_alike closing items turns (length-turns closing items turns asked.1) in
-    let two = closes_alike closing (answered_in closing items turns) turns (length-answered_in closing items turns asked.1) in (
-      request_in (closes_before closing items) (closes_before closing (answered_in closing items turns)) (closes_before closing turns) item turn asked.0 one two,
+    let answered = answered_in closing items turns in
+    let two = closes_alike closing answered turns (length-answered_in closing items turns asked.1) in (
+      request_in (closes_before closing items) (closes_before closing answered) (closes_before closing turns) item turn asked.0 one two,
       are_requests closing items turns asked.1,
     )
 
@@ -144,6 +147,15 @@ pub are_some_more : (closing : Bool) (first more : List Served) → AreRequests 
     → (last : Bool) × AreRequests last (first ++ more)
 are_some_more closing first [] one two = (false, subst (λ (l : List Served). AreRequests false l) (sym (append-nil first)) one)
 are_some_more closing first (s ∷ more) one two = (closing, are_more closing first (s ∷ more) (omega arith) one two)
+
+-- what is shown to a sink are the answers to the replies of a call
+pub answers_shown : (closing : Bool) (of_call replies : List Reply) (text shown : List ℕ) → of_call ≡ replies → text ≡ answers_text closing replies
+    → shown ≡ text → answers_text closing of_call ≡ shown
+answers_shown closing of_call replies text shown are is same = ap (answers_text closing) are ∙ sym is ∙ sym same
+
+-- .. and where nothing is unsaid of what was shown, they are what was put
+pub all_put : (answers shown put unsaid : List ℕ) → answers ≡ shown → shown ≡ put ++ unsaid → unsaid ≡ [] → answers ≡ put ++ []
+all_put answers shown put unsaid are is none = are ∙ is ∙ ap (λ (l : List ℕ). put ++ l) none
 
 -- requests that were asked in one call, and pieces that say a front of their answers
 pub stretch_answers : {O : Type 0} (led : O → List Call → O → Type 0) (old new : O) (call : Call) (closing : Bool) (items : List (List ℕ))

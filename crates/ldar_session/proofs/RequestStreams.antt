@@ -81,7 +81,8 @@ stream_parts served rest (inl stays) = (false, stays.0, λ _. stays.1, λ _. sta
 stream_parts served rest (inr closed) = (true, closed.0, λ no. absurd cc, λ none. absurd (omega (arith, ap length none, closed.1)))
 
 -- two streams of the same bytes have the same requests
-same_requests : (served other : List Served) (rest left : List ℕ) → IsStream served rest → IsStream other left → items_of served ++ rest ≡ items_of other ++ left
+same_requests : (served other : List Served) (rest left : List ℕ) → IsStream served rest → IsStream other left
+    → items_of served ++ rest ≡ items_of other ++ left
     → map (λ (s : Served). s.item) served ≡ map (λ (s : Served). s.item) other
 same_requests [] [] rest left is is' same = refl
 same_requests [] (t ∷ other) rest left is is' same =
@@ -97,7 +98,8 @@ same_requests (s ∷ served) (t ∷ other) rest left is is' same =
     (sym (append_assoc s.item (items_of served) rest) ∙ same ∙ append_assoc t.item (items_of other) left)
 
 -- the bytes alone say which requests were answered, and what is left over
-pub one_stream : (served other : List Served) (rest left : List ℕ) → IsStream served rest → IsStream other left → items_of served ++ rest ≡ items_of other ++ left
+pub one_stream : (served other : List Served) (rest left : List ℕ) → IsStream served rest → IsStream other left
+    → items_of served ++ rest ≡ items_of other ++ left
     → (map (λ s. s.item) served ≡ map (λ s. s.item) other) × (rest ≡ left)
 one_stream served other rest left is is' same =
     let are = same_requests served other rest left is is' same in

@@ -1,5 +1,6 @@
 -- What a connection of HTTP requests keeps as it goes on, and at its ends.
-use Rattle.std.proofs.Common.{◌≡◌, ◌⊎◌, inl, inr, ℕ, ◌+◌, ◌-◌, ◌<◌, ◌≤◌, Bool, true, false, cond, not, nat_lt, List, [], ◌∷◌, ◌++◌, length, map, drop, get_or, Option, Some, None, Result, Ok, Err, codes}
+use Rattle.std.proofs.Common.{◌≡◌, ◌⊎◌, inl, inr, ℕ, ◌+◌, ◌-◌, ◌<◌, ◌≤◌, Bool, true, false, cond, not, nat_lt, List, [], ◌∷◌, ◌++◌, length, map, drop}
+use Rattle.std.proofs.Common.{get_or, Option, Some, None, Result, Ok, Err, codes}
 use Rattle.std.proofs.Common.{refl, sym, ap, subst, ◌∙◌, append_assoc, arith}
 use Rattle.std.specs.Str.Parse.{digits_value}
 use Rattle.std.proofs.lemmas.Bool.{cases_lt}
@@ -15,7 +16,8 @@ use Rattle.handheld_http.specs.declared.answer.Refusal.{Refusal}
 use Rattle.handheld_http.specs.declared.outcome.Cut.TheVariants.{Whole, More}
 use Rattle.handheld_http.specs.Answers.{answer_bytes, IsRefusalStatus}
 use Rattle.handheld_http.specs.Cuts.{BeginsRequest, Refuses, HasNoHeadYet, IsCut}
-use Rattle.handheld_http.specs.Heads.{Pair, empty_line, longest_body, body_length, length_by, stated_length, is_number, is_post, count_named, value_of, pairs_of}
+use Rattle.handheld_http.specs.Heads.{Pair, empty_line, longest_body, body_length, length_by, stated_length, is_number, is_post, count_named}
+use Rattle.handheld_http.specs.Heads.{value_of, pairs_of}
 use Rattle.handheld_http.specs.Items.{IsWhole}
 use Rattle.handheld_http.specs.Requests.{Means}
 use Rattle.handheld_http.proofs.ItemLaws.{SameBefore-append, body_length_le, head_tells_cut_with}

@@ -52,7 +52,8 @@ module _ {O : Type 0} (IsItem : Served → Type 0) (led : O → List Call → O 
       (All-nil (IsStamped call.end.clock)) (omega arith)
 
   -- no call, and pieces that say a front of what is said to an item that asked nothing
-  pub stretch_put : ((office : O) → led office [] office) → (office : O) (pieces pieces' : Option (List Piece)) (put : List Piece) (s : Served) (unsaid : List ℕ)
+  pub stretch_put : ((office : O) → led office [] office) → (office : O) (pieces pieces' : Option (List Piece)) (put : List Piece)
+      → (s : Served) (unsaid : List ℕ)
       → s.turn ≡ None → IsItem s → Puts pieces put pieces' → s.text ≡ bytes_of put ++ unsaid
       → Stretch IsItem led office office pieces pieces' (s ∷ []) unsaid
   stretch_put stays office pieces pieces' put s unsaid unasked is puts said = record {

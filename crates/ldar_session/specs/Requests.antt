@@ -1,5 +1,5 @@
 -- Items that are HTTP requests, what each is answered, and requests at the front of some bytes.
-use Rattle.std.specs.Prelude.{◌≡◌, ◌≢◌, ◌+◌, ◌<◌, ◌≤◌, ◌⊎◌, ℕ, Bool, true, false, List, [], ◌∷◌, ◌++◌, length, map, take, drop, Option, Some, None, Result, Ok, Err}
+use Rattle.std.specs.Prelude.{◌≡◌, ◌≢◌, ◌+◌, ◌<◌, ◌≤◌, ◌⊎◌, ℕ, Bool, true, false, List, [], ◌∷◌, ◌++◌, length, take, drop, Option, Some, None}
 use Rattle.std.specs.List.{flat_map, AllByRecursion}
 use Rattle.ldar_facts.specs.declared.batch.Batch.{Batch}
 use Rattle.ldar_law.specs.declared.reply.Reply.{Reply}
@@ -19,7 +19,6 @@ use Rattle.ldar_session.specs.declared.extent.Extent.{Extent}
 use Rattle.ldar_session.specs.declared.together.Asking.{Asking}
 use Rattle.ldar_session.specs.declared.together.Asking.TheVariants.{Together, Nothing}
 use Rattle.ldar_session.specs.declared.together.Other.{Other}
-use Rattle.ldar_session.specs.declared.ended.Ended.{Ended}
 use Rattle.ldar_session.specs.Served.{Served}
 
 -- ---- what was served
@@ -121,8 +120,3 @@ IsAsking bytes first most (Nothing refusal) = Means (take (first.head + first.bo
 abbrev pub answers_text : Bool → List Reply → List ℕ
 answers_text closing [] = []
 answers_text closing (reply ∷ replies) = answer_bytes (ToRequest reply) (closes_before closing replies) ++ answers_text closing replies
-
--- what was served of items that were asked at once: all of them, and all is said; or all, and something may be unsaid; or, for want of memory, none
-abbrev pub Serves : Result (Unit {0}) Ended → List (List ℕ) → List Served → List ℕ → Type 0
-Serves (Ok done) items served unsaid = (map (λ s. s.item) served ≡ items) × (unsaid ≡ [])
-Serves (Err ended) items served unsaid = (map (λ s. s.item) served ≡ items) ⊎ (served ≡ [])

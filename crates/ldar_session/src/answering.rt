@@ -5,7 +5,8 @@ ghost use Rattle.handheld_http.specs.Answers.{answer_bytes, IsSent};
 ghost use Rattle.handheld_http.specs.declared.answer.Answer.TheVariants.{Not};
 ghost use Rattle.ldar_ports.specs.Sink.{Piece, Puts, IsStamped, bytes_of};
 ghost use Rattle.office_book.specs.Asking.{MayShareFrame, HasRule};
-ghost use Rattle.ldar_session.specs.Requests.{AreRequests, AsksEach, HasItsAnswer, Serves, WasCut, answers_text};
+ghost use Rattle.ldar_session.specs.Batches.{Serves};
+ghost use Rattle.ldar_session.specs.Requests.{AreRequests, AsksEach, HasItsAnswer, WasCut, answers_text};
 ghost use Rattle.ldar_session.specs.Served.{Served, Stretch, items_of};
 ghost use Rattle.ldar_session.specs.Session.{GoesOn};
 

@@ -4,7 +4,7 @@ use Rattle.office_book.specs.Asking.{replies_of}
 use Rattle.ldar_session.specs.Requests.{HasItsAnswer, answers_text}
 use Rattle.ldar_session.specs.Served.{Stretch, texts_of}
 use Rattle.ldar_session.proofs.Stretches.{stretch_none, stretch_unsaid}
-use Rattle.ldar_session.proofs.RequestLemmas.{answered_in, asked_each, are_answered, are_requests, map-item-answered_in, stretch_answers, turns_of-answered_in}
+use Rattle.ldar_session.proofs.RequestLemmas.{all_put, answered_in, answers_shown, asked_each, are_answered, are_requests, map-item-answered_in, stretch_answers, turns_of-answered_in}
 use Rattle.ldar_session.proofs.answering.answer_group.Goals as goal
 
 -- nothing was asked
@@ -44,9 +44,9 @@ returns-in-Ok-put_all-clause-talk g c = λ items asks.
     let closing = c.args.closing in
     let each = asked_each closing items c.args.requests.now call asks asked.2 in
     let puts = c.in-Ok-put_all.ensures.puts in
-    let text : answers_text closing (replies_of call) ≡ c.deref.result.now =
-    ap (answers_text closing) asked.3 ∙ sym c.in-Ok-text_of.ensures.value ∙ sym c.deref.ensures.value in
-    let said : answers_text closing (replies_of call) ≡ bytes_of puts.0 ++ [] = text ∙ puts.3 ∙ ap (λ l. bytes_of puts.0 ++ l) puts.4 in
+    let shown = answers_shown closing (replies_of call) c.in-Ok.replies.items c.in-Ok-text_of.text.items c.deref.result.now asked.3
+    c.in-Ok-text_of.ensures.value c.deref.ensures.value in
+    let said = all_put (answers_text closing (replies_of call)) c.deref.result.now (bytes_of puts.0) puts.1 shown puts.3 puts.4 in
     let late = subst (λ disk. call.end.clock ≤ g.O.Beside.Disk.clock disk) (sym c.beside.ensures.value) asked.5 in (
       answered_in closing items call.turns,
       [],
@@ -64,13 +64,13 @@ returns-clause-talk g c = λ items asks.
     let closing = c.args.closing in
     let each = asked_each closing items c.args.requests.now call asks asked.2 in
     let puts = c.in-Err.ensures.puts in
-    let text : answers_text closing (replies_of call) ≡ c.deref.result.now =
-    ap (answers_text closing) asked.3 ∙ sym c.in-Ok-text_of.ensures.value ∙ sym c.deref.ensures.value in
+    let shown = answers_shown closing (replies_of call) c.in-Ok.replies.items c.in-Ok-text_of.text.items c.deref.result.now asked.3
+    c.in-Ok-text_of.ensures.value c.deref.ensures.value in
     let late = subst (λ disk. call.end.clock ≤ g.O.Beside.Disk.clock disk) (sym c.beside.ensures.value) asked.5 in (
       answered_in closing items call.turns,
       puts.1,
       stretch_answers g.O.Office.led c.args.office.now c.ask.new.office call closing items (g.K.Sink.pieces c.args.sink.now)
-          (g.K.Sink.pieces c.put_all.new.sink) puts.0 puts.1 (g.O.Beside.Disk.clock c.beside.result.now) each asked.1 puts.2 (text ∙ puts.3) puts.5 late,
+          (g.K.Sink.pieces c.put_all.new.sink) puts.0 puts.1 (g.O.Beside.Disk.clock c.beside.result.now) each asked.1 puts.2 (shown ∙ puts.3) puts.5 late,
       are_requests closing items call.turns each,
       inl (map-item-answered_in closing items call.turns each),
     )
