@@ -1,10 +1,11 @@
-use Rattle.std.proofs.Common.{◌≡◌, ◌≤◌, ◌++◌, [], inl, inr, refl, sym, ap, subst, ◌∙◌}
+use Rattle.std.proofs.Common.{◌≤◌, [], inl, inr, refl, sym, subst, ◌∙◌}
 use Rattle.ldar_ports.specs.Sink.{bytes_of}
 use Rattle.office_book.specs.Asking.{replies_of}
 use Rattle.ldar_session.specs.Requests.{HasItsAnswer, answers_text}
 use Rattle.ldar_session.specs.Served.{Stretch, texts_of}
 use Rattle.ldar_session.proofs.Stretches.{stretch_none, stretch_unsaid}
-use Rattle.ldar_session.proofs.RequestLemmas.{all_put, answered_in, answers_shown, asked_each, are_answered, are_requests, map-item-answered_in, stretch_answers, turns_of-answered_in}
+use Rattle.ldar_session.proofs.RequestLemmas.{all_put, answered_in, answers_shown, asked_each, are_answered, are_requests, map-item-answered_in}
+use Rattle.ldar_session.proofs.RequestLemmas.{stretch_answers, turns_of-answered_in}
 use Rattle.ldar_session.proofs.answering.answer_group.Goals as goal
 
 -- nothing was asked
