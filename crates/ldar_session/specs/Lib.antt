@@ -1,3 +1,5 @@
 pub mod Batches
 pub mod Dock
+pub mod Requests
 pub mod Served
+pub mod Session
