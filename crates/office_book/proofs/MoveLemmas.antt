@@ -110,15 +110,26 @@ module _ {D : Type 0} (content_of : D → Option (List ℕ)) (images_of : D → 
     stands = stands;
   }
 
+  -- nothing was done where a frame might have been written
+  pub moves_nothing : (shelf : Shelf D) → OnDisk (content_of shelf.disk) (images_of shelf.disk) (StandsIn (state_of shelf))
+      → Moves content_of images_of left_of clock_of name_of faults_of shelf shelf 1
+  moves_nothing shelf stands = record {
+    keeps = record { time = omega arith; name = refl; count = omega arith };
+    tells = both_itself (content_of shelf.disk);
+    frames = omega arith;
+    leaves = LeavesOnly-stays clock_of left_of shelf.disk _;
+    stands = stands;
+  }
+
   -- what a call of a journal did, by what may stand in between
-  pub moves_by : (old new : Shelf D) (written : ℕ) (may step : List ℕ → Type 0) (both : List ℕ → List ℕ → Type 0)
+  pub moves_by : (old new : Shelf D) (written : ℕ) (may : List ℕ → Type 0) (both : List ℕ → List ℕ → Type 0)
       → ((image : List ℕ) → may image → StandsIn (state_of old) image ⊎ StandsIn (state_of new) image)
       → Keeps clock_of name_of faults_of old.disk new.disk → BothTold (content_of old.disk) (content_of new.disk) both
       → frames_written new ≤ frames_written old + written
       → LeavesOnly clock_of left_of old.disk new.disk (λ image. Told (content_of old.disk) (λ _. may image))
       → OnDisk (content_of new.disk) (images_of new.disk) (λ image. OpensAs image new.frames new.doubt)
       → Moves content_of images_of left_of clock_of name_of faults_of old new written
-  moves_by old new written may step both stand keeps tells frames leaves opens = record {
+  moves_by old new written may both stand keeps tells frames leaves opens = record {
     keeps = keeps;
     tells = both_tell both (content_of old.disk) (content_of new.disk) tells;
     frames = frames;

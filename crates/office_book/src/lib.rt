@@ -1,9 +1,16 @@
 //! The office that handhelds and people ask: batches are kept, and what is due is shown.
 #![tactic(auto)]
 
+mod archive;
+mod book;
+mod copies;
+mod keeping;
 pub mod laws;
 mod office;
+mod settling;
+mod writing;
 
+pub use book::Book;
 pub use office::Office;
 /// Memory ran out.
 pub use std::alloc::AllocError as Memory;

@@ -1,0 +1,163 @@
+use Rattle.std.proofs.Common.{◌≡◌, inl, inr, [], ◌∷◌, ◌++◌, List, length, take, refl, sym, ◌∙◌, ap, subst, arith}
+use Rattle.std.proofs.lemmas.List.{take_all}
+use Rattle.ldar_facts.specs.declared.batch.Batch.{Batch}
+use Rattle.ldar_journal.specs.Image.{batches_of, IsKept}
+use Rattle.ldar_journal.proofs.Histories.{batches_of-push}
+use Rattle.office_book.specs.Archive.{MayCome}
+use Rattle.office_book.specs.Moves.{Moves}
+use Rattle.office_book.specs.Safe.{state_of}
+use Rattle.office_book.specs.Serving.{certain, uncertain}
+use Rattle.office_book.proofs.BookLemmas.{may_stay, may_join, certain_state, doubtful_state, added_state, stands_on, book_settled, book_doubtful}
+use Rattle.office_book.proofs.BookLemmas.{moves_added, moves_torn, moves_shut}
+use Rattle.office_book.proofs.MoveLemmas.{moves_nothing}
+use Rattle.office_book.proofs.book.Book.write.Goals as goal
+
+pub make_ready-requires-clause-some : goal.make_ready-requires-clause-some
+make_ready-requires-clause-some g c = c.requires.some
+
+pub make_ready-requires-clause-fits : goal.make_ready-requires-clause-fits
+make_ready-requires-clause-fits g c = c.requires.fits
+
+-- memory was wanting
+
+pub invariant_of-self : goal.invariant_of-self
+invariant_of-self g c =
+    let j = c.self.inside.journal in
+    let settled = ap (λ s. s.doubt) c.self.view_is ∙ c.requires.settled in
+    book_settled g.D.Disk.content g.D.Disk.images j c.make_ready.new.archive c.self.inside.copies.items settled
+    (may_stay (batches_of j.frames) j.doubt c.self.invariant.may_come) (c.make_ready.ensures.adopted ∙ c.self.invariant.adopted)
+    (c.self.invariant.copied ∙ settled) c.self.invariant.stands
+
+pub returns-in_default-clause-value : goal.returns-in_default-clause-value
+returns-in_default-clause-value g c =
+    certain_state c.self.inside.journal (batches_of c.args.self.now.frames) (ap (λ s. batches_of s.frames) c.self.view_is)
+    (ap (λ s. s.doubt) c.self.view_is ∙ c.requires.settled)
+
+pub returns-in_default-clause-moves : goal.returns-in_default-clause-moves
+returns-in_default-clause-moves g c =
+    let d = g.D.Disk in
+    let j = c.self.inside.journal in
+    subst (λ s. Moves d.content d.images d.left d.clock d.name d.faults s j 1) c.self.view_is
+    (moves_nothing d.content d.images d.left d.clock d.name d.faults j c.self.invariant.stands)
+
+-- the frame is appended
+
+pub append-requires-clause-settled : goal.append-requires-clause-settled
+append-requires-clause-settled g c = ap (λ s. s.doubt) c.self.view_is ∙ c.requires.settled
+
+pub append-requires-clause-kept : goal.append-requires-clause-kept
+append-requires-clause-kept g c =
+    subst (λ (l : List Batch). IsKept (batches_of c.self.inside.journal.frames ++ l)) (sym c.in-Ok.ensures.frame)
+    (subst (λ s. IsKept (batches_of s.frames ++ c.args.batches.now)) (sym c.self.view_is) c.requires.may_come.kept)
+
+-- it stands
+
+pub adopt-requires-clause-roomy : goal.adopt-requires-clause-roomy
+adopt-requires-clause-roomy g c =
+    let spare = c.in-Ok.ensures.roomy in
+    let long = ap length spare in
+    take_all (length c.args.batches.now) c.make_ready.new.archive.spare (omega arith) ∙ spare
+
+pub adopt-requires-clause-may_come : goal.adopt-requires-clause-may_come
+adopt-requires-clause-may_come g c =
+    subst (λ (l : List Batch). MayCome l c.args.batches.now)
+    (sym (c.make_ready.ensures.adopted ∙ c.self.invariant.adopted ∙ ap (λ s. batches_of s.frames) c.self.view_is)) c.requires.may_come
+
+pub invariant_of-self-in-Ok-append : goal.invariant_of-self-in-Ok-append
+invariant_of-self-in-Ok-append g c =
+    let d = g.D.Disk in
+    let j = c.self.inside.journal in
+    let new = c.append.new.self in
+    let added = c.in-Ok-append.ensures.value in
+    let batches = c.args.batches.now in
+    let frames : batches_of new.frames ≡ batches_of j.frames ++ batches =
+    ap batches_of added.0 ∙ batches_of-push j.frames _ ∙ ap (λ (l : List Batch). batches_of j.frames ++ l) c.in-Ok.ensures.frame in
+    book_settled d.content d.images new c.adopt.new.self c.self.inside.copies.items added.1
+    (subst (λ (l : List Batch). MayCome l []) (sym frames) (may_join (batches_of j.frames) batches
+    (subst (λ s. MayCome (batches_of s.frames) batches) (sym c.self.view_is) c.requires.may_come)))
+    (c.adopt.ensures.adopted ∙ ap (λ (l : List Batch). l ++ batches) (c.make_ready.ensures.adopted ∙ c.self.invariant.adopted) ∙ sym frames)
+    (c.self.invariant.copied ∙ ap (λ s. s.doubt) c.self.view_is ∙ c.requires.settled)
+    (stands_on d.content d.images new c.append.ensures.images)
+
+pub returns-in-Ok-append-clause-value : goal.returns-in-Ok-append-clause-value
+returns-in-Ok-append-clause-value g c =
+    let added = c.in-Ok-append.ensures.value in
+    added_state c.self.inside.journal c.append.new.self _ added.0 added.1
+    ∙ ap (λ (l : List Batch). certain (batches_of c.self.inside.journal.frames ++ l)) c.in-Ok.ensures.frame
+    ∙ ap (λ s. certain (batches_of s.frames ++ c.args.batches.now)) c.self.view_is
+
+pub returns-in-Ok-append-clause-moves : goal.returns-in-Ok-append-clause-moves
+returns-in-Ok-append-clause-moves g c =
+    let d = g.D.Disk in
+    let append = c.append.ensures in
+    let added = c.in-Ok-append.ensures.value in
+    subst (λ s. Moves d.content d.images d.left d.clock d.name d.faults s c.append.new.self 1) c.self.view_is
+    (moves_added d.content d.images d.left d.clock d.name d.faults c.self.inside.journal c.append.new.self _ added.0 added.1
+    append.keeps append.grows append.any_moment append.images)
+
+-- it may stand
+
+pub invariant_of-self-in-Err-true : goal.invariant_of-self-in-Err-true
+invariant_of-self-in-Err-true g c =
+    let d = g.D.Disk in
+    let new = c.append.new.self in
+    let batches = c.args.batches.now in
+    let torn = c.in-Err-true.ensures in
+    let frames = ap batches_of torn.not_added in
+    book_doubtful d.content d.images new c.make_ready.new.archive c.in-Ok.copies.items batches (torn.in_doubt (search rules) ∙ c.in-Ok.ensures.frame)
+    (subst (λ (l : List Batch). MayCome l batches) (sym frames) (subst (λ s. MayCome (batches_of s.frames) batches) (sym c.self.view_is) c.requires.may_come))
+    (c.make_ready.ensures.adopted ∙ c.self.invariant.adopted ∙ sym frames) c.in-Ok.ensures.roomy c.in-Ok.ensures.copies
+    (stands_on d.content d.images new c.append.ensures.images)
+
+pub returns-in-Err-true-clause-value : goal.returns-in-Err-true-clause-value
+returns-in-Err-true-clause-value g c =
+    let torn = c.in-Err-true.ensures in
+    (
+      torn.cause,
+      inr (doubtful_state c.append.new.self (batches_of c.args.self.now.frames) c.args.batches.now
+      (ap batches_of torn.not_added ∙ ap (λ s. batches_of s.frames) c.self.view_is) (torn.in_doubt (search rules) ∙ c.in-Ok.ensures.frame)),
+    )
+
+pub returns-in-Err-true-clause-moves : goal.returns-in-Err-true-clause-moves
+returns-in-Err-true-clause-moves g c =
+    let d = g.D.Disk in
+    let append = c.append.ensures in
+    let torn = c.in-Err-true.ensures in
+    subst (λ s. Moves d.content d.images d.left d.clock d.name d.faults s c.append.new.self 1) c.self.view_is
+    (moves_torn d.content d.images d.left d.clock d.name d.faults c.self.inside.journal c.append.new.self _
+    (ap (λ s. s.doubt) c.self.view_is ∙ c.requires.settled) torn.not_added (torn.in_doubt (search rules))
+    append.keeps append.grows append.any_moment append.images)
+
+-- nothing stands of it
+
+pub invariant_of-self-in-Err-false : goal.invariant_of-self-in-Err-false
+invariant_of-self-in-Err-false g c =
+    let d = g.D.Disk in
+    let j = c.self.inside.journal in
+    let new = c.append.new.self in
+    let torn = c.in-Err-false.ensures in
+    let frames = ap batches_of torn.not_added in
+    book_settled d.content d.images new c.make_ready.new.archive c.self.inside.copies.items (torn.gate_shut (search rules))
+    (subst (λ (l : List Batch). MayCome l []) (sym frames) (may_stay (batches_of j.frames) j.doubt c.self.invariant.may_come))
+    (c.make_ready.ensures.adopted ∙ c.self.invariant.adopted ∙ sym frames)
+    (c.self.invariant.copied ∙ ap (λ s. s.doubt) c.self.view_is ∙ c.requires.settled)
+    (stands_on d.content d.images new c.append.ensures.images)
+
+pub returns-clause-value : goal.returns-clause-value
+returns-clause-value g c =
+    let torn = c.in-Err-false.ensures in
+    (
+      torn.cause,
+      inl (certain_state c.append.new.self (batches_of c.args.self.now.frames)
+      (ap batches_of torn.not_added ∙ ap (λ s. batches_of s.frames) c.self.view_is) (torn.gate_shut (search rules))),
+    )
+
+pub returns-clause-moves : goal.returns-clause-moves
+returns-clause-moves g c =
+    let d = g.D.Disk in
+    let append = c.append.ensures in
+    let torn = c.in-Err-false.ensures in
+    subst (λ s. Moves d.content d.images d.left d.clock d.name d.faults s c.append.new.self 1) c.self.view_is
+    (moves_shut d.content d.images d.left d.clock d.name d.faults c.self.inside.journal c.append.new.self
+    (ap (λ s. s.doubt) c.self.view_is ∙ c.requires.settled) torn.not_added (torn.gate_shut (search rules))
+    append.keeps append.grows (torn.any_moment_shut (search rules)) append.images)

@@ -1,0 +1,134 @@
+ghost use Rattle.std.specs.Prelude.{◌≡◌, ◌↔◌, ◌<◌, ◌≤◌, IsTrue, Some, [], ◌∷◌, ◌++◌, length, take, map, IfOk, OnOk, OnErr};
+ghost use Rattle.ldar_facts.specs.Facts.{facts_of};
+ghost use Rattle.ldar_facts.specs.Identity.{identity_of};
+ghost use Rattle.ldar_journal.specs.Image.{IsKept};
+ghost use Rattle.ldar_law.specs.Machine.{batch_at};
+ghost use Rattle.ldar_law.specs.Verdicts.{is_ruly};
+ghost use Rattle.office_book.specs.Archive.{IsStanding, MayCome};
+
+use crate::Memory;
+use batch_positions::Positions;
+use batch_rules::verdict;
+use fact_store::Steps;
+use ldar_facts::Batch;
+use ldar_law::Verdict;
+use office_views::Views;
+use std::alloc::Global;
+use std::marker::{Brand, Model};
+use std::sync::ledger::{Blank, Ledger};
+
+/// How a batch stands to those that are kept.
+pub enum Standing {
+    /// A batch of its identity is kept at this position, from 1, with the same content or with other.
+    Kept { position: u32, same: bool },
+    New(Verdict),
+}
+
+/// The batches that an office keeps, in order, with what they show and where each stands. Contracts see them beside those that
+/// have room.
+#[derive(Drop)]
+pub struct Archive {
+    views: Views,
+    positions: Positions,
+}
+
+impl Model for Archive {
+    ghost use Rattle.office_book.specs.Archive.{IsArchive};
+    ghost use Rattle.office_views.specs.Held.{Held};
+
+    ghost Value = { Held };
+
+    ghost view = { λ a. a.views };
+
+    ghost invariant = { λ a. IsArchive a.views a.positions };
+}
+
+impl Archive {
+    /// No batch.
+    pub fn new(alloc: Global) -> Result<Archive, Memory>
+        ensures value { IfOk result (λ archive. archive ≡ record { adopted = []; spare = [] }) }
+    {
+        Ok(Archive {
+            views: Views::new(alloc),
+            positions: Positions::new(alloc)?,
+        })
+    }
+
+    /// How many batches there are, and how many facts they have.
+    pub fn counts(&self) -> (u32, u64)
+        ensures batches { result.0 ≡ length self.now.adopted }
+        ensures facts { result.1 ≡ length (facts_of self.now.adopted) }
+    {
+        self.views.counts()
+    }
+
+    /// Makes room for these batches. Want of memory leaves the batches that are kept.
+    pub fn reserve(&mut self, batches: &[Batch]) -> Result<(), Memory>
+        ensures roomy { OnOk result (self.new.spare ≡ batches.now) }
+        ensures adopted { self.new.adopted ≡ self.old.adopted }
+    {
+        self.positions.reserve(batches.len())?;
+        self.views.reserve(batches)
+    }
+
+    /// Adds batches that have room. It takes no memory.
+    pub fn adopt(&mut self, batches: &[Batch])
+        requires roomy { take (length batches.now) self.old.spare ≡ batches.now }
+        requires may_come { MayCome self.old.adopted batches.now }
+        ensures adopted { self.new.adopted ≡ self.old.adopted ++ batches.now }
+    {
+        adopt_all::<Brand>(&mut self.views, &mut self.positions, batches, Blank::new(1));
+    }
+
+    /// How a batch stands to those that are kept.
+    pub fn standing(&self, batch: &Batch) -> Standing
+        ensures value { IsStanding self.now.adopted batch.now result }
+    {
+        match self.positions.position(batch.identity()) {
+            Some(position) => Standing::Kept {
+                position,
+                same: is_kept_at::<Brand>(&self.views, position, batch, Blank::new(1)),
+            },
+            None => {
+                let (_, facts) = self.views.counts();
+                Standing::New(verdict(self.views.register(), facts, batch))
+            }
+        }
+    }
+}
+
+/// Adopts batches that have room, one after the other, and says where they stand.
+fn adopt_all<L: Ledger>(
+    views: &mut Views,
+    positions: &mut Positions,
+    batches: &[Batch],
+    blank: Blank,
+)
+    requires name { blank.name ≡ L.name }
+    requires parts { blank.parts ≡ L.parts }
+    requires some_part { 0 < L.parts }
+    requires roomy { take (length batches.now) views.old.spare ≡ batches.now }
+    requires room { length views.old.spare ≤ positions.old.room }
+    requires known { positions.old.identities ≡ map identity_of views.old.adopted }
+    requires may_come { MayCome views.old.adopted batches.now }
+    ensures adopted { views.new.adopted ≡ views.old.adopted ++ batches.now }
+    ensures known { positions.new.identities ≡ map identity_of views.new.adopted }
+    ensures room { length views.new.spare ≤ positions.new.room }
+{
+    let mut steps = Steps::<L>::new(blank);
+    for batch in batches {
+        views.adopt(batch, &mut steps);
+        positions.push(batch.identity());
+    }
+}
+
+/// Whether the batch that is kept at a position, from 1, is just this one.
+fn is_kept_at<L: Ledger>(views: &Views, position: u32, batch: &Batch, blank: Blank) -> bool
+    requires name { blank.name ≡ L.name }
+    requires parts { blank.parts ≡ L.parts }
+    requires some_part { 0 < L.parts }
+    ensures value { IsTrue result ↔ (batch_at views.now.adopted position ≡ Some batch.now) }
+{
+    let mut steps = Steps::<L>::new(blank);
+    views.is_kept_at(position, batch, &mut steps)
+}
