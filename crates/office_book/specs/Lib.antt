@@ -2,6 +2,7 @@ pub mod Archive
 pub mod Asking
 pub mod Kept
 pub mod Moves
+pub mod Opened
 pub mod Receipts
 pub mod Safe
 pub mod SafeLaws

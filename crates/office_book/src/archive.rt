@@ -1,9 +1,13 @@
-ghost use Rattle.std.specs.Prelude.{◌≡◌, ◌↔◌, ◌<◌, ◌≤◌, IsTrue, Some, [], ◌∷◌, ◌++◌, length, take, map, IfOk, OnOk, OnErr};
+ghost use Rattle.std.specs.Prelude.{◌≡◌, ◌↔◌, ℕ, ◌+◌, ◌<◌, ◌≤◌, List, IsTrue, Some, [], ◌∷◌, ◌++◌, length, take, drop, map, IfOk, OnOk, OnErr, IfSome, IsNone};
+ghost use Rattle.ldar_facts.specs.declared.batch.Batch.{Batch as FactBatch};
+ghost use Rattle.ldar_facts.specs.declared.limits.TheConstants.{MOST_FACTS};
 ghost use Rattle.ldar_facts.specs.Facts.{facts_of};
 ghost use Rattle.ldar_facts.specs.Identity.{identity_of};
 ghost use Rattle.ldar_journal.specs.Image.{IsKept};
+ghost use Rattle.ldar_law.specs.declared.verdict.Verdict.TheVariants as verdicts;
 ghost use Rattle.ldar_law.specs.Machine.{batch_at};
-ghost use Rattle.ldar_law.specs.Verdicts.{is_ruly};
+ghost use Rattle.ldar_law.specs.Slices.{register_facts};
+ghost use Rattle.ldar_law.specs.Verdicts.{is_ruly, first_unruly, facts_with, verdict_on};
 ghost use Rattle.office_book.specs.Archive.{IsStanding, MayCome};
 
 use crate::Memory;
@@ -15,6 +19,7 @@ use ldar_law::Verdict;
 use office_views::Views;
 use std::alloc::Global;
 use std::marker::{Brand, Model};
+use std::slice::from_ref;
 use std::sync::ledger::{Blank, Ledger};
 
 /// How a batch stands to those that are kept.
@@ -76,6 +81,7 @@ impl Archive {
         requires roomy { take (length batches.now) self.old.spare ≡ batches.now }
         requires may_come { MayCome self.old.adopted batches.now }
         ensures adopted { self.new.adopted ≡ self.old.adopted ++ batches.now }
+        ensures spare { self.new.spare ≡ drop (length batches.now) self.old.spare }
     {
         adopt_all::<Brand>(&mut self.views, &mut self.positions, batches, Blank::new(1));
     }
@@ -89,10 +95,51 @@ impl Archive {
                 position,
                 same: is_kept_at::<Brand>(&self.views, position, batch, Blank::new(1)),
             },
-            None => {
-                let (_, facts) = self.views.counts();
-                Standing::New(verdict(self.views.register(), facts, batch))
+            None => Standing::New(self.judged(0, batch)),
+        }
+    }
+
+    /// The verdict on a batch after those that are kept, and after more that enter no equipment and have so many facts.
+    pub fn judged(&self, more: u64, batch: &Batch) -> Verdict
+        requires fits { length (facts_of self.now.adopted) + more ≤ MOST_FACTS }
+        ensures value { (history : List FactBatch) → register_facts (facts_of history) ≡ register_facts (facts_of self.now.adopted)
+            → length (facts_of history) ≡ length (facts_of self.now.adopted) + more → result ≡ verdict_on history batch.now }
+    {
+        let (_, facts) = self.views.counts();
+        verdict(self.views.register(), facts + more, batch)
+    }
+
+    /// Adds batches for which there is room, one after the other, as long as they pass: where one is denied after those before
+    /// it, its position, from 1, and the rule.
+    pub fn take_in(&mut self, batches: &[Batch]) -> Option<(u32, u8)>
+        requires none { self.old.adopted ≡ [] }
+        requires roomy { self.old.spare ≡ batches.now }
+        requires kept { IsKept batches.now }
+        requires few { length batches.now ≤ MOST_FACTS }
+        ensures adopted { IsNone result → self.new.adopted ≡ batches.now }
+        ensures ruly { IsNone result → IsTrue (is_ruly batches.now) }
+        ensures unruly { IfSome result (λ found. first_unruly batches.now ≡ Some found) }
+    {
+        for batch in batches {
+            if let Some(rule) = self.rule_against(batch) {
+                let (count, _) = self.counts();
+                return Some((count + 1, rule));
             }
+            self.adopt(from_ref(batch));
+        }
+        None
+    }
+
+    /// The least rule that denies a batch after those that are kept, if one does.
+    fn rule_against(&self, batch: &Batch) -> Option<u8>
+        ensures denied { IfSome result (λ rule. (fact : ℕ) × (verdict_on self.now.adopted batch.now ≡ verdicts.Denied fact rule)) }
+        ensures passes { IsNone result → facts_with self.now.adopted batch.now ≤ MOST_FACTS
+            → verdict_on self.now.adopted batch.now ≡ verdicts.Pass }
+    {
+        match self.judged(0, batch) {
+            Verdict::Denied { fact: _, rule } => Some(rule),
+            Verdict::Pass => None,
+            Verdict::Full { facts: _ } => None,
         }
     }
 }
@@ -112,6 +159,7 @@ fn adopt_all<L: Ledger>(
     requires known { positions.old.identities ≡ map identity_of views.old.adopted }
     requires may_come { MayCome views.old.adopted batches.now }
     ensures adopted { views.new.adopted ≡ views.old.adopted ++ batches.now }
+    ensures spare { views.new.spare ≡ drop (length batches.now) views.old.spare }
     ensures known { positions.new.identities ≡ map identity_of views.new.adopted }
     ensures room { length views.new.spare ≤ positions.new.room }
 {

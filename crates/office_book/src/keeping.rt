@@ -14,6 +14,7 @@ ghost use Rattle.office_book.specs.Serving.{Serves};
 
 use crate::archive::Standing;
 use crate::book::Book;
+use crate::copies::copies_of;
 use crate::writing::Written;
 use disk_model::Disk;
 use ldar_facts::Batch;
@@ -89,7 +90,10 @@ impl<D: Disk> Book<D> {
         ensures moves { Moves D.content D.images D.left D.clock D.name D.faults self.old self.new 1 }
         ensures ruled { HasRule result }
     {
-        match self.write(alloc, from_ref(batch)) {
+        let Ok(batches) = copies_of(alloc, from_ref(batch)) else {
+            return Reply::Memory;
+        };
+        match self.write(alloc, batches) {
             Written::Stands => {
                 let (position, _) = self.counts();
                 Reply::Receipt {

@@ -7,10 +7,12 @@ mod copies;
 mod keeping;
 pub mod laws;
 mod office;
+mod opening;
 mod settling;
 mod writing;
 
 pub use book::Book;
 pub use office::Office;
+pub use opening::{BookError, BookWhy, open_book};
 /// Memory ran out.
 pub use std::alloc::AllocError as Memory;

@@ -1,5 +1,6 @@
-ghost use Rattle.std.specs.Prelude.{◌≡◌, ◌<◌, ◌≤◌, [], length, IfOk};
+ghost use Rattle.std.specs.Prelude.{◌≡◌, ◌<◌, ◌≤◌, [], length, IfOk, OnOk};
 ghost use Rattle.disk_model.specs.Faults.{Rose};
+ghost use Rattle.ldar_facts.specs.declared.limits.TheConstants.{FRAME_BATCHES};
 ghost use Rattle.ldar_journal.specs.Image.{batches_of};
 ghost use Rattle.office_book.specs.Archive.{MayCome};
 ghost use Rattle.office_book.specs.Kept.{IsWritten};
@@ -9,7 +10,6 @@ ghost use Rattle.office_book.specs.Safe.{state_of};
 use crate::Memory;
 use crate::archive::Archive;
 use crate::book::Book;
-use crate::copies::copies_of;
 use disk_model::Disk;
 use ldar_facts::Batch;
 use ldar_journal::{Frame, Torn, prepare};
@@ -25,26 +25,27 @@ pub(crate) enum Written {
 }
 
 impl<D: Disk> Book<D> {
-    #[tactic(none)]
     /// Writes batches as one frame, behind those that are kept. All memory is taken before the first write.
-    pub(crate) fn write(&mut self, alloc: Global, batches: &[Batch]) -> Written
+    #[tactic(none)]
+    pub(crate) fn write(&mut self, alloc: Global, batches: Vec<Batch>) -> Written
         requires settled { self.old.doubt ≡ [] }
-        requires some { 0 < length batches.now }
-        requires fits { length batches.now ≤ 16 }
-        requires may_come { MayCome (batches_of self.old.frames) batches.now }
-        ensures value { IsWritten (Rose (D.faults self.old.disk) (D.faults self.new.disk)) (batches_of self.old.frames) batches.now result (state_of self.new) }
+        requires some { 0 < length batches.items }
+        requires fits { length batches.items ≤ FRAME_BATCHES }
+        requires may_come { MayCome (batches_of self.old.frames) batches.items }
+        ensures value { IsWritten (Rose (D.faults self.old.disk) (D.faults self.new.disk)) (batches_of self.old.frames) batches.items result
+            (state_of self.new) }
         ensures moves { Moves D.content D.images D.left D.clock D.name D.faults self.old self.new 1 }
     {
-        let Ok((frame, copies)) = make_ready(alloc, &mut self.archive, batches) else {
+        let Ok(frame) = make_ready(alloc, &mut self.archive, &batches) else {
             return Written::Memory;
         };
         match self.journal.append(&frame) {
             Ok(()) => {
-                self.archive.adopt(batches);
+                self.archive.adopt(&batches);
                 Written::Stands
             }
             Err(Torn { gate: true }) => {
-                self.copies = copies;
+                self.copies = batches;
                 Written::Fault
             }
             Err(Torn { gate: false }) => Written::Fault,
@@ -52,20 +53,14 @@ impl<D: Disk> Book<D> {
     }
 }
 
-/// Makes room for batches, copies them, and makes their frame ready.
-fn make_ready(
-    alloc: Global,
-    archive: &mut Archive,
-    batches: &[Batch],
-) -> Result<(Frame, Vec<Batch>), Memory>
+/// Makes room for batches, and makes their frame ready.
+fn make_ready(alloc: Global, archive: &mut Archive, batches: &[Batch]) -> Result<Frame, Memory>
     requires some { 0 < length batches.now }
-    requires fits { length batches.now ≤ 16 }
-    ensures frame { IfOk result (λ ready. ready.0 ≡ batches.now) }
-    ensures copies { IfOk result (λ ready. ready.1.items ≡ batches.now) }
-    ensures roomy { IfOk result (λ ready. archive.new.spare ≡ batches.now) }
+    requires fits { length batches.now ≤ FRAME_BATCHES }
+    ensures frame { IfOk result (λ frame. frame ≡ batches.now) }
+    ensures roomy { OnOk result (archive.new.spare ≡ batches.now) }
     ensures adopted { archive.new.adopted ≡ archive.old.adopted }
 {
     archive.reserve(batches)?;
-    let copies = copies_of(alloc, batches)?;
-    Ok((prepare(alloc, batches)?, copies))
+    prepare(alloc, batches)
 }
