@@ -660,6 +660,7 @@ fn three_valves_in_a_hundred_are_too_many(rt: HostRuntime) -> Result<(), Fail> {
     let difficult = class(Service::Gas, Designation::Difficult);
     let first = on(day, class_of(1, difficult));
     let second = on(day, class_of(2, difficult));
+    let second_later = on(next, class_of(2, difficult));
     let third = on(day, class_of(3, difficult));
     let third_later = on(next, class_of(3, difficult));
     let valve = on(begin, component(40, Kind::Valve, false, Service::Gas));
@@ -678,6 +679,12 @@ fn three_valves_in_a_hundred_are_too_many(rt: HostRuntime) -> Result<(), Fail> {
             &hundred,
             [Some(first), Some(second), Some(third_later)],
             denied(3, 15),
+        ),
+        (
+            "to and fro between two days",
+            &hundred,
+            [Some(first), Some(second_later), Some(third)],
+            denied(2, 15),
         ),
         (
             "two of 99",

@@ -6,7 +6,7 @@ ghost use Rattle.component_register.specs.Once.{IsFirstOfNumber};
 ghost use Rattle.denials_bench.specs.Numbered.{AreNumbered};
 
 use component_register::Register;
-use ldar_facts::{Fact, FactBody, Key, Memory};
+use ldar_facts::{Fact, FactBody, Key, MOST_FACTS, Memory};
 use ldar_law::is_registered;
 
 /// Enters facts, each as a batch of its own with the next number. The result is how many there are then.
@@ -26,7 +26,10 @@ fn enter_one(register: &mut Register, before: u32, fact: &Fact) -> Result<u32, M
     requires numbered { AreNumbered before register.old.arrived }
     ensures numbered { IfOk result (λ entered. AreNumbered entered register.new.arrived) }
 {
-    if before >= 8_000_000 || !is_registered(&fact.body) || !is_first(register, &fact.body) {
+    if u64::from(before) >= MOST_FACTS
+        || !is_registered(&fact.body)
+        || !is_first(register, &fact.body)
+    {
         return Ok(before);
     }
     register.reserve(&[*fact])?;

@@ -13,6 +13,7 @@ use Rattle.ldar_facts.specs.declared.body.Purpose.{Purpose}
 use Rattle.ldar_facts.specs.declared.body.Purpose.TheVariants.{Routine, FollowUp}
 use Rattle.ldar_facts.specs.declared.body.VisualState.{VisualState}
 use Rattle.ldar_facts.specs.declared.body.VisualState.TheVariants.{Dry, Drips, Designated}
+use Rattle.ldar_facts.specs.declared.limits.TheConstants.{LONGEST_SHUTDOWN}
 use Rattle.ldar_facts.specs.declared.body.Sort.{Sort}
 use Rattle.ldar_facts.specs.declared.body.Sort.TheVariants.{Sensor, Evidence}
 use Rattle.ldar_facts.specs.declared.body.FactBody.{FactBody}
@@ -163,7 +164,7 @@ unfoldable pub shutdown : Data → Option FactBody
 shutdown d =
     if has_only (with_common (codes "unit" ∷ codes "days" ∷ [])) d then (do
       unit ← number 1 64 (get (codes "unit") d)
-      days ← number 1 366 (get (codes "days") d)
+      days ← number 1 LONGEST_SHUTDOWN (get (codes "days") d)
       Some (Shutdown unit days))
     else None
 

@@ -6,7 +6,7 @@ ghost use Rattle.handheld_http.specs.FactJson as spec;
 
 use crate::field_json::{class, mode, purpose, readings, sort, state, type_of};
 use crate::members::{day, day_or_none, flag, has_only, name, number, number_or_none, word};
-use ldar_facts::FactBody;
+use ldar_facts::{FactBody, LONGEST_SHUTDOWN};
 use serde_json::Value;
 
 /// What a fact of the kind at this place in the table says.
@@ -172,7 +172,7 @@ fn shutdown(object: &Value) -> Option<FactBody>
         return None;
     }
     let unit = number(object.get("unit"), 1, 64)? as u8;
-    let days = number(object.get("days"), 1, 366)? as u16;
+    let days = number(object.get("days"), 1, LONGEST_SHUTDOWN as u64)? as u16;
     Some(FactBody::Shutdown { unit, days })
 }
 

@@ -1,5 +1,5 @@
 use crate::row::Checksums;
-use ldar_days::{Day, first_quarter};
+use ldar_days::{Day, LAST_STARTUP, first_quarter};
 
 // How many days and how many months later the table looks: all that a duty or a delay asks, and far past the end.
 const MOST_DAYS: u32 = 63;
@@ -9,9 +9,6 @@ const MORE_DAYS: [u32; 5] = [180, 181, 366, 20_000, u32::MAX];
 const MOST_MONTHS: u32 = 121;
 
 const MORE_MONTHS: [u32; 3] = [600, 1_103, u32::MAX];
-
-// The last startup that has a quarter 1 in the calendar, 2097-12-31.
-const LAST_STARTUP: u32 = 46_751;
 
 impl Checksums {
     pub fn new() -> Checksums {

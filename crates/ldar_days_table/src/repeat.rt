@@ -1,5 +1,5 @@
 use crate::by_jiff::{month_by_jiff, plus_months_by_jiff};
-use ldar_days::{Day, Month, quarter_of};
+use ldar_days::{Day, LAST_STARTUP, Month, quarter_of};
 
 /// Calls a function so many times for each startup day of the calendar, and adds up what it gives.
 pub fn repeated(call: &str, passes: u32) -> u64 {
@@ -14,7 +14,7 @@ pub fn repeated(call: &str, passes: u32) -> u64 {
 }
 
 fn quarter_of_last(startup: Day) -> u32 {
-    if startup.number() > 46_751 {
+    if startup.number() > LAST_STARTUP {
         return 0;
     }
     quarter_of(startup, Month::at(25_199)).map_or(0, u32::from)
@@ -25,7 +25,7 @@ fn over_days<F: Fn(Day, u32) -> u32>(passes: u32, call: F) -> u64
 {
     let mut total = 0u64;
     for pass in 0..passes {
-        for number in 13_879..=46_751u32 {
+        for number in 13_879..=LAST_STARTUP {
             let value = call(Day::at(number), pass);
             total = total.wrapping_mul(3).wrapping_add(u64::from(value));
         }

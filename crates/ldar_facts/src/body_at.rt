@@ -9,7 +9,8 @@ use crate::field_at::{
     byte_at, class_at, day_at, day_or_none_at, flag_at, four_bytes_at, kind_at, mode_at, name_at,
     purpose_at, readings_at, sort_at, state_at, two_bytes_at,
 };
-use crate::ranges::{LAST_COMPONENT, LAST_UNIT, LONGEST_SHUTDOWN, MOST_PPM};
+use crate::limits::LONGEST_SHUTDOWN;
+use crate::ranges::{LAST_COMPONENT, LAST_UNIT, MOST_PPM};
 use crate::stop::Stop;
 
 /// The bytes of the longest fact, a precision test or a drift assessment.

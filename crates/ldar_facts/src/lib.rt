@@ -35,7 +35,7 @@ pub use identity::Identity;
 pub use key::Key;
 pub use laws::LONGEST_BATCH;
 pub use ldar_days::Day;
-pub use limits::{FRAME_BATCHES, MOST_FACTS};
+pub use limits::{FRAME_BATCHES, LONGEST_SHUTDOWN, MOST_FACTS};
 pub use name::Name;
 pub use named::{component_of, reading_instrument, tested_instrument, unit_of};
 pub use order::precedes;

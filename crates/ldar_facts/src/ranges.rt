@@ -12,9 +12,6 @@ pub(crate) const MOST_PPM: u32 = 999_999;
 /// The last minute of a day.
 pub(crate) const LAST_MINUTE: u16 = 1_439;
 
-/// The days of the longest shutdown.
-pub(crate) const LONGEST_SHUTDOWN: u16 = 366;
-
 /// The programmes of skip periods.
 pub(crate) const MODES: [(u32, u32); 2] = [(0, 1), (3, 3)];
 
