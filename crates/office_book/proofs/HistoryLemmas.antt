@@ -32,7 +32,7 @@ none_where (Some n) none = absurd (false≢true (sym none))
 -- ---- one of the batches behind a history
 
 -- the batches before it, and those behind it
-cut_at : (history batches : List Batch) (i : ℕ) (batch : Batch) → i < length batches → batch ≡ get_or batches i batch
+pub cut_at : (history batches : List Batch) (i : ℕ) (batch : Batch) → i < length batches → batch ≡ get_or batches i batch
     → history ++ batches ≡ (history ++ take i batches) ++ batch ∷ drop (i + 1) batches
 cut_at history batches i batch within is =
     ap (λ (l : List Batch). history ++ l)
@@ -48,7 +48,7 @@ passes_at history batches i batch within is ruly =
     (ruly_is_each (history ++ batches)).0 ruly (history ++ take i batches) batch (drop (i + 1) batches) (cut_at history batches i batch within is)
 
 -- the batches up to it may be kept
-kept_to : (history batches : List Batch) (i : ℕ) (batch : Batch) → i < length batches → batch ≡ get_or batches i batch → IsKept (history ++ batches)
+pub kept_to : (history batches : List Batch) (i : ℕ) (batch : Batch) → i < length batches → batch ≡ get_or batches i batch → IsKept (history ++ batches)
     → IsKept ((history ++ take i batches) ++ batch ∷ [])
 kept_to history batches i batch within is kept =
     IsKept-front ((history ++ take i batches) ++ batch ∷ []) (drop (i + 1) batches)
@@ -88,7 +88,7 @@ ruly_more history batch ruly passes = (one_more_passes history batch).onward rul
 -- ---- where a batch is kept
 
 -- the first that passes stands where it was found
-found_from : {X : Type 0} (p : X → Bool) (i : ℕ) (xs : List X) (k : ℕ) → position_from p i xs ≡ Some k → (i ≤ k) × (x : X) × (slice_get xs (k - i) ≡ Some x)
+pub found_from : {X : Type 0} (p : X → Bool) (i : ℕ) (xs : List X) (k : ℕ) → position_from p i xs ≡ Some k → (i ≤ k) × (x : X) × (slice_get xs (k - i) ≡ Some x)
 found_from p i [] k e = absurd cc
 found_from {X = X} p i (x ∷ xs) k e = by (p x) (λ later. found_from p (i + 1) xs k later) e
   where

@@ -8,41 +8,53 @@ use Rattle.ldar_facts.specs.Identity.{identity_of, position_of}
 use Rattle.ldar_journal.specs.Image.{IsKept}
 use Rattle.ldar_law.specs.declared.reply.Reply.{Reply}
 use Rattle.ldar_law.specs.Replies.{HasRule}
-use Rattle.ldar_law.specs.declared.reply.Reply.TheVariants.{Receipt, Conflict, Denied, Full, Fault, Memory}
+use Rattle.ldar_law.specs.declared.reply.Reply.TheVariants.{Receipt, Conflict, Denied, Full, Shown, NoSuch, Fault, Memory}
 use Rattle.ldar_law.specs.declared.request.Request.TheVariants.{Sync}
 use Rattle.ldar_law.specs.declared.verdict.Verdict.{Verdict}
 use Rattle.ldar_law.specs.declared.verdict.Verdict.TheVariants.{Pass, Denied as DeniedBatch, Full as FullOffice}
-use Rattle.ldar_law.specs.Machine.{State, IsNew, batch_added, is_accepted}
+use Rattle.ldar_law.specs.Machine.{State, IsNew, Answers, batch_added, is_accepted}
 use Rattle.ldar_law.specs.Verdicts.{is_pass, is_ruly, verdict_on}
 use Rattle.office_book.specs.declared.archive.Standing.TheVariants.{Kept, New}
 use Rattle.office_book.specs.declared.writing.Written.TheVariants as written
 use Rattle.office_book.specs.Archive.{IsStanding, MayCome}
+use Rattle.office_book.specs.Grouped.{IsSaid}
 use Rattle.office_book.specs.Kept.{IsWritten, kept_reply}
 use Rattle.office_book.specs.Serving.{certain, uncertain, added, Serves}
 use Rattle.office_book.proofs.HistoryLemmas.{kept_more, ruly_more}
+use Rattle.office_book.proofs.RuleLemmas.{rule_in_range}
 
 -- ---- a batch that is kept, or denied, or too much
 
-pub kept_same : (faulty : Type 0) (history : List Batch) (batch : Batch) (position : ℕ) (next : State) → IsStanding history batch (Kept position true) → next ≡ certain history
-    → Serves faulty history (Sync batch ∷ []) (Receipt batch.handheld batch.number position ∷ []) next
-kept_same faulty history batch position next stands stays =
-    (
-      history,
-      (refl, refl, inl ((stands.1.0, stands.1.1 ∙ ap Some (stands.2 refl)), refl)),
-      stays,
-    )
+-- what is said to a batch whose identity is kept
+pub said_kept : (history : List Batch) (batch : Batch) (position : ℕ) (same : Bool) (reply : Reply) → IsStanding history batch (Kept position same)
+    → reply ≡ kept_reply batch position same → IsSaid history batch reply
+said_kept history batch position true reply stands is =
+    subst (λ (r : Reply). IsSaid history batch r) (sym is) (record {
+      answers = (refl, refl, inl ((stands.1.0, stands.1.1 ∙ ap Some (stands.2 refl)), refl));
+      ruled = tt;
+    })
+said_kept history batch position false reply stands is =
+    subst (λ (r : Reply). IsSaid history batch r) (sym is) (record { answers = (stands.0, stands.1, stands.3 refl, refl); ruled = tt })
 
-pub kept_other : (faulty : Type 0) (history : List Batch) (batch : Batch) (position : ℕ) (next : State) → IsStanding history batch (Kept position false) → next ≡ certain history
-    → Serves faulty history (Sync batch ∷ []) (Conflict position ∷ []) next
-kept_other faulty history batch position next stands stays = (history, (stands.0, stands.1, stands.3 refl, refl), stays)
+pub said_denied : (history : List Batch) (batch : Batch) (fact rule : ℕ) → IsStanding history batch (New (DeniedBatch fact rule))
+    → IsSaid history batch (Denied fact rule)
+said_denied history batch fact rule stands =
+    record { answers = (stands.0, stands.1, refl); ruled = rule_in_range history batch fact rule stands.1 }
 
-pub denied : (faulty : Type 0) (history : List Batch) (batch : Batch) (fact rule : ℕ) (next : State) → IsStanding history batch (New (DeniedBatch fact rule)) → next ≡ certain history
-    → Serves faulty history (Sync batch ∷ []) (Denied fact rule ∷ []) next
-denied faulty history batch fact rule next stands stays = (history, (stands.0, stands.1, refl), stays)
+pub said_full : (history : List Batch) (batch : Batch) (facts : ℕ) → IsStanding history batch (New (FullOffice facts)) → IsSaid history batch (Full facts)
+said_full history batch facts stands = record { answers = (stands.0, stands.1, refl); ruled = tt }
 
-pub full : (faulty : Type 0) (history : List Batch) (batch : Batch) (facts : ℕ) (next : State) → IsStanding history batch (New (FullOffice facts)) → next ≡ certain history
-    → Serves faulty history (Sync batch ∷ []) (Full facts ∷ []) next
-full faulty history batch facts next stands stays = (history, (stands.0, stands.1, refl), stays)
+-- the state is left as it is
+pub serves_said : (faulty : Type 0) (history : List Batch) (batch : Batch) (reply : Reply) (next : State) → Answers history (Sync batch) reply history
+    → next ≡ certain history → Serves faulty history (Sync batch ∷ []) (reply ∷ []) next
+serves_said faulty history batch (Receipt handheld number position) next answers stays = (history, answers, stays)
+serves_said faulty history batch (Conflict position) next answers stays = (history, answers, stays)
+serves_said faulty history batch (Denied fact rule) next answers stays = (history, answers, stays)
+serves_said faulty history batch (Full facts) next answers stays = (history, answers, stays)
+serves_said faulty history batch (Shown text) next answers stays = absurd answers
+serves_said faulty history batch (NoSuch what) next answers stays = absurd answers
+serves_said faulty history batch Fault next answers stays = absurd answers
+serves_said faulty history batch Memory next answers stays = absurd answers
 
 -- ---- a batch that is written
 
@@ -50,18 +62,18 @@ accepted_by : (o : Option ℕ) (v : Verdict) → o ≡ None → v ≡ Pass → (
 accepted_by o v none pass = rw (none, pass) refl
 
 -- a new batch that passes is accepted
-accepted : (history : List Batch) (batch : Batch) → IsNew history batch → verdict_on history batch ≡ Pass → is_accepted history batch ≡ true
+pub accepted : (history : List Batch) (batch : Batch) → IsNew history batch → verdict_on history batch ≡ Pass → is_accepted history batch ≡ true
 accepted history batch new passes = accepted_by (position_of (identity_of batch) history) (verdict_on history batch) new passes
 
 added_by : (b : Bool) (batch : Batch) → b ≡ true → (if b then Some batch else None) ≡ Some batch
 added_by b batch is = rw is refl
 
 -- .. and so it is added
-adds_it : (history : List Batch) (batch : Batch) → IsNew history batch → verdict_on history batch ≡ Pass → batch_added history (Sync batch) ≡ Some batch
+pub adds_it : (history : List Batch) (batch : Batch) → IsNew history batch → verdict_on history batch ≡ Pass → batch_added history (Sync batch) ≡ Some batch
 adds_it history batch new passes = added_by (is_accepted history batch) batch (accepted history batch new passes)
 
 -- it alone is added
-adds_one : (history : List Batch) (batch : Batch) → batch_added history (Sync batch) ≡ Some batch → added history (Sync batch ∷ []) ≡ batch ∷ []
+pub adds_one : (history : List Batch) (batch : Batch) → batch_added history (Sync batch) ≡ Some batch → added history (Sync batch ∷ []) ≡ batch ∷ []
 adds_one history batch adds =
     ap (λ (o : Option Batch). elim o as (λ _. List Batch) [ None ↦ [] | Some more ↦ more ∷ [] ]) adds
 
@@ -96,20 +108,6 @@ faulted faulty history batch next new passes wrote =
 pub wanted : (faulty : Type 0) (history : List Batch) (batch : Batch) (next : State) → IsNew history batch → verdict_on history batch ≡ Pass
     → IsWritten faulty history (batch ∷ []) written.Memory next → Serves faulty history (Sync batch ∷ []) (Memory ∷ []) next
 wanted faulty history batch next new passes stays = (inl (batch, adds_it history batch new passes), stays)
-
--- ---- what is said to a kept batch, whatever its content
-
-pub kept_answer : (faulty : Type 0) (history : List Batch) (batch : Batch) (position : ℕ) (same : Bool) (reply : Reply) (next : State)
-    → IsStanding history batch (Kept position same) → reply ≡ kept_reply batch position same → next ≡ certain history
-    → Serves faulty history (Sync batch ∷ []) (reply ∷ []) next
-kept_answer faulty history batch position true reply next stands is stays =
-    subst (λ (r : Reply). Serves faulty history (Sync batch ∷ []) (r ∷ []) next) (sym is) (kept_same faulty history batch position next stands stays)
-kept_answer faulty history batch position false reply next stands is stays =
-    subst (λ (r : Reply). Serves faulty history (Sync batch ∷ []) (r ∷ []) next) (sym is) (kept_other faulty history batch position next stands stays)
-
-pub kept_ruled : (batch : Batch) (position : ℕ) (same : Bool) (reply : Reply) → reply ≡ kept_reply batch position same → HasRule reply
-kept_ruled batch position true reply is = subst (λ (r : Reply). HasRule r) (sym is) tt
-kept_ruled batch position false reply is = subst (λ (r : Reply). HasRule r) (sym is) tt
 
 -- a call that failed
 pub from_err : {T E : Type 0} (r : Result T E) {P : Type 0} → is_err r ≡ true → OnErr r P → P

@@ -1,17 +1,13 @@
 -- The batches of a journal, taken in one after the other until one is denied.
-use Rattle.std.proofs.Common.{◌≡◌, ℕ, ◌+◌, ◌<◌, ◌≤◌, Option, Some, None, List, [], ◌∷◌, ◌++◌, length, take, drop, get_or, refl, sym, ◌∙◌, ap, subst, arith, length-take}
+use Rattle.std.proofs.Common.{◌≡◌, ℕ, ◌+◌, ◌<◌, ◌≤◌, Option, Some, None, List, [], ◌∷◌, ◌++◌, length, take, drop, get_or, refl, sym, ◌∙◌, ap, subst, arith}
 use Rattle.std.specs.Prelude.{IsTrue}
 use Rattle.std.specs.Option.{option_map}
-use Rattle.std.proofs.lemmas.List.{take-append-drop, append-nil}
-use Rattle.disk_model.specs.Told.{Told, BothTold}
-use Rattle.disk_model.specs.Images.{Only}
+use Rattle.std.proofs.lemmas.List.{length-take, drop-drop}
 use Rattle.list_words.proofs.WordLaws.{first_given_is_first}
 use Rattle.ldar_facts.specs.declared.batch.Batch.{Batch}
 use Rattle.ldar_facts.specs.Facts.{Entry, entries_of, facts_of}
 use Rattle.ldar_facts.proofs.OrderFree.{facts_count}
-use Rattle.ldar_journal.specs.Crash.{OnDisk}
-use Rattle.ldar_journal.specs.Image.{fact_count, batches_of, IsKept, OpensTo}
-use Rattle.ldar_journal.specs.Shelf.{Shelf, OpensAs}
+use Rattle.ldar_journal.specs.Image.{IsKept}
 use Rattle.ldar_journal.proofs.KeepingLemmas.{next_one}
 use Rattle.ldar_journal.proofs.Positions.{fact_count-push}
 use Rattle.ldar_law.specs.declared.verdict.Verdict.TheVariants.{Pass, Denied, Full}
@@ -86,3 +82,15 @@ not_full history batch facts full fits =
     let many = told.1 in
     let is = told.2 in
     omega arith
+
+-- a batch that is not denied passes, of those that may be kept
+pub passes_next : (batches : List Batch) (i : ℕ) (batch : Batch) (adopted : List Batch) → i < length batches → batch ≡ get_or batches i batch → IsKept batches
+    → adopted ≡ take i batches → (facts_with adopted batch ≤ 8_000_000 → verdict_on adopted batch ≡ Pass) → verdict_on (take i batches) batch ≡ Pass
+passes_next batches i batch adopted within is kept same passes =
+    subst (λ (l : List Batch). verdict_on l batch ≡ Pass) same
+    (passes (subst (λ (l : List Batch). facts_with l batch ≤ 8_000_000) (sym same) (fits_at batches i batch within is kept)))
+
+-- the room that is left with one batch more
+pub spare_next : (batches spare : List Batch) (i n : ℕ) → spare ≡ drop i batches → n ≡ 1 → drop n spare ≡ drop (i + 1) batches
+spare_next batches spare i n left one =
+    ap (λ (m : ℕ). drop m spare) one ∙ ap (λ (l : List Batch). drop 1 l) left ∙ drop-drop 1 i batches

@@ -1,5 +1,6 @@
 pub mod Archive
 pub mod Asking
+pub mod Grouped
 pub mod Kept
 pub mod Moves
 pub mod Opened

@@ -95,18 +95,26 @@ impl Archive {
                 position,
                 same: is_kept_at::<Brand>(&self.views, position, batch, Blank::new(1)),
             },
-            None => Standing::New(self.judged(0, batch)),
+            None => Standing::New(self.judged(batch)),
         }
     }
 
-    /// The verdict on a batch after those that are kept, and after more that enter no equipment and have so many facts.
-    pub fn judged(&self, more: u64, batch: &Batch) -> Verdict
-        requires fits { length (facts_of self.now.adopted) + more ≤ MOST_FACTS }
-        ensures value { (history : List FactBatch) → register_facts (facts_of history) ≡ register_facts (facts_of self.now.adopted)
-            → length (facts_of history) ≡ length (facts_of self.now.adopted) + more → result ≡ verdict_on history batch.now }
+    /// The verdict on a batch after those that are kept.
+    pub fn judged(&self, batch: &Batch) -> Verdict
+        ensures value { result ≡ verdict_on self.now.adopted batch.now }
     {
         let (_, facts) = self.views.counts();
-        verdict(self.views.register(), facts + more, batch)
+        verdict(self.views.register(), facts, batch)
+    }
+
+    /// The verdict on a batch after those that are kept and others behind them, which enter no equipment and have so many facts.
+    pub fn judged_behind(&self, facts: u64, batch: &Batch) -> Verdict
+        requires fits { length (facts_of self.now.adopted) + facts ≤ MOST_FACTS }
+        ensures value { (history : List FactBatch) → register_facts (facts_of history) ≡ register_facts (facts_of self.now.adopted)
+            → length (facts_of history) ≡ length (facts_of self.now.adopted) + facts → result ≡ verdict_on history batch.now }
+    {
+        let (_, kept) = self.views.counts();
+        verdict(self.views.register(), kept + facts, batch)
     }
 
     /// Adds batches for which there is room, one after the other, as long as they pass: where one is denied after those before
@@ -121,11 +129,13 @@ impl Archive {
         ensures unruly { IfSome result (λ found. first_unruly batches.now ≡ Some found) }
     {
         for batch in batches {
-            if let Some(rule) = self.rule_against(batch) {
-                let (count, _) = self.counts();
-                return Some((count + 1, rule));
+            match self.rule_against(batch) {
+                None => self.adopt(from_ref(batch)),
+                Some(rule) => {
+                    let (count, _) = self.counts();
+                    return Some((count + 1, rule));
+                }
             }
-            self.adopt(from_ref(batch));
         }
         None
     }
@@ -136,7 +146,7 @@ impl Archive {
         ensures passes { IsNone result → facts_with self.now.adopted batch.now ≤ MOST_FACTS
             → verdict_on self.now.adopted batch.now ≡ verdicts.Pass }
     {
-        match self.judged(0, batch) {
+        match self.judged(batch) {
             Verdict::Denied { fact: _, rule } => Some(rule),
             Verdict::Pass => None,
             Verdict::Full { facts: _ } => None,

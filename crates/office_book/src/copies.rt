@@ -5,7 +5,7 @@ use ldar_facts::Batch;
 use std::alloc::{AllocError, Global};
 
 /// A batch with the same content.
-fn copy_of(alloc: Global, batch: &Batch) -> Result<Batch, Memory>
+pub fn copy_of(alloc: Global, batch: &Batch) -> Result<Batch, Memory>
     ensures value { IfOk result (λ copy. copy ≡ batch.now) }
 {
     let mut facts = Vec::new(alloc);

@@ -1,4 +1,4 @@
-ghost use Rattle.std.specs.Prelude.{◌≡◌, ◌≤◌, [], ◌∷◌};
+ghost use Rattle.std.specs.Prelude.{◌≡◌, ◌≤◌, [], ◌∷◌, IfSome, IsNone};
 ghost use Rattle.disk_model.specs.Faults.{Rose};
 ghost use Rattle.ldar_journal.specs.Image.{batches_of};
 ghost use Rattle.ldar_law.specs.declared.request.Request.TheVariants as requests;
@@ -7,6 +7,7 @@ ghost use Rattle.ldar_law.specs.Machine.{Call, IsNew};
 ghost use Rattle.ldar_law.specs.Verdicts.{verdict_on};
 ghost use Rattle.office_book.specs.Archive.{IsStanding};
 ghost use Rattle.office_book.specs.Asking.{requests_of, replies_of, HasRule};
+ghost use Rattle.office_book.specs.Grouped.{IsSaid};
 ghost use Rattle.office_book.specs.Kept.{kept_reply};
 ghost use Rattle.office_book.specs.Moves.{Moves};
 ghost use Rattle.office_book.specs.Safe.{Leads, state_of};
@@ -26,7 +27,6 @@ impl<D: Disk> Book<D> {
     /// Keeps a batch, or says why not: a settling comes first; then the receipt of one that is kept with equal content, the
     /// position of one that is kept with other content, a denial, too many facts, want of memory, a fault of the disk, and the
     /// receipt of the new position.
-    #[tactic(none)]
     pub fn sync(&mut self, alloc: Global, batch: &Batch) -> Reply
         ensures value { (call : Call) × Leads D.content D.left D.clock D.name D.faults self.old (call ∷ []) self.new
             × (requests_of call ≡ requests.Sync batch.now ∷ []) × (replies_of call ≡ result ∷ [])
@@ -40,7 +40,6 @@ impl<D: Disk> Book<D> {
     }
 
     /// Keeps a batch, with nothing in doubt before.
-    #[tactic(none)]
     pub(crate) fn keep(&mut self, alloc: Global, batch: &Batch) -> Reply
         requires settled { self.old.doubt ≡ [] }
         ensures serves { Serves (Rose (D.faults self.old.disk) (D.faults self.new.disk)) (batches_of self.old.frames) (requests.Sync batch.now ∷ []) (result ∷ [])
@@ -48,39 +47,36 @@ impl<D: Disk> Book<D> {
         ensures moves { Moves D.content D.images D.left D.clock D.name D.faults self.old self.new 1 }
         ensures ruled { HasRule result }
     {
+        // What the office keeps is known from here on.
+        let _ = &self.journal;
+        match self.answered(batch) {
+            Some(reply) => reply,
+            None => self.add(alloc, batch),
+        }
+    }
+
+    /// What is answered to a batch that is not added, and `None` for one that is new and passes.
+    pub(crate) fn answered(&self, batch: &Batch) -> Option<Reply>
+        ensures said { IfSome result (IsSaid (batches_of self.now.frames) batch.now) }
+        ensures is_new { IsNone result → IsNew (batches_of self.now.frames) batch.now }
+        ensures passes { IsNone result → verdict_on (batches_of self.now.frames) batch.now ≡ verdicts.Pass }
+    {
         match self.standing(batch) {
-            Standing::Kept { position, same } => reply_kept(batch, position, same),
-            Standing::New(verdict) => self.answer_new(alloc, batch, verdict),
+            Standing::Kept { position, same } => Some(reply_kept(batch, position, same)),
+            Standing::New(Verdict::Denied { fact, rule }) => Some(Reply::Denied { fact, rule }),
+            Standing::New(Verdict::Full { facts }) => Some(Reply::Full { facts }),
+            Standing::New(Verdict::Pass) => None,
         }
     }
 
     /// How a batch stands to those that are kept.
-    fn standing(&self, batch: &Batch) -> Standing
+    pub(crate) fn standing(&self, batch: &Batch) -> Standing
         ensures value { IsStanding (batches_of self.now.frames) batch.now result }
     {
         self.archive.standing(batch)
     }
 
-    /// Answers a batch that is new and has this verdict.
-    #[tactic(none)]
-    fn answer_new(&mut self, alloc: Global, batch: &Batch, verdict: Verdict) -> Reply
-        requires settled { self.old.doubt ≡ [] }
-        requires is_new { IsNew (batches_of self.old.frames) batch.now }
-        requires judged { verdict_on (batches_of self.old.frames) batch.now ≡ verdict }
-        ensures serves { Serves (Rose (D.faults self.old.disk) (D.faults self.new.disk)) (batches_of self.old.frames) (requests.Sync batch.now ∷ []) (result ∷ [])
-            (state_of self.new) }
-        ensures moves { Moves D.content D.images D.left D.clock D.name D.faults self.old self.new 1 }
-        ensures ruled { HasRule result }
-    {
-        match verdict {
-            Verdict::Denied { fact, rule } => Reply::Denied { fact, rule },
-            Verdict::Full { facts } => Reply::Full { facts },
-            Verdict::Pass => self.add(alloc, batch),
-        }
-    }
-
     /// Writes a batch that is new and passes.
-    #[tactic(none)]
     fn add(&mut self, alloc: Global, batch: &Batch) -> Reply
         requires settled { self.old.doubt ≡ [] }
         requires is_new { IsNew (batches_of self.old.frames) batch.now }
@@ -90,6 +86,8 @@ impl<D: Disk> Book<D> {
         ensures moves { Moves D.content D.images D.left D.clock D.name D.faults self.old self.new 1 }
         ensures ruled { HasRule result }
     {
+        // What the office keeps is known from here on.
+        let _ = &self.journal;
         let Ok(batches) = copies_of(alloc, from_ref(batch)) else {
             return Reply::Memory;
         };
@@ -109,7 +107,7 @@ impl<D: Disk> Book<D> {
 }
 
 /// What is said to a batch whose identity is kept at a position, with the same content or with other.
-fn reply_kept(batch: &Batch, position: u32, same: bool) -> Reply
+pub(crate) fn reply_kept(batch: &Batch, position: u32, same: bool) -> Reply
     ensures value { result ≡ kept_reply batch.now position same }
 {
     if same {

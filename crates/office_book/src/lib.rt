@@ -9,6 +9,7 @@ pub mod laws;
 mod office;
 mod opening;
 mod settling;
+mod telling;
 mod writing;
 
 pub use book::Book;

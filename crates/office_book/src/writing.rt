@@ -26,7 +26,6 @@ pub(crate) enum Written {
 
 impl<D: Disk> Book<D> {
     /// Writes batches as one frame, behind those that are kept. All memory is taken before the first write.
-    #[tactic(none)]
     pub(crate) fn write(&mut self, alloc: Global, batches: Vec<Batch>) -> Written
         requires settled { self.old.doubt ≡ [] }
         requires some { 0 < length batches.items }
@@ -36,12 +35,13 @@ impl<D: Disk> Book<D> {
             (state_of self.new) }
         ensures moves { Moves D.content D.images D.left D.clock D.name D.faults self.old self.new 1 }
     {
-        let Ok(frame) = make_ready(alloc, &mut self.archive, &batches) else {
+        let added = batches.as_slice();
+        let Ok(frame) = make_ready(alloc, &mut self.archive, added) else {
             return Written::Memory;
         };
         match self.journal.append(&frame) {
             Ok(()) => {
-                self.archive.adopt(&batches);
+                self.archive.adopt(added);
                 Written::Stands
             }
             Err(Torn { gate: true }) => {

@@ -18,7 +18,7 @@ returns-then-is_err-clause-value g c =
 pub keep-requires : goal.keep-requires
 keep-requires g c =
     let settle = c.settle_first in
-    (from_ok settle.result (sym c.is_err.ensures.value ∙ c.if-is_err.false) settle.ensures.found).1.certain
+    record { settled = (from_ok settle.result (sym c.is_err.ensures.value ∙ c.if-is_err.false) settle.ensures.found).1.certain }
 
 pub returns-clause-value : goal.returns-clause-value
 returns-clause-value g c =

@@ -1,5 +1,6 @@
-use Rattle.std.proofs.Common.{◌≡◌, inl, inr, [], ◌∷◌, ◌++◌, List, length, take, refl, sym, ◌∙◌, ap, subst, arith}
+use Rattle.std.proofs.Common.{◌≡◌, inl, inr, [], ◌∷◌, ◌++◌, List, length, take, refl, sym, ◌∙◌, ap, subst, arith, rules}
 use Rattle.std.proofs.lemmas.List.{take_all}
+use Rattle.disk_model.specs.Faults.{Rose}
 use Rattle.ldar_facts.specs.declared.batch.Batch.{Batch}
 use Rattle.ldar_journal.specs.Image.{batches_of, IsKept}
 use Rattle.ldar_journal.proofs.Histories.{batches_of-push}
@@ -13,10 +14,10 @@ use Rattle.office_book.proofs.MoveLemmas.{moves_nothing}
 use Rattle.office_book.proofs.book.Book.write.Goals as goal
 
 pub make_ready-requires-clause-some : goal.make_ready-requires-clause-some
-make_ready-requires-clause-some g c = c.requires.some
+make_ready-requires-clause-some g c = rw c.as_slice-added.ensures.value c.requires.some
 
 pub make_ready-requires-clause-fits : goal.make_ready-requires-clause-fits
-make_ready-requires-clause-fits g c = c.requires.fits
+make_ready-requires-clause-fits g c = rw c.as_slice-added.ensures.value c.requires.fits
 
 -- memory was wanting
 
@@ -47,8 +48,8 @@ append-requires-clause-settled g c = ap (λ s. s.doubt) c.self.view_is ∙ c.req
 
 pub append-requires-clause-kept : goal.append-requires-clause-kept
 append-requires-clause-kept g c =
-    subst (λ (l : List Batch). IsKept (batches_of c.self.inside.journal.frames ++ l)) (sym c.in-Ok.ensures.frame)
-    (subst (λ s. IsKept (batches_of s.frames ++ c.args.batches.now)) (sym c.self.view_is) c.requires.may_come.kept)
+    subst (λ (l : List Batch). IsKept (batches_of c.self.inside.journal.frames ++ l)) (sym (c.in-Ok.ensures.frame ∙ c.as_slice-added.ensures.value))
+    (subst (λ s. IsKept (batches_of s.frames ++ c.args.batches.items)) (sym c.self.view_is) c.requires.may_come.kept)
 
 -- it stands
 
@@ -56,12 +57,13 @@ pub adopt-requires-clause-roomy : goal.adopt-requires-clause-roomy
 adopt-requires-clause-roomy g c =
     let spare = c.in-Ok.ensures.roomy in
     let long = ap length spare in
-    take_all (length c.args.batches.now) c.make_ready.new.archive.spare (omega arith) ∙ spare
+    take_all (length c.as_slice-added.result.now) c.make_ready.new.archive.spare (omega arith) ∙ spare
 
 pub adopt-requires-clause-may_come : goal.adopt-requires-clause-may_come
 adopt-requires-clause-may_come g c =
-    subst (λ (l : List Batch). MayCome l c.args.batches.now)
-    (sym (c.make_ready.ensures.adopted ∙ c.self.invariant.adopted ∙ ap (λ s. batches_of s.frames) c.self.view_is)) c.requires.may_come
+    subst (λ (l : List Batch). MayCome l c.as_slice-added.result.now)
+    (sym (c.make_ready.ensures.adopted ∙ c.self.invariant.adopted ∙ ap (λ s. batches_of s.frames) c.self.view_is))
+    (subst (λ (l : List Batch). MayCome (batches_of c.args.self.now.frames) l) (sym c.as_slice-added.ensures.value) c.requires.may_come)
 
 pub invariant_of-self-in-Ok-append : goal.invariant_of-self-in-Ok-append
 invariant_of-self-in-Ok-append g c =
@@ -69,13 +71,15 @@ invariant_of-self-in-Ok-append g c =
     let j = c.self.inside.journal in
     let new = c.append.new.self in
     let added = c.in-Ok-append.ensures.value in
-    let batches = c.args.batches.now in
+    let batches = c.args.batches.items in
     let frames : batches_of new.frames ≡ batches_of j.frames ++ batches =
-    ap batches_of added.0 ∙ batches_of-push j.frames _ ∙ ap (λ (l : List Batch). batches_of j.frames ++ l) c.in-Ok.ensures.frame in
+    ap batches_of added.0 ∙ batches_of-push j.frames _
+    ∙ ap (λ (l : List Batch). batches_of j.frames ++ l) (c.in-Ok.ensures.frame ∙ c.as_slice-added.ensures.value) in
     book_settled d.content d.images new c.adopt.new.self c.self.inside.copies.items added.1
     (subst (λ (l : List Batch). MayCome l []) (sym frames) (may_join (batches_of j.frames) batches
     (subst (λ s. MayCome (batches_of s.frames) batches) (sym c.self.view_is) c.requires.may_come)))
-    (c.adopt.ensures.adopted ∙ ap (λ (l : List Batch). l ++ batches) (c.make_ready.ensures.adopted ∙ c.self.invariant.adopted) ∙ sym frames)
+    (c.adopt.ensures.adopted ∙ ap (λ (l : List Batch). l ++ c.as_slice-added.result.now) (c.make_ready.ensures.adopted ∙ c.self.invariant.adopted)
+    ∙ ap (λ (l : List Batch). batches_of j.frames ++ l) c.as_slice-added.ensures.value ∙ sym frames)
     (c.self.invariant.copied ∙ ap (λ s. s.doubt) c.self.view_is ∙ c.requires.settled)
     (stands_on d.content d.images new c.append.ensures.images)
 
@@ -83,8 +87,8 @@ pub returns-in-Ok-append-clause-value : goal.returns-in-Ok-append-clause-value
 returns-in-Ok-append-clause-value g c =
     let added = c.in-Ok-append.ensures.value in
     added_state c.self.inside.journal c.append.new.self _ added.0 added.1
-    ∙ ap (λ (l : List Batch). certain (batches_of c.self.inside.journal.frames ++ l)) c.in-Ok.ensures.frame
-    ∙ ap (λ s. certain (batches_of s.frames ++ c.args.batches.now)) c.self.view_is
+    ∙ ap (λ (l : List Batch). certain (batches_of c.self.inside.journal.frames ++ l)) (c.in-Ok.ensures.frame ∙ c.as_slice-added.ensures.value)
+    ∙ ap (λ s. certain (batches_of s.frames ++ c.args.batches.items)) c.self.view_is
 
 pub returns-in-Ok-append-clause-moves : goal.returns-in-Ok-append-clause-moves
 returns-in-Ok-append-clause-moves g c =
@@ -97,25 +101,27 @@ returns-in-Ok-append-clause-moves g c =
 
 -- it may stand
 
-pub invariant_of-self-in-Err-true : goal.invariant_of-self-in-Err-true
-invariant_of-self-in-Err-true g c =
+pub invariant_of-self-then-this : goal.invariant_of-self-then-this
+invariant_of-self-then-this g c =
     let d = g.D.Disk in
     let new = c.append.new.self in
-    let batches = c.args.batches.now in
+    let batches = c.args.batches.items in
+    let same = c.as_slice-added.ensures.value in
     let torn = c.in-Err-true.ensures in
     let frames = ap batches_of torn.not_added in
-    book_doubtful d.content d.images new c.make_ready.new.archive c.in-Ok.copies.items batches (torn.in_doubt (search rules) ∙ c.in-Ok.ensures.frame)
+    book_doubtful d.content d.images new c.make_ready.new.archive batches batches (torn.in_doubt (search rules) ∙ c.in-Ok.ensures.frame ∙ same)
     (subst (λ (l : List Batch). MayCome l batches) (sym frames) (subst (λ s. MayCome (batches_of s.frames) batches) (sym c.self.view_is) c.requires.may_come))
-    (c.make_ready.ensures.adopted ∙ c.self.invariant.adopted ∙ sym frames) c.in-Ok.ensures.roomy c.in-Ok.ensures.copies
+    (c.make_ready.ensures.adopted ∙ c.self.invariant.adopted ∙ sym frames) (c.in-Ok.ensures.roomy ∙ same) refl
     (stands_on d.content d.images new c.append.ensures.images)
 
 pub returns-in-Err-true-clause-value : goal.returns-in-Err-true-clause-value
 returns-in-Err-true-clause-value g c =
     let torn = c.in-Err-true.ensures in
     (
-      torn.cause,
-      inr (doubtful_state c.append.new.self (batches_of c.args.self.now.frames) c.args.batches.now
-      (ap batches_of torn.not_added ∙ ap (λ s. batches_of s.frames) c.self.view_is) (torn.in_doubt (search rules) ∙ c.in-Ok.ensures.frame)),
+      subst (λ s. Rose (g.D.Disk.faults s.disk) (g.D.Disk.faults c.append.new.self.disk)) c.self.view_is torn.cause,
+      inr (doubtful_state c.append.new.self (batches_of c.args.self.now.frames) c.args.batches.items
+      (ap batches_of torn.not_added ∙ ap (λ s. batches_of s.frames) c.self.view_is)
+      (torn.in_doubt (search rules) ∙ c.in-Ok.ensures.frame ∙ c.as_slice-added.ensures.value)),
     )
 
 pub returns-in-Err-true-clause-moves : goal.returns-in-Err-true-clause-moves
@@ -130,8 +136,8 @@ returns-in-Err-true-clause-moves g c =
 
 -- nothing stands of it
 
-pub invariant_of-self-in-Err-false : goal.invariant_of-self-in-Err-false
-invariant_of-self-in-Err-false g c =
+pub invariant_of-self-else-this : goal.invariant_of-self-else-this
+invariant_of-self-else-this g c =
     let d = g.D.Disk in
     let j = c.self.inside.journal in
     let new = c.append.new.self in
@@ -143,17 +149,17 @@ invariant_of-self-in-Err-false g c =
     (c.self.invariant.copied ∙ ap (λ s. s.doubt) c.self.view_is ∙ c.requires.settled)
     (stands_on d.content d.images new c.append.ensures.images)
 
-pub returns-clause-value : goal.returns-clause-value
-returns-clause-value g c =
+pub returns-in-Err-false-clause-value : goal.returns-in-Err-false-clause-value
+returns-in-Err-false-clause-value g c =
     let torn = c.in-Err-false.ensures in
     (
-      torn.cause,
+      subst (λ s. Rose (g.D.Disk.faults s.disk) (g.D.Disk.faults c.append.new.self.disk)) c.self.view_is torn.cause,
       inl (certain_state c.append.new.self (batches_of c.args.self.now.frames)
       (ap batches_of torn.not_added ∙ ap (λ s. batches_of s.frames) c.self.view_is) (torn.gate_shut (search rules))),
     )
 
-pub returns-clause-moves : goal.returns-clause-moves
-returns-clause-moves g c =
+pub returns-in-Err-false-clause-moves : goal.returns-in-Err-false-clause-moves
+returns-in-Err-false-clause-moves g c =
     let d = g.D.Disk in
     let append = c.append.ensures in
     let torn = c.in-Err-false.ensures in
