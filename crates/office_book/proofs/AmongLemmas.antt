@@ -6,6 +6,7 @@ use Rattle.std.specs.List.{AllByRecursion, position_from, list_any}
 use Rattle.std.proofs.lemmas.Bool.{false≢true, cases_Bool}
 use Rattle.std.proofs.lemmas.Bool.Decides.{nat_tests}
 use Rattle.std.proofs.lemmas.List.{append-nil, length-take}
+use Rattle.std.proofs.lemmas.Option.{slice_get-get_or}
 use Rattle.std.proofs.lemmas.List.Sums.{sum_by-append}
 use Rattle.list_words.proofs.Members.{Among, among_left, among_right}
 use Rattle.ldar_facts.specs.declared.batch.Batch.{Batch}
@@ -15,6 +16,7 @@ use Rattle.ldar_facts.specs.Stated.{Stated}
 use Rattle.ldar_facts.proofs.OrderFree.{facts_count}
 use Rattle.ldar_journal.specs.Image.{IsKept, fact_count}
 use Rattle.ldar_journal.proofs.Histories.{IsKept-front}
+use Rattle.ldar_journal.proofs.KeepingLemmas.{next_one}
 use Rattle.ldar_law.specs.declared.verdict.Verdict.TheVariants.{Pass}
 use Rattle.ldar_law.specs.Judged.{case_of}
 use Rattle.ldar_law.specs.Machine.{IsNew}
@@ -29,7 +31,7 @@ use Rattle.history_laws.proofs.Passing.{let_pass}
 use Rattle.office_book.specs.declared.archive.Standing.TheVariants.{Kept}
 use Rattle.office_book.specs.Archive.{IsStanding, MayCome}
 use Rattle.office_book.specs.Grouped.{IsOfHandheld, MayShare, IsAmong}
-use Rattle.office_book.proofs.HistoryLemmas.{found_from}
+use Rattle.office_book.proofs.HistoryLemmas.{found_from, cut_at as cut_behind}
 
 -- ---- places in two lists
 
@@ -172,3 +174,35 @@ facts_fit history others may =
     let count = facts_behind history others in
     let whole = facts_count (history ++ others) in
     omega arith
+
+-- ---- the search for an identity
+
+-- the first that has the identity is found
+pub among_here : (first : ℕ) (others : List Batch) (batch : Batch) (i : ℕ) (other : Batch) (position : ℕ) (same : Bool) → i < length others
+    → other ≡ get_or others i other → position ≡ first + i → position_from (is_of (identity_of batch)) first (take i others) ≡ None
+    → is_of (identity_of batch) other ≡ true → IsTrue same ↔ (other ≡ batch) → IsAmong first others batch position same
+among_here first others batch i other position same within is place none has tells =
+    let p = is_of (identity_of batch) in
+    let long = length-take i others in
+    let rest = other ∷ drop (i + 1) others in
+    let here : position_from p position rest ≡ Some position =
+    ap (λ (b : Bool). cond b (Some position) (position_from p (position + 1) (drop (i + 1) others))) has in
+    let at : position - first ≡ i = omega arith in
+    record {
+      stands = ap (λ (l : List Batch). position_from p first l) (cut_behind [] others i other within is)
+          ∙ position_behind p first (take i others) rest position (omega arith) none ∙ here;
+      kept = other;
+      there = ap (λ (n : ℕ). slice_get others n) at ∙ slice_get-get_or others i other within ∙ ap Some (sym is);
+      same_if = tells;
+    }
+
+-- .. and nothing up to one that has another
+pub none_next : (first : ℕ) (others : List Batch) (batch : Batch) (i : ℕ) (other : Batch) → i < length others → other ≡ get_or others i other
+    → position_from (is_of (identity_of batch)) first (take i others) ≡ None → is_of (identity_of batch) other ≡ false
+    → position_from (is_of (identity_of batch)) first (take (i + 1) others) ≡ None
+none_next first others batch i other within is none has =
+    let p = is_of (identity_of batch) in
+    let long = length-take i others in
+    ap (λ (l : List Batch). position_from p first l) (next_one others i other within is)
+    ∙ position_behind p first (take i others) (other ∷ []) (first + i) (omega arith) none
+    ∙ ap (λ (b : Bool). cond b (Some (first + i)) None) has

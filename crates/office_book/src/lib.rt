@@ -2,8 +2,10 @@
 #![tactic(auto)]
 
 mod archive;
+mod asking;
 mod book;
 mod copies;
+mod grouping;
 mod keeping;
 pub mod laws;
 mod office;
