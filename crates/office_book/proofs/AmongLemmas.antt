@@ -1,5 +1,5 @@
 -- A batch behind a history and others of its group: where its identity stands, and the verdict on it.
-use Rattle.std.proofs.Common.{◌≡◌, ◌≢◌, ◌⊎◌, inl, inr, ℕ, suc, ◌+◌, ◌<◌, ◌≤◌, Bool, true, false, ◌&&◌, Option, Some, None, List, [], ◌∷◌, ◌++◌}
+use Rattle.std.proofs.Common.{◌≡◌, ◌≢◌, ◌⊎◌, inl, inr, ℕ, zero, suc, ◌+◌, ◌<◌, ◌≤◌, Bool, true, false, ◌&&◌, Option, Some, None, List, [], ◌∷◌, ◌++◌}
 use Rattle.std.proofs.Common.{length, take, drop, get_or, refl, sym, ◌∙◌, ap, subst, arith, append_assoc}
 use Rattle.std.specs.Prelude.{◌-◌, ◌↔◌, IsTrue, cond, codes, slice_get, nat_lt}
 use Rattle.std.specs.List.{AllByRecursion, position_from, list_any}
@@ -123,7 +123,7 @@ any_among p (x ∷ xs) e = elim (cases_Bool (p x)) [
 ]
 
 -- rule 16
-sixteenth : Rule
+abbrev sixteenth : Rule
 sixteenth = numbered 16 (codes "P1") denials.entered_by_a_handheld
 
 -- a fact of a batch of a handheld that passes enters nothing

@@ -1,9 +1,10 @@
 -- Batches that are asked to be kept at once: what is said to each, behind those before it.
-use Rattle.std.proofs.Common.{◌≡◌, ◌≢◌, ◌⊎◌, inl, inr, ℕ, suc, ◌+◌, ◌<◌, ◌≤◌, Bool, true, false, ◌&&◌, Option, Some, None, is_none, List, [], ◌∷◌, ◌++◌}
-use Rattle.std.proofs.Common.{length, take, refl, sym, ◌∙◌, ap, subst, arith, add-one, append_assoc, length-append}
+use Rattle.std.proofs.Common.{◌≡◌, ◌≢◌, ◌⊎◌, inl, inr, ℕ, zero, suc, ◌+◌, ◌<◌, ◌≤◌, Bool, true, false, ◌&&◌, Option, Some, None, is_none, List, [], ◌∷◌, ◌++◌}
+use Rattle.std.proofs.Common.{length, take, get_or, refl, sym, ◌∙◌, ap, subst, arith, add-one, append_assoc, length-append}
 use Rattle.std.specs.Prelude.{IsTrue, if◌then◌else◌}
 use Rattle.std.specs.List.{AllByRecursion}
 use Rattle.std.proofs.lemmas.List.{append-nil}
+use Rattle.std.proofs.Math.Seq.{take-suc}
 use Rattle.ldar_facts.specs.declared.batch.Batch.{Batch}
 use Rattle.ldar_facts.specs.Identity.{identity_of, position_of}
 use Rattle.ldar_journal.specs.Image.{IsKept}
@@ -18,6 +19,7 @@ use Rattle.ldar_law.specs.Replies.{HasRule}
 use Rattle.ldar_law.specs.Verdicts.{is_pass, is_ruly, verdict_on}
 use Rattle.ldar_law.proofs.Gifts.{cases_Option}
 use Rattle.office_book.specs.Archive.{MayCome}
+use Rattle.office_book.specs.Asking.{IsFromHandheld}
 use Rattle.office_book.specs.Grouped.{IsOfHandheld, IsSaid, MayShare, IsTold, IsSorted, IsUnwritten, before_adding}
 use Rattle.office_book.specs.Serving.{certain, uncertain, added, Stops, Serves}
 use Rattle.office_book.proofs.HistoryLemmas.{kept_more, ruly_more}
@@ -356,3 +358,70 @@ unwritten_next history asked said batch reply unwritten serves rule = record {
   serves = serves_join ⊥ history history asked said (Sync batch ∷ []) (reply ∷ []) (certain history) unwritten.serves serves;
   ruled = all_push HasRule said reply unwritten.ruled rule;
 }
+
+-- ---- the requests of a group, by their places
+
+-- something holds of the element at a place
+at_place : {X : Type 0} (P : X → Type 0) (xs : List X) (i : ℕ) (x : X) → AllByRecursion P xs → i < length xs → x ≡ get_or xs i x → P x
+at_place P [] i x each within is = absurd (omega arith)
+at_place P (y ∷ xs) zero x each within is = subst P (sym is) each.0
+at_place P (y ∷ xs) (suc i) x each within is = at_place P xs i x each.1 (omega arith) is
+
+-- a request of a group is a batch of a handheld
+pub asks_batch : (requests : List Request) (i : ℕ) (request : Request) → AllByRecursion IsFromHandheld requests → i < length requests
+    → request ≡ get_or requests i request → IsFromHandheld request
+asks_batch requests i request alike within is = at_place IsFromHandheld requests i request alike within is
+
+-- the requests up to one, and it
+next_request : (requests : List Request) (i : ℕ) (request : Request) (batch : Batch) → i < length requests → request ≡ get_or requests i request
+    → request ≡ Sync batch → take (i + 1) requests ≡ take i requests ++ Sync batch ∷ []
+next_request requests i request batch within is asks =
+    rw (add-one, take-suc requests i request within) (ap (λ (r : Request). take i requests ++ r ∷ []) (sym is ∙ asks))
+
+-- the replies with one more
+pub replies_next : (now before front said : List Reply) (reply : Reply) → now ≡ before ++ reply ∷ [] → before ≡ front ++ said
+    → now ≡ front ++ (said ++ reply ∷ [])
+replies_next now before front said reply puts is =
+    puts ∙ ap (λ (l : List Reply). l ++ reply ∷ []) is ∙ append_assoc front said (reply ∷ [])
+
+pub unwritten_at : (history : List Batch) (requests : List Request) (i : ℕ) (request : Request) (batch : Batch) (said : List Reply) (reply : Reply)
+    → i < length requests → request ≡ get_or requests i request → request ≡ Sync batch → IsUnwritten history (take i requests) said
+    → Serves ⊥ history (Sync batch ∷ []) (reply ∷ []) (certain history) → HasRule reply
+    → IsUnwritten history (take (i + 1) requests) (said ++ reply ∷ [])
+unwritten_at history requests i request batch said reply within is asks unwritten serves rule =
+    subst (λ (l : List Request). IsUnwritten history l (said ++ reply ∷ [])) (sym (next_request requests i request batch within is asks))
+    (unwritten_next history (take i requests) said batch reply unwritten serves rule)
+
+-- no request yet
+pub unwritten_none : (history : List Batch) → IsUnwritten history [] []
+unwritten_none history = record { serves = refl; ruled = tt }
+
+pub sorted_at : (history : List Batch) (requests : List Request) (i : ℕ) (request : Request) (batch : Batch) (said : List Reply) (reply : Reply)
+    (old new : List Batch) (first more : ℕ) → i < length requests → request ≡ get_or requests i request → request ≡ Sync batch
+    → IsSorted history (take i requests) said old first → IsTold history batch old new reply
+    → (new ≡ [] → more ≡ first + 1) → (new ≢ [] → more ≡ first)
+    → IsSorted history (take (i + 1) requests) (said ++ reply ∷ []) new more
+sorted_at history requests i request batch said reply old new first more within is asks sorted told none some =
+    subst (λ (l : List Request). IsSorted history l (said ++ reply ∷ []) new more) (sym (next_request requests i request batch within is asks))
+    (sorted_next history (take i requests) said old new first more batch reply sorted told none some)
+
+-- a request adds one batch at most
+pub one_told : (history : List Batch) (batch : Batch) (old new : List Batch) (reply : Reply) → IsTold history batch old new reply → length new ≤ length old + 1
+one_told history batch old new reply told =
+    let one = one_added (batch_added (history ++ old) (Sync batch)) in
+    let long = ap length told.adds in
+    let whole = length-append old (added (history ++ old) (Sync batch ∷ [])) in
+    omega arith
+  where
+    one_added : (o : Option Batch) → length (elim o as (λ _. List Batch) [ None ↦ [] | Some more ↦ more ∷ [] ]) ≤ 1
+    one_added None = omega arith
+    one_added (Some more) = omega arith
+
+-- .. so that it stands before no more requests than there are
+pub before_within : (history : List Batch) (requests : List Request) → before_adding history requests ≤ length requests
+before_within history [] = omega arith
+before_within history (request ∷ requests) = by (batch_added history request)
+  where
+    by : (o : Option Batch) → (elim o as (λ _. ℕ) [ None ↦ before_adding history requests + 1 | Some batch ↦ 0 ]) ≤ length (request ∷ requests)
+    by None = let rest = before_within history requests in omega arith
+    by (Some batch) = omega arith

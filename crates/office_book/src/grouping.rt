@@ -68,6 +68,8 @@ impl<D: Disk> Book<D> {
         ensures begun { OnErr result ((said : List LawReply) × (replies.new.items ≡ replies.old.items ++ said)) }
         ensures capacity { vec_capacity replies.new ≡ vec_capacity replies.old }
     {
+        // What the office keeps is known from here on.
+        let _ = &self.journal;
         let mut batches = Vec::new(alloc);
         let mut first = 0;
         for request in requests {
