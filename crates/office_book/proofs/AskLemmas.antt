@@ -28,7 +28,7 @@ each_more faulty history request requests (NoSuch what) replies next rest serves
 each_more faulty history request requests Fault replies next rest serves = serves.each
 each_more faulty history request requests Memory replies next rest serves = rest history serves.1
 
-serves_each : (faulty : Type 0) (history : List Batch) (requests : List Request) (replies : List Reply) (next : State)
+pub serves_each : (faulty : Type 0) (history : List Batch) (requests : List Request) (replies : List Reply) (next : State)
     → Serves faulty history requests replies next → length replies ≡ length requests
 serves_each faulty history [] [] next serves = refl
 serves_each faulty history [] (reply ∷ replies) next serves = absurd serves

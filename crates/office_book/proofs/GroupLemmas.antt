@@ -1,9 +1,10 @@
 -- Batches that are asked to be kept at once: what is said to each, behind those before it.
-use Rattle.std.proofs.Common.{◌≡◌, ◌≢◌, ◌⊎◌, inl, inr, ℕ, zero, suc, ◌+◌, ◌<◌, ◌≤◌, Bool, true, false, ◌&&◌, Option, Some, None, is_none, List, [], ◌∷◌, ◌++◌}
+use Rattle.std.proofs.Common.{◌≡◌, ◌≢◌, ◌⊎◌, inl, inr, ℕ, zero, suc, ◌+◌, ◌<◌, ◌≤◌, Bool, true, false, ◌&&◌, ◌==◌, Option, Some, None, is_none, List, [], ◌∷◌, ◌++◌}
 use Rattle.std.proofs.Common.{length, take, get_or, refl, sym, ◌∙◌, ap, subst, arith, add-one, append_assoc, length-append}
-use Rattle.std.specs.Prelude.{IsTrue, if◌then◌else◌}
+use Rattle.std.specs.Prelude.{IsTrue, if◌then◌else◌, Result, Ok, Err, OnErr}
 use Rattle.std.specs.List.{AllByRecursion}
 use Rattle.std.proofs.lemmas.List.{append-nil}
+use Rattle.std.proofs.lemmas.Bool.Decides.{nat_tests}
 use Rattle.std.proofs.Math.Seq.{take-suc}
 use Rattle.ldar_facts.specs.declared.batch.Batch.{Batch}
 use Rattle.ldar_facts.specs.Identity.{identity_of, position_of}
@@ -199,7 +200,7 @@ follow_some : (faulty : Type 0) (history : List Batch) (request : Request) (requ
     → AllByRecursion (λ (reply : Reply). reply ≡ Fault) faults → length faults ≡ length (request ∷ requests)
     → Serves faulty history (request ∷ requests) faults next
 follow_some faulty history request requests [] next batch adds why leaves each long = absurd (omega arith)
-follow_some faulty history request requests (fault ∷ faults) next batch adds why leaves each long =
+follow_some faulty history request requests (one ∷ faults) next batch adds why leaves each long =
     subst (λ (reply : Reply). Serves faulty history (request ∷ requests) (reply ∷ faults) next) (sym each.0)
     (record { why = why; batch = batch; adds = adds; leaves = leaves; others = each.1; each = omega arith })
 
@@ -420,8 +421,82 @@ one_told history batch old new reply told =
 -- .. so that it stands before no more requests than there are
 pub before_within : (history : List Batch) (requests : List Request) → before_adding history requests ≤ length requests
 before_within history [] = omega arith
-before_within history (request ∷ requests) = by (batch_added history request)
+before_within history (request ∷ requests) = by (batch_added history request) (before_within history requests)
   where
-    by : (o : Option Batch) → (elim o as (λ _. ℕ) [ None ↦ before_adding history requests + 1 | Some batch ↦ 0 ]) ≤ length (request ∷ requests)
-    by None = let rest = before_within history requests in omega arith
-    by (Some batch) = omega arith
+    by : (o : Option Batch) → before_adding history requests ≤ length requests
+        → (elim o as (λ _. ℕ) [ None ↦ before_adding history requests + 1 | Some batch ↦ 0 ]) ≤ length (request ∷ requests)
+    by None rest = omega arith
+    by (Some batch) rest = omega arith
+
+-- ---- replies behind those that stand there
+
+-- so many of the replies: those in front, and some of the others
+pub take_past : (front said : List Reply) (n k : ℕ) → n ≡ length front + k → take n (front ++ said) ≡ front ++ take k said
+take_past [] said n k is = let same : n ≡ k = omega arith in ap (λ (m : ℕ). take m said) same
+take_past (reply ∷ front) said n k is =
+    let next : n ≡ suc (length front + k) = omega arith in
+    ap (λ (m : ℕ). take m (reply ∷ (front ++ said))) next ∙ ap (λ (l : List Reply). reply ∷ l) (take_past front said (length front + k) k refl)
+
+-- .. those in front
+pub take_front : (all front said : List Reply) (n : ℕ) → all ≡ front ++ said → length front ≡ n → take n all ≡ front
+take_front all front said n is long =
+    ap (λ (l : List Reply). take n l) is ∙ take_past front said n 0 (omega arith) ∙ append-nil front
+
+-- the replies stay, where they are those in front and what was said
+pub replies_stay : (all front said : List Reply) (n : ℕ) → all ≡ front ++ said → length front ≡ n → all ≡ take n all ++ said
+replies_stay all front said n is long = is ∙ ap (λ (l : List Reply). l ++ said) (sym (take_front all front said n is long))
+
+-- faults in place of the replies from one on
+pub replies_cut : (all front said new faults : List Reply) (n first : ℕ) → all ≡ front ++ said → length front ≡ n → new ≡ take (n + first) all ++ faults
+    → new ≡ take n all ++ (take first said ++ faults)
+replies_cut all front said new faults n first is long puts =
+    puts ∙ ap (λ (l : List Reply). l ++ faults) (ap (λ (l : List Reply). take (n + first) l) is ∙ take_past front said (n + first) first (omega arith))
+    ∙ append_assoc front (take first said) faults
+    ∙ ap (λ (l : List Reply). l ++ (take first said ++ faults)) (sym (take_front all front said n is long))
+
+-- something holds of each of a front, and of two lists together
+all_take : {X : Type 0} (P : X → Type 0) (n : ℕ) (xs : List X) → AllByRecursion P xs → AllByRecursion P (take n xs)
+all_take P zero xs each = tt
+all_take P (suc n) [] each = tt
+all_take P (suc n) (x ∷ xs) each = (each.0, all_take P n xs each.1)
+
+all_append : {X : Type 0} (P : X → Type 0) (xs ys : List X) → AllByRecursion P xs → AllByRecursion P ys → AllByRecursion P (xs ++ ys)
+all_append P [] ys one two = two
+all_append P (x ∷ xs) ys one two = (one.0, all_append P xs ys one.1 two)
+
+pub cut_ruled : (first : ℕ) (said faults : List Reply) → AllByRecursion HasRule said → AllByRecursion HasRule faults
+    → AllByRecursion HasRule (take first said ++ faults)
+cut_ruled first said faults one two = all_append HasRule (take first said) faults (all_take HasRule first said one) two
+
+-- requests add no more batches than they are
+pub added_within : (history : List Batch) (requests : List Request) → length (added history requests) ≤ length requests
+added_within history [] = omega arith
+added_within history (request ∷ requests) =
+    by (batch_added history request) (added_within history requests) (λ batch. added_within (history ++ batch ∷ []) requests)
+  where
+    by : (o : Option Batch) → length (added history requests) ≤ length requests
+        → ((batch : Batch) → length (added (history ++ batch ∷ []) requests) ≤ length requests) → length (elim o as (λ _. List Batch) [
+      | None ↦ added history requests
+      | Some batch ↦ batch ∷ added (history ++ batch ∷ []) requests
+    ]) ≤ length (request ∷ requests)
+    by None none some = omega arith
+    by (Some batch) none some = let rest = some batch in omega arith
+
+-- what is promised of a failure, where it holds anyway
+pub on_err : {T E : Type 0} (r : Result T E) {P : Type 0} → P → OnErr r P
+on_err (Ok v) p = tt
+on_err (Err e) p = p
+
+-- one more or none
+pub more_within : (batches : List Batch) (first more i : ℕ) → first ≤ i → (batches ≡ [] → more ≡ first + 1) → (batches ≢ [] → more ≡ first) → more ≤ i + 1
+more_within [] first more i within none some = let is = none refl in omega arith
+more_within (batch ∷ batches) first more i within none some = let is = some (λ empty. cc) in omega arith
+
+-- what a test of the length says
+pub none_held : (batches : List Batch) (n : ℕ) → n ≡ length batches → (n == 0) ≡ true → batches ≡ []
+none_held [] n long test = refl
+none_held (batch ∷ batches) n long test = absurd (let none : n ≡ 0 = grind (arith, nat_tests) in omega arith)
+
+pub some_held : (batches : List Batch) (n : ℕ) → n ≡ length batches → (n == 0) ≡ false → batches ≢ []
+some_held [] n long test empty = let some : n ≢ 0 = grind (arith, nat_tests) in some (omega arith)
+some_held (batch ∷ batches) n long test empty = cc

@@ -43,6 +43,13 @@ impl<D: Disk> Book<D> {
         self.archive.counts()
     }
 
+    /// The disk of the journal.
+    pub fn disk(&self) -> &D
+        ensures value { result.now ≡ self.now.disk }
+    {
+        self.journal.disk()
+    }
+
     /// Gives the disk back.
     pub fn into_disk(self) -> D
         ensures value { result ≡ self.disk }

@@ -45,6 +45,8 @@ impl<D: Disk> Book<D> {
             × AllByRecursion HasRule said }
         ensures moves { Moves D.content D.images D.left D.clock D.name D.faults self.old self.new 1 }
     {
+        // What the office keeps is known from here on.
+        let _ = &self.journal;
         let start = replies.len();
         match self.sort_out(alloc, requests, replies) {
             Ok(sorted) => self.write_group(alloc, requests, replies, start, sorted),
