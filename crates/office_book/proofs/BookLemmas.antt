@@ -1,5 +1,6 @@
 -- What an office keeps, after each call of its journal.
-use Rattle.std.proofs.Common.{◌≡◌, ◌≢◌, ◌⊎◌, inl, inr, ℕ, ◌+◌, ◌<◌, ◌≤◌, Bool, true, false, Option, List, [], ◌∷◌, ◌++◌, length, take, min, refl, sym, ◌∙◌, ap, subst, arith, append_assoc, length-append}
+use Rattle.std.proofs.Common.{◌≡◌, ◌≢◌, ◌⊎◌, inl, inr, ℕ, ◌+◌, ◌<◌, ◌≤◌, Bool, true, false, Option, List, [], ◌∷◌, ◌++◌, length, take, min, refl, sym}
+use Rattle.std.proofs.Common.{◌∙◌, ap, subst, arith, append_assoc, length-append}
 use Rattle.std.specs.Prelude.{IsTrue}
 use Rattle.std.proofs.lemmas.List.{append-nil, take_all}
 use Rattle.disk_model.specs.Keeps.{Keeps}
@@ -51,7 +52,8 @@ some_in (batch ∷ batches) some = omega arith
 -- ---- what an office keeps
 
 -- the state of a journal with nothing in doubt, and with batches in doubt
-pub certain_state : {D : Type 0} (journal : Shelf D) (history : List Batch) → batches_of journal.frames ≡ history → journal.doubt ≡ [] → state_of journal ≡ certain history
+pub certain_state : {D : Type 0} (journal : Shelf D) (history : List Batch) → batches_of journal.frames ≡ history → journal.doubt ≡ []
+    → state_of journal ≡ certain history
 certain_state journal history same none =
     ap (λ (l : List Batch). uncertain l journal.doubt) same ∙ ap (λ (l : List Batch). uncertain history l) none
 
@@ -90,7 +92,8 @@ module _ {D : Type 0} (content_of : D → Option (List ℕ)) (images_of : D → 
   book_doubtful journal archive copies doubt is may adopted spare copied stands = record {
     may_come = subst (λ (d : List Batch). MayCome (batches_of journal.frames) d) (sym is) may;
     adopted = adopted;
-    roomy = subst (λ (d : List Batch). take (length d) archive.spare ≡ d) (sym is) (take_all (length doubt) archive.spare (let long = ap length spare in omega arith) ∙ spare);
+    roomy = subst (λ (d : List Batch). take (length d) archive.spare ≡ d) (sym is)
+        (take_all (length doubt) archive.spare (let long = ap length spare in omega arith) ∙ spare);
     copied = copied ∙ sym is;
     stands = stands;
   }
@@ -148,7 +151,8 @@ module _ {D : Type 0} (content_of : D → Option (List ℕ)) (images_of : D → 
         let long : length new.doubt ≡ 0 = ap length none in
         settle_moves old new (omega arith)
 
-    pub moves_stand : (old new : Shelf D) → old.doubt ≢ [] → new.frames ≡ old.frames ++ old.doubt ∷ [] → new.doubt ≡ [] → Keeps clock_of name_of faults_of old.disk new.disk
+    pub moves_stand : (old new : Shelf D) → old.doubt ≢ [] → new.frames ≡ old.frames ++ old.doubt ∷ [] → new.doubt ≡ []
+        → Keeps clock_of name_of faults_of old.disk new.disk
         → BothTold (content_of old.disk) (content_of new.disk) (λ old new. new ≡ old)
         → LeavesOnly clock_of left_of old.disk new.disk (λ image. Told (content_of old.disk) (λ _. OpensToEither image old.frames old.doubt))
         → OnDisk (content_of new.disk) (images_of new.disk) (λ image. OpensAs image new.frames new.doubt)
@@ -161,7 +165,8 @@ module _ {D : Type 0} (content_of : D → Option (List ℕ)) (images_of : D → 
         settle_moves old new (omega arith)
 
     -- a frame that stands
-    pub moves_added : (old new : Shelf D) (batches : List Batch) → new.frames ≡ old.frames ++ batches ∷ [] → new.doubt ≡ [] → Keeps clock_of name_of faults_of old.disk new.disk
+    pub moves_added : (old new : Shelf D) (batches : List Batch) → new.frames ≡ old.frames ++ batches ∷ [] → new.doubt ≡ []
+        → Keeps clock_of name_of faults_of old.disk new.disk
         → BothTold (content_of old.disk) (content_of new.disk) (λ old new. length old ≤ length new)
         → LeavesOnly clock_of left_of old.disk new.disk (λ image. Told (content_of old.disk) (λ _. OpensToEither image old.frames batches))
         → OnDisk (content_of new.disk) (images_of new.disk) (λ image. OpensAs image new.frames new.doubt)
@@ -170,21 +175,24 @@ module _ {D : Type 0} (content_of : D → Option (List ℕ)) (images_of : D → 
         let many = ap length frames in
         let one_more = length-append old.frames (batches ∷ []) in
         let long : length new.doubt ≡ 0 = ap length none in
-        moves_by content_of images_of left_of clock_of name_of faults_of old new 1 (λ image. OpensToEither image old.frames batches) (λ old new. length old ≤ length new)
+        moves_by content_of images_of left_of clock_of name_of faults_of old new 1 (λ image. OpensToEither image old.frames batches)
+            (λ old new. length old ≤ length new)
         (λ image either. elim either [
           | inl before ↦ inl (inl (old.frames, refl, before))
           | inr after ↦ inr (inl (new.frames, refl, subst (λ (l : List (List Batch)). OpensTo image l) (sym frames) after))
         ]) keeps grows (omega arith) leaves opens
 
     -- a frame in doubt
-    pub moves_torn : (old new : Shelf D) (batches : List Batch) → old.doubt ≡ [] → new.frames ≡ old.frames → new.doubt ≡ batches → Keeps clock_of name_of faults_of old.disk new.disk
+    pub moves_torn : (old new : Shelf D) (batches : List Batch) → old.doubt ≡ [] → new.frames ≡ old.frames → new.doubt ≡ batches
+        → Keeps clock_of name_of faults_of old.disk new.disk
         → BothTold (content_of old.disk) (content_of new.disk) (λ old new. length old ≤ length new)
         → LeavesOnly clock_of left_of old.disk new.disk (λ image. Told (content_of old.disk) (λ _. OpensToEither image old.frames batches))
         → OnDisk (content_of new.disk) (images_of new.disk) (λ image. OpensAs image new.frames new.doubt)
         → Moves content_of images_of left_of clock_of name_of faults_of old new 1
     moves_torn old new batches none frames doubt keeps grows leaves opens =
         let many = ap length frames in
-        moves_by content_of images_of left_of clock_of name_of faults_of old new 1 (λ image. OpensToEither image old.frames batches) (λ old new. length old ≤ length new)
+        moves_by content_of images_of left_of clock_of name_of faults_of old new 1 (λ image. OpensToEither image old.frames batches)
+            (λ old new. length old ≤ length new)
         (λ image either. inr (stands_either image new.frames new.doubt
         (subst (λ (d : List Batch). OpensToEither image new.frames d) (sym doubt)
         (subst (λ (l : List (List Batch)). OpensToEither image l batches) (sym frames) either)))) keeps grows (omega arith) leaves opens

@@ -1,5 +1,6 @@
 -- Batches that are asked to be kept at once: what is said to each, behind those before it.
-use Rattle.std.proofs.Common.{◌≡◌, ◌≢◌, ◌⊎◌, inl, inr, ℕ, zero, suc, ◌+◌, ◌<◌, ◌≤◌, Bool, true, false, ◌&&◌, ◌==◌, Option, Some, None, is_none, List, [], ◌∷◌, ◌++◌}
+use Rattle.std.proofs.Common.{◌≡◌, ◌≢◌, ◌⊎◌, inl, inr, ℕ, zero, suc, ◌+◌, ◌<◌, ◌≤◌, Bool, true, false, ◌&&◌, ◌==◌, Option, Some, None, is_none, List}
+use Rattle.std.proofs.Common.{[], ◌∷◌, ◌++◌}
 use Rattle.std.proofs.Common.{length, take, get_or, refl, sym, ◌∙◌, ap, subst, arith, add-one, append_assoc, length-append}
 use Rattle.std.specs.Prelude.{IsTrue, if◌then◌else◌, Result, Ok, Err, OnErr}
 use Rattle.std.specs.List.{AllByRecursion}
@@ -110,7 +111,8 @@ before_next history (other ∷ asked) request =
     ]) ≢ []
     → (elim one as (λ _. ℕ) [ None ↦ before_adding history (asked ++ request ∷ []) + 1 | Some batch ↦ 0 ])
     ≡ (elim one as (λ _. ℕ) [ None ↦ before_adding history asked + 1 | Some batch ↦ 0 ]))) [
-      | None ↦ (λ none. ap (λ (n : ℕ). n + 1) ((before_next history asked request).0 none), λ some. ap (λ (n : ℕ). n + 1) ((before_next history asked request).1 some))
+      | None ↦ (λ none. ap (λ (n : ℕ). n + 1) ((before_next history asked request).0 none), λ some. ap (λ (n : ℕ). n + 1)
+          ((before_next history asked request).1 some))
       | Some batch ↦ (λ none. absurd cc, λ some. refl)
     ]
 
@@ -222,7 +224,8 @@ faults_follow faulty history (request ∷ requests) (reply ∷ said) after next 
           let more : before_adding history (request ∷ requests) ≡ n + 1 =
           ap (λ (o : Option Batch). elim o as (λ _. ℕ) [ None ↦ before_adding history requests + 1 | Some batch ↦ 0 ]) none in
           let same : added history (request ∷ requests) ≡ added history requests =
-          ap (λ (o : Option Batch). elim o as (λ _. List Batch) [ None ↦ added history requests | Some batch ↦ batch ∷ added (history ++ batch ∷ []) requests ]) none in
+          ap (λ (o : Option Batch). elim o as (λ _. List Batch) [ None ↦ added history requests | Some batch ↦ batch ∷ added (history ++ batch ∷ [])
+              requests ]) none in
           let count : first ≡ n + 1 = is ∙ more in
           subst (λ (l : List Reply). Serves faulty history (request ∷ requests) (l ++ faults) next)
           (sym (ap (λ (m : ℕ). take m (reply ∷ said)) count ∙ take_one_more n reply said))

@@ -1,5 +1,6 @@
 -- Histories with more batches behind them: what may be kept, what passes, and what is new.
-use Rattle.std.proofs.Common.{◌≡◌, ◌⊎◌, inl, inr, ℕ, suc, ◌+◌, ◌<◌, ◌≤◌, Bool, true, false, Option, Some, None, is_some, List, [], ◌∷◌, ◌++◌, length, take, drop}
+use Rattle.std.proofs.Common.{◌≡◌, ◌⊎◌, inl, inr, ℕ, suc, ◌+◌, ◌<◌, ◌≤◌, Bool, true, false, Option, Some, None, is_some, List, [], ◌∷◌, ◌++◌, length}
+use Rattle.std.proofs.Common.{take, drop}
 use Rattle.std.proofs.Common.{get_or, map, refl, sym, ◌∙◌, ap, subst, arith, append_assoc}
 use Rattle.std.specs.Prelude.{◌-◌, ◌↔◌, IsTrue, cond, slice_get}
 use Rattle.std.specs.List.{position_from}
@@ -128,7 +129,8 @@ standing_new history identities batch known none =
 -- ---- batches with room, one after the other
 
 -- the first of those with room that are left
-pub next_spare : (spare batches : List Batch) (i : ℕ) (batch : Batch) → take (length batches) spare ≡ batches → i < length batches → batch ≡ get_or batches i batch
+pub next_spare : (spare batches : List Batch) (i : ℕ) (batch : Batch) → take (length batches) spare ≡ batches → i < length batches
+    → batch ≡ get_or batches i batch
     → slice_get (drop i spare) 0 ≡ Some batch
 next_spare spare batches i batch roomy within is =
     let long = length-take (length batches) spare in

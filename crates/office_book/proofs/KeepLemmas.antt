@@ -1,5 +1,6 @@
 -- What one batch is answered.
-use Rattle.std.proofs.Common.{◌≡◌, ◌≢◌, ◌⊎◌, inl, inr, ℕ, ◌+◌, Bool, true, false, ◌&&◌, Option, Some, None, List, [], ◌∷◌, ◌++◌, length, refl, sym, ◌∙◌, ap, subst}
+use Rattle.std.proofs.Common.{◌≡◌, ◌≢◌, ◌⊎◌, inl, inr, ℕ, ◌+◌, Bool, true, false, ◌&&◌, Option, Some, None, List, [], ◌∷◌, ◌++◌, length, refl, sym}
+use Rattle.std.proofs.Common.{◌∙◌, ap, subst}
 use Rattle.std.specs.Prelude.{IsTrue, is_none, if◌then◌else◌, Result, Ok, Err, is_err, OnErr}
 use Rattle.std.proofs.lemmas.Bool.{false≢true}
 use Rattle.std.proofs.lemmas.List.{append-nil}
@@ -77,7 +78,8 @@ pub adds_one : (history : List Batch) (batch : Batch) → batch_added history (S
 adds_one history batch adds =
     ap (λ (o : Option Batch). elim o as (λ _. List Batch) [ None ↦ [] | Some more ↦ more ∷ [] ]) adds
 
-pub may_follow : (history : List Batch) (batch : Batch) → MayCome history [] → IsNew history batch → verdict_on history batch ≡ Pass → MayCome history (batch ∷ [])
+pub may_follow : (history : List Batch) (batch : Batch) → MayCome history [] → IsNew history batch → verdict_on history batch ≡ Pass
+    → MayCome history (batch ∷ [])
 may_follow history batch may new passes = record {
   kept = kept_more history batch (subst (λ (l : List Batch). IsKept l) (append-nil history) may.kept) new passes;
   ruly = ruly_more history batch (subst (λ (l : List Batch). IsTrue (is_ruly l)) (append-nil history) may.ruly) passes;

@@ -16,7 +16,8 @@ use Rattle.office_views.specs.Held.{Held}
 
 -- the batches of the journal and those in doubt are a ruly history; the archive has those of the journal, and room for those in doubt, of which there
 -- are copies; and what a crash may leave stands in this state
-pub record IsBook {D : Type 0} (content_of : D → Option (List ℕ)) (images_of : D → List ℕ → Type 0) (journal : Shelf D) (archive : Held) (copies : List Batch) : Type 0 where
+pub record IsBook {D : Type 0} (content_of : D → Option (List ℕ)) (images_of : D → List ℕ → Type 0) (journal : Shelf D) (archive : Held)
+    (copies : List Batch) : Type 0 where
   pub may_come : MayCome (batches_of journal.frames) journal.doubt
   pub adopted : archive.adopted ≡ batches_of journal.frames
   pub roomy : take (length journal.doubt) archive.spare ≡ journal.doubt

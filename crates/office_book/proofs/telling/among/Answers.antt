@@ -13,6 +13,7 @@ loop-other-preserved c =
     let was = c.loop-other.invariant in
     record {
       place = omega arith;
-      none = none_next c.args.first c.args.others.now c.args.batch.now c.loop-other.other-index c.other-item.result c.loop-other-test.true c.other-item.is was.none
+      none = none_next c.args.first c.args.others.now c.args.batch.now c.loop-other.other-index c.other-item.result c.loop-other-test.true c.other-item.is
+          was.none
           (sym c.has_identity_of.ensures.value ∙ c.if-has_identity_of.false);
     }

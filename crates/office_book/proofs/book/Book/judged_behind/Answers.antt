@@ -12,7 +12,8 @@ judged_behind-requires g c =
     let same : c.self.inside.archive.adopted ≡ history = c.self.invariant.adopted ∙ ap (λ s. batches_of s.frames) c.self.view_is in
     record {
       fits = subst (λ (l : List Batch). length (facts_of l) + c.facts_in.result ≤ 8_000_000) (sym same)
-          (subst (λ (n : ℕ). length (facts_of history) + n ≤ 8_000_000) (sym c.facts_in.ensures.value) (facts_fit history c.args.others.now c.requires.may_share));
+          (subst (λ (n : ℕ). length (facts_of history) + n ≤ 8_000_000) (sym c.facts_in.ensures.value)
+              (facts_fit history c.args.others.now c.requires.may_share));
     }
 
 pub returns : goal.returns
@@ -24,5 +25,6 @@ returns g c =
       value = c.judged_behind.ensures.value (history ++ others)
           (register_stays history others c.requires.may_share ∙ ap (λ (l : List Batch). register_facts (facts_of l)) (sym same))
           (subst (λ (l : List Batch). length (facts_of (history ++ others)) ≡ length (facts_of l) + c.facts_in.result) (sym same)
-          (subst (λ (n : ℕ). length (facts_of (history ++ others)) ≡ length (facts_of history) + n) (sym c.facts_in.ensures.value) (facts_behind history others)));
+          (subst (λ (n : ℕ). length (facts_of (history ++ others)) ≡ length (facts_of history) + n) (sym c.facts_in.ensures.value)
+              (facts_behind history others)));
     }

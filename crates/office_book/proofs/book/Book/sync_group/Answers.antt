@@ -15,7 +15,8 @@ returns-then-is_err-clause-value g c =
     let long : length c.reserve.new.self.items ≡ c.len-start.result = sym (c.len-start.ensures ∙ c.reserve.new.self.ok.0) in
     faults_group d.content d.images d.left d.clock d.name d.faults g.met.D.Disk.only_now c.args.self.now settle.new.self c.args.requests.now
     c.args.replies.now.items c.put_faults.new.replies.items c.requires.some c.requires.fits settle.ensures.moves
-    (from_err settle.result failed settle.ensures.cause) (from_err settle.result failed settle.ensures.doubt) (from_err settle.result failed settle.ensures.still)
+    (from_err settle.result failed settle.ensures.cause) (from_err settle.result failed settle.ensures.doubt)
+        (from_err settle.result failed settle.ensures.still)
     (c.put_faults.ensures.items ∙ ap (λ (l : List Reply). l ++ replicate (length c.args.requests.now) replied.Fault)
     (take_all c.len-start.result c.reserve.new.self.items (omega arith) ∙ c.reserve.ensures.items))
 

@@ -1,4 +1,5 @@
-use Rattle.std.proofs.Common.{◌≡◌, ◌≢◌, ◌⊎◌, inl, inr, ℕ, ◌+◌, ◌-◌, ◌≤◌, [], ◌∷◌, ◌++◌, List, length, take, replicate, refl, sym, ◌∙◌, ap, subst, arith, length-append}
+use Rattle.std.proofs.Common.{◌≡◌, ◌≢◌, ◌⊎◌, inl, inr, ℕ, ◌+◌, ◌-◌, ◌≤◌, [], ◌∷◌, ◌++◌, List, length, take, replicate, refl, sym, ◌∙◌, ap, subst}
+use Rattle.std.proofs.Common.{arith, length-append}
 use Rattle.std.proofs.lemmas.List.{append-nil}
 use Rattle.std.proofs.lemmas.Bool.Decides.{nat_tests}
 use Rattle.disk_model.specs.Faults.{Rose}
@@ -29,7 +30,8 @@ returns-then-is_empty-clause-serves g c =
       said,
       replies_stay c.args.replies.now.items front said c.args.start sorted.3 sorted.2,
       serves_whole (Rose faults faults) history (history ++ batches) c.args.requests.now said (state_of c.args.self.now) sorted.4.serves
-      (certain_state c.args.self.now history refl c.requires.settled ∙ ap certain (sym (append-nil history) ∙ ap (λ (l : List Batch). history ++ l) (sym empty))),
+      (certain_state c.args.self.now history refl c.requires.settled ∙ ap certain (sym (append-nil history)
+          ∙ ap (λ (l : List Batch). history ++ l) (sym empty))),
       sorted.4.ruled,
     )
 
