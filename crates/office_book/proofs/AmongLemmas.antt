@@ -88,8 +88,7 @@ pub standing_among : (history others : List Batch) (batch : Batch) (first positi
 standing_among history others batch first position same new is among =
     let behind = found_from (is_of (identity_of batch)) first others position among.stands in
     let after = behind.0 in
-    let place : position - 1 ≡ length history + (position - first) = omega arith in
-    (
+    let place : position - 1 ≡ length history + (position - first) = omega arith in (
       among.kept,
       (
         position_behind (is_of (identity_of batch)) 1 history others first (omega arith) new ∙ among.stands,

@@ -92,7 +92,7 @@ module _ {D : Type 0} (content_of : D → Option (List ℕ)) (images_of : D → 
   serves_group old middle new found (request ∷ requests) before after [] some few is_found one two serves puts ruled = absurd serves
   serves_group old middle new found (request ∷ requests) before after (reply ∷ said) some few is_found one two serves puts ruled =
       let each = serves_each (Rose (faults_of middle.disk) (faults_of new.disk)) (batches_of middle.frames) (request ∷ requests) (reply ∷ said)
-          (state_of new) serves in
+      (state_of new) serves in
       as_group old new (request ∷ requests) before after (reply ∷ said)
       (serves_call content_of images_of left_of clock_of name_of faults_of only_now (Rose (faults_of middle.disk) (faults_of new.disk)) old middle new found
       request requests reply said is_found one two (λ why. why) serves (omega arith) few) puts ruled

@@ -176,7 +176,7 @@ module _ {D : Type 0} (content_of : D → Option (List ℕ)) (images_of : D → 
         let one_more = length-append old.frames (batches ∷ []) in
         let long : length new.doubt ≡ 0 = ap length none in
         moves_by content_of images_of left_of clock_of name_of faults_of old new 1 (λ image. OpensToEither image old.frames batches)
-            (λ old new. length old ≤ length new)
+        (λ old new. length old ≤ length new)
         (λ image either. elim either [
           | inl before ↦ inl (inl (old.frames, refl, before))
           | inr after ↦ inr (inl (new.frames, refl, subst (λ (l : List (List Batch)). OpensTo image l) (sym frames) after))
@@ -192,7 +192,7 @@ module _ {D : Type 0} (content_of : D → Option (List ℕ)) (images_of : D → 
     moves_torn old new batches none frames doubt keeps grows leaves opens =
         let many = ap length frames in
         moves_by content_of images_of left_of clock_of name_of faults_of old new 1 (λ image. OpensToEither image old.frames batches)
-            (λ old new. length old ≤ length new)
+        (λ old new. length old ≤ length new)
         (λ image either. inr (stands_either image new.frames new.doubt
         (subst (λ (d : List Batch). OpensToEither image new.frames d) (sym doubt)
         (subst (λ (l : List (List Batch)). OpensToEither image l batches) (sym frames) either)))) keeps grows (omega arith) leaves opens

@@ -111,8 +111,11 @@ before_next history (other ∷ asked) request =
     ]) ≢ []
     → (elim one as (λ _. ℕ) [ None ↦ before_adding history (asked ++ request ∷ []) + 1 | Some batch ↦ 0 ])
     ≡ (elim one as (λ _. ℕ) [ None ↦ before_adding history asked + 1 | Some batch ↦ 0 ]))) [
-      | None ↦ (λ none. ap (λ (n : ℕ). n + 1) ((before_next history asked request).0 none), λ some. ap (λ (n : ℕ). n + 1)
-          ((before_next history asked request).1 some))
+      | None ↦ (
+        λ none. ap (λ (n : ℕ). n + 1) ((before_next history asked request).0 none),
+        λ some. ap (λ (n : ℕ). n + 1)
+            ((before_next history asked request).1 some),
+      )
       | Some batch ↦ (λ none. absurd cc, λ some. refl)
     ]
 
@@ -151,43 +154,37 @@ follow_none : (faulty : Type 0) (history : List Batch) (request : Request) (requ
     → (Serves ⊥ history requests said (certain after) → Serves faulty history requests replies next)
     → Serves faulty history (request ∷ requests) (reply ∷ replies) next
 follow_none faulty history request requests (Receipt handheld number position) said after replies next none serves rest =
-    let same = answers_same history request _ serves.0 none serves.1 in
-    (
+    let same = answers_same history request _ serves.0 none serves.1 in (
       history,
       subst (λ (l : List Batch). Answers history request (Receipt handheld number position) l) same serves.1,
       rest (subst (λ (l : List Batch). Serves ⊥ l requests said (certain after)) same serves.2),
     )
 follow_none faulty history request requests (Conflict position) said after replies next none serves rest =
-    let same = answers_same history request _ serves.0 none serves.1 in
-    (
+    let same = answers_same history request _ serves.0 none serves.1 in (
       history,
       subst (λ (l : List Batch). Answers history request (Conflict position) l) same serves.1,
       rest (subst (λ (l : List Batch). Serves ⊥ l requests said (certain after)) same serves.2),
     )
 follow_none faulty history request requests (Denied fact rule) said after replies next none serves rest =
-    let same = answers_same history request _ serves.0 none serves.1 in
-    (
+    let same = answers_same history request _ serves.0 none serves.1 in (
       history,
       subst (λ (l : List Batch). Answers history request (Denied fact rule) l) same serves.1,
       rest (subst (λ (l : List Batch). Serves ⊥ l requests said (certain after)) same serves.2),
     )
 follow_none faulty history request requests (Full facts) said after replies next none serves rest =
-    let same = answers_same history request _ serves.0 none serves.1 in
-    (
+    let same = answers_same history request _ serves.0 none serves.1 in (
       history,
       subst (λ (l : List Batch). Answers history request (Full facts) l) same serves.1,
       rest (subst (λ (l : List Batch). Serves ⊥ l requests said (certain after)) same serves.2),
     )
 follow_none faulty history request requests (Shown text) said after replies next none serves rest =
-    let same = answers_same history request _ serves.0 none serves.1 in
-    (
+    let same = answers_same history request _ serves.0 none serves.1 in (
       history,
       subst (λ (l : List Batch). Answers history request (Shown text) l) same serves.1,
       rest (subst (λ (l : List Batch). Serves ⊥ l requests said (certain after)) same serves.2),
     )
 follow_none faulty history request requests (NoSuch what) said after replies next none serves rest =
-    let same = answers_same history request _ serves.0 none serves.1 in
-    (
+    let same = answers_same history request _ serves.0 none serves.1 in (
       history,
       subst (λ (l : List Batch). Answers history request (NoSuch what) l) same serves.1,
       rest (subst (λ (l : List Batch). Serves ⊥ l requests said (certain after)) same serves.2),
@@ -224,8 +221,11 @@ faults_follow faulty history (request ∷ requests) (reply ∷ said) after next 
           let more : before_adding history (request ∷ requests) ≡ n + 1 =
           ap (λ (o : Option Batch). elim o as (λ _. ℕ) [ None ↦ before_adding history requests + 1 | Some batch ↦ 0 ]) none in
           let same : added history (request ∷ requests) ≡ added history requests =
-          ap (λ (o : Option Batch). elim o as (λ _. List Batch) [ None ↦ added history requests | Some batch ↦ batch ∷ added (history ++ batch ∷ [])
-              requests ]) none in
+          ap (λ (o : Option Batch). elim o as (λ _. List Batch) [
+            | None ↦ added history requests
+            | Some batch ↦ batch ∷ added (history ++ batch ∷ [])
+                requests
+          ]) none in
           let count : first ≡ n + 1 = is ∙ more in
           subst (λ (l : List Reply). Serves faulty history (request ∷ requests) (l ++ faults) next)
           (sym (ap (λ (m : ℕ). take m (reply ∷ said)) count ∙ take_one_more n reply said))
@@ -479,9 +479,9 @@ added_within history (request ∷ requests) =
   where
     by : (o : Option Batch) → length (added history requests) ≤ length requests
         → ((batch : Batch) → length (added (history ++ batch ∷ []) requests) ≤ length requests) → length (elim o as (λ _. List Batch) [
-      | None ↦ added history requests
-      | Some batch ↦ batch ∷ added (history ++ batch ∷ []) requests
-    ]) ≤ length (request ∷ requests)
+          | None ↦ added history requests
+          | Some batch ↦ batch ∷ added (history ++ batch ∷ []) requests
+        ]) ≤ length (request ∷ requests)
     by None none some = omega arith
     by (Some batch) none some = let rest = some batch in omega arith
 

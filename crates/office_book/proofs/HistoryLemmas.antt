@@ -112,8 +112,7 @@ pub standing_kept : (history : List Batch) (identities : List Identity) (batch :
 standing_kept history identities batch position same known found tells =
     let here : position_of (identity_of batch) history ≡ Some position =
     position_of-is (identity_of batch) history ∙ ap (λ (l : List Identity). position_in (identity_of batch) l) (sym known) ∙ found in
-    let there = found_from _ 1 history position here in
-    (
+    let there = found_from _ 1 history position here in (
       there.1,
       (here, there.2),
       λ yes. same_Some there.1 batch (sym there.2 ∙ tells.0 yes),

@@ -7,7 +7,9 @@ use std::test::Fail;
 
 // Handheld 7: one calibration on 2024-02-20 at 10:00, instrument 1, 500 ppm; batches 12 and 13, and 12 with 501 ppm.
 const TWELVE: [u8; 20] = *b"\x42\0\x07\0\0\0\x0c\0\x01\x07\x4d\x3d\x02\x58\0\x01\0\0\x01\xf4";
+
 const THIRTEEN: [u8; 20] = *b"\x42\0\x07\0\0\0\x0d\0\x01\x07\x4d\x3d\x02\x58\0\x01\0\0\x01\xf4";
+
 const CHANGED: [u8; 20] = *b"\x42\0\x07\0\0\0\x0c\0\x01\x07\x4d\x3d\x02\x58\0\x01\0\0\x01\xf5";
 
 // Handheld 7, batch 14: an attempt at component 1, which is not in the register.
@@ -167,8 +169,17 @@ fn why(alloc: Global, bytes: &[u8]) -> Result<Option<BookWhy>, Fail> {
 #[test]
 fn an_unruly_journal_is_refused_where_it_is_not_damaged(rt: HostRuntime) -> Result<(), Fail> {
     assert_eq!(rt; why(rt.alloc(), &EMPTY)?, None);
-    assert_eq!(rt; why(rt.alloc(), &UNRULY)?, Some(BookWhy::Unruly { position: 2, rule: 1 }));
-    assert_eq!(rt; why(rt.alloc(), &DAMAGED)?, Some(BookWhy::Damaged { at: 63 }));
+    assert_eq!(rt;
+        why(rt.alloc(), &UNRULY)?,
+        Some(BookWhy::Unruly {
+            position: 2,
+            rule: 1
+        })
+    );
+    assert_eq!(rt;
+        why(rt.alloc(), &DAMAGED)?,
+        Some(BookWhy::Damaged { at: 63 })
+    );
     assert_eq!(rt; why(rt.alloc(), b"LDARJNL2")?, Some(BookWhy::NotAJournal));
     Ok(())
 }

@@ -19,8 +19,8 @@ returns-in-None c =
     record {
       value = (
         subst (λ (h : Held). IsNew h.adopted c.args.batch.now) c.self.view_is
-        (standing_new c.self.inside.views.adopted known c.args.batch.now c.self.invariant.known
-        (ap (λ i. position_in i known) (sym c.identity.ensures.value) ∙ sym c.in-None.ensures.value)),
+            (standing_new c.self.inside.views.adopted known c.args.batch.now c.self.invariant.known
+            (ap (λ i. position_in i known) (sym c.identity.ensures.value) ∙ sym c.in-None.ensures.value)),
         sym c.judged.ensures.value,
       );
     }

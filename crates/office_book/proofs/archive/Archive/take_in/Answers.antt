@@ -28,7 +28,7 @@ adopt-requires-clause-may_come c =
     let was = c.loop-batch.invariant in
     let within = c.loop-batch-test.true in
     let passes = passes_next batches i batch c.loop-batch.self.adopted within c.batch-item.is c.requires.kept was.adopted
-        (c.in-None.ensures.passes (search rules)) in
+    (c.in-None.ensures.passes (search rules)) in
     subst (λ (l : List Batch). MayCome c.loop-batch.self.adopted l) (sym c.from_ref.ensures.value)
     (subst (λ (l : List Batch). MayCome l (batch ∷ [])) (sym was.adopted)
     (may_come_next batches i batch within c.batch-item.is c.requires.kept was.ruly passes))
@@ -41,7 +41,7 @@ loop-batch-preserved c =
     let was = c.loop-batch.invariant in
     let within = c.loop-batch-test.true in
     let passes = passes_next batches i batch c.loop-batch.self.adopted within c.batch-item.is c.requires.kept was.adopted
-        (c.in-None.ensures.passes (search rules)) in
+    (c.in-None.ensures.passes (search rules)) in
     record {
       adopted = c.adopt.ensures.adopted ∙ ap (λ (l : List Batch). l ++ c.from_ref.result.now) was.adopted
           ∙ ap (λ (l : List Batch). take i batches ++ l) c.from_ref.ensures.value ∙ sym (next_one batches i batch within c.batch-item.is);

@@ -13,7 +13,7 @@ judged_behind-requires g c =
     record {
       fits = subst (λ (l : List Batch). length (facts_of l) + c.facts_in.result ≤ 8_000_000) (sym same)
           (subst (λ (n : ℕ). length (facts_of history) + n ≤ 8_000_000) (sym c.facts_in.ensures.value)
-              (facts_fit history c.args.others.now c.requires.may_share));
+          (facts_fit history c.args.others.now c.requires.may_share));
     }
 
 pub returns : goal.returns
@@ -26,5 +26,5 @@ returns g c =
           (register_stays history others c.requires.may_share ∙ ap (λ (l : List Batch). register_facts (facts_of l)) (sym same))
           (subst (λ (l : List Batch). length (facts_of (history ++ others)) ≡ length (facts_of l) + c.facts_in.result) (sym same)
           (subst (λ (n : ℕ). length (facts_of (history ++ others)) ≡ length (facts_of history) + n) (sym c.facts_in.ensures.value)
-              (facts_behind history others)));
+          (facts_behind history others)));
     }

@@ -15,13 +15,12 @@ returns-in-Err-clause-serves g c =
     let history = batches_of c.args.self.now.frames in
     let begun = c.in-Err.ensures.begun in
     let left = c.leave_unwritten.ensures.unwritten in
-    let long : length c.args.replies.now.items ≡ c.len-start.result = sym (c.len-start.ensures ∙ c.args.replies.now.ok.0) in
-    (
+    let long : length c.args.replies.now.items ≡ c.len-start.result = sym (c.len-start.ensures ∙ c.args.replies.now.ok.0) in (
       left.0,
       left.1 ∙ ap (λ (l : List Reply). l ++ left.0)
-      (take_front c.sort_out.new.replies.items c.args.replies.now.items begun.0 c.len-start.result begun.1 long),
+          (take_front c.sort_out.new.replies.items c.args.replies.now.items begun.0 c.len-start.result begun.1 long),
       serves_whole (Rose faults faults) history history c.args.requests.now left.0 (state_of c.args.self.now) left.2.serves
-      (certain_state c.args.self.now history refl c.requires.settled),
+          (certain_state c.args.self.now history refl c.requires.settled),
       left.2.ruled,
     )
 

@@ -12,9 +12,9 @@ loop-request-preserved g c =
       said = (
         said ++ reply ∷ [],
         replies_next c.push_reserved.new.self.items c.loop-request.replies.items (take c.args.start c.args.replies.now.items) said reply
-        c.push_reserved.ensures.items was.said.1,
+            c.push_reserved.ensures.items was.said.1,
         unwritten_at (batches_of c.args.self.now.frames) c.args.requests.now c.loop-request.request-index c.request-item.result c.in-Sync.batch said reply
-        c.loop-request-test.true c.request-item.is c.in-Sync.is was.said.2 c.said_alone.ensures.serves c.said_alone.ensures.ruled,
+            c.loop-request-test.true c.request-item.is c.in-Sync.is was.said.2 c.said_alone.ensures.serves c.said_alone.ensures.ruled,
       );
       long = omega (arith, c.push_reserved.ensures.len);
       capacity = c.push_reserved.ensures.capacity ∙ was.capacity;

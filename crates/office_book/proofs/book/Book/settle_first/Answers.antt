@@ -31,7 +31,7 @@ invariant_of-self-in-Gone g c =
     let d = g.D.Disk in
     let settle = c.in_ok-settle.ensures in
     book_gone d.content d.images c.self.inside.journal c.settle.new.self c.self.inside.archive c.self.inside.copies.items c.clear-in-Gone.new.self.items
-        c.self.invariant
+    c.self.invariant
     (settle.gone (ap Ok c.in-Gone.is)) settle.settled c.clear-in-Gone.ensures.items c.settle.ensures.images
 
 pub returns-in-Stands-clause-moves : goal.returns-in-Stands-clause-moves

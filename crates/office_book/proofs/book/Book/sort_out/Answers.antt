@@ -49,7 +49,7 @@ loop-request-preserved g c =
         said ++ reply ∷ [],
         replies_next c.push_reserved.new.self.items c.loop-request.replies.items c.args.replies.now.items said reply c.push_reserved.ensures.items was.sorted.1,
         sorted_at history c.args.requests.now i c.request-item.result c.in-Sync.batch said reply old new first more c.loop-request-test.true c.request-item.is
-        c.in-Sync.is was.sorted.2 told none some,
+            c.in-Sync.is was.sorted.2 told none some,
       );
       few = omega arith;
       before = more_within new first more i was.before none some;

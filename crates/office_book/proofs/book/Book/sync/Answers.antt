@@ -27,7 +27,7 @@ returns-clause-value g c =
     let found = from_ok settle.result (sym c.is_err.ensures.value ∙ c.if-is_err.false) settle.ensures.found in
     serves_call d.content d.images d.left d.clock d.name d.faults g.met.D.Disk.only_now (Rose (d.faults settle.new.self.disk) (d.faults c.keep.new.self.disk))
     c.args.self.now settle.new.self c.keep.new.self found.0 (requests.Sync c.args.batch.now) [] c.keep.result [] found.1 settle.ensures.moves
-        c.keep.ensures.moves
+    c.keep.ensures.moves
     (λ why. why) c.keep.ensures.serves refl (omega arith)
 
 pub returns-clause-ruled : goal.returns-clause-ruled

@@ -16,7 +16,7 @@ returns-then-is_err-clause-value g c =
     faults_group d.content d.images d.left d.clock d.name d.faults g.met.D.Disk.only_now c.args.self.now settle.new.self c.args.requests.now
     c.args.replies.now.items c.put_faults.new.replies.items c.requires.some c.requires.fits settle.ensures.moves
     (from_err settle.result failed settle.ensures.cause) (from_err settle.result failed settle.ensures.doubt)
-        (from_err settle.result failed settle.ensures.still)
+    (from_err settle.result failed settle.ensures.still)
     (c.put_faults.ensures.items ∙ ap (λ (l : List Reply). l ++ replicate (length c.args.requests.now) replied.Fault)
     (take_all c.len-start.result c.reserve.new.self.items (omega arith) ∙ c.reserve.ensures.items))
 

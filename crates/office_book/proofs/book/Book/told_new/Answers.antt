@@ -15,7 +15,7 @@ told_behind-requires-clause-is_new g c =
     let first = c.counts-count.result.0 + 1 in
     new_behind history c.args.others.now.items c.args.batch.now first c.requires.is_new (ap (λ (n : ℕ). n + 1) c.counts-count.ensures.batches)
     (subst (λ (l : List Batch). position_from (is_of (identity_of c.args.batch.now)) first l ≡ None) c.deref.ensures.value
-        (c.in-None.ensures.none (search rules)))
+    (c.in-None.ensures.none (search rules)))
 
 pub returns-in-Some : goal.returns-in-Some
 returns-in-Some g c =

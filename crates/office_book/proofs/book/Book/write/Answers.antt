@@ -116,12 +116,11 @@ invariant_of-self-then-this g c =
 
 pub returns-in-Err-true-clause-value : goal.returns-in-Err-true-clause-value
 returns-in-Err-true-clause-value g c =
-    let torn = c.in-Err-true.ensures in
-    (
+    let torn = c.in-Err-true.ensures in (
       subst (λ s. Rose (g.D.Disk.faults s.disk) (g.D.Disk.faults c.append.new.self.disk)) c.self.view_is torn.cause,
       inr (doubtful_state c.append.new.self (batches_of c.args.self.now.frames) c.args.batches.items
-      (ap batches_of torn.not_added ∙ ap (λ s. batches_of s.frames) c.self.view_is)
-      (torn.in_doubt (search rules) ∙ c.in-Ok.ensures.frame ∙ c.as_slice-added.ensures.value)),
+          (ap batches_of torn.not_added ∙ ap (λ s. batches_of s.frames) c.self.view_is)
+          (torn.in_doubt (search rules) ∙ c.in-Ok.ensures.frame ∙ c.as_slice-added.ensures.value)),
     )
 
 pub returns-in-Err-true-clause-moves : goal.returns-in-Err-true-clause-moves
@@ -151,11 +150,10 @@ invariant_of-self-else-this g c =
 
 pub returns-in-Err-false-clause-value : goal.returns-in-Err-false-clause-value
 returns-in-Err-false-clause-value g c =
-    let torn = c.in-Err-false.ensures in
-    (
+    let torn = c.in-Err-false.ensures in (
       subst (λ s. Rose (g.D.Disk.faults s.disk) (g.D.Disk.faults c.append.new.self.disk)) c.self.view_is torn.cause,
       inl (certain_state c.append.new.self (batches_of c.args.self.now.frames)
-      (ap batches_of torn.not_added ∙ ap (λ s. batches_of s.frames) c.self.view_is) (torn.gate_shut (search rules))),
+          (ap batches_of torn.not_added ∙ ap (λ s. batches_of s.frames) c.self.view_is) (torn.gate_shut (search rules))),
     )
 
 pub returns-in-Err-false-clause-moves : goal.returns-in-Err-false-clause-moves

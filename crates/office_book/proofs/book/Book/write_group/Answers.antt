@@ -25,12 +25,11 @@ returns-then-is_empty-clause-serves g c =
     let front = sorted.0 in
     let said = sorted.1 in
     let batches = c.args.sorted.batches.items in
-    let empty = none_held batches c.args.sorted.batches.len c.args.sorted.batches.ok.0 (sym c.is_empty.ensures ∙ c.if-is_empty.true) in
-    (
+    let empty = none_held batches c.args.sorted.batches.len c.args.sorted.batches.ok.0 (sym c.is_empty.ensures ∙ c.if-is_empty.true) in (
       said,
       replies_stay c.args.replies.now.items front said c.args.start sorted.3 sorted.2,
       serves_whole (Rose faults faults) history (history ++ batches) c.args.requests.now said (state_of c.args.self.now) sorted.4.serves
-      (certain_state c.args.self.now history refl c.requires.settled ∙ ap certain (sym (append-nil history)
+          (certain_state c.args.self.now history refl c.requires.settled ∙ ap certain (sym (append-nil history)
           ∙ ap (λ (l : List Batch). history ++ l) (sym empty))),
       sorted.4.ruled,
     )
@@ -78,12 +77,11 @@ pub returns-in-Stands-clause-serves : goal.returns-in-Stands-clause-serves
 returns-in-Stands-clause-serves g c =
     let faulty = Rose (g.D.Disk.faults c.args.self.now.disk) (g.D.Disk.faults c.write.new.self.disk) in
     let history = batches_of c.args.self.now.frames in
-    let sorted = c.requires.sorted in
-    (
+    let sorted = c.requires.sorted in (
       sorted.1,
       replies_stay c.args.replies.now.items sorted.0 sorted.1 c.args.start sorted.3 sorted.2,
       serves_whole faulty history (history ++ c.args.sorted.batches.items) c.args.requests.now sorted.1 (state_of c.write.new.self) sorted.4.serves
-      c.in-Stands.ensures.value,
+          c.in-Stands.ensures.value,
       sorted.4.ruled,
     )
 
@@ -104,13 +102,12 @@ returns-in-Fault-clause-serves g c =
     let is = sorted.4.before in
     let many = faults_each left in
     let full = some_held batches c.args.sorted.batches.len c.args.sorted.batches.ok.0 (sym c.is_empty.ensures ∙ c.if-is_empty.false) in
-    let wrote = c.in-Fault.ensures.value in
-    (
+    let wrote = c.in-Fault.ensures.value in (
       take first said ++ faults,
       replies_cut c.args.replies.now.items sorted.0 said c.put_faults.new.replies.items faults c.args.start first sorted.3 sorted.2 c.put_faults.ensures.items,
       faults_follow faulty history c.args.requests.now said (history ++ batches) next first faults sorted.4.serves is wrote.0
-      (subst (λ (l : List Batch). (next ≡ certain history) ⊎ (next ≡ uncertain history l)) (sym sorted.4.adds) wrote.1)
-      (λ empty. full (sym sorted.4.adds ∙ empty)) (faults_are left) (omega arith),
+          (subst (λ (l : List Batch). (next ≡ certain history) ⊎ (next ≡ uncertain history l)) (sym sorted.4.adds) wrote.1)
+          (λ empty. full (sym sorted.4.adds ∙ empty)) (faults_are left) (omega arith),
       cut_ruled first said faults sorted.4.ruled (faults_ruled left),
     )
 
