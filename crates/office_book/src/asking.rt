@@ -1,9 +1,13 @@
 ghost use Rattle.std.specs.Prelude.{◌≡◌, ◌<◌, ◌≤◌, [], ◌∷◌, ◌++◌, length, OnOk, OnErr};
 ghost use Rattle.std.specs.List.{AllByRecursion};
 ghost use Rattle.ldar_facts.specs.declared.limits.TheConstants.{FRAME_BATCHES};
+ghost use Rattle.ldar_journal.specs.Crash.{AnswersInRoom};
+ghost use Rattle.ldar_journal.specs.Image.{batches_of};
 ghost use Rattle.ldar_law.specs.Machine.{Call};
 ghost use Rattle.office_book.specs.Asking.{requests_of, replies_of, IsFromHandheld, HasRule};
+ghost use Rattle.office_book.specs.Room.{HasRoom, PutsNoFault};
 ghost use Rattle.office_book.specs.Safe.{Leads};
+ghost use Rattle.office_book.specs.Serving.{added};
 
 use crate::Memory;
 use crate::book::Book;
@@ -30,6 +34,11 @@ impl<D: Disk> Book<D> {
             × AllByRecursion HasRule (replies_of call)
             × (call.end.clock ≤ D.clock self.new.disk)) }
         ensures unchanged { OnErr result ((self.new ≡ self.old) × (replies.new.items ≡ replies.old.items)) }
+
+        // Over a disk with told room, with nothing in doubt before.
+        ensures roomy { AnswersInRoom D.room D.clock 6 self.old.disk self.new.disk
+            (λ room. self.old.doubt ≡ [] → HasRoom self.old.frames (added (batches_of self.old.frames) requests.now) room
+            → PutsNoFault replies.old.items replies.new.items) }
     {
         replies.reserve(requests.len())?;
         if self.settle_first().is_err() {

@@ -2,6 +2,7 @@ ghost use Rattle.std.specs.Prelude.{◌≡◌, ◌≢◌, ℕ, ◌+◌, ◌<◌,
 ghost use Rattle.std.specs.List.{AllByRecursion};
 ghost use Rattle.disk_model.specs.Faults.{Rose};
 ghost use Rattle.ldar_facts.specs.declared.limits.TheConstants.{FRAME_BATCHES};
+ghost use Rattle.ldar_journal.specs.Crash.{AnswersInRoom};
 ghost use Rattle.ldar_journal.specs.Image.{batches_of};
 ghost use Rattle.ldar_law.specs.declared.reply.Reply.{Reply as LawReply};
 ghost use Rattle.ldar_law.specs.declared.reply.Reply.TheVariants as replied;
@@ -9,8 +10,9 @@ ghost use Rattle.ldar_law.specs.declared.request.Request.TheVariants as asked;
 ghost use Rattle.office_book.specs.Asking.{IsFromHandheld, HasRule};
 ghost use Rattle.office_book.specs.Grouped.{IsSorted, IsUnwritten};
 ghost use Rattle.office_book.specs.Moves.{Moves};
+ghost use Rattle.office_book.specs.Room.{HasRoom, PutsNoFault};
 ghost use Rattle.office_book.specs.Safe.{state_of};
-ghost use Rattle.office_book.specs.Serving.{certain, Serves};
+ghost use Rattle.office_book.specs.Serving.{certain, added, Serves};
 
 use crate::Memory;
 use crate::book::Book;
@@ -44,6 +46,8 @@ impl<D: Disk> Book<D> {
             × Serves (Rose (D.faults self.old.disk) (D.faults self.new.disk)) (batches_of self.old.frames) requests.now said (state_of self.new)
             × AllByRecursion HasRule said }
         ensures moves { Moves D.content D.images D.left D.clock D.name D.faults self.old self.new 1 }
+        ensures roomy { AnswersInRoom D.room D.clock 4 self.old.disk self.new.disk
+            (λ room. HasRoom self.old.frames (added (batches_of self.old.frames) requests.now) room → PutsNoFault replies.old.items replies.new.items) }
     {
         // What the office keeps is known from here on.
         let _ = &self.journal;
@@ -104,6 +108,8 @@ impl<D: Disk> Book<D> {
             × Serves (Rose (D.faults self.old.disk) (D.faults self.new.disk)) (batches_of self.old.frames) requests.now said (state_of self.new)
             × AllByRecursion HasRule said }
         ensures moves { Moves D.content D.images D.left D.clock D.name D.faults self.old self.new 1 }
+        ensures roomy { AnswersInRoom D.room D.clock 4 self.old.disk self.new.disk
+            (λ room. HasRoom self.old.frames sorted.batches.items room → PutsNoFault (take start replies.old.items) replies.new.items) }
     {
         let Sorted { batches, first } = sorted;
         // What the office keeps is known from here on.

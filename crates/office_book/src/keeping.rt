@@ -1,5 +1,6 @@
 ghost use Rattle.std.specs.Prelude.{◌≡◌, ◌≤◌, [], ◌∷◌, IfSome, IsNone};
 ghost use Rattle.disk_model.specs.Faults.{Rose};
+ghost use Rattle.ldar_journal.specs.Crash.{AnswersInRoom};
 ghost use Rattle.ldar_journal.specs.Image.{batches_of};
 ghost use Rattle.ldar_law.specs.declared.request.Request.TheVariants as requests;
 ghost use Rattle.ldar_law.specs.declared.verdict.Verdict.TheVariants as verdicts;
@@ -10,6 +11,7 @@ ghost use Rattle.office_book.specs.Asking.{requests_of, replies_of, HasRule};
 ghost use Rattle.office_book.specs.Grouped.{IsSaid};
 ghost use Rattle.office_book.specs.Kept.{kept_reply};
 ghost use Rattle.office_book.specs.Moves.{Moves};
+ghost use Rattle.office_book.specs.Room.{HasRoom, IsNoFault};
 ghost use Rattle.office_book.specs.Safe.{Leads, state_of};
 ghost use Rattle.office_book.specs.Serving.{Serves};
 
@@ -32,6 +34,10 @@ impl<D: Disk> Book<D> {
             × (requests_of call ≡ requests.Sync batch.now ∷ []) × (replies_of call ≡ result ∷ [])
             × (call.end.clock ≤ D.clock self.new.disk) }
         ensures ruled { HasRule result }
+
+        // Over a disk with told room, with nothing in doubt before.
+        ensures roomy { AnswersInRoom D.room D.clock 6 self.old.disk self.new.disk
+            (λ room. self.old.doubt ≡ [] → HasRoom self.old.frames (batch.now ∷ []) room → IsNoFault result) }
     {
         if self.settle_first().is_err() {
             return Reply::Fault;
@@ -45,6 +51,8 @@ impl<D: Disk> Book<D> {
         ensures serves { Serves (Rose (D.faults self.old.disk) (D.faults self.new.disk)) (batches_of self.old.frames) (requests.Sync batch.now ∷ []) (result ∷ [])
             (state_of self.new) }
         ensures moves { Moves D.content D.images D.left D.clock D.name D.faults self.old self.new 1 }
+        ensures roomy { AnswersInRoom D.room D.clock 4 self.old.disk self.new.disk
+            (λ room. HasRoom self.old.frames (batch.now ∷ []) room → IsNoFault result) }
         ensures ruled { HasRule result }
     {
         // What the office keeps is known from here on.
@@ -84,6 +92,8 @@ impl<D: Disk> Book<D> {
         ensures serves { Serves (Rose (D.faults self.old.disk) (D.faults self.new.disk)) (batches_of self.old.frames) (requests.Sync batch.now ∷ []) (result ∷ [])
             (state_of self.new) }
         ensures moves { Moves D.content D.images D.left D.clock D.name D.faults self.old self.new 1 }
+        ensures roomy { AnswersInRoom D.room D.clock 4 self.old.disk self.new.disk
+            (λ room. HasRoom self.old.frames (batch.now ∷ []) room → IsNoFault result) }
         ensures ruled { HasRule result }
     {
         // What the office keeps is known from here on.

@@ -1,5 +1,6 @@
-ghost use Rattle.std.specs.Prelude.{◌≡◌, ◌≢◌, [], OnOk, OnErr};
+ghost use Rattle.std.specs.Prelude.{◌≡◌, ◌≢◌, [], OnOk, OnErr, IsOk};
 ghost use Rattle.disk_model.specs.Faults.{Rose};
+ghost use Rattle.ldar_journal.specs.Crash.{AnswersInRoom};
 ghost use Rattle.ldar_law.specs.Machine.{Finding};
 ghost use Rattle.office_book.specs.Moves.{Moves};
 ghost use Rattle.office_book.specs.Safe.{state_of};
@@ -17,6 +18,8 @@ impl<D: Disk> Book<D> {
         ensures doubt { OnErr result (self.old.doubt ≢ []) }
         ensures still { OnErr result (state_of self.new ≡ state_of self.old) }
         ensures moves { Moves D.content D.images D.left D.clock D.name D.faults self.old self.new 0 }
+        ensures nothing { self.old.doubt ≡ [] → self.new ≡ self.old }
+        ensures roomy { AnswersInRoom D.room D.clock 2 self.old.disk self.new.disk (λ _. IsOk result) }
         ensures cause { OnErr result (Rose (D.faults self.old.disk) (D.faults self.new.disk)) }
     {
         if !self.journal.settling() {

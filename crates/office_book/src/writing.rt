@@ -1,10 +1,12 @@
-ghost use Rattle.std.specs.Prelude.{◌≡◌, ◌<◌, ◌≤◌, [], length, IfOk, OnOk};
+ghost use Rattle.std.specs.Prelude.{◌≡◌, ◌≢◌, ◌<◌, ◌≤◌, [], length, IfOk, OnOk};
 ghost use Rattle.disk_model.specs.Faults.{Rose};
 ghost use Rattle.ldar_facts.specs.declared.limits.TheConstants.{FRAME_BATCHES};
+ghost use Rattle.ldar_journal.specs.Crash.{AnswersInRoom};
 ghost use Rattle.ldar_journal.specs.Image.{batches_of};
 ghost use Rattle.office_book.specs.Archive.{MayCome};
 ghost use Rattle.office_book.specs.Kept.{IsWritten};
 ghost use Rattle.office_book.specs.Moves.{Moves};
+ghost use Rattle.office_book.specs.Room.{HasRoom};
 ghost use Rattle.office_book.specs.Safe.{state_of};
 
 use crate::Memory;
@@ -34,6 +36,8 @@ impl<D: Disk> Book<D> {
         ensures value { IsWritten (Rose (D.faults self.old.disk) (D.faults self.new.disk)) (batches_of self.old.frames) batches.items result
             (state_of self.new) }
         ensures moves { Moves D.content D.images D.left D.clock D.name D.faults self.old self.new 1 }
+        ensures roomy { AnswersInRoom D.room D.clock 4 self.old.disk self.new.disk
+            (λ room. HasRoom self.old.frames batches.items room → result ≢ Written.Fault) }
     {
         let added = batches.as_slice();
         let Ok(frame) = make_ready(alloc, &mut self.archive, added) else {

@@ -2,14 +2,17 @@ use Rattle.std.proofs.Common.{◌≡◌, [], ◌∷◌, ◌++◌, List, length, 
 use Rattle.disk_model.specs.Faults.{Rose}
 use Rattle.ldar_facts.specs.declared.batch.Batch.{Batch}
 use Rattle.ldar_journal.specs.Image.{batches_of}
+use Rattle.ldar_journal.proofs.CrashLemmas.{AnswersInRoom-weaker}
 use Rattle.office_book.specs.Archive.{MayCome}
 use Rattle.office_book.specs.declared.writing.Written.TheVariants as written
 use Rattle.office_book.specs.Kept.{IsWritten}
 use Rattle.office_book.specs.Moves.{Moves}
+use Rattle.office_book.specs.Room.{HasRoom}
 use Rattle.office_book.specs.Safe.{state_of}
 use Rattle.office_book.proofs.BookLemmas.{may_stay, certain_state}
 use Rattle.office_book.proofs.KeepLemmas.{may_follow, receipted, faulted, wanted}
 use Rattle.office_book.proofs.MoveLemmas.{moves_nothing}
+use Rattle.office_book.proofs.RoomLemmas.{room_stays}
 use Rattle.office_book.proofs.book.Book.add.Goals as goal
 
 pub from_ref-requires : goal.from_ref-requires
@@ -92,3 +95,24 @@ returns-in-Memory-clause-moves g c = c.write.ensures.moves
 
 pub returns-in-Memory-clause-ruled : goal.returns-in-Memory-clause-ruled
 returns-in-Memory-clause-ruled g c = tt
+
+-- over a disk with told room
+
+pub returns-in_default-clause-roomy : goal.returns-in_default-clause-roomy
+returns-in_default-clause-roomy g c = room_stays g.D.Disk.room g.D.Disk.clock 4 c.args.self.now.disk _ (λ room has is. cc)
+
+pub returns-in-Stands-clause-roomy : goal.returns-in-Stands-clause-roomy
+returns-in-Stands-clause-roomy g c =
+    AnswersInRoom-weaker g.D.Disk.room g.D.Disk.clock 4 4 c.args.self.now.disk c.write.new.self.disk _ _ (omega arith) (λ room kept has is. cc)
+    c.write.ensures.roomy
+
+pub returns-in-Fault-clause-roomy : goal.returns-in-Fault-clause-roomy
+returns-in-Fault-clause-roomy g c =
+    let same = c.in-Ok.ensures.value ∙ c.from_ref.ensures.value in
+    AnswersInRoom-weaker g.D.Disk.room g.D.Disk.clock 4 4 c.args.self.now.disk c.write.new.self.disk _ _ (omega arith)
+    (λ room kept has is. kept (subst (λ (l : List Batch). HasRoom c.args.self.now.frames l room) (sym same) has) refl) c.in-Fault.ensures.roomy
+
+pub returns-in-Memory-clause-roomy : goal.returns-in-Memory-clause-roomy
+returns-in-Memory-clause-roomy g c =
+    AnswersInRoom-weaker g.D.Disk.room g.D.Disk.clock 4 4 c.args.self.now.disk c.write.new.self.disk _ _ (omega arith) (λ room kept has is. cc)
+    c.write.ensures.roomy

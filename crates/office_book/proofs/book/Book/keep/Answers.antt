@@ -1,11 +1,15 @@
 use Rattle.std.proofs.Common.{[], refl, subst, sym, ap, rules}
 use Rattle.disk_model.specs.Faults.{Rose}
 use Rattle.ldar_journal.specs.Image.{batches_of}
+use Rattle.ldar_law.specs.declared.reply.Reply.{Reply}
+use Rattle.ldar_law.specs.declared.request.Request.TheVariants as requests
+use Rattle.ldar_law.specs.Machine.{Answers}
 use Rattle.office_book.specs.Moves.{Moves}
 use Rattle.office_book.specs.Safe.{state_of}
 use Rattle.office_book.proofs.BookLemmas.{certain_state}
 use Rattle.office_book.proofs.KeepLemmas.{serves_said}
 use Rattle.office_book.proofs.MoveLemmas.{moves_nothing}
+use Rattle.office_book.proofs.RoomLemmas.{room_stays}
 use Rattle.office_book.proofs.book.Book.keep.Goals as goal
 
 pub returns-in-Some-clause-serves : goal.returns-in-Some-clause-serves
@@ -39,3 +43,12 @@ returns-in-None-clause-moves g c = c.add.ensures.moves
 
 pub returns-in-None-clause-ruled : goal.returns-in-None-clause-ruled
 returns-in-None-clause-ruled g c = c.add.ensures.ruled
+
+pub returns-in-Some-clause-roomy : goal.returns-in-Some-clause-roomy
+returns-in-Some-clause-roomy g c =
+    let history = batches_of c.args.self.now.frames in
+    room_stays g.D.Disk.room g.D.Disk.clock 4 c.args.self.now.disk _
+    (λ room has is. subst (λ (r : Reply). Answers history (requests.Sync c.args.batch.now) r history) is c.in-Some.ensures.said.answers)
+
+pub returns-in-None-clause-roomy : goal.returns-in-None-clause-roomy
+returns-in-None-clause-roomy g c = c.add.ensures.roomy

@@ -1,7 +1,9 @@
-use Rattle.std.proofs.Common.{[], ◌∷◌, refl, sym, ◌∙◌, arith}
+use Rattle.std.proofs.Common.{◌≡◌, ℕ, List, ap, subst, [], ◌∷◌, refl, sym, ◌∙◌, arith}
 use Rattle.disk_model.specs.Faults.{Rose}
 use Rattle.ldar_journal.proofs.ShelfLemmas.{from_ok}
 use Rattle.ldar_law.specs.declared.request.Request.TheVariants as requests
+use Rattle.ldar_journal.proofs.CrashLemmas.{AnswersInRoom-weaker, AnswersInRoom-joins, not_err}
+use Rattle.office_book.specs.Room.{HasRoom, IsNoFault}
 use Rattle.office_book.proofs.KeepLemmas.{from_err}
 use Rattle.office_book.proofs.MoveLemmas.{serves_call, faults_call}
 use Rattle.office_book.proofs.book.Book.sync.Goals as goal
@@ -32,3 +34,19 @@ returns-clause-value g c =
 
 pub returns-clause-ruled : goal.returns-clause-ruled
 returns-clause-ruled g c = c.keep.ensures.ruled
+
+-- over a disk with told room
+
+pub returns-then-is_err-clause-roomy : goal.returns-then-is_err-clause-roomy
+returns-then-is_err-clause-roomy g c =
+    let settle = c.settle_first in
+    let failed = sym c.is_err.ensures.value ∙ c.if-is_err.true in
+    AnswersInRoom-weaker g.D.Disk.room g.D.Disk.clock 2 6 c.args.self.now.disk settle.new.self.disk _ _ (omega arith)
+    (λ room went none has is. not_err settle.result failed went) settle.ensures.roomy
+
+pub returns-clause-roomy : goal.returns-clause-roomy
+returns-clause-roomy g c =
+    let settle = c.settle_first in
+    AnswersInRoom-joins g.D.Disk.room g.D.Disk.clock 2 4 c.args.self.now.disk settle.new.self.disk c.keep.new.self.disk _ _ _
+    (λ room went kept none has. kept (subst (λ s. HasRoom s.frames (c.args.batch.now ∷ []) room) (sym (settle.ensures.nothing none)) has))
+    settle.ensures.roomy c.keep.ensures.roomy

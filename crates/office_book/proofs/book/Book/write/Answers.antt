@@ -1,16 +1,22 @@
-use Rattle.std.proofs.Common.{◌≡◌, inl, inr, [], ◌∷◌, ◌++◌, List, length, take, refl, sym, ◌∙◌, ap, subst, arith, rules}
+use Rattle.std.proofs.Common.{◌≡◌, inl, inr, [], ◌∷◌, ◌++◌, ℕ, ◌+◌, ◌≤◌, ◌≢◌, List, length, take, refl, sym, ◌∙◌, ap, subst, arith, rules}
+use Rattle.std.proofs.lemmas.Bool.{false≢true}
 use Rattle.std.proofs.lemmas.List.{take_all}
 use Rattle.disk_model.specs.Faults.{Rose}
 use Rattle.ldar_facts.specs.declared.batch.Batch.{Batch}
-use Rattle.ldar_journal.specs.Image.{batches_of, IsKept}
+use Rattle.ldar_journal.specs.Crash.{AnswersInRoom}
+use Rattle.ldar_journal.specs.Image.{batches_of, end_of, IsKept}
+use Rattle.ldar_journal.proofs.CrashLemmas.{AnswersInRoom-weaker}
 use Rattle.ldar_journal.proofs.Histories.{batches_of-push}
 use Rattle.office_book.specs.Archive.{MayCome}
+use Rattle.office_book.specs.declared.writing.Written.TheVariants as written
 use Rattle.office_book.specs.Moves.{Moves}
+use Rattle.office_book.specs.Room.{HasRoom}
 use Rattle.office_book.specs.Safe.{state_of}
 use Rattle.office_book.specs.Serving.{certain, uncertain}
 use Rattle.office_book.proofs.BookLemmas.{may_stay, may_join, certain_state, doubtful_state, added_state, stands_on, book_settled, book_doubtful}
 use Rattle.office_book.proofs.BookLemmas.{moves_added, moves_torn, moves_shut}
 use Rattle.office_book.proofs.MoveLemmas.{moves_nothing}
+use Rattle.office_book.proofs.RoomLemmas.{room_stays}
 use Rattle.office_book.proofs.book.Book.write.Goals as goal
 
 pub make_ready-requires-clause-some : goal.make_ready-requires-clause-some
@@ -165,3 +171,40 @@ returns-in-Err-false-clause-moves g c =
     (moves_shut d.content d.images d.left d.clock d.name d.faults c.self.inside.journal c.append.new.self
     (ap (λ s. s.doubt) c.self.view_is ∙ c.requires.settled) torn.not_added (torn.gate_shut (search rules))
     append.keeps append.grows (torn.any_moment_shut (search rules)) append.images)
+
+-- over a disk with told room
+
+pub returns-in_default-clause-roomy : goal.returns-in_default-clause-roomy
+returns-in_default-clause-roomy g c =
+    let d = g.D.Disk in
+    let j = c.self.inside.journal in
+    subst (λ s. AnswersInRoom d.room d.clock 4 s.disk j.disk (λ room. HasRoom s.frames c.args.batches.items room → written.Memory ≢ written.Fault))
+    c.self.view_is (room_stays d.room d.clock 4 j.disk _ (λ room has is. cc))
+
+pub returns-in-Ok-append-clause-roomy : goal.returns-in-Ok-append-clause-roomy
+returns-in-Ok-append-clause-roomy g c =
+    let d = g.D.Disk in
+    let j = c.self.inside.journal in
+    let new = c.append.new.self in
+    subst (λ s. AnswersInRoom d.room d.clock 4 s.disk new.disk (λ room. HasRoom s.frames c.args.batches.items room → written.Stands ≢ written.Fault))
+    c.self.view_is (AnswersInRoom-weaker d.room d.clock 4 4 j.disk new.disk _ _ (omega arith) (λ room kept has is. cc) c.append.ensures.roomy)
+
+pub returns-in-Err-true-clause-roomy : goal.returns-in-Err-true-clause-roomy
+returns-in-Err-true-clause-roomy g c =
+    let d = g.D.Disk in
+    let j = c.self.inside.journal in
+    let new = c.append.new.self in
+    let same = c.in-Ok.ensures.frame ∙ c.as_slice-added.ensures.value in
+    subst (λ s. AnswersInRoom d.room d.clock 4 s.disk new.disk (λ room. HasRoom s.frames c.args.batches.items room → written.Fault ≢ written.Fault))
+    c.self.view_is (AnswersInRoom-weaker d.room d.clock 4 4 j.disk new.disk _ _ (omega arith) (λ room kept has is. absurd (false≢true
+    (kept (subst (λ (l : List Batch). end_of (j.frames ++ l ∷ []) + 1 ≤ room) (sym same) has)))) c.in-Err-true.ensures.roomy)
+
+pub returns-in-Err-false-clause-roomy : goal.returns-in-Err-false-clause-roomy
+returns-in-Err-false-clause-roomy g c =
+    let d = g.D.Disk in
+    let j = c.self.inside.journal in
+    let new = c.append.new.self in
+    let same = c.in-Ok.ensures.frame ∙ c.as_slice-added.ensures.value in
+    subst (λ s. AnswersInRoom d.room d.clock 4 s.disk new.disk (λ room. HasRoom s.frames c.args.batches.items room → written.Fault ≢ written.Fault))
+    c.self.view_is (AnswersInRoom-weaker d.room d.clock 4 4 j.disk new.disk _ _ (omega arith) (λ room kept has is. absurd (false≢true
+    (kept (subst (λ (l : List Batch). end_of (j.frames ++ l ∷ []) + 1 ≤ room) (sym same) has)))) c.in-Err-false.ensures.roomy)

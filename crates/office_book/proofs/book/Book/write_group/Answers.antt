@@ -13,6 +13,8 @@ use Rattle.office_book.specs.Serving.{certain, uncertain}
 use Rattle.office_book.proofs.AskLemmas.{serves_each, faults_are, faults_ruled, faults_each}
 use Rattle.office_book.proofs.BookLemmas.{certain_state}
 use Rattle.office_book.proofs.GroupLemmas.{serves_whole, faults_follow, before_within, added_within, replies_stay, replies_cut, cut_ruled, none_held, some_held}
+use Rattle.office_book.proofs.RoomLemmas.{room_stays, faultless}
+use Rattle.ldar_journal.proofs.CrashLemmas.{AnswersInRoom-weaker}
 use Rattle.office_book.proofs.book.Book.write_group.Goals as goal
 
 -- nothing is added
@@ -122,3 +124,37 @@ returns-in-Memory-clause-serves g c =
     let left = c.leave_unwritten.ensures.unwritten in
     let unwritten = subst (λ (l : List Batch). IsUnwritten l c.args.requests.now left.0) (ap (λ (s : State). s.history) stays) left.2 in
     (left.0, left.1, serves_whole faulty history history c.args.requests.now left.0 next unwritten.serves stays, unwritten.ruled)
+
+-- over a disk with told room
+
+pub returns-then-is_empty-clause-roomy : goal.returns-then-is_empty-clause-roomy
+returns-then-is_empty-clause-roomy g c =
+    let history = batches_of c.args.self.now.frames in
+    let sorted = c.requires.sorted in
+    room_stays g.D.Disk.room g.D.Disk.clock 4 c.args.self.now.disk _ (λ room has. (
+      sorted.1,
+      replies_stay c.args.replies.now.items sorted.0 sorted.1 c.args.start sorted.3 sorted.2,
+      faultless history c.args.requests.now sorted.1 (certain (history ++ c.args.sorted.batches.items)) sorted.4.serves,
+    ))
+
+pub returns-in-Stands-clause-roomy : goal.returns-in-Stands-clause-roomy
+returns-in-Stands-clause-roomy g c =
+    let history = batches_of c.args.self.now.frames in
+    let sorted = c.requires.sorted in
+    AnswersInRoom-weaker g.D.Disk.room g.D.Disk.clock 4 4 c.args.self.now.disk c.write.new.self.disk _ _ (omega arith) (λ room kept has. (
+      sorted.1,
+      replies_stay c.args.replies.now.items sorted.0 sorted.1 c.args.start sorted.3 sorted.2,
+      faultless history c.args.requests.now sorted.1 (certain (history ++ c.args.sorted.batches.items)) sorted.4.serves,
+    )) c.write.ensures.roomy
+
+pub returns-in-Fault-clause-roomy : goal.returns-in-Fault-clause-roomy
+returns-in-Fault-clause-roomy g c =
+    AnswersInRoom-weaker g.D.Disk.room g.D.Disk.clock 4 4 c.args.self.now.disk c.write.new.self.disk _ _ (omega arith)
+    (λ room kept has. absurd (kept has refl)) c.in-Fault.ensures.roomy
+
+pub returns-in-Memory-clause-roomy : goal.returns-in-Memory-clause-roomy
+returns-in-Memory-clause-roomy g c =
+    let left = c.leave_unwritten.ensures.unwritten in
+    let history = batches_of c.write.new.self.frames in
+    AnswersInRoom-weaker g.D.Disk.room g.D.Disk.clock 4 4 c.args.self.now.disk c.write.new.self.disk _ _ (omega arith)
+    (λ room kept has. (left.0, left.1, faultless history c.args.requests.now left.0 (certain history) left.2.serves)) c.write.ensures.roomy
