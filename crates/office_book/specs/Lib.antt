@@ -9,3 +9,4 @@ pub mod Room
 pub mod Safe
 pub mod SafeLaws
 pub mod Serving
+pub mod Viewed

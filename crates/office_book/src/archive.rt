@@ -1,22 +1,25 @@
 ghost use Rattle.std.specs.Prelude.{◌≡◌, ◌↔◌, ℕ, ◌+◌, ◌<◌, ◌≤◌, List, IsTrue, Some, [], ◌∷◌, ◌++◌, length, take, drop, map, IfOk, OnOk, OnErr, IfSome, IsNone};
 ghost use Rattle.ldar_facts.specs.declared.batch.Batch.{Batch as FactBatch};
 ghost use Rattle.ldar_facts.specs.declared.limits.TheConstants.{MOST_FACTS};
-ghost use Rattle.ldar_facts.specs.Facts.{facts_of};
+ghost use Rattle.ldar_facts.specs.Facts.{facts_of, facts_to};
 ghost use Rattle.ldar_facts.specs.Identity.{identity_of};
 ghost use Rattle.ldar_journal.specs.Image.{IsKept};
 ghost use Rattle.ldar_law.specs.declared.verdict.Verdict.TheVariants as verdicts;
 ghost use Rattle.ldar_law.specs.Machine.{batch_at};
+ghost use Rattle.ldar_law.specs.Shown as law;
 ghost use Rattle.ldar_law.specs.Slices.{register_facts};
 ghost use Rattle.ldar_law.specs.Verdicts.{is_ruly, first_unruly, facts_with, verdict_on};
 ghost use Rattle.office_book.specs.Archive.{IsStanding, MayCome};
+ghost use Rattle.office_views.specs.Answers.{reply_of, report_asked, IsTextOf, IsView, Tells};
 
 use crate::Memory;
 use batch_positions::Positions;
 use batch_rules::verdict;
 use fact_store::Steps;
+use ldar_days::Day;
 use ldar_facts::Batch;
-use ldar_law::Verdict;
-use office_views::Views;
+use ldar_law::{Report, Request, Verdict};
+use office_views::{AskError, Shown, Views};
 use std::alloc::Global;
 use std::marker::{Brand, Model};
 use std::slice::from_ref;
@@ -117,6 +120,24 @@ impl Archive {
         verdict(self.views.register(), kept + facts, batch)
     }
 
+    /// What a view shows of the batches that are kept, as known on its day.
+    pub fn show(&mut self, request: &Request) -> Result<Shown, Memory>
+        requires view { IsView request.now }
+        ensures value { IfOk result (λ answer. law.shown self.old.adopted request.now ≡ Some (reply_of answer)) }
+        ensures text { OnErr result (IsTextOf (law.shown self.old.adopted request.now)) }
+        ensures unchanged { self.new ≡ self.old }
+    {
+        ask_views::<Brand>(&mut self.views, request, Blank::new(1))
+    }
+
+    /// The report of a half of a process unit as known on a day, of the batches that are kept.
+    pub fn report(&mut self, unit: u16, half: u16, day: Day) -> Result<Report, AskError>
+        ensures value { Tells result (report_asked unit half day (facts_to day self.old.adopted)) }
+        ensures unchanged { self.new ≡ self.old }
+    {
+        report_views::<Brand>(&mut self.views, unit, half, day, Blank::new(1))
+    }
+
     /// Adds batches for which there is room, one after the other, as long as they pass: where one is denied after those before
     /// it, its position, from 1, and the rule.
     pub fn take_in(&mut self, batches: &[Batch]) -> Option<(u32, u8)>
@@ -189,4 +210,36 @@ fn is_kept_at<L: Ledger>(views: &Views, position: u32, batch: &Batch, blank: Bla
 {
     let mut steps = Steps::<L>::new(blank);
     views.is_kept_at(position, batch, &mut steps)
+}
+
+/// What a view shows of the adopted batches.
+fn ask_views<L: Ledger>(views: &mut Views, request: &Request, blank: Blank) -> Result<Shown, Memory>
+    requires name { blank.name ≡ L.name }
+    requires parts { blank.parts ≡ L.parts }
+    requires some_part { 0 < L.parts }
+    requires view { IsView request.now }
+    ensures value { IfOk result (λ answer. law.shown views.old.adopted request.now ≡ Some (reply_of answer)) }
+    ensures text { OnErr result (IsTextOf (law.shown views.old.adopted request.now)) }
+    ensures unchanged { views.new ≡ views.old }
+{
+    let mut steps = Steps::<L>::new(blank);
+    views.ask(request, &mut steps)
+}
+
+/// The report of the adopted batches.
+fn report_views<L: Ledger>(
+    views: &mut Views,
+    unit: u16,
+    half: u16,
+    day: Day,
+    blank: Blank,
+) -> Result<Report, AskError>
+    requires name { blank.name ≡ L.name }
+    requires parts { blank.parts ≡ L.parts }
+    requires some_part { 0 < L.parts }
+    ensures value { Tells result (report_asked unit half day (facts_to day views.old.adopted)) }
+    ensures unchanged { views.new ≡ views.old }
+{
+    let mut steps = Steps::<L>::new(blank);
+    views.report(unit, half, day, &mut steps)
 }

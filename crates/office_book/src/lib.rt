@@ -1,6 +1,7 @@
 //! The office that handhelds and people ask: batches are kept, and what is due is shown.
 #![tactic(auto)]
 
+mod answering;
 mod archive;
 mod asking;
 mod book;
@@ -12,6 +13,7 @@ mod office;
 mod opening;
 mod settling;
 mod telling;
+mod viewing;
 mod writing;
 
 pub use book::Book;
