@@ -1,24 +1,23 @@
 -- A batch behind a history and others of its group: where its identity stands, and the verdict on it.
-use Rattle.std.proofs.Common.{◌≡◌, ◌≢◌, ◌⊎◌, inl, inr, ℕ, zero, suc, ◌+◌, ◌<◌, ◌≤◌, Bool, true, false, ◌&&◌, Option, Some, None, List, [], ◌∷◌, ◌++◌}
+use Rattle.std.proofs.Common.{◌≡◌, ◌≢◌, inl, inr, ℕ, zero, suc, ◌+◌, ◌<◌, ◌≤◌, Bool, true, false, ◌&&◌, Some, None, List, [], ◌∷◌, ◌++◌}
 use Rattle.std.proofs.Common.{length, take, drop, get_or, refl, sym, ◌∙◌, ap, subst, arith, append_assoc}
 use Rattle.std.specs.Prelude.{◌-◌, ◌↔◌, IsTrue, cond, codes, slice_get, nat_lt}
-use Rattle.std.specs.List.{AllByRecursion, position_from, list_any}
+use Rattle.std.specs.List.{position_from, list_any}
 use Rattle.std.proofs.lemmas.Bool.{false≢true, cases_Bool}
 use Rattle.std.proofs.lemmas.Bool.Decides.{nat_tests}
 use Rattle.std.proofs.lemmas.List.{append-nil, length-take}
 use Rattle.std.proofs.lemmas.Option.{slice_get-get_or}
 use Rattle.std.proofs.lemmas.List.Sums.{sum_by-append}
-use Rattle.list_words.proofs.Members.{Among, among_left, among_right}
+use Rattle.list_words.proofs.Members.{Among}
 use Rattle.ldar_facts.specs.declared.batch.Batch.{Batch}
 use Rattle.ldar_facts.specs.Facts.{Entry, entries_from, entries_of, facts_of}
-use Rattle.ldar_facts.specs.Identity.{identity_of, is_of, position_of}
+use Rattle.ldar_facts.specs.Identity.{identity_of, is_of}
 use Rattle.ldar_facts.specs.Stated.{Stated}
 use Rattle.ldar_facts.proofs.OrderFree.{facts_count}
 use Rattle.ldar_journal.specs.Image.{IsKept, fact_count}
 use Rattle.ldar_journal.proofs.Histories.{IsKept-front}
 use Rattle.ldar_journal.proofs.KeepingLemmas.{next_one}
 use Rattle.ldar_law.specs.declared.verdict.Verdict.TheVariants.{Pass}
-use Rattle.ldar_law.specs.Judged.{case_of}
 use Rattle.ldar_law.specs.Machine.{IsNew}
 use Rattle.ldar_law.specs.Slices.{is_registered, register_facts}
 use Rattle.ldar_law.specs.Verdicts.{Rule, is_ruly, verdict_on, rules, numbered}
@@ -29,7 +28,7 @@ use Rattle.history_laws.proofs.Counting.{cut_at}
 use Rattle.history_laws.proofs.MoreLemmas.{part_stays}
 use Rattle.history_laws.proofs.Passing.{let_pass}
 use Rattle.office_book.specs.declared.archive.Standing.TheVariants.{Kept}
-use Rattle.office_book.specs.Archive.{IsStanding, MayCome}
+use Rattle.office_book.specs.Archive.{IsStanding}
 use Rattle.office_book.specs.Grouped.{IsOfHandheld, MayShare, IsAmong}
 use Rattle.office_book.proofs.HistoryLemmas.{found_from, cut_at as cut_behind}
 

@@ -1,5 +1,5 @@
 -- What an office keeps, after each call of its journal.
-use Rattle.std.proofs.Common.{◌≡◌, ◌≢◌, ◌⊎◌, inl, inr, ℕ, ◌+◌, ◌<◌, ◌≤◌, Bool, true, false, Option, List, [], ◌∷◌, ◌++◌, length, take, min, refl, sym}
+use Rattle.std.proofs.Common.{◌≡◌, ◌≢◌, inl, inr, ℕ, ◌+◌, ◌≤◌, Option, List, [], ◌∷◌, ◌++◌, length, take, refl, sym}
 use Rattle.std.proofs.Common.{◌∙◌, ap, subst, arith, append_assoc, length-append}
 use Rattle.std.specs.Prelude.{IsTrue}
 use Rattle.std.proofs.lemmas.List.{append-nil, take_all}
@@ -11,7 +11,6 @@ use Rattle.ldar_journal.specs.Image.{batches_of, IsKept, OpensTo}
 use Rattle.ldar_journal.specs.Shelf.{Shelf, OpensToEither, OpensAs}
 use Rattle.ldar_journal.proofs.CrashLemmas.{OnDisk-weaker}
 use Rattle.ldar_journal.proofs.Histories.{batches_of-push, IsKept-front}
-use Rattle.ldar_law.specs.Machine.{State}
 use Rattle.ldar_law.specs.Verdicts.{is_ruly}
 use Rattle.ldar_law.proofs.VerdictLemmas.{ruly_is_each}
 use Rattle.office_book.specs.Archive.{MayCome}

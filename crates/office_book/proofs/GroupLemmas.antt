@@ -23,9 +23,9 @@ use Rattle.ldar_law.proofs.Gifts.{cases_Option}
 use Rattle.office_book.specs.Archive.{MayCome}
 use Rattle.office_book.specs.Asking.{IsFromHandheld}
 use Rattle.office_book.specs.Grouped.{IsOfHandheld, IsSaid, MayShare, IsTold, IsSorted, IsUnwritten, before_adding}
-use Rattle.office_book.specs.Serving.{certain, uncertain, added, Stops, Serves}
+use Rattle.office_book.specs.Serving.{certain, uncertain, added, Serves}
 use Rattle.office_book.proofs.HistoryLemmas.{kept_more, ruly_more}
-use Rattle.office_book.proofs.KeepLemmas.{accepted, adds_it, adds_one, receipted, serves_said}
+use Rattle.office_book.proofs.KeepLemmas.{adds_it, adds_one, receipted, serves_said}
 
 -- ---- requests one after the other
 

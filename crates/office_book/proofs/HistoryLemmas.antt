@@ -1,5 +1,5 @@
 -- Histories with more batches behind them: what may be kept, what passes, and what is new.
-use Rattle.std.proofs.Common.{◌≡◌, ◌⊎◌, inl, inr, ℕ, suc, ◌+◌, ◌<◌, ◌≤◌, Bool, true, false, Option, Some, None, is_some, List, [], ◌∷◌, ◌++◌, length}
+use Rattle.std.proofs.Common.{◌≡◌, inl, inr, ℕ, suc, ◌+◌, ◌<◌, ◌≤◌, Bool, true, false, Option, Some, None, is_some, List, [], ◌∷◌, ◌++◌, length}
 use Rattle.std.proofs.Common.{take, drop}
 use Rattle.std.proofs.Common.{get_or, map, refl, sym, ◌∙◌, ap, subst, arith, append_assoc}
 use Rattle.std.specs.Prelude.{◌-◌, ◌↔◌, IsTrue, cond, slice_get}
@@ -18,11 +18,11 @@ use Rattle.ldar_journal.proofs.Histories.{IsKept-front}
 use Rattle.ldar_journal.proofs.KeepingLemmas.{next_one, position_of-is}
 use Rattle.ldar_journal.proofs.Positions.{IsKept-twice, IsKept-push}
 use Rattle.ldar_law.specs.declared.verdict.Verdict.TheVariants.{Pass}
-use Rattle.ldar_law.specs.Machine.{IsNew, StandsAt, batch_at}
+use Rattle.ldar_law.specs.Machine.{IsNew, batch_at}
 use Rattle.ldar_law.specs.Verdicts.{is_ruly, verdict_on}
 use Rattle.ldar_law.proofs.VerdictLemmas.{ruly_is_each, passes_undenied}
 use Rattle.history_laws.proofs.Passing.{one_more_passes}
-use Rattle.office_book.specs.declared.archive.Standing.TheVariants.{Kept, New}
+use Rattle.office_book.specs.declared.archive.Standing.TheVariants.{Kept}
 use Rattle.office_book.specs.Archive.{IsStanding}
 
 -- nothing is where nothing is found

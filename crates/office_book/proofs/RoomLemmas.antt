@@ -1,5 +1,5 @@
 -- What an office promises over a disk that tells its room.
-use Rattle.std.proofs.Common.{◌≡◌, ◌≢◌, inl, inr, ℕ, ◌<◌, ◌≤◌, Option, List, [], ◌∷◌, refl, arith}
+use Rattle.std.proofs.Common.{ℕ, Option, List, [], ◌∷◌, refl, arith}
 use Rattle.std.specs.List.{AllByRecursion}
 use Rattle.ldar_facts.specs.declared.batch.Batch.{Batch}
 use Rattle.ldar_journal.specs.Crash.{AnswersInRoom}

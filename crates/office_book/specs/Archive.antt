@@ -1,5 +1,5 @@
 -- The batches that an office keeps: how another stands to them.
-use Rattle.std.specs.Prelude.{◌≡◌, ℕ, ◌≤◌, true, false, IsTrue, List, ◌++◌, length, map}
+use Rattle.std.specs.Prelude.{◌≡◌, ◌≤◌, true, false, IsTrue, List, ◌++◌, length, map}
 use Rattle.batch_positions.specs.Positions.{PositionsState}
 use Rattle.ldar_facts.specs.declared.batch.Batch.{Batch}
 use Rattle.ldar_facts.specs.Identity.{identity_of}

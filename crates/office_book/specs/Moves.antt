@@ -1,5 +1,5 @@
 -- What a part of a call does to a journal and its disk.
-use Rattle.std.specs.Prelude.{◌≡◌, ℕ, ◌+◌, ◌≤◌, ◌⊎◌, Option, List}
+use Rattle.std.specs.Prelude.{ℕ, ◌+◌, ◌≤◌, ◌⊎◌, Option, List}
 use Rattle.disk_model.specs.Keeps.{Keeps}
 use Rattle.disk_model.specs.Told.{Told, BothTold}
 use Rattle.ldar_journal.specs.Crash.{LeavesOnly, OnDisk}

@@ -1,8 +1,6 @@
-use Rattle.std.proofs.Common.{◌≡◌, ◌+◌, ◌≤◌, ◌<◌, ◌++◌, [], ◌∷◌, List, length, take, drop, map, sym, ◌∙◌, ap, subst, arith, append_assoc}
+use Rattle.std.proofs.Common.{List, sym, subst}
 use Rattle.ldar_facts.specs.declared.batch.Batch.{Batch}
-use Rattle.ldar_law.specs.declared.verdict.Verdict.TheVariants.{Pass}
 use Rattle.ldar_law.specs.Machine.{IsNew}
-use Rattle.ldar_law.specs.Verdicts.{verdict_on}
 use Rattle.office_book.proofs.HistoryLemmas.{passes_at, new_at, next_spare, new_identity}
 use Rattle.office_book.proofs.archive.adopt_all.Goals as goal
 

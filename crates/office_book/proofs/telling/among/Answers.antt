@@ -1,4 +1,4 @@
-use Rattle.std.proofs.Common.{◌≡◌, sym, ◌∙◌, arith}
+use Rattle.std.proofs.Common.{sym, ◌∙◌, arith}
 use Rattle.office_book.proofs.AmongLemmas.{among_here, none_next}
 use Rattle.office_book.proofs.telling.among.Goals as goal
 

@@ -1,4 +1,4 @@
-use Rattle.std.proofs.Common.{◌≡◌, sym, ◌∙◌, ap, subst}
+use Rattle.std.proofs.Common.{sym, ◌∙◌, ap, subst}
 use Rattle.batch_positions.specs.Positions.{position_in}
 use Rattle.ldar_law.specs.Machine.{IsNew}
 use Rattle.office_views.specs.Held.{Held}

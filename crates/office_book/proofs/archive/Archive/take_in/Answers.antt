@@ -5,7 +5,7 @@ use Rattle.ldar_journal.proofs.KeepingLemmas.{next_one}
 use Rattle.ldar_law.specs.declared.verdict.Verdict.TheVariants as verdicts
 use Rattle.ldar_law.specs.Verdicts.{verdict_on}
 use Rattle.office_book.specs.Archive.{MayCome}
-use Rattle.office_book.proofs.OpeningLemmas.{first_at, fits_at, passes_next, may_come_next, ruly_next, spare_next}
+use Rattle.office_book.proofs.OpeningLemmas.{first_at, passes_next, may_come_next, ruly_next, spare_next}
 use Rattle.office_book.proofs.archive.Archive.take_in.Goals as goal
 
 pub returns-in-Some-clause-unruly : goal.returns-in-Some-clause-unruly

@@ -1,6 +1,5 @@
-use Rattle.std.proofs.Common.{◌≡◌, rules}
 use Rattle.ldar_journal.specs.Image.{batches_of}
-use Rattle.office_book.proofs.KeepLemmas.{said_kept, said_denied, said_full}
+use Rattle.office_book.proofs.KeepLemmas.{said_kept, said_denied}
 use Rattle.office_book.proofs.book.Book.answered.Goals as goal
 
 pub returns-in-Kept-clause-said : goal.returns-in-Kept-clause-said

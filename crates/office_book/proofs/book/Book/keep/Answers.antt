@@ -1,5 +1,4 @@
-use Rattle.std.proofs.Common.{[], refl, subst, sym, ap, rules}
-use Rattle.disk_model.specs.Faults.{Rose}
+use Rattle.std.proofs.Common.{refl, subst, rules}
 use Rattle.ldar_journal.specs.Image.{batches_of}
 use Rattle.ldar_law.specs.declared.reply.Reply.{Reply}
 use Rattle.ldar_law.specs.declared.request.Request.TheVariants as requests

@@ -1,4 +1,4 @@
-use Rattle.std.proofs.Common.{arith, ◌≡◌, [], ◌++◌, List, length, refl, sym, ◌∙◌, ap, subst}
+use Rattle.std.proofs.Common.{arith, ◌≡◌, ◌++◌, List, length, refl, sym, ◌∙◌, ap, subst}
 use Rattle.disk_model.specs.Faults.{Rose}
 use Rattle.ldar_journal.specs.Image.{batches_of}
 use Rattle.ldar_law.specs.declared.reply.Reply.{Reply}

@@ -1,4 +1,4 @@
-use Rattle.std.proofs.Common.{◌≡◌, [], ◌∷◌, ◌++◌, take, ◌∙◌, arith}
+use Rattle.std.proofs.Common.{[], ◌∷◌, ◌++◌, take, ◌∙◌, arith}
 use Rattle.ldar_journal.specs.Image.{batches_of}
 use Rattle.office_book.proofs.GroupLemmas.{replies_next, unwritten_at}
 use Rattle.office_book.proofs.book.Book.leave_unwritten.Goals as goal

@@ -1,7 +1,4 @@
-use Rattle.std.proofs.Common.{◌≡◌, Ok, subst, ap}
-use Rattle.ldar_journal.specs.Crash.{OnDisk}
-use Rattle.ldar_journal.specs.Shelf.{Shelf}
-use Rattle.office_book.specs.Safe.{StandsIn, state_of}
+use Rattle.std.proofs.Common.{Ok, ap}
 use Rattle.office_book.proofs.BookLemmas.{book_still, book_gone, moves_still, moves_gone, moves_stand}
 use Rattle.office_book.proofs.MoveLemmas.{moves_stays}
 use Rattle.office_book.proofs.book.Book.settle_first.Goals as goal

@@ -1,9 +1,9 @@
-use Rattle.std.proofs.Common.{◌≡◌, ℕ, List, ap, subst, [], ◌∷◌, refl, sym, ◌∙◌, arith}
+use Rattle.std.proofs.Common.{subst, [], ◌∷◌, refl, sym, ◌∙◌, arith}
 use Rattle.disk_model.specs.Faults.{Rose}
 use Rattle.ldar_journal.proofs.ShelfLemmas.{from_ok}
 use Rattle.ldar_law.specs.declared.request.Request.TheVariants as requests
 use Rattle.ldar_journal.proofs.CrashLemmas.{AnswersInRoom-weaker, AnswersInRoom-joins, not_err}
-use Rattle.office_book.specs.Room.{HasRoom, IsNoFault}
+use Rattle.office_book.specs.Room.{HasRoom}
 use Rattle.office_book.proofs.KeepLemmas.{from_err}
 use Rattle.office_book.proofs.MoveLemmas.{serves_call, faults_call}
 use Rattle.office_book.proofs.book.Book.sync.Goals as goal

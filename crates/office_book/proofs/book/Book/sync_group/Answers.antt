@@ -5,7 +5,6 @@ use Rattle.ldar_law.specs.declared.reply.Reply.{Reply}
 use Rattle.ldar_law.specs.declared.reply.Reply.TheVariants as replied
 use Rattle.office_book.proofs.AskLemmas.{faults_group, serves_group}
 use Rattle.office_book.proofs.KeepLemmas.{from_err}
-use Rattle.ldar_facts.specs.declared.batch.Batch.{Batch}
 use Rattle.ldar_journal.specs.Image.{batches_of}
 use Rattle.ldar_journal.proofs.CrashLemmas.{AnswersInRoom-weaker, AnswersInRoom-joins, not_err}
 use Rattle.office_book.specs.Room.{HasRoom, PutsNoFault}

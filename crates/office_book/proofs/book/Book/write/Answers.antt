@@ -1,4 +1,4 @@
-use Rattle.std.proofs.Common.{◌≡◌, inl, inr, [], ◌∷◌, ◌++◌, ℕ, ◌+◌, ◌≤◌, ◌≢◌, List, length, take, refl, sym, ◌∙◌, ap, subst, arith, rules}
+use Rattle.std.proofs.Common.{◌≡◌, inl, inr, [], ◌∷◌, ◌++◌, ◌+◌, ◌≤◌, ◌≢◌, List, length, refl, sym, ◌∙◌, ap, subst, arith, rules}
 use Rattle.std.proofs.lemmas.Bool.{false≢true}
 use Rattle.std.proofs.lemmas.List.{take_all}
 use Rattle.disk_model.specs.Faults.{Rose}
@@ -11,8 +11,7 @@ use Rattle.office_book.specs.Archive.{MayCome}
 use Rattle.office_book.specs.declared.writing.Written.TheVariants as written
 use Rattle.office_book.specs.Moves.{Moves}
 use Rattle.office_book.specs.Room.{HasRoom}
-use Rattle.office_book.specs.Safe.{state_of}
-use Rattle.office_book.specs.Serving.{certain, uncertain}
+use Rattle.office_book.specs.Serving.{certain}
 use Rattle.office_book.proofs.BookLemmas.{may_stay, may_join, certain_state, doubtful_state, added_state, stands_on, book_settled, book_doubtful}
 use Rattle.office_book.proofs.BookLemmas.{moves_added, moves_torn, moves_shut}
 use Rattle.office_book.proofs.MoveLemmas.{moves_nothing}
