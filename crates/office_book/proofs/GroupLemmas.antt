@@ -1,0 +1,505 @@
+-- Batches that are asked to be kept at once: what is said to each, behind those before it.
+use Rattle.std.proofs.Common.{◌≡◌, ◌≢◌, ◌⊎◌, inl, inr, ℕ, zero, suc, ◌+◌, ◌<◌, ◌≤◌, Bool, true, false, ◌&&◌, ◌==◌, Option, Some, None, is_none, List}
+use Rattle.std.proofs.Common.{[], ◌∷◌, ◌++◌}
+use Rattle.std.proofs.Common.{length, take, get_or, refl, sym, ◌∙◌, ap, subst, arith, add-one, append_assoc, length-append}
+use Rattle.std.specs.Prelude.{IsTrue, if◌then◌else◌, Result, Ok, Err, OnErr}
+use Rattle.std.specs.List.{AllByRecursion}
+use Rattle.std.proofs.lemmas.List.{append-nil}
+use Rattle.std.proofs.lemmas.Bool.Decides.{nat_tests}
+use Rattle.std.proofs.Math.Seq.{take-suc}
+use Rattle.ldar_facts.specs.declared.batch.Batch.{Batch}
+use Rattle.ldar_facts.specs.Identity.{identity_of, position_of}
+use Rattle.ldar_journal.specs.Image.{IsKept}
+use Rattle.ldar_law.specs.declared.reply.Reply.{Reply}
+use Rattle.ldar_law.specs.declared.reply.Reply.TheVariants.{Receipt, Conflict, Denied, Full, Shown, NoSuch, Fault, Memory}
+use Rattle.ldar_law.specs.declared.request.Request.{Request}
+use Rattle.ldar_law.specs.declared.request.Request.TheVariants.{Sync, Due, Tags, Delays, Route, Percent, Report as ReportView}
+use Rattle.ldar_law.specs.declared.verdict.Verdict.{Verdict}
+use Rattle.ldar_law.specs.declared.verdict.Verdict.TheVariants.{Pass}
+use Rattle.ldar_law.specs.Machine.{State, IsNew, Answers, AnswersBatch, batch_added, is_accepted}
+use Rattle.ldar_law.specs.Replies.{HasRule}
+use Rattle.ldar_law.specs.Verdicts.{is_pass, is_ruly, verdict_on}
+use Rattle.ldar_law.proofs.Gifts.{cases_Option}
+use Rattle.office_book.specs.Archive.{MayCome}
+use Rattle.office_book.specs.Asking.{IsFromHandheld}
+use Rattle.office_book.specs.Grouped.{IsOfHandheld, IsSaid, MayShare, IsTold, IsSorted, IsUnwritten, before_adding}
+use Rattle.office_book.specs.Serving.{certain, uncertain, added, Serves}
+use Rattle.office_book.proofs.HistoryLemmas.{kept_more, ruly_more}
+use Rattle.office_book.proofs.KeepLemmas.{adds_it, adds_one, receipted, serves_said}
+
+-- ---- requests one after the other
+
+-- the first of some requests, and those behind it
+serve_more : (faulty : Type 0) (history between : List Batch) (request : Request) (asked : List Request) (reply : Reply) (said : List Reply)
+    (requests : List Request) (replies : List Reply) (next : State)
+    → ((after : List Batch) → Serves ⊥ after asked said (certain between) → Serves faulty after (asked ++ requests) (said ++ replies) next)
+    → Serves ⊥ history (request ∷ asked) (reply ∷ said) (certain between)
+    → Serves faulty history (request ∷ (asked ++ requests)) (reply ∷ (said ++ replies)) next
+serve_more faulty history between request asked (Receipt handheld number position) said requests replies next rest one = (one.0, one.1, rest one.0 one.2)
+serve_more faulty history between request asked (Conflict position) said requests replies next rest one = (one.0, one.1, rest one.0 one.2)
+serve_more faulty history between request asked (Denied fact rule) said requests replies next rest one = (one.0, one.1, rest one.0 one.2)
+serve_more faulty history between request asked (Full facts) said requests replies next rest one = (one.0, one.1, rest one.0 one.2)
+serve_more faulty history between request asked (Shown text) said requests replies next rest one = (one.0, one.1, rest one.0 one.2)
+serve_more faulty history between request asked (NoSuch what) said requests replies next rest one = (one.0, one.1, rest one.0 one.2)
+serve_more faulty history between request asked Fault said requests replies next rest one = absurd one.why
+serve_more faulty history between request asked Memory said requests replies next rest one = (one.0, rest history one.1)
+
+-- requests without a fault, and others behind them
+pub serves_join : (faulty : Type 0) (history between : List Batch) (asked : List Request) (said : List Reply) (requests : List Request)
+    (replies : List Reply) (next : State)
+    → Serves ⊥ history asked said (certain between) → Serves faulty between requests replies next
+    → Serves faulty history (asked ++ requests) (said ++ replies) next
+serves_join faulty history between [] [] requests replies next one two =
+    subst (λ (l : List Batch). Serves faulty l requests replies next) (ap (λ (s : State). s.history) one) two
+serves_join faulty history between [] (reply ∷ said) requests replies next one two = absurd one
+serves_join faulty history between (request ∷ asked) [] requests replies next one two = absurd one
+serves_join faulty history between (request ∷ asked) (reply ∷ said) requests replies next one two =
+    serve_more faulty history between request asked reply said requests replies next
+    (λ after rest. serves_join faulty after between asked said requests replies next rest two) one
+
+-- .. and nothing behind them
+pub serves_whole : (faulty : Type 0) (history between : List Batch) (asked : List Request) (said : List Reply) (next : State)
+    → Serves ⊥ history asked said (certain between) → next ≡ certain between → Serves faulty history asked said next
+serves_whole faulty history between asked said next one stays =
+    subst (λ (l : List Reply). Serves faulty history asked l next) (append-nil said)
+    (subst (λ (l : List Request). Serves faulty history l (said ++ []) next) (append-nil asked)
+    (serves_join faulty history between asked said [] [] next one stays))
+
+-- what requests add, and what others add behind them
+pub added_join : (history : List Batch) (asked requests : List Request)
+    → added history (asked ++ requests) ≡ added history asked ++ added (history ++ added history asked) requests
+added_join history [] requests = ap (λ (l : List Batch). added l requests) (sym (append-nil history))
+added_join history (request ∷ asked) requests =
+    elim (batch_added history request) as (λ one. (elim one as (λ _. List Batch) [
+      | None ↦ added history (asked ++ requests)
+      | Some batch ↦ batch ∷ added (history ++ batch ∷ []) (asked ++ requests)
+    ]) ≡ (elim one as (λ _. List Batch) [
+      | None ↦ added history asked
+      | Some batch ↦ batch ∷ added (history ++ batch ∷ []) asked
+    ]) ++ added (history ++ (elim one as (λ _. List Batch) [
+      | None ↦ added history asked
+      | Some batch ↦ batch ∷ added (history ++ batch ∷ []) asked
+    ])) requests) [
+      | None ↦ added_join history asked requests
+      | Some batch ↦ ap (λ (l : List Batch). batch ∷ l) (added_join (history ++ batch ∷ []) asked requests
+          ∙ ap (λ (l : List Batch). added (history ++ batch ∷ []) asked ++ added l requests)
+          (append_assoc history (batch ∷ []) (added (history ++ batch ∷ []) asked)))
+    ]
+
+-- how many requests stand before the first that adds a batch, with one request more
+pub before_next : (history : List Batch) (asked : List Request) (request : Request)
+    → (added history (asked ++ request ∷ []) ≡ [] → before_adding history (asked ++ request ∷ []) ≡ before_adding history asked + 1)
+    × (added history (asked ++ request ∷ []) ≢ [] → before_adding history (asked ++ request ∷ []) ≡ before_adding history asked)
+before_next history [] request =
+    elim (batch_added history request) as (λ one. ((elim one as (λ _. List Batch) [ None ↦ [] | Some batch ↦ batch ∷ [] ]) ≡ []
+    → (elim one as (λ _. ℕ) [ None ↦ 0 + 1 | Some batch ↦ 0 ]) ≡ 0 + 1)
+    × ((elim one as (λ _. List Batch) [ None ↦ [] | Some batch ↦ batch ∷ [] ]) ≢ []
+    → (elim one as (λ _. ℕ) [ None ↦ 0 + 1 | Some batch ↦ 0 ]) ≡ 0)) [
+      | None ↦ (λ none. refl, λ some. absurd (some refl))
+      | Some batch ↦ (λ none. absurd cc, λ some. refl)
+    ]
+before_next history (other ∷ asked) request =
+    elim (batch_added history other) as (λ one. ((elim one as (λ _. List Batch) [
+      | None ↦ added history (asked ++ request ∷ [])
+      | Some batch ↦ batch ∷ added (history ++ batch ∷ []) (asked ++ request ∷ [])
+    ]) ≡ []
+    → (elim one as (λ _. ℕ) [ None ↦ before_adding history (asked ++ request ∷ []) + 1 | Some batch ↦ 0 ])
+    ≡ (elim one as (λ _. ℕ) [ None ↦ before_adding history asked + 1 | Some batch ↦ 0 ]) + 1)
+    × ((elim one as (λ _. List Batch) [
+      | None ↦ added history (asked ++ request ∷ [])
+      | Some batch ↦ batch ∷ added (history ++ batch ∷ []) (asked ++ request ∷ [])
+    ]) ≢ []
+    → (elim one as (λ _. ℕ) [ None ↦ before_adding history (asked ++ request ∷ []) + 1 | Some batch ↦ 0 ])
+    ≡ (elim one as (λ _. ℕ) [ None ↦ before_adding history asked + 1 | Some batch ↦ 0 ]))) [
+      | None ↦ (
+        λ none. ap (λ (n : ℕ). n + 1) ((before_next history asked request).0 none),
+        λ some. ap (λ (n : ℕ). n + 1)
+            ((before_next history asked request).1 some),
+      )
+      | Some batch ↦ (λ none. absurd cc, λ some. refl)
+    ]
+
+-- ---- a request that adds nothing
+
+batch_same : (history : List Batch) (batch : Batch) (reply : Reply) (after : List Batch) → batch_added history (Sync batch) ≡ None
+    → AnswersBatch history batch reply after → after ≡ history
+batch_same history batch (Receipt handheld number position) after none answers = elim answers.2 [
+  | inl kept ↦ kept.1
+  | inr adds ↦ absurd (let clash : Some batch ≡ None = sym (rw adds.0 refl) ∙ none in cc)
+]
+batch_same history batch (Conflict position) after none answers = answers.3
+batch_same history batch (Denied fact rule) after none answers = answers.2
+batch_same history batch (Full facts) after none answers = answers.2
+batch_same history batch (Shown text) after none answers = absurd answers
+batch_same history batch (NoSuch what) after none answers = absurd answers
+batch_same history batch Fault after none answers = absurd answers
+batch_same history batch Memory after none answers = absurd answers
+
+-- its answer leaves the history
+answers_same : (history : List Batch) (request : Request) (reply : Reply) (after : List Batch) → batch_added history request ≡ None
+    → Answers history request reply after → after ≡ history
+answers_same history (Sync batch) reply after none answers = batch_same history batch reply after none answers
+answers_same history (Due unit day) reply after none answers = answers.1
+answers_same history (Tags unit day) reply after none answers = answers.1
+answers_same history (Delays unit day) reply after none answers = answers.1
+answers_same history (Route unit day stops) reply after none answers = answers.1
+answers_same history (Percent unit quarter day) reply after none answers = answers.1
+answers_same history (ReportView unit half day) reply after none answers = answers.1
+
+-- ---- a frame that failed
+
+-- the answer before the first fault
+follow_none : (faulty : Type 0) (history : List Batch) (request : Request) (requests : List Request) (reply : Reply) (said : List Reply) (after : List Batch)
+    (replies : List Reply) (next : State) → batch_added history request ≡ None → Serves ⊥ history (request ∷ requests) (reply ∷ said) (certain after)
+    → (Serves ⊥ history requests said (certain after) → Serves faulty history requests replies next)
+    → Serves faulty history (request ∷ requests) (reply ∷ replies) next
+follow_none faulty history request requests (Receipt handheld number position) said after replies next none serves rest =
+    let same = answers_same history request _ serves.0 none serves.1 in (
+      history,
+      subst (λ (l : List Batch). Answers history request (Receipt handheld number position) l) same serves.1,
+      rest (subst (λ (l : List Batch). Serves ⊥ l requests said (certain after)) same serves.2),
+    )
+follow_none faulty history request requests (Conflict position) said after replies next none serves rest =
+    let same = answers_same history request _ serves.0 none serves.1 in (
+      history,
+      subst (λ (l : List Batch). Answers history request (Conflict position) l) same serves.1,
+      rest (subst (λ (l : List Batch). Serves ⊥ l requests said (certain after)) same serves.2),
+    )
+follow_none faulty history request requests (Denied fact rule) said after replies next none serves rest =
+    let same = answers_same history request _ serves.0 none serves.1 in (
+      history,
+      subst (λ (l : List Batch). Answers history request (Denied fact rule) l) same serves.1,
+      rest (subst (λ (l : List Batch). Serves ⊥ l requests said (certain after)) same serves.2),
+    )
+follow_none faulty history request requests (Full facts) said after replies next none serves rest =
+    let same = answers_same history request _ serves.0 none serves.1 in (
+      history,
+      subst (λ (l : List Batch). Answers history request (Full facts) l) same serves.1,
+      rest (subst (λ (l : List Batch). Serves ⊥ l requests said (certain after)) same serves.2),
+    )
+follow_none faulty history request requests (Shown text) said after replies next none serves rest =
+    let same = answers_same history request _ serves.0 none serves.1 in (
+      history,
+      subst (λ (l : List Batch). Answers history request (Shown text) l) same serves.1,
+      rest (subst (λ (l : List Batch). Serves ⊥ l requests said (certain after)) same serves.2),
+    )
+follow_none faulty history request requests (NoSuch what) said after replies next none serves rest =
+    let same = answers_same history request _ serves.0 none serves.1 in (
+      history,
+      subst (λ (l : List Batch). Answers history request (NoSuch what) l) same serves.1,
+      rest (subst (λ (l : List Batch). Serves ⊥ l requests said (certain after)) same serves.2),
+    )
+follow_none faulty history request requests Fault said after replies next none serves rest = absurd serves.why
+follow_none faulty history request requests Memory said after replies next none serves rest = (serves.0, rest serves.1)
+
+-- the first fault, and those behind it
+follow_some : (faulty : Type 0) (history : List Batch) (request : Request) (requests : List Request) (faults : List Reply) (next : State) (batch : Batch)
+    → batch_added history request ≡ Some batch → faulty
+    → (next ≡ certain history) ⊎ (next ≡ uncertain history (added history (request ∷ requests)))
+    → AllByRecursion (λ (reply : Reply). reply ≡ Fault) faults → length faults ≡ length (request ∷ requests)
+    → Serves faulty history (request ∷ requests) faults next
+follow_some faulty history request requests [] next batch adds why leaves each long = absurd (omega arith)
+follow_some faulty history request requests (one ∷ faults) next batch adds why leaves each long =
+    subst (λ (reply : Reply). Serves faulty history (request ∷ requests) (reply ∷ faults) next) (sym each.0)
+    (record { why = why; batch = batch; adds = adds; leaves = leaves; others = each.1; each = omega arith })
+
+take_one_more : (n : ℕ) (reply : Reply) (said : List Reply) → take (n + 1) (reply ∷ said) ≡ reply ∷ take n said
+take_one_more n reply said = rw add-one refl
+
+-- what was said before the first request that adds a batch stays, and the others are answered by faults
+pub faults_follow : (faulty : Type 0) (history : List Batch) (requests : List Request) (said : List Reply) (after : List Batch) (next : State) (first : ℕ)
+    (faults : List Reply) → Serves ⊥ history requests said (certain after) → first ≡ before_adding history requests → faulty
+    → (next ≡ certain history) ⊎ (next ≡ uncertain history (added history requests)) → added history requests ≢ []
+    → AllByRecursion (λ (reply : Reply). reply ≡ Fault) faults → first + length faults ≡ length requests
+    → Serves faulty history requests (take first said ++ faults) next
+faults_follow faulty history [] said after next first faults serves is why leaves some each long = absurd (some refl)
+faults_follow faulty history (request ∷ requests) [] after next first faults serves is why leaves some each long = absurd serves
+faults_follow faulty history (request ∷ requests) (reply ∷ said) after next first faults serves is why leaves some each long =
+    elim (cases_Option (batch_added history request)) [
+      | inl none ↦
+          let n = before_adding history requests in
+          let more : before_adding history (request ∷ requests) ≡ n + 1 =
+          ap (λ (o : Option Batch). elim o as (λ _. ℕ) [ None ↦ before_adding history requests + 1 | Some batch ↦ 0 ]) none in
+          let same : added history (request ∷ requests) ≡ added history requests =
+          ap (λ (o : Option Batch). elim o as (λ _. List Batch) [
+            | None ↦ added history requests
+            | Some batch ↦ batch ∷ added (history ++ batch ∷ [])
+                requests
+          ]) none in
+          let count : first ≡ n + 1 = is ∙ more in
+          subst (λ (l : List Reply). Serves faulty history (request ∷ requests) (l ++ faults) next)
+          (sym (ap (λ (m : ℕ). take m (reply ∷ said)) count ∙ take_one_more n reply said))
+          (follow_none faulty history request requests reply said after (take n said ++ faults) next none serves
+          (λ rest. faults_follow faulty history requests said after next n faults rest refl why
+          (subst (λ (l : List Batch). (next ≡ certain history) ⊎ (next ≡ uncertain history l)) same leaves)
+          (λ empty. some (same ∙ empty)) each (omega arith)))
+      | inr one ↦
+          let none_before : before_adding history (request ∷ requests) ≡ 0 =
+          ap (λ (o : Option Batch). elim o as (λ _. ℕ) [ None ↦ before_adding history requests + 1 | Some batch ↦ 0 ]) one.1 in
+          let count : first ≡ 0 = is ∙ none_before in
+          subst (λ (l : List Reply). Serves faulty history (request ∷ requests) (l ++ faults) next)
+          (sym (ap (λ (m : ℕ). take m (reply ∷ said)) count))
+          (follow_some faulty history request requests faults next one.0 one.1 why leaves each (omega arith))
+    ]
+
+-- ---- one batch behind others of its group
+
+not_added : (b : Bool) (batch : Batch) → b ≡ false → (if b then Some batch else None) ≡ None
+not_added b batch is = rw is refl
+
+kept_refused : (o : Option ℕ) (v : Verdict) (position : ℕ) → o ≡ Some position → (is_none o && is_pass v) ≡ false
+kept_refused o v position kept = rw kept refl
+
+judged_refused : (o : Option ℕ) (v : Verdict) → is_pass v ≡ false → (is_none o && is_pass v) ≡ false
+judged_refused None v denied = denied
+judged_refused (Some position) v denied = refl
+
+-- a history is not itself with one batch more
+not_longer : (history : List Batch) (batch : Batch) → history ≡ history ++ batch ∷ [] → ⊥
+not_longer history batch is =
+    let long = ap length is in
+    let more = length-append history (batch ∷ []) in
+    omega arith
+
+-- what is said to a batch that is not added
+said_adds : (history : List Batch) (batch : Batch) (reply : Reply) → AnswersBatch history batch reply history → is_accepted history batch ≡ false
+said_adds history batch (Receipt handheld number position) answers = elim answers.2 [
+  | inl kept ↦ kept_refused (position_of (identity_of batch) history) (verdict_on history batch) position kept.0.0
+  | inr adds ↦ absurd (not_longer history batch adds.2)
+]
+said_adds history batch (Conflict position) answers =
+    kept_refused (position_of (identity_of batch) history) (verdict_on history batch) position answers.1.0
+said_adds history batch (Denied fact rule) answers =
+    judged_refused (position_of (identity_of batch) history) (verdict_on history batch) (ap is_pass answers.1)
+said_adds history batch (Full facts) answers =
+    judged_refused (position_of (identity_of batch) history) (verdict_on history batch) (ap is_pass answers.1)
+said_adds history batch (Shown text) answers = absurd answers
+said_adds history batch (NoSuch what) answers = absurd answers
+said_adds history batch Fault answers = absurd answers
+said_adds history batch Memory answers = absurd answers
+
+-- it adds nothing
+adds_none : (history : List Batch) (batch : Batch) (reply : Reply) → IsSaid history batch reply → added history (Sync batch ∷ []) ≡ []
+adds_none history batch reply said =
+    ap (λ (o : Option Batch). elim o as (λ _. List Batch) [ None ↦ [] | Some more ↦ more ∷ [] ])
+    (not_added (is_accepted history batch) batch (said_adds history batch reply said.answers))
+
+pub told_said : (history : List Batch) (batch : Batch) (others : List Batch) (reply : Reply) → MayShare history others
+    → IsSaid (history ++ others) batch reply → IsTold history batch others others reply
+told_said history batch others reply may said = record {
+  serves = serves_said ⊥ (history ++ others) batch reply (certain (history ++ others)) said.answers refl;
+  adds = sym (append-nil others) ∙ ap (λ (l : List Batch). others ++ l) (sym (adds_none (history ++ others) batch reply said));
+  may_share = may;
+  ruled = said.ruled;
+}
+
+-- something holds of each with one more
+all_push : {X : Type 0} (P : X → Type 0) (xs : List X) (x : X) → AllByRecursion P xs → P x → AllByRecursion P (xs ++ x ∷ [])
+all_push P [] x each p = (p, tt)
+all_push P (y ∷ xs) x each p = (each.0, all_push P xs x each.1 p)
+
+-- a batch that is new and passes behind the others goes behind them
+pub told_added : (history : List Batch) (batch : Batch) (others : List Batch) (position : ℕ) → MayShare history others → IsOfHandheld batch
+    → IsNew (history ++ others) batch → verdict_on (history ++ others) batch ≡ Pass → position ≡ length (history ++ others) + 1
+    → IsTold history batch others (others ++ batch ∷ []) (Receipt batch.handheld batch.number position)
+told_added history batch others position may handheld new passes place =
+    let whole = append_assoc history others (batch ∷ []) in
+    record {
+      serves = subst (λ (l : List Batch). Serves ⊥ (history ++ others) (Sync batch ∷ []) (Receipt batch.handheld batch.number position ∷ []) (certain l)) whole
+          (receipted ⊥ (history ++ others) batch position (certain ((history ++ others) ++ batch ∷ [])) new passes place refl);
+      adds = ap (λ (l : List Batch). others ++ l) (sym (adds_one (history ++ others) batch (adds_it (history ++ others) batch new passes)));
+      may_share = record {
+        may_come = record {
+          kept = subst (λ (l : List Batch). IsKept l) whole (kept_more (history ++ others) batch may.may_come.kept new passes);
+          ruly = subst (λ (l : List Batch). IsTrue (is_ruly l)) whole (ruly_more (history ++ others) batch may.may_come.ruly passes);
+        };
+        alike = all_push IsOfHandheld others batch may.alike handheld;
+      };
+      ruled = tt;
+    }
+
+-- ---- a group, one batch after the other
+
+-- the requests so far, and one more
+pub sorted_next : (history : List Batch) (asked : List Request) (said : List Reply) (old new : List Batch) (first more : ℕ) (batch : Batch) (reply : Reply)
+    → IsSorted history asked said old first → IsTold history batch old new reply
+    → (new ≡ [] → more ≡ first + 1) → (new ≢ [] → more ≡ first)
+    → IsSorted history (asked ++ Sync batch ∷ []) (said ++ reply ∷ []) new more
+sorted_next history asked said old new first more batch reply sorted told none some =
+    let adds : added history (asked ++ Sync batch ∷ []) ≡ new =
+    added_join history asked (Sync batch ∷ []) ∙ ap (λ (l : List Batch). l ++ added (history ++ l) (Sync batch ∷ [])) sorted.adds ∙ sym told.adds in
+    let next = before_next history asked (Sync batch) in
+    record {
+      serves = serves_join ⊥ history (history ++ old) asked said (Sync batch ∷ []) (reply ∷ []) (certain (history ++ new)) sorted.serves told.serves;
+      adds = adds;
+      may_share = told.may_share;
+      ruled = all_push HasRule said reply sorted.ruled told.ruled;
+      before = elim (none_or_some new) [
+        | inl empty ↦ none empty ∙ ap (λ (n : ℕ). n + 1) sorted.before ∙ sym (next.0 (adds ∙ empty))
+        | inr full ↦ some full ∙ sorted.before ∙ sym (next.1 (λ empty. full (sym adds ∙ empty)))
+      ];
+    }
+  where
+    none_or_some : (batches : List Batch) → (batches ≡ []) ⊎ (batches ≢ [])
+    none_or_some [] = inl refl
+    none_or_some (one ∷ batches) = inr (λ none. cc)
+
+-- no request yet
+pub sorted_none : (history : List Batch) → MayCome history [] → IsSorted history [] [] [] 0
+sorted_none history may = record {
+  serves = ap certain (append-nil history);
+  adds = refl;
+  may_share = record { may_come = may; alike = tt };
+  ruled = tt;
+  before = refl;
+}
+
+-- the requests so far and one more, none of which adds a batch
+pub unwritten_next : (history : List Batch) (asked : List Request) (said : List Reply) (batch : Batch) (reply : Reply)
+    → IsUnwritten history asked said → Serves ⊥ history (Sync batch ∷ []) (reply ∷ []) (certain history) → HasRule reply
+    → IsUnwritten history (asked ++ Sync batch ∷ []) (said ++ reply ∷ [])
+unwritten_next history asked said batch reply unwritten serves rule = record {
+  serves = serves_join ⊥ history history asked said (Sync batch ∷ []) (reply ∷ []) (certain history) unwritten.serves serves;
+  ruled = all_push HasRule said reply unwritten.ruled rule;
+}
+
+-- ---- the requests of a group, by their places
+
+-- something holds of the element at a place
+at_place : {X : Type 0} (P : X → Type 0) (xs : List X) (i : ℕ) (x : X) → AllByRecursion P xs → i < length xs → x ≡ get_or xs i x → P x
+at_place P [] i x each within is = absurd (omega arith)
+at_place P (y ∷ xs) zero x each within is = subst P (sym is) each.0
+at_place P (y ∷ xs) (suc i) x each within is = at_place P xs i x each.1 (omega arith) is
+
+-- a request of a group is a batch of a handheld
+pub asks_batch : (requests : List Request) (i : ℕ) (request : Request) → AllByRecursion IsFromHandheld requests → i < length requests
+    → request ≡ get_or requests i request → IsFromHandheld request
+asks_batch requests i request alike within is = at_place IsFromHandheld requests i request alike within is
+
+-- the requests up to one, and it
+next_request : (requests : List Request) (i : ℕ) (request : Request) (batch : Batch) → i < length requests → request ≡ get_or requests i request
+    → request ≡ Sync batch → take (i + 1) requests ≡ take i requests ++ Sync batch ∷ []
+next_request requests i request batch within is asks =
+    rw (add-one, take-suc requests i request within) (ap (λ (r : Request). take i requests ++ r ∷ []) (sym is ∙ asks))
+
+-- the replies with one more
+pub replies_next : (now before front said : List Reply) (reply : Reply) → now ≡ before ++ reply ∷ [] → before ≡ front ++ said
+    → now ≡ front ++ (said ++ reply ∷ [])
+replies_next now before front said reply puts is =
+    puts ∙ ap (λ (l : List Reply). l ++ reply ∷ []) is ∙ append_assoc front said (reply ∷ [])
+
+pub unwritten_at : (history : List Batch) (requests : List Request) (i : ℕ) (request : Request) (batch : Batch) (said : List Reply) (reply : Reply)
+    → i < length requests → request ≡ get_or requests i request → request ≡ Sync batch → IsUnwritten history (take i requests) said
+    → Serves ⊥ history (Sync batch ∷ []) (reply ∷ []) (certain history) → HasRule reply
+    → IsUnwritten history (take (i + 1) requests) (said ++ reply ∷ [])
+unwritten_at history requests i request batch said reply within is asks unwritten serves rule =
+    subst (λ (l : List Request). IsUnwritten history l (said ++ reply ∷ [])) (sym (next_request requests i request batch within is asks))
+    (unwritten_next history (take i requests) said batch reply unwritten serves rule)
+
+-- no request yet
+pub unwritten_none : (history : List Batch) → IsUnwritten history [] []
+unwritten_none history = record { serves = refl; ruled = tt }
+
+pub sorted_at : (history : List Batch) (requests : List Request) (i : ℕ) (request : Request) (batch : Batch) (said : List Reply) (reply : Reply)
+    (old new : List Batch) (first more : ℕ) → i < length requests → request ≡ get_or requests i request → request ≡ Sync batch
+    → IsSorted history (take i requests) said old first → IsTold history batch old new reply
+    → (new ≡ [] → more ≡ first + 1) → (new ≢ [] → more ≡ first)
+    → IsSorted history (take (i + 1) requests) (said ++ reply ∷ []) new more
+sorted_at history requests i request batch said reply old new first more within is asks sorted told none some =
+    subst (λ (l : List Request). IsSorted history l (said ++ reply ∷ []) new more) (sym (next_request requests i request batch within is asks))
+    (sorted_next history (take i requests) said old new first more batch reply sorted told none some)
+
+-- a request adds one batch at most
+pub one_told : (history : List Batch) (batch : Batch) (old new : List Batch) (reply : Reply) → IsTold history batch old new reply → length new ≤ length old + 1
+one_told history batch old new reply told =
+    let one = one_added (batch_added (history ++ old) (Sync batch)) in
+    let long = ap length told.adds in
+    let whole = length-append old (added (history ++ old) (Sync batch ∷ [])) in
+    omega arith
+  where
+    one_added : (o : Option Batch) → length (elim o as (λ _. List Batch) [ None ↦ [] | Some more ↦ more ∷ [] ]) ≤ 1
+    one_added None = omega arith
+    one_added (Some more) = omega arith
+
+-- .. so that it stands before no more requests than there are
+pub before_within : (history : List Batch) (requests : List Request) → before_adding history requests ≤ length requests
+before_within history [] = omega arith
+before_within history (request ∷ requests) = by (batch_added history request) (before_within history requests)
+  where
+    by : (o : Option Batch) → before_adding history requests ≤ length requests
+        → (elim o as (λ _. ℕ) [ None ↦ before_adding history requests + 1 | Some batch ↦ 0 ]) ≤ length (request ∷ requests)
+    by None rest = omega arith
+    by (Some batch) rest = omega arith
+
+-- ---- replies behind those that stand there
+
+-- so many of the replies: those in front, and some of the others
+pub take_past : (front said : List Reply) (n k : ℕ) → n ≡ length front + k → take n (front ++ said) ≡ front ++ take k said
+take_past [] said n k is = let same : n ≡ k = omega arith in ap (λ (m : ℕ). take m said) same
+take_past (reply ∷ front) said n k is =
+    let next : n ≡ suc (length front + k) = omega arith in
+    ap (λ (m : ℕ). take m (reply ∷ (front ++ said))) next ∙ ap (λ (l : List Reply). reply ∷ l) (take_past front said (length front + k) k refl)
+
+-- .. those in front
+pub take_front : (all front said : List Reply) (n : ℕ) → all ≡ front ++ said → length front ≡ n → take n all ≡ front
+take_front all front said n is long =
+    ap (λ (l : List Reply). take n l) is ∙ take_past front said n 0 (omega arith) ∙ append-nil front
+
+-- the replies stay, where they are those in front and what was said
+pub replies_stay : (all front said : List Reply) (n : ℕ) → all ≡ front ++ said → length front ≡ n → all ≡ take n all ++ said
+replies_stay all front said n is long = is ∙ ap (λ (l : List Reply). l ++ said) (sym (take_front all front said n is long))
+
+-- faults in place of the replies from one on
+pub replies_cut : (all front said new faults : List Reply) (n first : ℕ) → all ≡ front ++ said → length front ≡ n → new ≡ take (n + first) all ++ faults
+    → new ≡ take n all ++ (take first said ++ faults)
+replies_cut all front said new faults n first is long puts =
+    puts ∙ ap (λ (l : List Reply). l ++ faults) (ap (λ (l : List Reply). take (n + first) l) is ∙ take_past front said (n + first) first (omega arith))
+    ∙ append_assoc front (take first said) faults
+    ∙ ap (λ (l : List Reply). l ++ (take first said ++ faults)) (sym (take_front all front said n is long))
+
+-- something holds of each of a front, and of two lists together
+all_take : {X : Type 0} (P : X → Type 0) (n : ℕ) (xs : List X) → AllByRecursion P xs → AllByRecursion P (take n xs)
+all_take P zero xs each = tt
+all_take P (suc n) [] each = tt
+all_take P (suc n) (x ∷ xs) each = (each.0, all_take P n xs each.1)
+
+all_append : {X : Type 0} (P : X → Type 0) (xs ys : List X) → AllByRecursion P xs → AllByRecursion P ys → AllByRecursion P (xs ++ ys)
+all_append P [] ys one two = two
+all_append P (x ∷ xs) ys one two = (one.0, all_append P xs ys one.1 two)
+
+pub cut_ruled : (first : ℕ) (said faults : List Reply) → AllByRecursion HasRule said → AllByRecursion HasRule faults
+    → AllByRecursion HasRule (take first said ++ faults)
+cut_ruled first said faults one two = all_append HasRule (take first said) faults (all_take HasRule first said one) two
+
+-- requests add no more batches than they are
+pub added_within : (history : List Batch) (requests : List Request) → length (added history requests) ≤ length requests
+added_within history [] = omega arith
+added_within history (request ∷ requests) =
+    by (batch_added history request) (added_within history requests) (λ batch. added_within (history ++ batch ∷ []) requests)
+  where
+    by : (o : Option Batch) → length (added history requests) ≤ length requests
+        → ((batch : Batch) → length (added (history ++ batch ∷ []) requests) ≤ length requests) → length (elim o as (λ _. List Batch) [
+          | None ↦ added history requests
+          | Some batch ↦ batch ∷ added (history ++ batch ∷ []) requests
+        ]) ≤ length (request ∷ requests)
+    by None none some = omega arith
+    by (Some batch) none some = let rest = some batch in omega arith
+
+-- what is promised of a failure, where it holds anyway
+pub on_err : {T E : Type 0} (r : Result T E) {P : Type 0} → P → OnErr r P
+on_err (Ok v) p = tt
+on_err (Err e) p = p
+
+-- one more or none
+pub more_within : (batches : List Batch) (first more i : ℕ) → first ≤ i → (batches ≡ [] → more ≡ first + 1) → (batches ≢ [] → more ≡ first) → more ≤ i + 1
+more_within [] first more i within none some = let is = none refl in omega arith
+more_within (batch ∷ batches) first more i within none some = let is = some (λ empty. cc) in omega arith
+
+-- what a test of the length says
+pub none_held : (batches : List Batch) (n : ℕ) → n ≡ length batches → (n == 0) ≡ true → batches ≡ []
+none_held [] n long test = refl
+none_held (batch ∷ batches) n long test = absurd (let none : n ≡ 0 = grind (arith, nat_tests) in omega arith)
+
+pub some_held : (batches : List Batch) (n : ℕ) → n ≡ length batches → (n == 0) ≡ false → batches ≢ []
+some_held [] n long test empty = let some : n ≢ 0 = grind (arith, nat_tests) in some (omega arith)
+some_held (batch ∷ batches) n long test empty = cc

@@ -1,0 +1,40 @@
+-- What an office promises over a disk that tells its room.
+use Rattle.std.proofs.Common.{ℕ, Option, List, [], ◌∷◌, refl, arith}
+use Rattle.std.specs.List.{AllByRecursion}
+use Rattle.ldar_facts.specs.declared.batch.Batch.{Batch}
+use Rattle.ldar_journal.specs.Crash.{AnswersInRoom}
+use Rattle.ldar_law.specs.declared.reply.Reply.{Reply}
+use Rattle.ldar_law.specs.declared.reply.Reply.TheVariants.{Receipt, Conflict, Denied, Full, Shown, NoSuch, Fault, Memory}
+use Rattle.ldar_law.specs.declared.request.Request.{Request}
+use Rattle.ldar_law.specs.Machine.{State}
+use Rattle.office_book.specs.Room.{IsNoFault}
+use Rattle.office_book.specs.Serving.{Serves}
+
+-- no call of the disk was made
+pub room_stays : {D : Type 0} (room_of : D → Option ℕ) (clock_of : D → ℕ) (n : ℕ) (disk : D) (P : ℕ → Type 0) → ((room : ℕ) → P room)
+    → AnswersInRoom room_of clock_of n disk disk P
+room_stays room_of clock_of n disk P kept = record { stays = refl; steps = λ room told. omega arith; answers = λ room told below. kept room }
+
+-- ---- replies without a fault
+
+-- the first of some replies, and those behind it
+faultless_more : (history : List Batch) (request : Request) (requests : List Request) (reply : Reply) (replies : List Reply) (next : State)
+    → ((after : List Batch) → Serves ⊥ after requests replies next → AllByRecursion IsNoFault replies)
+    → Serves ⊥ history (request ∷ requests) (reply ∷ replies) next → AllByRecursion IsNoFault (reply ∷ replies)
+faultless_more history request requests (Receipt handheld number position) replies next rest serves = (λ is. cc, rest serves.0 serves.2)
+faultless_more history request requests (Conflict position) replies next rest serves = (λ is. cc, rest serves.0 serves.2)
+faultless_more history request requests (Denied fact rule) replies next rest serves = (λ is. cc, rest serves.0 serves.2)
+faultless_more history request requests (Full facts) replies next rest serves = (λ is. cc, rest serves.0 serves.2)
+faultless_more history request requests (Shown text) replies next rest serves = (λ is. cc, rest serves.0 serves.2)
+faultless_more history request requests (NoSuch what) replies next rest serves = (λ is. cc, rest serves.0 serves.2)
+faultless_more history request requests Fault replies next rest serves = absurd serves.why
+faultless_more history request requests Memory replies next rest serves = (λ is. cc, rest history serves.1)
+
+-- where nothing can fail, no reply is a fault
+pub faultless : (history : List Batch) (requests : List Request) (replies : List Reply) (next : State) → Serves ⊥ history requests replies next
+    → AllByRecursion IsNoFault replies
+faultless history [] [] next serves = tt
+faultless history [] (reply ∷ replies) next serves = absurd serves
+faultless history (request ∷ requests) [] next serves = absurd serves
+faultless history (request ∷ requests) (reply ∷ replies) next serves =
+    faultless_more history request requests reply replies next (λ after more. faultless after requests replies next more) serves

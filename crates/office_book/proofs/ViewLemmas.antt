@@ -1,0 +1,47 @@
+-- What a view is answered.
+use Rattle.std.proofs.Common.{◌≡◌, inr, ℕ, Some, List, [], ◌∷◌, refl, sym, subst}
+use Rattle.std.specs.Prelude.{Result, Ok, Err, IfOk, OnErr}
+use Rattle.ldar_facts.specs.declared.batch.Batch.{Batch}
+use Rattle.ldar_law.specs.declared.reply.Reply.{Reply}
+use Rattle.ldar_law.specs.declared.reply.Reply.TheVariants.{Shown, NoSuch, Memory}
+use Rattle.ldar_law.specs.declared.request.Request.{Request}
+use Rattle.ldar_law.specs.declared.request.Request.TheVariants.{Sync, Due, Tags, Delays, Route, Percent, Report as ReportView}
+use Rattle.ldar_law.specs.Machine.{State, Answers}
+use Rattle.ldar_law.specs.Replies.{HasRule}
+use Rattle.ldar_law.specs.Shown.{shown}
+use Rattle.office_book.specs.Serving.{certain, Serves}
+use Rattle.office_book.specs.Viewed.{reply_shown}
+use Rattle.office_views.specs.Answers.{reply_of, IsView, IsTextOf}
+use Rattle.office_views.specs.declared.shown.Shown.{Shown as View}
+use Rattle.office_views.specs.declared.shown.Shown.TheVariants.{Text, NoSuch as NoneOf}
+
+-- what is shown of the history is an answer that leaves it
+answers_view : (history : List Batch) (request : Request) (reply : Reply) → IsView request → shown history request ≡ Some reply
+    → Answers history request reply history
+answers_view history (Sync batch) reply view is = absurd view
+answers_view history (Due unit day) reply view is = (is, refl)
+answers_view history (Tags unit day) reply view is = (is, refl)
+answers_view history (Delays unit day) reply view is = (is, refl)
+answers_view history (Route unit day stops) reply view is = (is, refl)
+answers_view history (Percent unit quarter day) reply view is = (is, refl)
+answers_view history (ReportView unit half day) reply view is = (is, refl)
+
+-- what is shown is answered, and a text for which memory is wanting
+pub serves_shown : (faulty : Type 0) (history : List Batch) (request : Request) (next : State) → IsView request → next ≡ certain history
+    → {E : Type 0} (result : Result View E) (reply : Reply) → reply ≡ reply_shown result
+    → IfOk result (λ answer. shown history request ≡ Some (reply_of answer)) → OnErr result (IsTextOf (shown history request))
+    → Serves faulty history (request ∷ []) (reply ∷ []) next
+serves_shown faulty history request next view stays (Ok (Text text)) reply is told wanting =
+    subst (λ (r : Reply). Serves faulty history (request ∷ []) (r ∷ []) next) (sym is)
+    (history, answers_view history request (Shown text) view told, stays)
+serves_shown faulty history request next view stays (Ok (NoneOf what)) reply is told wanting =
+    subst (λ (r : Reply). Serves faulty history (request ∷ []) (r ∷ []) next) (sym is)
+    (history, answers_view history request (NoSuch what) view told, stays)
+serves_shown faulty history request next view stays (Err e) reply is told wanting =
+    subst (λ (r : Reply). Serves faulty history (request ∷ []) (r ∷ []) next) (sym is) (inr wanting, stays)
+
+-- it names no rule
+pub shown_ruled : {E : Type 0} (result : Result View E) (reply : Reply) → reply ≡ reply_shown result → HasRule reply
+shown_ruled (Ok (Text text)) reply is = subst HasRule (sym is) tt
+shown_ruled (Ok (NoneOf what)) reply is = subst HasRule (sym is) tt
+shown_ruled (Err e) reply is = subst HasRule (sym is) tt

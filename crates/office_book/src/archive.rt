@@ -1,0 +1,245 @@
+ghost use Rattle.std.specs.Prelude.{◌≡◌, ◌↔◌, ℕ, ◌+◌, ◌<◌, ◌≤◌, List, IsTrue, Some, [], ◌∷◌, ◌++◌, length, take, drop, map, IfOk, OnOk, OnErr, IfSome, IsNone};
+ghost use Rattle.ldar_facts.specs.declared.batch.Batch.{Batch as FactBatch};
+ghost use Rattle.ldar_facts.specs.declared.limits.TheConstants.{MOST_FACTS};
+ghost use Rattle.ldar_facts.specs.Facts.{facts_of, facts_to};
+ghost use Rattle.ldar_facts.specs.Identity.{identity_of};
+ghost use Rattle.ldar_journal.specs.Image.{IsKept};
+ghost use Rattle.ldar_law.specs.declared.verdict.Verdict.TheVariants as verdicts;
+ghost use Rattle.ldar_law.specs.Machine.{batch_at};
+ghost use Rattle.ldar_law.specs.Shown as law;
+ghost use Rattle.ldar_law.specs.Slices.{register_facts};
+ghost use Rattle.ldar_law.specs.Verdicts.{is_ruly, first_unruly, facts_with, verdict_on};
+ghost use Rattle.office_book.specs.Archive.{IsStanding, MayCome};
+ghost use Rattle.office_views.specs.Answers.{reply_of, report_asked, IsTextOf, IsView, Tells};
+
+use crate::Memory;
+use batch_positions::Positions;
+use batch_rules::verdict;
+use fact_store::Steps;
+use ldar_days::Day;
+use ldar_facts::Batch;
+use ldar_law::{Report, Request, Verdict};
+use office_views::{AskError, Shown, Views};
+use std::alloc::Global;
+use std::marker::{Brand, Model};
+use std::slice::from_ref;
+use std::sync::ledger::{Blank, Ledger};
+
+/// How a batch stands to those that are kept.
+pub enum Standing {
+    /// A batch of its identity is kept at this position, from 1, with the same content or with other.
+    Kept { position: u32, same: bool },
+    New(Verdict),
+}
+
+/// The batches that an office keeps, in order, with what they show and where each stands. Contracts see them beside those that
+/// have room.
+#[derive(Drop)]
+pub struct Archive {
+    views: Views,
+    positions: Positions,
+}
+
+impl Model for Archive {
+    ghost use Rattle.office_book.specs.Archive.{IsArchive};
+    ghost use Rattle.office_views.specs.Held.{Held};
+
+    ghost Value = { Held };
+
+    ghost view = { λ a. a.views };
+
+    ghost invariant = { λ a. IsArchive a.views a.positions };
+}
+
+impl Archive {
+    /// No batch.
+    pub fn new(alloc: Global) -> Result<Archive, Memory>
+        ensures value { IfOk result (λ archive. archive ≡ record { adopted = []; spare = [] }) }
+    {
+        Ok(Archive {
+            views: Views::new(alloc),
+            positions: Positions::new(alloc)?,
+        })
+    }
+
+    /// How many batches there are, and how many facts they have.
+    pub fn counts(&self) -> (u32, u64)
+        ensures batches { result.0 ≡ length self.now.adopted }
+        ensures facts { result.1 ≡ length (facts_of self.now.adopted) }
+    {
+        self.views.counts()
+    }
+
+    /// Makes room for these batches. Want of memory leaves the batches that are kept.
+    pub fn reserve(&mut self, batches: &[Batch]) -> Result<(), Memory>
+        ensures roomy { OnOk result (self.new.spare ≡ batches.now) }
+        ensures adopted { self.new.adopted ≡ self.old.adopted }
+    {
+        self.positions.reserve(batches.len())?;
+        self.views.reserve(batches)
+    }
+
+    /// Adds batches that have room. It takes no memory.
+    pub fn adopt(&mut self, batches: &[Batch])
+        requires roomy { take (length batches.now) self.old.spare ≡ batches.now }
+        requires may_come { MayCome self.old.adopted batches.now }
+        ensures adopted { self.new.adopted ≡ self.old.adopted ++ batches.now }
+        ensures spare { self.new.spare ≡ drop (length batches.now) self.old.spare }
+    {
+        adopt_all::<Brand>(&mut self.views, &mut self.positions, batches, Blank::new(1));
+    }
+
+    /// How a batch stands to those that are kept.
+    pub fn standing(&self, batch: &Batch) -> Standing
+        ensures value { IsStanding self.now.adopted batch.now result }
+    {
+        match self.positions.position(batch.identity()) {
+            Some(position) => Standing::Kept {
+                position,
+                same: is_kept_at::<Brand>(&self.views, position, batch, Blank::new(1)),
+            },
+            None => Standing::New(self.judged(batch)),
+        }
+    }
+
+    /// The verdict on a batch after those that are kept.
+    pub fn judged(&self, batch: &Batch) -> Verdict
+        ensures value { result ≡ verdict_on self.now.adopted batch.now }
+    {
+        let (_, facts) = self.views.counts();
+        verdict(self.views.register(), facts, batch)
+    }
+
+    /// The verdict on a batch after those that are kept and others behind them, which enter no equipment and have so many facts.
+    pub fn judged_behind(&self, facts: u64, batch: &Batch) -> Verdict
+        requires fits { length (facts_of self.now.adopted) + facts ≤ MOST_FACTS }
+        ensures value { (history : List FactBatch) → register_facts (facts_of history) ≡ register_facts (facts_of self.now.adopted)
+            → length (facts_of history) ≡ length (facts_of self.now.adopted) + facts → result ≡ verdict_on history batch.now }
+    {
+        let (_, kept) = self.views.counts();
+        verdict(self.views.register(), kept + facts, batch)
+    }
+
+    /// What a view shows of the batches that are kept, as known on its day.
+    pub fn show(&mut self, request: &Request) -> Result<Shown, Memory>
+        requires view { IsView request.now }
+        ensures value { IfOk result (λ answer. law.shown self.old.adopted request.now ≡ Some (reply_of answer)) }
+        ensures text { OnErr result (IsTextOf (law.shown self.old.adopted request.now)) }
+        ensures unchanged { self.new ≡ self.old }
+    {
+        ask_views::<Brand>(&mut self.views, request, Blank::new(1))
+    }
+
+    /// The report of a half of a process unit as known on a day, of the batches that are kept.
+    pub fn report(&mut self, unit: u16, half: u16, day: Day) -> Result<Report, AskError>
+        ensures value { Tells result (report_asked unit half day (facts_to day self.old.adopted)) }
+        ensures unchanged { self.new ≡ self.old }
+    {
+        report_views::<Brand>(&mut self.views, unit, half, day, Blank::new(1))
+    }
+
+    /// Adds batches for which there is room, one after the other, as long as they pass: where one is denied after those before
+    /// it, its position, from 1, and the rule.
+    pub fn take_in(&mut self, batches: &[Batch]) -> Option<(u32, u8)>
+        requires none { self.old.adopted ≡ [] }
+        requires roomy { self.old.spare ≡ batches.now }
+        requires kept { IsKept batches.now }
+        requires few { length batches.now ≤ MOST_FACTS }
+        ensures adopted { IsNone result → self.new.adopted ≡ batches.now }
+        ensures ruly { IsNone result → IsTrue (is_ruly batches.now) }
+        ensures unruly { IfSome result (λ found. first_unruly batches.now ≡ Some found) }
+    {
+        for batch in batches {
+            match self.rule_against(batch) {
+                None => self.adopt(from_ref(batch)),
+                Some(rule) => {
+                    let (count, _) = self.counts();
+                    return Some((count + 1, rule));
+                }
+            }
+        }
+        None
+    }
+
+    /// The least rule that denies a batch after those that are kept, if one does.
+    fn rule_against(&self, batch: &Batch) -> Option<u8>
+        ensures denied { IfSome result (λ rule. (fact : ℕ) × (verdict_on self.now.adopted batch.now ≡ verdicts.Denied fact rule)) }
+        ensures passes { IsNone result → facts_with self.now.adopted batch.now ≤ MOST_FACTS
+            → verdict_on self.now.adopted batch.now ≡ verdicts.Pass }
+    {
+        match self.judged(batch) {
+            Verdict::Denied { fact: _, rule } => Some(rule),
+            Verdict::Pass => None,
+            Verdict::Full { facts: _ } => None,
+        }
+    }
+}
+
+/// Adopts batches that have room, one after the other, and says where they stand.
+fn adopt_all<L: Ledger>(
+    views: &mut Views,
+    positions: &mut Positions,
+    batches: &[Batch],
+    blank: Blank,
+)
+    requires name { blank.name ≡ L.name }
+    requires parts { blank.parts ≡ L.parts }
+    requires some_part { 0 < L.parts }
+    requires roomy { take (length batches.now) views.old.spare ≡ batches.now }
+    requires room { length views.old.spare ≤ positions.old.room }
+    requires known { positions.old.identities ≡ map identity_of views.old.adopted }
+    requires may_come { MayCome views.old.adopted batches.now }
+    ensures adopted { views.new.adopted ≡ views.old.adopted ++ batches.now }
+    ensures spare { views.new.spare ≡ drop (length batches.now) views.old.spare }
+    ensures known { positions.new.identities ≡ map identity_of views.new.adopted }
+    ensures room { length views.new.spare ≤ positions.new.room }
+{
+    let mut steps = Steps::<L>::new(blank);
+    for batch in batches {
+        views.adopt(batch, &mut steps);
+        positions.push(batch.identity());
+    }
+}
+
+/// Whether the batch that is kept at a position, from 1, is just this one.
+fn is_kept_at<L: Ledger>(views: &Views, position: u32, batch: &Batch, blank: Blank) -> bool
+    requires name { blank.name ≡ L.name }
+    requires parts { blank.parts ≡ L.parts }
+    requires some_part { 0 < L.parts }
+    ensures value { IsTrue result ↔ (batch_at views.now.adopted position ≡ Some batch.now) }
+{
+    let mut steps = Steps::<L>::new(blank);
+    views.is_kept_at(position, batch, &mut steps)
+}
+
+/// What a view shows of the adopted batches.
+fn ask_views<L: Ledger>(views: &mut Views, request: &Request, blank: Blank) -> Result<Shown, Memory>
+    requires name { blank.name ≡ L.name }
+    requires parts { blank.parts ≡ L.parts }
+    requires some_part { 0 < L.parts }
+    requires view { IsView request.now }
+    ensures value { IfOk result (λ answer. law.shown views.old.adopted request.now ≡ Some (reply_of answer)) }
+    ensures text { OnErr result (IsTextOf (law.shown views.old.adopted request.now)) }
+    ensures unchanged { views.new ≡ views.old }
+{
+    let mut steps = Steps::<L>::new(blank);
+    views.ask(request, &mut steps)
+}
+
+/// The report of the adopted batches.
+fn report_views<L: Ledger>(
+    views: &mut Views,
+    unit: u16,
+    half: u16,
+    day: Day,
+    blank: Blank,
+) -> Result<Report, AskError>
+    requires name { blank.name ≡ L.name }
+    requires parts { blank.parts ≡ L.parts }
+    requires some_part { 0 < L.parts }
+    ensures value { Tells result (report_asked unit half day (facts_to day views.old.adopted)) }
+    ensures unchanged { views.new ≡ views.old }
+{
+    let mut steps = Steps::<L>::new(blank);
+    views.report(unit, half, day, &mut steps)
+}
