@@ -198,7 +198,7 @@ fn batches_whose_requests_are_in_hand_are_asked_together(rt: HostRuntime) -> Res
     add_sync(&mut bytes, b'7', b'4', b"Connection: close\r\n")?;
     add_sync(&mut bytes, b'7', b'5', b"")?;
     let mut office = Notebook::new();
-    let (ended, said) = spoken(alloc, &mut office, &bytes, bytes.len())?;
+    let (ended, said) = spoken(alloc, &mut office, &bytes, 10_000)?;
     assert_eq!(rt; ended, Ended::Done);
     assert_eq!(rt; office.calls, [16, 1, 1, 2, 1, 2, 0, 0]);
     let end =
