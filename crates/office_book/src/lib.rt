@@ -21,6 +21,3 @@ pub use office::Office;
 pub use opening::{BookError, BookWhy, open_book};
 /// Memory ran out.
 pub use std::alloc::AllocError as Memory;
-
-#[cfg(test)]
-mod tests;
