@@ -1,6 +1,7 @@
 -- What a view is answered.
-use Rattle.std.proofs.Common.{◌≡◌, inr, ℕ, Some, List, [], ◌∷◌, refl, sym, subst}
-use Rattle.std.specs.Prelude.{Result, Ok, Err, IfOk, OnErr}
+use Rattle.std.proofs.Common.{◌≡◌, inr, ℕ, Some, List, [], ◌∷◌, refl, sym, ap, subst, ◌∙◌}
+use Rattle.std.specs.Prelude.{Result, Ok, Err}
+use Rattle.std.specs.declared.alloc.AllocError.{AllocError}
 use Rattle.ldar_facts.specs.declared.batch.Batch.{Batch}
 use Rattle.ldar_law.specs.declared.reply.Reply.{Reply}
 use Rattle.ldar_law.specs.declared.reply.Reply.TheVariants.{Shown, NoSuch, Memory}
@@ -11,7 +12,7 @@ use Rattle.ldar_law.specs.Replies.{HasRule}
 use Rattle.ldar_law.specs.Shown.{shown}
 use Rattle.office_book.specs.Serving.{certain, Serves}
 use Rattle.office_book.specs.Viewed.{reply_shown}
-use Rattle.office_views.specs.Answers.{reply_of, IsView, IsTextOf}
+use Rattle.office_views.specs.Answers.{IsShown, IsView}
 use Rattle.office_views.specs.declared.shown.Shown.{Shown as View}
 use Rattle.office_views.specs.declared.shown.Shown.TheVariants.{Text, NoSuch as NoneOf}
 
@@ -28,17 +29,17 @@ answers_view history (ReportView unit half day) reply view is = (is, refl)
 
 -- what is shown is answered, and a text for which memory is wanting
 pub serves_shown : (faulty : Type 0) (history : List Batch) (request : Request) (next : State) → IsView request → next ≡ certain history
-    → {E : Type 0} (result : Result View E) (reply : Reply) → reply ≡ reply_shown result
-    → IfOk result (λ answer. shown history request ≡ Some (reply_of answer)) → OnErr result (IsTextOf (shown history request))
+    → (result : Result View AllocError) (reply : Reply) → reply ≡ reply_shown result → IsShown result (shown history request)
     → Serves faulty history (request ∷ []) (reply ∷ []) next
-serves_shown faulty history request next view stays (Ok (Text text)) reply is told wanting =
+serves_shown faulty history request next view stays (Ok (Text text)) reply is told =
     subst (λ (r : Reply). Serves faulty history (request ∷ []) (r ∷ []) next) (sym is)
-    (history, answers_view history request (Shown text) view told, stays)
-serves_shown faulty history request next view stays (Ok (NoneOf what)) reply is told wanting =
+    (history, answers_view history request (Shown text) view (told.1 ∙ ap (λ (r : Reply). Some r) (sym told.2)), stays)
+serves_shown faulty history request next view stays (Ok (NoneOf what)) reply is told =
     subst (λ (r : Reply). Serves faulty history (request ∷ []) (r ∷ []) next) (sym is)
-    (history, answers_view history request (NoSuch what) view told, stays)
-serves_shown faulty history request next view stays (Err e) reply is told wanting =
-    subst (λ (r : Reply). Serves faulty history (request ∷ []) (r ∷ []) next) (sym is) (inr wanting, stays)
+    (history, answers_view history request (NoSuch what) view (told.1 ∙ ap (λ (r : Reply). Some r) (sym told.2)), stays)
+serves_shown faulty history request next view stays (Err e) reply is told =
+    subst (λ (r : Reply). Serves faulty history (request ∷ []) (r ∷ []) next) (sym is)
+    (inr (told.2.0, told.1 ∙ ap (λ (r : Reply). Some r) told.2.1), stays)
 
 -- it names no rule
 pub shown_ruled : {E : Type 0} (result : Result View E) (reply : Reply) → reply ≡ reply_shown result → HasRule reply

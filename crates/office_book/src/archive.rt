@@ -10,7 +10,7 @@ ghost use Rattle.ldar_law.specs.Shown as law;
 ghost use Rattle.ldar_law.specs.Slices.{register_facts};
 ghost use Rattle.ldar_law.specs.Verdicts.{is_ruly, first_unruly, facts_with, verdict_on};
 ghost use Rattle.office_book.specs.Archive.{IsStanding, MayCome};
-ghost use Rattle.office_views.specs.Answers.{reply_of, report_asked, IsTextOf, IsView, Tells};
+ghost use Rattle.office_views.specs.Answers.{report_asked, IsShown, IsView, Tells};
 
 use crate::Memory;
 use batch_positions::Positions;
@@ -123,8 +123,7 @@ impl Archive {
     /// What a view shows of the batches that are kept, as known on its day.
     pub fn show(&mut self, request: &Request) -> Result<Shown, Memory>
         requires view { IsView request.now }
-        ensures value { IfOk result (λ answer. law.shown self.old.adopted request.now ≡ Some (reply_of answer)) }
-        ensures text { OnErr result (IsTextOf (law.shown self.old.adopted request.now)) }
+        ensures value { IsShown result (law.shown self.old.adopted request.now) }
         ensures unchanged { self.new ≡ self.old }
     {
         ask_views::<Brand>(&mut self.views, request, Blank::new(1))
@@ -218,8 +217,7 @@ fn ask_views<L: Ledger>(views: &mut Views, request: &Request, blank: Blank) -> R
     requires parts { blank.parts ≡ L.parts }
     requires some_part { 0 < L.parts }
     requires view { IsView request.now }
-    ensures value { IfOk result (λ answer. law.shown views.old.adopted request.now ≡ Some (reply_of answer)) }
-    ensures text { OnErr result (IsTextOf (law.shown views.old.adopted request.now)) }
+    ensures value { IsShown result (law.shown views.old.adopted request.now) }
     ensures unchanged { views.new ≡ views.old }
 {
     let mut steps = Steps::<L>::new(blank);

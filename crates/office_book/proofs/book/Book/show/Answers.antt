@@ -1,5 +1,4 @@
-use Rattle.std.proofs.Common.{◌≡◌, Some, List, ap, subst, sym, ◌∙◌}
-use Rattle.std.specs.Prelude.{IfOk, OnErr}
+use Rattle.std.proofs.Common.{◌≡◌, List, ap, subst, sym, ◌∙◌}
 use Rattle.disk_model.specs.Faults.{Rose}
 use Rattle.ldar_facts.specs.declared.batch.Batch.{Batch}
 use Rattle.ldar_journal.specs.Image.{batches_of}
@@ -9,7 +8,7 @@ use Rattle.office_book.specs.Safe.{state_of}
 use Rattle.office_book.proofs.BookLemmas.{certain_state}
 use Rattle.office_book.proofs.MoveLemmas.{moves_nothing}
 use Rattle.office_book.proofs.ViewLemmas.{serves_shown, shown_ruled}
-use Rattle.office_views.specs.Answers.{reply_of, IsTextOf}
+use Rattle.office_views.specs.Answers.{IsShown}
 use Rattle.office_book.proofs.book.Book.show.Goals as goal
 
 pub returns-clause-serves : goal.returns-clause-serves
@@ -21,8 +20,7 @@ returns-clause-serves g c =
     (ap (λ s. s.doubt) c.self.view_is ∙ c.requires.settled) in
     let d = g.D.Disk in
     serves_shown (Rose (d.faults c.args.self.now.disk) (d.faults c.self.inside.journal.disk)) history request (state_of c.self.inside.journal) c.requires.view stays c.show.result c.reply_to.result c.reply_to.ensures.value
-    (subst (λ (l : List Batch). IfOk c.show.result (λ answer. shown l request ≡ Some (reply_of answer))) adopted c.show.ensures.value)
-    (subst (λ (l : List Batch). OnErr c.show.result (IsTextOf (shown l request))) adopted c.show.ensures.text)
+    (subst (λ (l : List Batch). IsShown c.show.result (shown l request)) adopted c.show.ensures.value)
 
 pub returns-clause-moves : goal.returns-clause-moves
 returns-clause-moves g c =
