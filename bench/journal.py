@@ -1,22 +1,21 @@
 #!/usr/bin/env python3
 """Measures the opening of a journal by the real program, beside a plain Rust program (journal.rs).
 
-Journals of FACTS facts are made, in batches of one fact and of 512, and opened by `dock` with an empty input: the
-least processor time of some runs taken in turn, and the memory.
+Journals of FACTS facts are made, in batches of one fact and of 512, and opened by `dock` with an empty input.
 rt and rustc have to be on the path. usage: journal.py [--beside PROGRAM] [FACTS..]
 FACTS: 100000 200000 400000 if left out. PROGRAM: another build of ldar, of an earlier commit say, measured in the same run.
 """
 import pathlib
-import resource
 import struct
 import subprocess
 import sys
 import tempfile
+import time
 
 WORDS = sys.argv[1:]
 BESIDE = pathlib.Path(WORDS[1]).resolve() if WORDS[:1] == ["--beside"] else None
 SIZES = [int(word) for word in (WORDS[2:] if BESIDE else WORDS)] or [100_000, 200_000, 400_000]
-RUNS = 15
+RUNS = 3
 
 here = pathlib.Path(__file__).parent
 ldar = here.parent / "ldar"
@@ -38,29 +37,18 @@ def journal(path, facts, count):
         file.write(b"\0")
 
 
-def processor_time(words):
-    """The processor time in seconds of a run."""
-    before = resource.getrusage(resource.RUSAGE_CHILDREN)
-    subprocess.run(words, check=True, stdin=subprocess.DEVNULL, stdout=subprocess.DEVNULL)
-    after = resource.getrusage(resource.RUSAGE_CHILDREN)
-    return after.ru_utime + after.ru_stime - before.ru_utime - before.ru_stime
-
-
-def memory_of(words):
-    """The greatest resident memory of a run in KiB."""
+def measured(words):
+    """The least time in seconds of a few runs, and the greatest resident memory in KiB."""
+    best = None
+    for _ in range(RUNS):
+        start = time.perf_counter()
+        subprocess.run(words, check=True, stdin=subprocess.DEVNULL, stdout=subprocess.DEVNULL)
+        took = time.perf_counter() - start
+        best = took if best is None else min(best, took)
     # By /usr/bin/time, since a child of this process would count this process's own memory as its own.
     told = subprocess.run(["/usr/bin/time", "-f", "%M", *words], check=True, stdin=subprocess.DEVNULL,
                           stdout=subprocess.DEVNULL, stderr=subprocess.PIPE, text=True)
-    return int(told.stderr.split()[-1])
-
-
-def measured(commands):
-    """For each of the commands the least processor time of some runs, taken in turn, and the memory."""
-    best = {name: float("inf") for name in commands}
-    for _ in range(RUNS):
-        for name, words in commands.items():
-            best[name] = min(best[name], processor_time(words))
-    return {name: (best[name], memory_of(words)) for name, words in commands.items()}
+    return best, int(told.stderr.split()[-1])
 
 
 def main():
@@ -72,13 +60,13 @@ def main():
         empty = pathlib.Path(folder) / "empty"
         journal(empty, 0, 1)
         programs = [("ours", [program], ["dock"])] + ([("other", [BESIDE], ["dock"])] if BESIDE else []) + [("Rust", [rust], [])]
-        bases = {name: memory_of([*before, empty, *after]) for name, before, after in programs}
+        bases = {name: measured([*before, empty, *after])[1] for name, before, after in programs}
         print(f"{'facts':>8} {'a batch':>8}" + "".join(f" {name + ' s':>9} {'ratio':>6} {'B a fact':>9}" for name, _, _ in programs))
         for facts in SIZES:
             for count in (1, 512):
                 path = pathlib.Path(folder) / "journal"
                 journal(path, facts, count)
-                told = measured({name: [*before, path, *after] for name, before, after in programs})
+                told = {name: measured([*before, path, *after]) for name, before, after in programs}
                 plain = told["Rust"][0]
                 print(f"{facts:8} {count:8}" + "".join(
                     f" {took:9.3f} {took / plain:6.2f} {(memory - bases[name]) * 1024 / (facts // count * count):9.0f}"

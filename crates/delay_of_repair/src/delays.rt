@@ -1,14 +1,52 @@
-ghost use Rattle.std.specs.Prelude.{◌≡◌, ◌↔◌, ℕ, List, reverse, None, IsNone, IfSome};
+ghost use Rattle.std.specs.Prelude.{◌≡◌, ◌↔◌, ℕ, List, reverse, if◌then◌else◌, Some, option_map, IsNone, IfSome};
 ghost use Rattle.ldar_law.specs.declared.delay.Stop.{Stop as SomeStop};
-ghost use Rattle.ldar_law.specs.declared.delay.Until.TheVariants.{Date};
 ghost use Rattle.ldar_law.specs.Delays as law;
 ghost use Rattle.delay_of_repair.specs.Ends.{AreEnds};
-ghost use Rattle.delay_of_repair.specs.Walk.{Repairs};
 
-use crate::grounds::due_by;
+use crate::grounds::due_given;
 use crate::shutdowns::Ends;
 use ldar_days::Day;
 use ldar_law::{DelayEntry, Stop, Until, repair_by};
+
+/// The last delay that counts, with its place, after one more that is ignored or not.
+fn last_after(
+    last: &Option<(usize, DelayEntry)>,
+    is_ignored: bool,
+    place: usize,
+    delay: DelayEntry,
+) -> Option<(usize, DelayEntry)>
+    ensures value { result ≡ (if is_ignored then last.now else Some (place, delay)) }
+{
+    if is_ignored {
+        *last
+    } else {
+        Some((place, delay))
+    }
+}
+
+/// The last delay that is not ignored, with its place among the delays: one walk over them.
+fn last_counted(detected: Day, delays: &[DelayEntry], ends: &Ends) -> Option<(usize, DelayEntry)>
+    ensures value { (attempts : List ℕ) (stops : List SomeStop) → AreEnds detected attempts stops ends.now
+        → result ≡ law.last_counted detected attempts stops (reverse delays.now) }
+{
+    let mut last = None;
+    for (place, delay) in delays.iter().enumerate() {
+        // The due day so far is what the delays up to here give.
+        let is_ignored = due_given(detected, ends, &last).is_past_on(delay.key.day);
+        last = last_after(&last, is_ignored, place, *delay);
+    }
+    last
+}
+
+/// The place of a delay, if there is one.
+fn place_of(last: &Option<(usize, DelayEntry)>) -> Option<usize>
+    ensures value { result ≡ option_map (λ c. c.0) last.now }
+{
+    match *last {
+        Some((place, _)) => Some(place),
+        None => None,
+    }
+}
 
 /// Until when a leak must be repaired, and the delay that says so.
 #[derive(Clone, Copy, Debug, PartialEq, Eq)]
@@ -19,35 +57,6 @@ pub struct Repair {
     pub counted: Option<usize>,
 }
 
-/// The same where no delay is entered.
-fn undelayed(detected: Day) -> Repair
-    ensures due { result.due ≡ Date (law.repair_by detected) }
-    ensures counted { result.counted ≡ None }
-{
-    Repair {
-        due: Until::Date(repair_by(detected)),
-        counted: None,
-    }
-}
-
-/// The same by the ends of the shutdowns: one walk over the delays, and a due day only for one that is not ignored.
-fn delayed(detected: Day, delays: &[DelayEntry], ends: &Ends) -> Repair
-    ensures value { (attempts : List ℕ) (stops : List SomeStop) → AreEnds detected attempts stops ends.now
-        → Repairs detected attempts stops (reverse delays.now) result }
-{
-    let mut repair = undelayed(detected);
-    for (place, delay) in delays.iter().enumerate() {
-        // The due day so far is what the delays up to here give.
-        if !repair.due.is_past_on(delay.key.day) {
-            repair = Repair {
-                due: due_by(detected, ends, delay.ground, delay.key.day),
-                counted: Some(place),
-            };
-        }
-    }
-    repair
-}
-
 /// The same from the walk alone.
 fn walked(detected: Day, delays: &[DelayEntry], attempts: &[Day], stops: &[Stop]) -> Repair
     ensures due { result.due ≡ law.repair_due detected attempts.now stops.now delays.now }
@@ -55,9 +64,17 @@ fn walked(detected: Day, delays: &[DelayEntry], attempts: &[Day], stops: &[Stop]
 {
     // Most leaks have no delay: for these no shutdown is looked for.
     if delays.is_empty() {
-        return undelayed(detected);
+        return Repair {
+            due: Until::Date(repair_by(detected)),
+            counted: None,
+        };
     }
-    delayed(detected, delays, &Ends::after(detected, attempts, stops))
+    let ends = Ends::after(detected, attempts, stops);
+    let last = last_counted(detected, delays, &ends);
+    Repair {
+        due: due_given(detected, &ends, &last),
+        counted: place_of(&last),
+    }
 }
 
 /// Until when a leak must be repaired that was detected on this day, and the delay that says so (40 CFR 60.482-7a(d)(1),

@@ -13,17 +13,17 @@ use Rattle.ldar_law.specs.Machine.{Call, Turn}
 use Rattle.ldar_law.specs.Replies.{reply_text}
 use Rattle.ldar_ports.specs.Sink.{Piece, Puts, IsStamped, bytes_of}
 use Rattle.office_book.specs.Asking.{requests_of, replies_of}
-use Rattle.ldar_session.specs.Served.{Served, Stretch, items_of, texts_of, turns_of}
-use Rattle.ldar_session.specs.Batches.{Asks, AsksEach, IsBatch, IsGroup, StandInFront}
+use Rattle.ldar_session.specs.Served.{Served, Stretch, items_of, turns_of}
+use Rattle.ldar_session.specs.Batches.{Asks, AsksEach, IsBatch, IsGroup, StandInFront, line_of}
 use Rattle.ldar_session.proofs.Stretches.{stretch_call}
 
 -- ---- what was served of items that were asked
 
--- the items with the turns in which they were asked, and the lines of the replies
+-- the items with the turns in which they were asked
 pub served_in : List (List ℕ) → List Turn → List Served
 served_in [] turns = []
 served_in (item ∷ items) [] = []
-served_in (item ∷ items) (turn ∷ turns) = record { item = item; turn = Some turn; text = reply_text turn.reply } ∷ served_in items turns
+served_in (item ∷ items) (turn ∷ turns) = record { item = item; turn = Some turn } ∷ served_in items turns
 
 -- these turns asked these items, one each
 abbrev pub AskedEach : List (List ℕ) → List Turn → Type 0
@@ -49,11 +49,11 @@ pub are_batches : (items : List (List ℕ)) (turns : List Turn) → AskedEach it
 unfolding served_in
 are_batches [] turns asked = tt
 are_batches (item ∷ items) [] asked = absurd asked
-are_batches (item ∷ items) (turn ∷ turns) asked = ((asked.0, refl), are_batches items turns asked.1)
+are_batches (item ∷ items) (turn ∷ turns) asked = (asked.0, are_batches items turns asked.1)
 
 -- what is said to it are the lines of the replies
 pub lines_of-served_in : (items : List (List ℕ)) (turns : List Turn) → AskedEach items turns
-    → texts_of (served_in items turns) ≡ flat_map reply_text (map (λ (turn : Turn). turn.reply) turns)
+    → flat_map line_of (served_in items turns) ≡ flat_map reply_text (map (λ (turn : Turn). turn.reply) turns)
 unfolding served_in
 lines_of-served_in [] [] asked = refl
 lines_of-served_in [] (turn ∷ turns) asked = absurd asked
@@ -136,7 +136,7 @@ asked_in items requests call asks are = subst (λ l. AsksEach items l) (sym are)
 pub stretch_group : {O : Type 0} (led : O → List Call → O → Type 0) (old new : O) (call : Call) (items : List (List ℕ)) (pieces pieces' : Option (List Piece))
     (put : List Piece) (unsaid : List ℕ) (clock : ℕ) → AskedEach items call.turns → led old (call ∷ []) new
     → Puts pieces put pieces' → flat_map reply_text (replies_of call) ≡ bytes_of put ++ unsaid → All (IsStamped clock) put → call.end.clock ≤ clock
-    → Stretch IsBatch led old new pieces pieces' (served_in items call.turns) unsaid
+    → Stretch IsBatch line_of led old new pieces pieces' (served_in items call.turns) unsaid
 stretch_group led old new call items pieces pieces' put unsaid clock asked run puts said stamped late =
-    stretch_call IsBatch led old new call pieces pieces' put (served_in items call.turns) unsaid clock run (turns_of-served_in items call.turns asked)
+    stretch_call IsBatch line_of led old new call pieces pieces' put (served_in items call.turns) unsaid clock run (turns_of-served_in items call.turns asked)
     (are_batches items call.turns asked) puts (lines_of-served_in items call.turns asked ∙ said) stamped late

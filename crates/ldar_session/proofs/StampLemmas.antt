@@ -1,13 +1,13 @@
 -- Stamps of what was put, beside the clocks of turns.
 use Rattle.std.proofs.Common.{◌≡◌, ℕ, zero, suc, ◌+◌, ◌≤◌, List, [], ◌∷◌, ◌++◌, length, take, drop, replicate, Option, Some, None, MatchOption, All}
 use Rattle.std.proofs.Common.{refl, sym, subst, length-append, arith}
-use Rattle.std.specs.List.{AllByRecursion}
+use Rattle.std.specs.List.{flat_map, AllByRecursion}
 use Rattle.std.specs.Option.{option_to_list}
 use Rattle.std.proofs.lemmas.List.{take-append-le, drop-append-le, length-drop, length-replicate}
 use Rattle.ldar_law.specs.Machine.{Turn}
 use Rattle.ldar_ports.specs.Sink.{Piece, IsStamped, bytes_of, stamps_of}
 use Rattle.ldar_ports.proofs.PutsLemmas.{stamps_of-stamped}
-use Rattle.ldar_session.specs.Served.{Served, texts_of, turns_of, IsSince, Stamped}
+use Rattle.ldar_session.specs.Served.{Served, turns_of, IsSince, Stamped}
 
 -- ---- facts of each element
 
@@ -48,18 +48,18 @@ length-stamps_of (piece ∷ put) =
     )
 
 -- items whose bytes were all put, and others behind them
-pub stamped_more : (first second : List Served) (stamps stamps' : List ℕ) → length (texts_of first) ≡ length stamps
-    → Stamped first stamps → Stamped second stamps' → Stamped (first ++ second) (stamps ++ stamps')
-stamped_more [] second [] stamps' same one two = two
-stamped_more [] second (stamp ∷ stamps) stamps' same one two = absurd (omega (arith, same))
-stamped_more (s ∷ first) second stamps stamps' same one two =
-    let n = length s.text in
-    let sum : length (s.text ++ texts_of first) ≡ n + length (texts_of first) = length-append s.text (texts_of first) in
+pub stamped_more : (text : Served → List ℕ) (first second : List Served) (stamps stamps' : List ℕ) → length (flat_map text first) ≡ length stamps
+    → Stamped text first stamps → Stamped text second stamps' → Stamped text (first ++ second) (stamps ++ stamps')
+stamped_more text [] second [] stamps' same one two = two
+stamped_more text [] second (stamp ∷ stamps) stamps' same one two = absurd (omega (arith, same))
+stamped_more text (s ∷ first) second stamps stamps' same one two =
+    let n = length (text s) in
+    let sum : length (text s ++ flat_map text first) ≡ n + length (flat_map text first) = length-append (text s) (flat_map text first) in
     let le : n ≤ length stamps = omega (arith, sum, same) in
-    let rest : length (texts_of first) ≡ length (drop n stamps) = omega (arith, sum, same, length-drop n stamps) in (
+    let rest : length (flat_map text first) ≡ length (drop n stamps) = omega (arith, sum, same, length-drop n stamps) in (
       subst (λ l. AllByRecursion (IsSince s) l) (sym (take-append-le n stamps stamps' le)) one.0,
-      subst (λ l. Stamped (first ++ second) l) (sym (drop-append-le n stamps stamps' le))
-          (stamped_more first second (drop n stamps) stamps' rest one.1 two),
+      subst (λ l. Stamped text (first ++ second) l) (sym (drop-append-le n stamps stamps' le))
+          (stamped_more text first second (drop n stamps) stamps' rest one.1 two),
     )
 
 -- ---- clocks
@@ -70,26 +70,20 @@ since_later : (turn : Option Turn) (clock stamp : ℕ) → MatchOption turn (Uni
 since_later None clock stamp is le = tt
 since_later (Some turn) clock stamp is le = omega (arith, is, le)
 
--- each byte was put since no turn
-pub unasked_since : (s : Served) (stamps : List ℕ) → s.turn ≡ None → AllByRecursion (IsSince s) stamps
-unasked_since s [] unasked = tt
-unasked_since s (stamp ∷ stamps) unasked =
-    (subst (λ (turn : Option Turn). MatchOption turn (Unit {0}) (λ t. t.clock ≤ stamp)) (sym unasked) tt, unasked_since s stamps unasked)
-
 -- stamps that are no earlier than a clock are no earlier than a turn that is not later
 all_since : (s : Served) (clock : ℕ) (stamps : List ℕ) → IsSince s clock → AllByRecursion (λ stamp. clock ≤ stamp) stamps → AllByRecursion (IsSince s) stamps
 all_since s clock [] is all = tt
 all_since s clock (stamp ∷ stamps) is all = (since_later s.turn clock stamp is all.0, all_since s clock stamps is all.1)
 
 -- where no turn is later than a clock, and no stamp earlier, each byte was put since its turn
-stamped_late : (served : List Served) (clock : ℕ) (stamps : List ℕ) → AllByRecursion (λ s. IsSince s clock) served
-    → AllByRecursion (λ stamp. clock ≤ stamp) stamps → Stamped served stamps
-stamped_late [] clock stamps each all = tt
-stamped_late (s ∷ served) clock stamps each all =
-    let n = length s.text in
+stamped_late : (text : Served → List ℕ) (served : List Served) (clock : ℕ) (stamps : List ℕ) → AllByRecursion (λ s. IsSince s clock) served
+    → AllByRecursion (λ stamp. clock ≤ stamp) stamps → Stamped text served stamps
+stamped_late text [] clock stamps each all = tt
+stamped_late text (s ∷ served) clock stamps each all =
+    let n = length (text s) in
     let late = λ (stamp : ℕ). clock ≤ stamp in (
       all_since s clock (take n stamps) each.0 (all_take late n stamps all),
-      stamped_late served clock (drop n stamps) each.1 (all_drop late n stamps all),
+      stamped_late text served clock (drop n stamps) each.1 (all_drop late n stamps all),
     )
 
 -- no turn that was asked is later than this clock
@@ -111,11 +105,11 @@ not_later [] end clock le all = tt
 not_later (turn ∷ turns) end clock le all = (omega (arith, all.0, le), not_later turns end clock le all.1)
 
 -- pieces with one stamp, no earlier than the call of the turns returned, were put since these turns
-pub stamped_behind : (served : List Served) (turns : List Turn) (end clock : ℕ) (put : List Piece) → turns_of served ≡ turns
-    → end ≤ clock → All (IsStamped clock) put → AllByRecursion (λ turn. turn.clock ≡ end) turns → Stamped served (stamps_of put)
-stamped_behind served turns end clock put are le each own =
+pub stamped_behind : (text : Served → List ℕ) (served : List Served) (turns : List Turn) (end clock : ℕ) (put : List Piece) → turns_of served ≡ turns
+    → end ≤ clock → All (IsStamped clock) put → AllByRecursion (λ turn. turn.clock ≡ end) turns → Stamped text served (stamps_of put)
+stamped_behind text served turns end clock put are le each own =
     let P = λ (turn : Turn). turn.clock ≤ clock in
     let since = since_turns served clock (subst (λ l. AllByRecursion P l) (sym are) (not_later turns end clock le own)) in
-    subst (λ l. Stamped served l) (sym (stamps_of-stamped clock put each))
-    (stamped_late served clock (replicate (length (bytes_of put)) clock) since
+    subst (λ l. Stamped text served l) (sym (stamps_of-stamped clock put each))
+    (stamped_late text served clock (replicate (length (bytes_of put)) clock) since
     (all_replicate (λ stamp. clock ≤ stamp) (length (bytes_of put)) clock (omega arith)))

@@ -1,5 +1,5 @@
 -- Items that are batches, and the line that each is answered.
-use Rattle.std.specs.Prelude.{◌≡◌, ◌<◌, ◌≤◌, ◌⊎◌, ℕ, List, [], ◌∷◌, ◌++◌, length, map, take, drop, MatchOption, Result, Ok, Err}
+use Rattle.std.specs.Prelude.{◌≡◌, ◌<◌, ◌≤◌, ◌⊎◌, ℕ, List, [], ◌∷◌, ◌++◌, length, map, take, drop, MatchOption, Some, None, Result, Ok, Err}
 use Rattle.std.specs.List.{flat_map, AllByRecursion}
 use Rattle.ldar_facts.specs.declared.batch.Batch.{Batch}
 use Rattle.ldar_facts.specs.Grammar.{Spells}
@@ -20,13 +20,17 @@ Asks item (Route unit day stops) = ⊥
 Asks item (Percent unit quarter day) = ⊥
 Asks item (ReportView unit half day) = ⊥
 
--- an item is a batch, its turn asked to keep it, and it is said the line of the reply
+-- an item is a batch, and its turn asked to keep it
 abbrev pub IsBatch : Served → Type 0
-IsBatch s = MatchOption s.turn ⊥ (λ turn. Asks s.item turn.request × (s.text ≡ reply_text turn.reply))
+IsBatch s = MatchOption s.turn ⊥ (λ turn. Asks s.item turn.request)
 
 -- the bytes spell a batch
 abbrev pub IsSpelling : List ℕ → Type 0
 IsSpelling bytes = (batch : Batch) × Spells bytes batch
+
+-- what is said to an item: the line of its reply
+abbrev pub line_of : Served → List ℕ
+line_of s = elim s.turn [ None ↦ [] | Some turn ↦ reply_text turn.reply ]
 
 -- these items ask these requests, one each
 abbrev pub AsksEach : List (List ℕ) → List Request → Type 0

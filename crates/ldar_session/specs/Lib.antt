@@ -1,5 +1,3 @@
 pub mod Batches
 pub mod Dock
-pub mod Requests
 pub mod Served
-pub mod Session

@@ -5,19 +5,14 @@ use Rattle.std.specs.Option.{option_to_list}
 use Rattle.ldar_law.specs.Machine.{Call, Turn}
 use Rattle.ldar_ports.specs.Sink.{Piece, Puts, bytes_of, stamps_of}
 
--- the bytes of an item, the turn in which it was asked, if it asks anything, and what is said to it
+-- the bytes of an item, and the turn in which it was asked, if it asks anything
 pub record Served : Type 0 where
   pub item : List ℕ
   pub turn : Option Turn
-  pub text : List ℕ
 
 -- the bytes of the items, one after the other
 abbrev pub items_of : List Served → List ℕ
 items_of served = flat_map (λ s. s.item) served
-
--- what is said to the items, one after the other
-abbrev pub texts_of : List Served → List ℕ
-texts_of served = flat_map (λ s. s.text) served
 
 -- the turns, in order
 abbrev pub turns_of : List Served → List Turn
@@ -36,14 +31,14 @@ abbrev pub IsSince : Served → ℕ → Type 0
 IsSince s stamp = MatchOption s.turn (Unit {0}) (λ turn. turn.clock ≤ stamp)
 
 -- each byte that was put has a stamp of at least the clock of its item's turn; there may be fewer stamps than bytes to say
-abbrev pub Stamped : List Served → List ℕ → Type 0
-Stamped [] stamps = Unit {0}
-Stamped (s ∷ served) stamps =
-    AllByRecursion (IsSince s) (take (length s.text) stamps) × Stamped served (drop (length s.text) stamps)
+abbrev pub Stamped : (Served → List ℕ) → List Served → List ℕ → Type 0
+Stamped text [] stamps = Unit {0}
+Stamped text (s ∷ served) stamps =
+    AllByRecursion (IsSince s) (take (length (text s)) stamps) × Stamped text served (drop (length (text s)) stamps)
 
 -- A stretch of a connection: calls led the office from one value to the other; their turns are those of the items that were served; each of these is
 -- one; and the pieces that were put say the text of each item, in order, up to what is unsaid, none of it before its call returned.
-pub record Stretch {O : Type 0} (IsItem : Served → Type 0) (led : O → List Call → O → Type 0) (old new : O)
+pub record Stretch {O : Type 0} (IsItem : Served → Type 0) (text : Served → List ℕ) (led : O → List Call → O → Type 0) (old new : O)
     (pieces pieces' : Option (List Piece)) (served : List Served) (unsaid : List ℕ) : Type 0 where
   pub calls : List Call
   pub put : List Piece
@@ -51,5 +46,5 @@ pub record Stretch {O : Type 0} (IsItem : Served → Type 0) (led : O → List C
   pub turns : turns_in calls ≡ turns_of served
   pub each : AllByRecursion IsItem served
   pub puts : Puts pieces put pieces'
-  pub said : texts_of served ≡ bytes_of put ++ unsaid
-  pub stamped : AllByRecursion HasItsClock calls → Stamped served (stamps_of put)
+  pub said : flat_map text served ≡ bytes_of put ++ unsaid
+  pub stamped : AllByRecursion HasItsClock calls → Stamped text served (stamps_of put)

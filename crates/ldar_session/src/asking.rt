@@ -4,7 +4,7 @@ ghost use Rattle.disk_model.specs.Faults.{Rose};
 ghost use Rattle.ldar_law.specs.Machine.{Call};
 ghost use Rattle.ldar_law.specs.Replies.{reply_text};
 ghost use Rattle.office_book.specs.Asking.{requests_of, replies_of, MayShareFrame, IsFromHandheld, HasRule};
-ghost use Rattle.ldar_session.specs.Batches.{AsksEach, IsBatch, Serves};
+ghost use Rattle.ldar_session.specs.Batches.{AsksEach, IsBatch, Serves, line_of};
 ghost use Rattle.ldar_session.specs.Served.{Served, Stretch, items_of};
 
 use crate::Memory;
@@ -27,7 +27,7 @@ pub fn serve<O: Office, K: Sink>(
     requires alike { MayShareFrame requests.now }
     ensures talk { (items : List (List ℕ)) → AsksEach items requests.now →
         (served : List Served) × (unsaid : List ℕ)
-        × Stretch IsBatch O.led office.old office.new (K.pieces sink.old) (K.pieces sink.new) served unsaid
+        × Stretch IsBatch line_of O.led office.old office.new (K.pieces sink.old) (K.pieces sink.new) served unsaid
         × Serves result items served unsaid }
     ensures only { IfErr result (λ ended. (ended ≡ Ended.WriteFault) ⊎ (ended ≡ Ended.Memory)) }
     ensures count { K.faults sink.old ≤ K.faults sink.new }
@@ -46,11 +46,7 @@ pub fn serve<O: Office, K: Sink>(
 }
 
 /// Asks an office at once. Where memory is wanting, nothing is asked.
-pub fn ask<O: Office>(
-    alloc: Global,
-    office: &mut O,
-    requests: &[Request],
-) -> Result<Vec<Reply>, Memory>
+fn ask<O: Office>(alloc: Global, office: &mut O, requests: &[Request]) -> Result<Vec<Reply>, Memory>
     requires some { 0 < length requests.now }
     requires fits { length requests.now ≤ FRAME_BATCHES }
     requires alike { MayShareFrame requests.now }
@@ -83,7 +79,7 @@ fn lines_of(alloc: Global, replies: &[Reply]) -> Result<Vec<u8>, Memory>
 }
 
 /// Whether a request never shares a frame of the journal: it is no batch, or one of handheld 0.
-pub fn is_asked_alone(request: &Request) -> bool
+fn is_asked_alone(request: &Request) -> bool
     ensures value { IsTrue result ↔ (¬ (IsFromHandheld request.now)) }
 {
     match request {

@@ -2,7 +2,7 @@ ghost use Rattle.std.specs.Prelude.{◌≡◌, ◌<◌, ◌≤◌, ◌*◌, ◌+
 ghost use Rattle.disk_model.specs.Faults.{Rose};
 ghost use Rattle.ldar_ports.specs.Source.{Takes, HasEnded};
 ghost use Rattle.ldar_ports.specs.Window.{after_taking};
-ghost use Rattle.ldar_session.specs.Batches.{IsBatch, IsGroup};
+ghost use Rattle.ldar_session.specs.Batches.{IsBatch, IsGroup, line_of};
 ghost use Rattle.ldar_session.specs.Dock.{Ends, EndsInput, IsUnfinished};
 ghost use Rattle.ldar_session.specs.Served.{Served, Stretch, items_of};
 
@@ -28,7 +28,7 @@ pub fn dock<O: Office, S: Source, K: Sink>(
 ) -> Ended
     ensures talk { (served : List Served) × (rest : List ℕ) × (unsaid : List ℕ)
         × Takes (S.left source.old) (items_of served ++ rest) (S.left source.new)
-        × Stretch IsBatch O.led office.old office.new (K.pieces sink.old) (K.pieces sink.new) served unsaid
+        × Stretch IsBatch line_of O.led office.old office.new (K.pieces sink.old) (K.pieces sink.new) served unsaid
         × Ends result served rest (S.left source.new) unsaid }
     ensures read_fault { result ≡ Ended.ReadFault → Rose (S.faults source.old) (S.faults source.new) }
     ensures write_fault { result ≡ Ended.WriteFault → Rose (K.faults sink.old) (K.faults sink.new) }

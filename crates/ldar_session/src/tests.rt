@@ -9,8 +9,6 @@ use office_book::Office;
 use std::alloc::{AllocError, Global};
 use std::test::Fail;
 
-mod sessions;
-
 // How many calls are noted.
 const NOTED: usize = 8;
 

@@ -17,7 +17,7 @@ or_false true = refl
 or_false false = refl
 
 -- a test or what always holds
-pub or_true : (b : Bool) → (b || true) ≡ true
+or_true : (b : Bool) → (b || true) ≡ true
 or_true true = refl
 or_true false = refl
 

@@ -2,11 +2,9 @@
 use Rattle.std.specs.Prelude.{◌≡◌, ℕ, ◌+◌, ◌-◌, ◌<◌, ◌≤◌, Bool, true, false, not, ◌&&◌, ◌||◌, nat_eq, nat_le, if◌then◌else◌, List}
 use Rattle.std.specs.List.{AllByRecursion, list_any}
 use Rattle.ldar_days.specs.Calendar.{month_of}
-use Rattle.ldar_facts.specs.declared.class.Kind.{Kind}
 use Rattle.ldar_law.specs.declared.event.Event.{Event}
 use Rattle.ldar_law.specs.Happenings.{is_leak, is_routine_below, is_in_month}
 use Rattle.ldar_law.specs.Months.{has_leak_in, is_clean, is_clean_twice, is_clean_twice_from}
-use Rattle.ldar_law.specs.Spans.{is_valve}
 use Rattle.leak_tags.specs.declared.clean_months.CleanMonths.{CleanMonths}
 
 -- no events
@@ -57,7 +55,3 @@ pub record TellsClean (months : CleanMonths) (events : List Event) : Type 0 wher
 -- the first of the last two clean months in a row, or 0 where there are none
 abbrev pub IsLastPair : ℕ → List Event → Type 0
 IsLastPair pair events = (first : ℕ) → 0 < first → is_clean_twice_from events first ≡ nat_le first pair
-
--- .. which is asked for of a valve only
-abbrev pub IsPairFor : Kind → ℕ → List Event → Type 0
-IsPairFor kind pair events = is_valve kind ≡ true → IsLastPair pair events

@@ -1,4 +1,3 @@
 pub mod CleanPairs
 pub mod OpenLeaks
 pub mod Telling
-pub mod Walking

@@ -1,6 +1,8 @@
 ghost use Rattle.std.specs.Prelude.{◌≡◌};
 ghost use Rattle.leak_tags.specs.OpenLeaks as spec;
 
+use ldar_law::Event;
+
 /// The months since the last leak with a counting reading below the leak definition, as far as a later reading asks
 /// for them (40 CFR 60.482-9a(f)).
 #[derive(Clone, Copy)]
@@ -30,5 +32,22 @@ impl BelowMonths {
             return self.before;
         }
         month.saturating_sub(1) == self.last
+    }
+
+    /// The months with one event more, of no earlier month.
+    pub fn with(self, event: &Event) -> BelowMonths
+        ensures value { result ≡ spec.months_with self event.now }
+    {
+        if event.what.is_leak() {
+            return BelowMonths::none();
+        }
+        if !event.what.is_below() {
+            return self;
+        }
+        let month = event.key.day.month().number();
+        BelowMonths {
+            last: month,
+            before: self.is_second(month),
+        }
     }
 }

@@ -1,10 +1,10 @@
 //! The leaks of one sort that are not settled yet, as far as it matters which delays follow them.
 
-ghost use Rattle.std.specs.Prelude.{◌≡◌, true};
+ghost use Rattle.std.specs.Prelude.{◌≡◌};
 ghost use Rattle.leak_tags.specs.OpenLeaks as spec;
 
 use ldar_days::Day;
-use ldar_law::REPAIR_DAYS;
+use ldar_law::{Event, REPAIR_DAYS};
 
 /// The days of the first and of the last of some leaks.
 #[derive(Clone, Copy)]
@@ -40,15 +40,17 @@ impl Leaks {
         self.delayed || self.waiting.is_some()
     }
 
-    /// Settles all of them, or those that are delayed.
-    pub fn settle(&mut self, all: bool, delayed: bool)
-        ensures value { self.new ≡ spec.settled self.old all delayed }
+    /// What is left where all of them are settled, or those that are delayed.
+    fn settled(self, all: bool, delayed: bool) -> Leaks
+        ensures value { result ≡ spec.settled self all delayed }
     {
         if all {
-            *self = Leaks::none();
-            return;
+            return Leaks::none();
         }
-        self.delayed = self.delayed && !delayed;
+        Leaks {
+            delayed: self.delayed && !delayed,
+            waiting: self.waiting,
+        }
     }
 
     /// Whether a delay of the day comes at most fifteen days after one of those that wait.
@@ -77,12 +79,17 @@ impl Leaks {
         }
     }
 
-    /// Lets a delay of the day come.
-    pub fn delay(&mut self, day: Day)
-        ensures value { self.new ≡ spec.reached self.old true day }
+    /// What they are after a delay of the day, if one comes.
+    fn reached(self, delays: bool, day: Day) -> Leaks
+        ensures value { result ≡ spec.reached self delays day }
     {
-        self.delayed = self.delayed || self.reaches(day);
-        self.waiting = self.missed_by(day);
+        if !delays {
+            return self;
+        }
+        Leaks {
+            delayed: self.delayed || self.reaches(day),
+            waiting: self.missed_by(day),
+        }
     }
 
     /// The first day of those that wait, with one of this day.
@@ -95,11 +102,27 @@ impl Leaks {
         }
     }
 
-    /// Adds a leak of the day.
-    pub fn open(&mut self, day: Day)
-        ensures value { self.new ≡ spec.opened self.old true day }
+    /// What they are with a leak of the day, if one is found.
+    fn opened(self, opens: bool, day: Day) -> Leaks
+        ensures value { result ≡ spec.opened self opens day }
     {
+        if !opens {
+            return self;
+        }
+        let delayed = self.delayed;
         let first = self.first_with(day);
-        self.waiting = Some(Days { first, last: day });
+        let waiting = Some(Days { first, last: day });
+        Leaks { delayed, waiting }
+    }
+
+    /// What they are with one event more: it settles all of them, or those that are delayed; it may be a delay; it
+    /// may be such a leak itself.
+    pub fn with(self, all: bool, delayed: bool, opens: bool, event: &Event) -> Leaks
+        ensures value { result ≡ spec.leaks_with self all delayed opens event.now }
+    {
+        let day = event.key.day;
+        self.settled(all, delayed)
+            .reached(event.what.delays_with_reading(), day)
+            .opened(opens, day)
     }
 }

@@ -10,7 +10,6 @@ mod rising;
 mod search;
 mod settling;
 mod spans;
-mod walk;
 
 pub use spans::spans_of;
 

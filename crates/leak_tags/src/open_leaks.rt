@@ -1,14 +1,15 @@
 //! The leaks that are not settled yet, as much of them as decides what settles them later: what they are known by
 //! takes no more room however many there are.
 
-ghost use Rattle.std.specs.Prelude.{◌≡◌};
+ghost use Rattle.std.specs.Prelude.{◌≡◌, ◌&&◌};
+ghost use Rattle.ldar_facts.specs.declared.class.Kind.TheVariants.{Valve};
+ghost use Rattle.ldar_law.specs.Happenings.{is_leak as says_leak, is_look as says_look, is_sensor as says_sensor};
 ghost use Rattle.leak_tags.specs.OpenLeaks as spec;
 
 use crate::below_months::BelowMonths;
 use crate::leaks::Leaks;
-use ldar_days::Day;
 use ldar_facts::Kind;
-use ldar_law::{Event, Happening, is_valve_or_pump};
+use ldar_law::{Event, is_valve_or_pump};
 
 /// The leaks that are not settled yet, by their sort, and what else settles a leak.
 #[derive(Clone, Copy)]
@@ -45,108 +46,84 @@ impl OpenLeaks {
         self.readings.has_any() || self.drips.has_any() || self.sensors.has_any()
     }
 
-    /// Begins anew at a leak: attempts and readings before it settle nothing.
-    fn begin_anew(&mut self)
-        ensures value { self.new ≡ spec.anew self.old }
+    /// Whether the event settles each reading that is a leak (40 CFR 60.481a "repaired"; that going out of service
+    /// settles a leak is our own rule).
+    fn settles_readings(&self, event: &Event) -> bool
+        ensures value { result ≡ spec.settles_readings self.now event.now }
     {
-        self.attempted = false;
-        self.below = BelowMonths::none();
+        event.what.is_retire() || (event.what.is_below() && self.attempted)
     }
 
-    /// Takes a reading below the leak definition. After an attempt it settles readings and drips (40 CFR 60.481a
-    /// "repaired"); as the second in two months in a row it settles each delayed leak of a valve or a pump (40 CFR
-    /// 60.482-9a(f)).
-    fn take_below(&mut self, kind: Kind, day: Day)
-        ensures value { self.new ≡ spec.with_below kind self.old day }
+    /// Whether it settles each drip.
+    fn settles_drips(&self, event: &Event) -> bool
+        ensures value { result ≡ spec.settles_drips self.now event.now }
     {
-        let month = day.month().number();
-        let second = self.below.is_second(month);
-        let delayed = is_valve_or_pump(kind) && second;
-        self.readings.settle(self.attempted, delayed);
-        self.drips.settle(self.attempted, delayed);
-        self.sensors.settle(false, delayed);
-        self.below = BelowMonths {
-            last: month,
-            before: second,
-        };
+        self.settles_readings(event) || (event.what.is_dry() && self.attempted)
     }
 
-    /// Takes a reading.
-    fn take_reading(&mut self, kind: Kind, below: bool, leak: bool, day: Day)
-        ensures value { self.new ≡ spec.with_reading kind self.old below leak day }
+    /// Whether it settles each delayed leak of a valve or a pump, as the second of two readings below the leak
+    /// definition in two months in a row (40 CFR 60.482-9a(f)).
+    fn settles_delayed(&self, kind: Kind, event: &Event) -> bool
+        ensures value { result ≡ spec.settles_delayed kind self.now event.now }
     {
-        if below {
-            self.take_below(kind, day);
-        }
-        if leak {
-            self.readings.open(day);
-            self.begin_anew();
-        }
+        is_valve_or_pump(kind)
+            && event.what.is_below()
+            && self.below.is_second(event.key.day.month().number())
     }
 
-    /// Takes a visual inspection. A dry one settles drips after an attempt.
-    fn take_look(&mut self, dry: bool, leak: bool, day: Day)
-        ensures value { self.new ≡ spec.with_look self.old dry leak day }
+    /// Whether an attempt has come since the last leak, with the event.
+    fn attempted_with(&self, event: &Event) -> bool
+        ensures value { result ≡ (spec.with_event Valve self.now event.now).attempted }
     {
-        self.drips.settle(dry && self.attempted, false);
-        if leak {
-            self.drips.open(day);
-            self.begin_anew();
-        }
+        (!event.what.is_leak() && self.attempted) || event.what.is_attempt()
     }
 
-    /// Takes what a sensor told.
-    fn take_indication(&mut self, leak: bool, day: Day)
-        ensures value { self.new ≡ spec.with_indication self.old leak day }
+    /// The open leaks with one event more.
+    pub fn with(&self, kind: Kind, event: &Event) -> OpenLeaks
+        ensures value { result ≡ spec.with_event kind self.now event.now }
     {
-        if leak {
-            self.sensors.open(day);
-            self.begin_anew();
+        let all = self.settles_readings(event);
+        let drips = self.settles_drips(event);
+        let sensors = settles_sensors(event);
+        let delayed = self.settles_delayed(kind, event);
+        OpenLeaks {
+            readings: self
+                .readings
+                .with(all, delayed, is_reading_leak(event), event),
+            drips: self.drips.with(drips, delayed, is_drip_leak(event), event),
+            sensors: self
+                .sensors
+                .with(sensors, delayed, is_sensor_leak(event), event),
+            attempted: self.attempted_with(event),
+            below: self.below.with(event),
         }
     }
+}
 
-    /// Takes an attempt. A complete one settles what sensors told.
-    fn take_attempt(&mut self, complete: bool)
-        ensures value { self.new ≡ spec.with_attempt self.old complete }
-    {
-        self.sensors.settle(complete, false);
-        self.attempted = true;
-    }
+/// Whether the event settles what each sensor told: a complete attempt, or going out of service.
+fn settles_sensors(event: &Event) -> bool
+    ensures value { result ≡ spec.settles_sensors event.now }
+{
+    event.what.is_retire() || event.what.is_complete()
+}
 
-    /// Takes a delay of ground (a), (c), (d) or (e), or another one.
-    fn take_delay(&mut self, counts: bool, day: Day)
-        ensures value { self.new ≡ spec.with_delay self.old counts day }
-    {
-        if counts {
-            self.readings.delay(day);
-            self.drips.delay(day);
-            self.sensors.delay(day);
-        }
-    }
+/// Whether the event is a reading that is a leak.
+fn is_reading_leak(event: &Event) -> bool
+    ensures value { result ≡ (says_leak event.now.what && spec.is_reading event.now.what) }
+{
+    event.what.is_leak() && event.what.is_reading_or_drip() && !event.what.is_look()
+}
 
-    /// Takes that the component goes out of service, which settles all (our own rule).
-    fn retire(&mut self)
-        ensures value { self.new ≡ spec.retired self.old }
-    {
-        self.readings = Leaks::none();
-        self.drips = Leaks::none();
-        self.sensors = Leaks::none();
-    }
+/// Whether it is drips that are a leak.
+fn is_drip_leak(event: &Event) -> bool
+    ensures value { result ≡ (says_leak event.now.what && says_look event.now.what) }
+{
+    event.what.is_leak() && event.what.is_look()
+}
 
-    /// Takes one event more.
-    pub fn take(&mut self, kind: Kind, event: &Event)
-        ensures value { self.new ≡ spec.with_event kind self.old event.now }
-    {
-        let day = event.key.day;
-        match event.what {
-            Happening::Read { below, leak, .. } => self.take_reading(kind, below, leak, day),
-            Happening::Look { drips, leak, .. } => self.take_look(!drips, leak, day),
-            Happening::Attempt { complete } => self.take_attempt(complete),
-            Happening::Delay { .. } => self.take_delay(event.what.delays_with_reading(), day),
-            Happening::Release => {}
-            Happening::Sensor { leak, .. } => self.take_indication(leak, day),
-            Happening::Evidence { .. } => {}
-            Happening::Retire => self.retire(),
-        }
-    }
+/// Whether it is a leak that a sensor told.
+fn is_sensor_leak(event: &Event) -> bool
+    ensures value { result ≡ (says_leak event.now.what && says_sensor event.now.what) }
+{
+    event.what.is_leak() && event.what.is_sensor()
 }

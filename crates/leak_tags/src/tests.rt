@@ -235,59 +235,6 @@ fn a_tag_closes_when_nothing_is_unsettled(rt: HostRuntime) -> Result<(), Fail> {
     Ok(())
 }
 
-/// What comes while nothing is open counts for no later tag.
-#[test]
-fn a_tag_begins_anew(rt: HostRuntime) -> Result<(), Fail> {
-    let alloc = rt.alloc();
-    let cases: [(Kind, &[(u32, u8)], &str); 4] = [
-        // An attempt before the leak.
-        (
-            Kind::Pump,
-            &[(0, b'A'), (5, b'b'), (10, b'L'), (40, b'b')],
-            "10; ",
-        ),
-        // A reading below the leak definition in the month before, and before the leak.
-        (
-            Kind::Pump,
-            &[(0, b'b'), (5, b'L'), (6, b'D'), (15, b'b')],
-            "5; ",
-        ),
-        // A delay between two tags.
-        (
-            Kind::Pump,
-            &[
-                (0, b'L'),
-                (1, b'A'),
-                (2, b'b'),
-                (3, b'D'),
-                (4, b'L'),
-                (15, b'b'),
-                (45, b'b'),
-            ],
-            "0 attempted 1 closed 2 removable; 4; ",
-        ),
-        // Drips in one tag, a sensor's leak in the next.
-        (
-            Kind::Pump,
-            &[
-                (0, b'd'),
-                (1, b'A'),
-                (2, b'y'),
-                (3, b'C'),
-                (4, b'S'),
-                (5, b'y'),
-                (6, b'C'),
-                (7, b'R'),
-            ],
-            "0 attempted 1 closed 2 removable; 4 attempted 6 closed 6 removable; ",
-        ),
-    ];
-    for (kind, told, tags) in cases {
-        assert_eq!(rt; tags_of(alloc, kind, FEBRUARY, told)?.as_str(), tags);
-    }
-    Ok(())
-}
-
 #[test]
 fn two_readings_settle_a_delayed_leak(rt: HostRuntime) -> Result<(), Fail> {
     let alloc = rt.alloc();

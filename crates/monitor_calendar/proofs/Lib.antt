@@ -1,4 +1,3 @@
-pub mod Concerning
 pub mod Cutting
 pub mod DripLemmas
 pub mod FollowLemmas

@@ -1,6 +1,5 @@
 pub mod Behind
 pub mod Causes
-pub mod Concern
 pub mod Covering
 pub mod Dripping
 pub mod DutiesOfUnit

@@ -6,7 +6,6 @@ ghost use Rattle.std.specs.List.Sorted.{IsPartitionPoint};
 ghost use Rattle.list_words.specs.Order.{Ascends};
 ghost use Rattle.list_words.specs.Words.{each_where};
 ghost use Rattle.ldar_facts.specs.Facts.{is_earlier};
-ghost use Rattle.monitor_calendar.specs.Concern.{concerns};
 ghost use Rattle.monitor_calendar.specs.Following as following;
 
 use crate::asked::Asked;
@@ -14,8 +13,8 @@ use crate::drips::PastDrips;
 use crate::duty::put;
 use crate::weekly::is_plain_pump;
 use ldar_days::Day;
-use ldar_facts::{Kind, Memory};
-use ldar_law::{Duty, EVENT_DAYS, Event, Happening, LISTED_DAYS, is_compressor, is_pump};
+use ldar_facts::Memory;
+use ldar_law::{Duty, EVENT_DAYS, Event, Happening, LISTED_DAYS};
 
 /// What a duty follows.
 #[derive(Clone, Copy)]
@@ -34,17 +33,6 @@ impl After {
             After::Drips => 7,
             After::Release => 8,
             After::Evidence => 9,
-        }
-    }
-
-    /// Whether it can follow an event of a component of this kind.
-    fn concerns(self, kind: Kind) -> bool
-        ensures value { result ≡ concerns self kind }
-    {
-        match self {
-            After::Drips => is_pump(kind),
-            After::Release => matches!(kind, Kind::Relief),
-            After::Evidence => !is_compressor(kind),
         }
     }
 
@@ -168,13 +156,10 @@ impl Asked<'_> {
         past
     }
 
-    /// Adds the duties that follow events of a sort. Where they cannot concern the component no event is looked at.
+    /// Adds the duties that follow events of a sort.
     pub fn put_after(&self, after: After, duties: &mut Vec<Duty>) -> Result<(), Memory>
         ensures put { OnOk result (duties.new.items ≡ duties.old.items ++ each_where (following.after_event self.now after) self.now.events.now) }
     {
-        if !after.concerns(self.item.kind) {
-            return Ok(());
-        }
         let from = self.first_listed();
         let mut past = self.drips_before(after, from);
         let mut next = after.next_place(self.events, from);

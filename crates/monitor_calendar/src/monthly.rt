@@ -69,9 +69,6 @@ impl Asked<'_> {
         requires quarterly { is_quarterly ≡ says_quarterly self.now.startup self.now.events.now month }
         ensures value { result ≡ causes.quarterly self.now month }
     {
-        if !is_quarterly {
-            return None;
-        }
         let first = month.first_day();
         let due = month.last_day();
         let judged = self.judged(self.judging_day(due));

@@ -4,13 +4,12 @@ ghost use Rattle.std.specs.Prelude.{◌≡◌, ◌+◌, ◌++◌, ◌<◌, ◌�
 ghost use Rattle.list_words.specs.Ranges.{until};
 ghost use Rattle.ldar_days.specs.Calendar.{month_of, end_by, last_day};
 ghost use Rattle.monitor_calendar.specs.Causes as causes;
-ghost use Rattle.monitor_calendar.specs.Concern as concern;
 
 use crate::asked::{Asked, Judged};
 use crate::duty::put;
 use crate::period::routine_in;
 use ldar_days::{Day, Month};
-use ldar_facts::{Class, Key, Memory};
+use ldar_facts::Memory;
 use ldar_law::{Duty, is_unsafe_designated};
 
 /// December 2099, the last month of the calendar.
@@ -28,15 +27,6 @@ fn last_day_by(month: u32) -> Day
         return Month::at(LAST_MONTH).last_day();
     }
     Month::at(month).last_day()
-}
-
-/// Whether some entered class is one of what is unsafe to monitor.
-fn is_some_unsafe(classes: &[(Key, Class)]) -> bool
-    ensures value { result ≡ concern.is_some_unsafe classes.now }
-{
-    classes
-        .iter()
-        .any(|entered| is_unsafe_designated(entered.1.designation))
 }
 
 impl Asked<'_> {
@@ -77,13 +67,6 @@ impl Asked<'_> {
         self.duty(5, first, due, &met)
     }
 
-    /// Whether it has a class of what is unsafe to monitor: that with which it was entered, or a later one.
-    fn has_unsafe_class(&self) -> bool
-        ensures value { result ≡ concern.has_unsafe_class self.now.item.now self.now.classes.now }
-    {
-        is_unsafe_designated(self.item.class.designation) || is_some_unsafe(self.classes)
-    }
-
     /// The first of the months with which a window can end that the list can hold.
     fn first_window_end(&self) -> u32
         ensures after { month_of self.now.item.now.begin < result }
@@ -100,13 +83,10 @@ impl Asked<'_> {
         }
     }
 
-    /// Adds the monitorings by a plan. Of what no class has unsafe to monitor no month is looked at.
+    /// Adds the monitorings by a plan.
     pub fn put_planned(&self, duties: &mut Vec<Duty>) -> Result<(), Memory>
         ensures put { OnOk result (duties.new.items ≡ duties.old.items ++ filter_map (causes.planned self.now) (causes.window_ends self.now)) }
     {
-        if !self.has_unsafe_class() {
-            return Ok(());
-        }
         let end = self.day.month().number() + PLAN_MONTHS;
         for month in self.first_window_end()..end {
             put(duties, &self.planned(month))?;

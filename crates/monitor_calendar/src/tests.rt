@@ -1,7 +1,3 @@
-mod causes;
-mod definition;
-mod histories;
-
 use crate::{Duty, are_classes_ordered, are_events_ordered, duties_of};
 use ldar_days::Day;
 use ldar_facts::{Class, Designation, Key, Kind, Service};

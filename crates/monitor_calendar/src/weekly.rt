@@ -10,7 +10,7 @@ use crate::duty::put;
 use crate::period::look_in;
 use ldar_days::Day;
 use ldar_facts::Memory;
-use ldar_law::{Duty, is_none_designated, is_pump};
+use ldar_law::{Duty, is_none_designated};
 
 /// Whether what is so judged is a pump that is no designated one.
 pub fn is_plain_pump(judged: Judged) -> bool
@@ -58,13 +58,10 @@ impl Asked<'_> {
         }
     }
 
-    /// Adds the weekly inspections. Of what is no pump no week is looked at.
+    /// Adds the weekly inspections.
     pub fn put_weekly(&self, duties: &mut Vec<Duty>) -> Result<(), Memory>
         ensures put { OnOk result (duties.new.items ≡ duties.old.items ++ filter_map (causes.weekly self.now) (causes.weeks_after self.now)) }
     {
-        if !is_pump(self.item.kind) {
-            return Ok(());
-        }
         let end = week_of(self.day) + 1;
         for week in self.first_week()..end {
             put(duties, &self.weekly(week))?;

@@ -1,6 +1,6 @@
 -- Parts of a call one after the other, and the call that they make up.
-use Rattle.std.proofs.Common.{◌≡◌, ◌≢◌, ◌⊎◌, inl, inr, ℕ, ◌+◌, ◌≤◌, Bool, false, Option, Some, None, List, [], ◌∷◌, ◌++◌, length, refl}
-use Rattle.std.proofs.Common.{sym, ◌∙◌, ap, subst, arith}
+use Rattle.std.proofs.Common.{◌≡◌, ◌≢◌, ◌⊎◌, inl, inr, ℕ, ◌+◌, ◌<◌, ◌≤◌, Bool, true, false, Option, Some, None, List, [], ◌∷◌, ◌++◌, length, map, min, refl}
+use Rattle.std.proofs.Common.{sym, ◌∙◌, ap, subst, arith, length-append}
 use Rattle.std.specs.List.{AllByRecursion}
 use Rattle.std.proofs.lemmas.List.{append-nil}
 use Rattle.disk_model.specs.Faults.{Rose}
@@ -8,16 +8,16 @@ use Rattle.disk_model.specs.Keeps.{Keeps}
 use Rattle.disk_model.specs.Told.{Told, BothTold}
 use Rattle.ldar_facts.specs.declared.batch.Batch.{Batch}
 use Rattle.ldar_journal.specs.Crash.{LeavesOnly, OnDisk}
-use Rattle.ldar_journal.specs.Image.{batches_of, Opens}
+use Rattle.ldar_journal.specs.Image.{batches_of, OpensTo, Opens}
 use Rattle.ldar_journal.specs.Shelf.{Shelf, OpensToEither, OpensAs, OpensEither}
 use Rattle.ldar_journal.proofs.CrashLemmas.{LeavesOnly-stays, LeavesOnly-weaker, LeavesOnly-joins, OnDisk-weaker}
 use Rattle.ldar_journal.proofs.Histories.{batches_of-push}
 use Rattle.ldar_law.specs.declared.reply.Reply.{Reply}
 use Rattle.ldar_law.specs.declared.reply.Reply.TheVariants.{Fault}
 use Rattle.ldar_law.specs.declared.request.Request.{Request}
-use Rattle.ldar_law.specs.Machine.{State, Moment, Call, Turn, Finding, not_asked, they_stand, they_are_gone, Steps, IsOfCall, settled}
+use Rattle.ldar_law.specs.Machine.{State, Moment, Call, Turn, Finding, not_asked, they_stand, they_are_gone, Steps, GroupStep, Runs, IsOfCall, settled}
 use Rattle.office_book.specs.Asking.{requests_of, replies_of}
-use Rattle.office_book.specs.Safe.{StandsIn, IsSafe, Leads, state_of, moment_of, frames_written}
+use Rattle.office_book.specs.Safe.{StandsIn, StandsInRun, IsSafe, Leads, state_of, moment_of, frames_written}
 use Rattle.office_book.specs.Moves.{Moves}
 use Rattle.office_book.specs.Serving.{Serves, IsFound, turns_of, certain, has_some}
 use Rattle.office_book.proofs.ServingLemmas.{serves_steps, faults_steps, of_call, requests_asked, replies_given}
@@ -110,26 +110,15 @@ module _ {D : Type 0} (content_of : D → Option (List ℕ)) (images_of : D → 
     stands = stands;
   }
 
-  -- nothing was done where a frame might have been written
-  pub moves_nothing : (shelf : Shelf D) → OnDisk (content_of shelf.disk) (images_of shelf.disk) (StandsIn (state_of shelf))
-      → Moves content_of images_of left_of clock_of name_of faults_of shelf shelf 1
-  moves_nothing shelf stands = record {
-    keeps = record { time = omega arith; name = refl; count = omega arith };
-    tells = both_itself (content_of shelf.disk);
-    frames = omega arith;
-    leaves = LeavesOnly-stays clock_of left_of shelf.disk _;
-    stands = stands;
-  }
-
   -- what a call of a journal did, by what may stand in between
-  pub moves_by : (old new : Shelf D) (written : ℕ) (may : List ℕ → Type 0) (both : List ℕ → List ℕ → Type 0)
+  pub moves_by : (old new : Shelf D) (written : ℕ) (may step : List ℕ → Type 0) (both : List ℕ → List ℕ → Type 0)
       → ((image : List ℕ) → may image → StandsIn (state_of old) image ⊎ StandsIn (state_of new) image)
       → Keeps clock_of name_of faults_of old.disk new.disk → BothTold (content_of old.disk) (content_of new.disk) both
       → frames_written new ≤ frames_written old + written
       → LeavesOnly clock_of left_of old.disk new.disk (λ image. Told (content_of old.disk) (λ _. may image))
       → OnDisk (content_of new.disk) (images_of new.disk) (λ image. OpensAs image new.frames new.doubt)
       → Moves content_of images_of left_of clock_of name_of faults_of old new written
-  moves_by old new written may both stand keeps tells frames leaves opens = record {
+  moves_by old new written may step both stand keeps tells frames leaves opens = record {
     keeps = keeps;
     tells = both_tell both (content_of old.disk) (content_of new.disk) tells;
     frames = frames;

@@ -1,5 +1,5 @@
 -- A history grows at its end, so what was receipted stays where it stands.
-use Rattle.std.proofs.Common.{◌≡◌, inl, inr, ℕ, ◌-◌, Option, Some, None, List, [], ◌∷◌, ◌++◌, length, refl, sym, ◌∙◌, ap, subst, arith}
+use Rattle.std.proofs.Common.{◌≡◌, ◌⊎◌, inl, inr, ℕ, ◌+◌, ◌-◌, ◌<◌, ◌≤◌, Option, Some, None, List, [], ◌∷◌, ◌++◌, length, refl, sym, ◌∙◌, ap, subst, arith}
 use Rattle.std.proofs.Common.{append_assoc}
 use Rattle.std.specs.Prelude.{slice_get}
 use Rattle.std.specs.List.{AllByRecursion}
@@ -9,13 +9,14 @@ use Rattle.std.proofs.Math.ListN.{get_or-append}
 use Rattle.std.proofs.Math.Seq.{get_or-append_seam}
 use Rattle.ldar_facts.specs.declared.batch.Batch.{Batch}
 use Rattle.disk_model.specs.Told.{Told}
+use Rattle.ldar_journal.specs.Image.{Opens}
 use Rattle.ldar_journal.specs.Shelf.{Shelf}
 use Rattle.ldar_law.specs.declared.reply.Reply.{Reply}
 use Rattle.ldar_law.specs.declared.reply.Reply.TheVariants.{Receipt, Conflict, Denied, Full, Shown, NoSuch, Fault, Memory}
 use Rattle.ldar_law.specs.declared.request.Request.{Request}
 use Rattle.ldar_law.specs.declared.request.Request.TheVariants.{Sync, Due, Tags, Delays, Route, Percent, Report as ReportView}
 use Rattle.ldar_law.specs.Machine.{State, Moment, Call, Turn, Finding, not_asked, they_stand, they_are_gone, Answers, AnswersBatch, batch_at, settled}
-use Rattle.ldar_law.specs.Machine.{IsAnswered, IsWanting, BreaksOff, Step, Steps, Runs}
+use Rattle.ldar_law.specs.Machine.{IsAnswered, IsWanting, GoesOn, BreaksOff, Step, Steps, GroupStep, Runs}
 use Rattle.office_book.specs.Safe.{StandsIn, StandsInRun, AreBehind, IsSafe, Leads, moment_of}
 use Rattle.office_book.specs.Receipts.{HoldsAt, IsReceipted, IsReceiptKept, AreReceiptsKept}
 

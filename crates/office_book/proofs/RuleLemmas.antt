@@ -1,16 +1,17 @@
 -- What a verdict says of the rules: a denial names one of them, and a batch of a handheld that passes enters nothing into the register.
-use Rattle.std.proofs.Common.{◌≡◌, ℕ, ◌+◌, ◌≤◌, true, ◌&&◌, Option, Some, None, List, length, refl}
-use Rattle.std.proofs.Common.{ap, subst, arith}
-use Rattle.std.specs.Prelude.{nat_le}
-use Rattle.std.specs.List.{AllByRecursion}
+use Rattle.std.proofs.Common.{◌≡◌, ◌≢◌, ◌⊎◌, inl, inr, ℕ, ◌+◌, ◌<◌, ◌≤◌, Bool, true, false, ◌&&◌, ◌||◌, Option, Some, None, List, [], ◌∷◌, ◌++◌, length, refl}
+use Rattle.std.proofs.Common.{sym, ◌∙◌, ap, subst, arith}
+use Rattle.std.specs.Prelude.{nat_le, nat_lt, codes, Contains}
+use Rattle.std.specs.List.{AllByRecursion, list_any}
 use Rattle.std.specs.Option.{option_map}
+use Rattle.std.proofs.lemmas.Bool.{cases_Bool, false≢true}
 use Rattle.std.proofs.lemmas.Bool.Decides.{nat_tests}
-use Rattle.list_words.proofs.Members.{all_at, among_from_Contains}
+use Rattle.list_words.proofs.Members.{Among, all_at, among_from_Contains}
 use Rattle.ldar_facts.specs.declared.batch.Batch.{Batch}
-use Rattle.ldar_facts.specs.Facts.{Entry, facts_of}
-use Rattle.ldar_law.specs.declared.verdict.Verdict.TheVariants.{Denied}
-use Rattle.ldar_law.specs.Judged.{case_of}
-use Rattle.ldar_law.specs.Verdicts.{Rule, rules, least_rule, verdict_on}
+use Rattle.ldar_facts.specs.Facts.{Entry, entries_of, facts_of}
+use Rattle.ldar_law.specs.declared.verdict.Verdict.TheVariants.{Pass, Denied}
+use Rattle.ldar_law.specs.Judged.{Case, case_of}
+use Rattle.ldar_law.specs.Verdicts.{Rule, rules, least_rule, denial_at, verdict_on}
 use Rattle.ldar_law.proofs.VerdictLemmas.{least_rule_is_told, first_fact_is_told}
 
 -- the rules are numbered from 1 to 21

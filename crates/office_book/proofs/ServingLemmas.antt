@@ -1,5 +1,5 @@
 -- What is answered to the requests of a group are steps of the machine.
-use Rattle.std.proofs.Common.{◌≡◌, ◌≢◌, inl, inr, ℕ, Bool, true, false, Option, Some, None, List, [], ◌∷◌, ◌++◌, length, map, refl, sym, ◌∙◌, ap}
+use Rattle.std.proofs.Common.{◌≡◌, ◌≢◌, ◌⊎◌, inl, inr, ℕ, ◌+◌, Bool, true, false, Option, Some, None, List, [], ◌∷◌, ◌++◌, length, map, refl, sym, ◌∙◌, ap}
 use Rattle.std.proofs.Common.{subst, arith}
 use Rattle.std.specs.List.{AllByRecursion}
 use Rattle.disk_model.specs.Faults.{Rose}
@@ -7,9 +7,9 @@ use Rattle.ldar_facts.specs.declared.batch.Batch.{Batch}
 use Rattle.ldar_law.specs.declared.reply.Reply.{Reply}
 use Rattle.ldar_law.specs.declared.reply.Reply.TheVariants.{Receipt, Conflict, Denied, Full, Shown, NoSuch, Fault, Memory}
 use Rattle.ldar_law.specs.declared.request.Request.{Request}
-use Rattle.ldar_law.specs.Machine.{State, Moment, Turn, Finding, not_asked, Answers, TakesMemory, batch_added, batches_added}
-use Rattle.ldar_law.specs.Machine.{settled, CanBeFound, IsAnswered, IsWanting, BreaksOff, Steps, IsOfCall}
-use Rattle.office_book.specs.Serving.{certain, uncertain, added, Stops, Serves, turn_of, turns_of, has_some}
+use Rattle.ldar_law.specs.Machine.{State, Moment, Turn, Finding, not_asked, they_stand, they_are_gone, Answers, TakesMemory, batch_added, batches_added}
+use Rattle.ldar_law.specs.Machine.{settled, CanBeFound, IsAnswered, IsWanting, LeavesState, LeavesDoubt, BreaksOff, Step, Steps, IsOfCall}
+use Rattle.office_book.specs.Serving.{certain, uncertain, added, Stops, Serves, turn_of, turns_of, doubts, has_some}
 
 -- the batches that turns add are those that their requests add
 added_by_turns : (found : Finding) (doubt : Bool) (before : ℕ) (end : Moment) (history : List Batch) (requests : List Request) (replies : List Reply)

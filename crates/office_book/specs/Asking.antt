@@ -1,10 +1,10 @@
 -- What is asked of an office at once, and what its answers keep to.
-use Rattle.std.specs.Prelude.{◌≢◌, ◌<◌, List, length, map}
+use Rattle.std.specs.Prelude.{◌≡◌, ◌≢◌, ℕ, ◌<◌, List, length, map}
 use Rattle.std.specs.List.{AllByRecursion}
 use Rattle.ldar_law.specs.declared.request.Request.{Request}
 use Rattle.ldar_law.specs.declared.request.Request.TheVariants.{Sync, Due, Tags, Delays, Route, Percent, Report as ReportView}
 use Rattle.ldar_law.specs.declared.reply.Reply.{Reply}
-use Rattle.ldar_law.specs.Machine.{Call}
+use Rattle.ldar_law.specs.Machine.{Call, Turn}
 pub use Rattle.ldar_law.specs.Replies.{HasRule}
 
 -- the requests of a call, and its replies

@@ -1,12 +1,6 @@
-pub mod Archive
 pub mod Asking
-pub mod Grouped
-pub mod Kept
-pub mod Moves
-pub mod Opened
-pub mod Receipts
-pub mod Room
 pub mod Safe
 pub mod SafeLaws
+pub mod Moves
+pub mod Receipts
 pub mod Serving
-pub mod Viewed

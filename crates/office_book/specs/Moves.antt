@@ -1,5 +1,5 @@
 -- What a part of a call does to a journal and its disk.
-use Rattle.std.specs.Prelude.{ℕ, ◌+◌, ◌≤◌, ◌⊎◌, Option, List}
+use Rattle.std.specs.Prelude.{◌≡◌, ℕ, ◌+◌, ◌≤◌, ◌⊎◌, Option, List}
 use Rattle.disk_model.specs.Keeps.{Keeps}
 use Rattle.disk_model.specs.Told.{Told, BothTold}
 use Rattle.ldar_journal.specs.Crash.{LeavesOnly, OnDisk}
@@ -13,6 +13,5 @@ pub record Moves {D : Type 0} (content_of : D → Option (List ℕ)) (images_of 
   pub keeps : Keeps clock_of name_of faults_of old.disk new.disk
   pub tells : BothTold (content_of old.disk) (content_of new.disk) (λ _ _. Unit {0})
   pub frames : frames_written new ≤ frames_written old + written
-  pub leaves : LeavesOnly clock_of left_of old.disk new.disk
-      (λ image. Told (content_of old.disk) (λ _. StandsIn (state_of old) image ⊎ StandsIn (state_of new) image))
+  pub leaves : LeavesOnly clock_of left_of old.disk new.disk (λ image. Told (content_of old.disk) (λ _. StandsIn (state_of old) image ⊎ StandsIn (state_of new) image))
   pub stands : OnDisk (content_of new.disk) (images_of new.disk) (StandsIn (state_of new))

@@ -81,10 +81,7 @@ module _ {D : Type 0} (left_of : D → ℕ → List ℕ → Type 0) (clock_of fa
       since = λ t image le left.
           let time = runs_time (moment_of clock_of faults_of a) (moment_of clock_of faults_of b) first run in
           elim (two.since.since t image (omega arith) left) [
-            | inl before ↦ elim (one.since.since t image le before) [
-              | inl earlier ↦ inl earlier
-              | inr stands ↦ inr (stands_before (state_of a) first second image stands)
-            ]
+            | inl before ↦ elim (one.since.since t image le before) [ inl earlier ↦ inl earlier | inr stands ↦ inr (stands_before (state_of a) first second image stands) ]
             | inr stands ↦ inr (stands_after (moment_of clock_of faults_of a) (moment_of clock_of faults_of b) first second image run stands)
           ];
     };

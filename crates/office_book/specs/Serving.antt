@@ -1,11 +1,11 @@
 -- What an office with nothing in doubt answers to the requests of a group, and the state that it leaves; the turns of such a call.
-use Rattle.std.specs.Prelude.{◌≡◌, ◌⊎◌, ℕ, Bool, true, false, Some, None, List, [], ◌∷◌, ◌++◌, length}
+use Rattle.std.specs.Prelude.{◌≡◌, ◌≢◌, ◌⊎◌, ℕ, Bool, true, false, Option, Some, None, List, [], ◌∷◌, ◌++◌, length}
 use Rattle.std.specs.List.{AllByRecursion}
 use Rattle.ldar_facts.specs.declared.batch.Batch.{Batch}
 use Rattle.ldar_law.specs.declared.reply.Reply.{Reply}
 use Rattle.ldar_law.specs.declared.reply.Reply.TheVariants.{Receipt, Conflict, Denied, Full, Shown, NoSuch, Fault, Memory}
 use Rattle.ldar_law.specs.declared.request.Request.{Request}
-use Rattle.ldar_law.specs.Machine.{State, Moment, Turn, Finding, not_asked, Answers, TakesMemory, batch_added, settled, CanBeFound}
+use Rattle.ldar_law.specs.Machine.{State, Moment, Turn, Finding, not_asked, they_stand, they_are_gone, Answers, TakesMemory, batch_added, settled, CanBeFound}
 
 -- the state with this history and nothing in doubt
 abbrev pub certain : List Batch → State

@@ -2,7 +2,7 @@
 use Rattle.std.proofs.Common.{◌≡◌, ◌≢◌, ℕ, ◌+◌, ◌-◌, ◌<◌, ◌≤◌, ◌/◌, Bool, true, false, ◌&&◌, ◌||◌, nat_eq, nat_lt, Option, Some, None, List, [], take, length}
 use Rattle.std.proofs.Common.{set, get_or, replicate, refl, sym, ap, ◌∙◌, inl, inr, arith}
 use Rattle.std.specs.List.{list_any}
-use Rattle.std.proofs.lemmas.Bool.{and_left, cases_Bool, cases_eq, ne_eqb, eq-eqb}
+use Rattle.std.proofs.lemmas.Bool.{cases_Bool, cases_eq, ne_eqb, eq-eqb}
 use Rattle.std.proofs.lemmas.List.{get_or_default, get_or-set_same, get_or-set_other, length-set, get_or-replicate, length-replicate}
 use Rattle.std.proofs.lemmas.List.Folds.{list_any_more}
 use Rattle.ldar_days.specs.Calendar.{month_of}
@@ -12,8 +12,6 @@ use Rattle.ldar_facts.specs.declared.key.Key.{Key}
 use Rattle.ldar_facts.specs.Named.{is_numbered}
 use Rattle.ldar_law.specs.declared.equipment.Equipment.{Equipment}
 use Rattle.ldar_law.specs.declared.event.Event.{Event}
-use Rattle.ldar_law.specs.declared.event.Happening.{Happening}
-use Rattle.ldar_law.specs.declared.event.Happening.TheVariants.{Read, Look, Attempt, Delay, Release, Sensor, Evidence, Retire}
 use Rattle.ldar_law.specs.declared.tally.Mark.{Mark}
 use Rattle.ldar_law.specs.Happenings.{is_routine, is_routine_leak}
 use Rattle.ldar_law.specs.Percent.{is_in_quarter, is_counted, is_first_missed, mark_of}
@@ -42,31 +40,6 @@ shows_nothing startup quarter e m other =
     (adds_nothing m.leaking (is_routine_leak e.what) ∙ ap (λ b. m.leaking || (is_routine_leak e.what && b)) (sym other))
     (adds_nothing m.monitored (is_routine e.what) ∙ ap (λ b. m.monitored || (is_routine e.what && b)) (sym other))
 
--- what is no counting routine reading is no leak by one
-no_leak_either : (what : Happening) → is_routine what ≡ false → is_routine_leak what ≡ false
-no_leak_either (Read ppm background routine counts below leak) other = and_left (routine && counts) leak other
-no_leak_either (Look drips designated leak) other = refl
-no_leak_either (Attempt complete) other = refl
-no_leak_either (Delay why signer expected) other = refl
-no_leak_either Release other = refl
-no_leak_either (Sensor present leak) other = refl
-no_leak_either (Evidence present) other = refl
-no_leak_either Retire other = refl
-
--- nothing is added by what is not so
-adds_none : (a here : Bool) → a ≡ (a || (false && here))
-adds_none true here = refl
-adds_none false here = refl
-
--- such an event shows nothing of any quarter
-says_nothing : (startup quarter : ℕ) (e : Event) (m : Mark) → is_routine e.what ≡ false → m ≡ seen_with startup e quarter m
-says_nothing startup quarter e m other =
-    same_mark m _ _
-    (adds_none m.leaking (is_in_quarter startup quarter e.key.day)
-    ∙ ap (λ b. m.leaking || (b && is_in_quarter startup quarter e.key.day)) (sym (no_leak_either e.what other)))
-    (adds_none m.monitored (is_in_quarter startup quarter e.key.day)
-    ∙ ap (λ b. m.monitored || (b && is_in_quarter startup quarter e.key.day)) (sym other))
-
 -- one of the quarter shows what it is
 shows_itself : (startup quarter : ℕ) (e : Event) (m new : Mark) → is_in_quarter startup quarter e.key.day ≡ true →
     new.leaking ≡ (m.leaking || is_routine_leak e.what) → new.monitored ≡ (m.monitored || is_routine e.what) → new ≡ seen_with startup e quarter m
@@ -76,13 +49,6 @@ shows_itself startup quarter e m new here leaks monitors =
     (monitors ∙ adds_itself m.monitored (is_routine e.what) ∙ ap (λ b. m.monitored || (is_routine e.what && b)) (sym here))
 
 module _ (startup : ℕ) (e : Event) (seen : List Mark) where
-  -- an event that is no counting routine reading
-  pub looks_unseen : is_routine e.what ≡ false → LooksAt startup e seen seen
-  looks_unseen other = record {
-    count = refl;
-    each = λ k d within. says_nothing startup (k + 1) e (get_or seen k d) other;
-  }
-
   -- an event before the first quarter
   pub looks_before : (all : (q : ℕ) → is_in_quarter startup q e.key.day ≡ false) → LooksAt startup e seen seen
   looks_before all = record {

@@ -32,14 +32,11 @@ fn seen_with(mark: Mark, e: &Event) -> Mark
     }
 }
 
-/// Looks at an event, which says something of its quarter only, and nothing where it is no counting routine reading.
+/// Looks at an event, which says something of its quarter only.
 fn look_at(seen: &mut Vec<Mark>, startup: Day, e: &Event)
     requires startup { startup ≤ LAST_FACT_DAY }
     ensures value { LooksAt startup e.now seen.old.items seen.new.items }
 {
-    if !e.what.is_routine() {
-        return;
-    }
     let Some(quarter) = quarter_of(startup, e.key.day.month()) else {
         return;
     };

@@ -3,8 +3,8 @@ use Rattle.std.specs.List.{flat_map}
 use Rattle.ldar_law.specs.Replies.{reply_text}
 use Rattle.ldar_ports.specs.Sink.{bytes_of}
 use Rattle.office_book.specs.Asking.{replies_of}
-use Rattle.ldar_session.specs.Served.{Stretch, texts_of}
-use Rattle.ldar_session.specs.Batches.{IsBatch}
+use Rattle.ldar_session.specs.Served.{Stretch}
+use Rattle.ldar_session.specs.Batches.{IsBatch, line_of}
 use Rattle.ldar_session.proofs.Stretches.{stretch_none, stretch_unsaid}
 use Rattle.ldar_session.proofs.BatchLemmas.{served_in, asked_in, stretch_group, map-item-served_in, turns_of-served_in, are_batches}
 use Rattle.ldar_session.proofs.asking.serve.Goals as goal
@@ -13,10 +13,10 @@ use Rattle.ldar_session.proofs.asking.serve.Goals as goal
 pub returns-in_default-clause-talk : goal.returns-in_default-clause-talk
 returns-in_default-clause-talk g c = λ items asks.
     let pieces = g.K.Sink.pieces c.args.sink.now in
-    let none = stretch_none IsBatch g.O.Office.led g.met.O.Office.stays c.args.office.now pieces in (
+    let none = stretch_none IsBatch line_of g.O.Office.led g.met.O.Office.stays c.args.office.now pieces in (
       [],
       [],
-      subst (λ office. Stretch IsBatch g.O.Office.led c.args.office.now office pieces pieces [] []) (sym c.in_default.ensures.unchanged) none,
+      subst (λ office. Stretch IsBatch line_of g.O.Office.led c.args.office.now office pieces pieces [] []) (sym c.in_default.ensures.unchanged) none,
       inr refl,
     )
 
@@ -28,8 +28,8 @@ returns-in_default-lines_of-clause-talk g c = λ items asks.
     let each = asked_in items c.args.requests.now call asks asked.2 in
     let served = served_in items call.turns in (
       served,
-      texts_of served,
-      stretch_unsaid IsBatch g.O.Office.led c.args.office.now c.ask.new.office call (g.K.Sink.pieces c.args.sink.now) served asked.1
+      flat_map line_of served,
+      stretch_unsaid IsBatch line_of g.O.Office.led c.args.office.now c.ask.new.office call (g.K.Sink.pieces c.args.sink.now) served asked.1
           (turns_of-served_in items call.turns each) (are_batches items call.turns each),
       inl (map-item-served_in items call.turns each),
     )

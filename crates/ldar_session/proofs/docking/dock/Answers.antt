@@ -3,7 +3,7 @@ use Rattle.ldar_ports.specs.Source.{Takes}
 use Rattle.ldar_ports.proofs.TakesLemmas.{takes_none}
 use Rattle.std.proofs.lemmas.Grind.{flat_map-append}
 use Rattle.ldar_session.specs.Served.{Served, Stretch, items_of}
-use Rattle.ldar_session.specs.Batches.{AsksEach, IsBatch}
+use Rattle.ldar_session.specs.Batches.{AsksEach, IsBatch, line_of}
 use Rattle.ldar_session.proofs.Stretches.{stretch_none, stretch_more}
 use Rattle.ldar_session.proofs.DockLemmas.{takes_behind, items_before, group_served, part_served, ends_input, ends_unsaid}
 use Rattle.ldar_session.proofs.docking.dock.Goals as goal
@@ -15,7 +15,7 @@ returns-in_default-clause-talk g c = (
   [],
   [],
   takes_none (g.S.Source.left c.args.source.now),
-  stretch_none IsBatch g.O.Office.led g.met.O.Office.stays c.args.office.now (g.K.Sink.pieces c.args.sink.now),
+  stretch_none IsBatch line_of g.O.Office.led g.met.O.Office.stays c.args.office.now (g.K.Sink.pieces c.args.sink.now),
   omega arith,
 )
 
@@ -29,7 +29,7 @@ loop-answers-init g c =
       (
         [],
         subst (λ (l : List ℕ). Takes left l left) (sym bytes) (takes_none left),
-        stretch_none IsBatch g.O.Office.led g.met.O.Office.stays c.args.office.now (g.K.Sink.pieces c.args.sink.now),
+        stretch_none IsBatch line_of g.O.Office.led g.met.O.Office.stays c.args.office.now (g.K.Sink.pieces c.args.sink.now),
         refl,
         refl,
       ),
@@ -82,7 +82,7 @@ returns-in-Err-serve-clause-talk g c =
       part.0,
       talk.1,
       subst (λ (l : List ℕ). Takes old l left) (items_before served talk.0 window part.0 part.1) takes,
-      stretch_more IsBatch g.O.Office.led g.met.O.Office.joins c.args.office.now c.loop-answers.office c.serve.new.office
+      stretch_more IsBatch line_of g.O.Office.led g.met.O.Office.joins c.args.office.now c.loop-answers.office c.serve.new.office
           (g.K.Sink.pieces c.args.sink.now) (g.K.Sink.pieces c.loop-answers.sink) (g.K.Sink.pieces c.serve.new.sink) served talk.0 talk.1 so_far.2 talk.2,
       ends_unsaid c.in-Err-serve.ended (served ++ talk.0) part.0 left talk.1 c.in-Err-serve.ensures.only most,
     )
@@ -107,7 +107,7 @@ loop-answers-preserved g c =
     let all = group_served window c.in-Ok-next_group.group.requests.items used stand more talk.3.0 in
     let rest : c.drop_front.new.self.bytes ≡ drop used window = ap (λ w. w.bytes) c.drop_front.ensures.value in
     let behind = subst (λ (l : List ℕ). Takes old l left) (items_before served more window (drop used window) all.0) takes in
-    let said = subst (λ (l : List ℕ). Stretch IsBatch g.O.Office.led c.loop-answers.office c.serve.new.office
+    let said = subst (λ (l : List ℕ). Stretch IsBatch line_of g.O.Office.led c.loop-answers.office c.serve.new.office
     (g.K.Sink.pieces c.loop-answers.sink) (g.K.Sink.pieces c.serve.new.sink) more l) talk.3.1 talk.2 in
     let asked : c.len-answers.result ≡ length more =
     omega (arith, c.len-answers.ensures, c.deref.ensures.len, ap length c.deref.ensures.value, all.1) in
@@ -118,7 +118,7 @@ loop-answers-preserved g c =
       (
         served ++ more,
         subst (λ (l : List ℕ). Takes old (items_of (served ++ more) ++ l) left) (sym rest) behind,
-        stretch_more IsBatch g.O.Office.led g.met.O.Office.joins c.args.office.now c.loop-answers.office c.serve.new.office
+        stretch_more IsBatch line_of g.O.Office.led g.met.O.Office.joins c.args.office.now c.loop-answers.office c.serve.new.office
             (g.K.Sink.pieces c.args.sink.now) (g.K.Sink.pieces c.loop-answers.sink) (g.K.Sink.pieces c.serve.new.sink) served more [] so_far.2 said,
         omega (arith, length-append served more, so_far.3, asked),
         omega (arith, ap length (flat_map-append (λ (s : Served). s.item) served more), length-append (items_of served) (items_of more), so_far.4, bytes),

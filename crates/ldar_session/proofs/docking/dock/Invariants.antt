@@ -1,6 +1,6 @@
 use Rattle.std.proofs.Common.{◌≡◌, ◌≤◌, ◌-◌, ◌*◌, ◌++◌, List, [], length}
 use Rattle.ldar_ports.specs.Source.{Takes}
-use Rattle.ldar_session.specs.Batches.{IsBatch}
+use Rattle.ldar_session.specs.Batches.{IsBatch, line_of}
 use Rattle.ldar_session.specs.Served.{Served, Stretch, items_of}
 use Rattle.ldar_session.proofs.docking.dock.Given as goal
 
@@ -9,7 +9,7 @@ abbrev pub invariant-loop-answers : goal.invariant-loop-answers
 invariant-loop-answers g l =
     ((served : List Served)
     × Takes (g.S.Source.left l.fn.source) (items_of served ++ l.window.bytes) (g.S.Source.left l.source)
-    × Stretch IsBatch g.O.Office.led l.fn.office l.office (g.K.Sink.pieces l.fn.sink) (g.K.Sink.pieces l.sink) served []
+    × Stretch IsBatch line_of g.O.Office.led l.fn.office l.office (g.K.Sink.pieces l.fn.sink) (g.K.Sink.pieces l.sink) served []
     × (length served ≡ l.answers)
     × (length (items_of served) ≡ l.before))
     × (l.answers ≤ 1_000_000)

@@ -1,5 +1,5 @@
-use Rattle.std.proofs.Common.{sym, ◌∙◌, arith}
-use Rattle.skip_periods.proofs.SeenLemmas.{lies_in, looks_unseen, looks_within}
+use Rattle.std.proofs.Common.{arith}
+use Rattle.skip_periods.proofs.SeenLemmas.{lies_in, looks_within}
 use Rattle.skip_periods.proofs.seen.look_at.Goals as goal
 
 pub returns-then-place-len : goal.returns-then-place-len
@@ -12,8 +12,3 @@ returns-then-place-len c =
       value = looks_within a.startup a.e.now a.seen.now.items c.from-place.result c.index.result.now c.seen_with.result
           (omega (arith, c.if-place-len.true, c.len.ensures, a.seen.now.ok)) lies c.index.ensures c.seen_with.ensures.leaking c.seen_with.ensures.monitored;
     }
-
-pub returns-then-not-is_routine : goal.returns-then-not-is_routine
-returns-then-not-is_routine c = record {
-  value = looks_unseen c.args.startup c.args.e.now c.args.seen.now.items (sym c.is_routine.ensures.value ∙ c.if-not-is_routine.true);
-}

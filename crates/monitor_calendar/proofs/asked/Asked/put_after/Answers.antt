@@ -5,7 +5,6 @@ use Rattle.monitor_calendar.specs.Following.{after_event, after_by}
 use Rattle.ldar_law.specs.declared.event.Event.{Event}
 use Rattle.monitor_calendar.specs.Dripping.{TellsOfDrips}
 use Rattle.monitor_calendar.proofs.FollowLemmas.{begins_at, one_event_on, tells_on}
-use Rattle.monitor_calendar.proofs.Concerning.{each_left_so, never_after}
 use Rattle.monitor_calendar.proofs.asked.Asked.put_after.Goals as goal
 
 pub loop-place-init : goal.loop-place-init
@@ -44,12 +43,4 @@ returns c =
     record {
       put = each_done (after_event asked c.args.after) l.duties.items _ (take l.place asked.events.now) asked.events.now l.place (omega
           (arith, c.loop-place-test.false)) l.invariant.done;
-    }
-
-pub returns-then-not-concerns : goal.returns-then-not-concerns
-returns-then-not-concerns c =
-    let asked = c.args.self.now in
-    record {
-      put = sym (each_left_so (after_event asked c.args.after) asked.events.now c.args.duties.now.items
-          (never_after asked c.args.after (sym c.concerns.ensures.value ∙ c.if-not-concerns.true)));
     }

@@ -1,11 +1,10 @@
-use Rattle.std.proofs.Common.{◌≡◌, ◌+◌, ◌++◌, sym, ap, ◌∙◌, arith}
+use Rattle.std.proofs.Common.{◌≡◌, ◌+◌, ◌++◌, ap, ◌∙◌, arith}
 use Rattle.std.specs.List.{filter_map}
 use Rattle.std.specs.Option.{option_to_list}
 use Rattle.list_words.specs.Ranges.{until}
 use Rattle.list_words.proofs.RangeLemmas.{filter_map_until, filter_map_done}
 use Rattle.ldar_days.specs.Calendar.{month_of}
 use Rattle.monitor_calendar.specs.Causes as causes
-use Rattle.monitor_calendar.proofs.Concerning.{left_so, never_planned}
 use Rattle.monitor_calendar.proofs.asked.Asked.put_planned.Goals as goal
 
 pub loop-month-init : goal.loop-month-init
@@ -31,12 +30,4 @@ returns c =
     record {
       put = filter_map_done (causes.planned c.args.self.now) l.duties.items _ l.month (c.number-end.result + 60) (omega
           (arith, c.loop-month-test.false)) l.invariant;
-    }
-
-pub returns-then-not-has_unsafe_class : goal.returns-then-not-has_unsafe_class
-returns-then-not-has_unsafe_class c =
-    let asked = c.args.self.now in
-    record {
-      put = sym (left_so (causes.planned asked) (causes.window_ends asked) c.args.duties.now.items
-          (never_planned asked (sym c.has_unsafe_class.ensures.value ∙ c.if-not-has_unsafe_class.true)));
     }

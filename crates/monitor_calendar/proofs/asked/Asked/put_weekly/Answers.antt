@@ -1,11 +1,10 @@
-use Rattle.std.proofs.Common.{◌≡◌, ◌+◌, ◌++◌, sym, ap, ◌∙◌, arith}
+use Rattle.std.proofs.Common.{◌≡◌, ◌+◌, ◌++◌, ap, ◌∙◌, arith}
 use Rattle.std.specs.List.{filter_map}
 use Rattle.std.specs.Option.{option_to_list}
 use Rattle.list_words.specs.Ranges.{until}
 use Rattle.list_words.proofs.RangeLemmas.{filter_map_until, filter_map_done}
 use Rattle.ldar_days.specs.Calendar.{week_of}
 use Rattle.monitor_calendar.specs.Causes as causes
-use Rattle.monitor_calendar.proofs.Concerning.{left_so, never_weekly}
 use Rattle.monitor_calendar.proofs.asked.Asked.put_weekly.Goals as goal
 
 pub loop-week-init : goal.loop-week-init
@@ -29,12 +28,4 @@ returns c =
     record {
       put = filter_map_done (causes.weekly c.args.self.now) l.duties.items _ l.week (c.week_of-end.result + 1) (omega
           (arith, c.loop-week-test.false)) l.invariant;
-    }
-
-pub returns-then-not-is_pump : goal.returns-then-not-is_pump
-returns-then-not-is_pump c =
-    let asked = c.args.self.now in
-    record {
-      put = sym (left_so (causes.weekly asked) (causes.weeks_after asked) c.args.duties.now.items
-          (never_weekly asked (sym c.is_pump.ensures.value ∙ c.if-not-is_pump.true)));
     }

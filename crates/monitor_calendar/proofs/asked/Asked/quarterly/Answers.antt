@@ -4,7 +4,6 @@ use Rattle.ldar_law.specs.Duties.{routine_in}
 use Rattle.monitor_calendar.specs.Causes as causes
 use Rattle.monitor_calendar.proofs.Judging.{IsOf, quarterly_by}
 use Rattle.monitor_calendar.proofs.Listing.{unowed}
-use Rattle.monitor_calendar.proofs.Concerning.{not_quarterly}
 use Rattle.monitor_calendar.proofs.asked.Asked.quarterly.Goals as goal
 
 pub returns-then-not-is_quarter_month : goal.returns-then-not-is_quarter_month
@@ -58,8 +57,3 @@ returns c =
           ∙ c.is_quarter_month.ensures.value)
           ∙ sym form;
     }
-
-pub returns-then-not-is_quarterly : goal.returns-then-not-is_quarterly
-returns-then-not-is_quarterly c = record {
-  value = sym (not_quarterly c.args.self.now c.args.month (sym c.requires.quarterly ∙ c.if-not-is_quarterly.true));
-}

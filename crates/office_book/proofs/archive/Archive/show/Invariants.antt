@@ -1,4 +1,0 @@
-use Rattle.office_book.proofs.archive.Archive.show.Given as goal
-
-abbrev pub ghosts-ask_views : goal.ghosts-ask_views
-ghosts-ask_views a = record { name = a.blank.name; parts = a.blank.parts }
