@@ -1,6 +1,6 @@
 -- A name in its twelve bytes, looked at as a whole: letters, and zero bytes behind them.
-use Rattle.std.proofs.Common.{◌≡◌, ℕ, ◌+◌, ◌-◌, ◌<◌, ◌≤◌, true, List, [], ◌∷◌, ◌++◌, length, take, drop, replicate, Ok, refl, sym, ap, ◌∙◌, arith}
-use Rattle.std.specs.Prelude.{◌==◌}
+use Rattle.std.proofs.Common.{◌≡◌, ℕ, ◌+◌, ◌-◌, ◌<◌, ◌≤◌, true, List, [], ◌∷◌, ◌++◌, length, take, drop, replicate, Ok, refl, sym, ap, subst, ◌∙◌, arith}
+use Rattle.std.specs.Prelude.{◌==◌, Option, Some, None, IfSome}
 use Rattle.std.specs.List.{list_all}
 use Rattle.std.proofs.lemmas.Bool.{eqb-true, and_parts}
 use Rattle.std.proofs.lemmas.List.{drop-drop, take-append-drop, length-drop, length-take-le, take_all}
@@ -17,7 +17,7 @@ all_zeros (b ∷ bytes) h =
     rw is (ap (λ l. 0 ∷ l) (all_zeros bytes parts.1))
 
 -- a name at the front of twelve bytes, and zero bytes behind it, are the name in its twelve bytes
-pub padded_name : (len : ℕ) (bytes name : List ℕ) → length bytes ≡ 12 → len ≤ 12 → list_all (λ b. b == 0) (take (12 - len) (drop len bytes)) ≡ true
+padded_name : (len : ℕ) (bytes name : List ℕ) → length bytes ≡ 12 → len ≤ 12 → list_all (λ b. b == 0) (take (12 - len) (drop len bytes)) ≡ true
     → name ≡ take len bytes → bytes ≡ spelled_name name
 padded_name len bytes name twelve fits zeros is =
     let behind = length-drop len bytes in
@@ -27,6 +27,14 @@ padded_name len bytes name twelve fits zeros is =
     rw is
     (sym (take-append-drop len bytes)
     ∙ ap (λ l. take len bytes ++ l) (all_zeros (drop len bytes) (rw all at zeros) ∙ ap (λ n. replicate n 0) left))
+
+-- a name that is made of the bytes at the front is the one in the twelve bytes
+pub front_is_name : (len : ℕ) (bytes : List ℕ) (result : Option (List ℕ)) → length bytes ≡ 12 → len ≤ 12
+    → list_all (λ b. b == 0) (take (12 - len) (drop len bytes)) ≡ true → IfSome result (λ name. IsName (take len bytes) × (name ≡ take len bytes))
+    → IfSome result (λ name. IsName name × (bytes ≡ spelled_name name))
+front_is_name len bytes None twelve fits zeros made = tt
+front_is_name len bytes (Some name) twelve fits zeros made =
+    (subst IsName (sym made.1) made.0, padded_name len bytes name twelve fits zeros made.1)
 
 -- a name in its twelve bytes at a place is read
 pub name_stands : (at : ℕ) (bytes name : List ℕ) → IsName name → take 12 (drop at bytes) ≡ spelled_name name
