@@ -3,7 +3,7 @@ ghost use Rattle.ldar_law.specs.declared.delay.Stop.{Stop as SomeStop};
 ghost use Rattle.ldar_law.specs.declared.delay.Until.TheVariants.{Date};
 ghost use Rattle.ldar_law.specs.Delays as law;
 ghost use Rattle.delay_of_repair.specs.Ends.{AreEnds};
-ghost use Rattle.delay_of_repair.specs.Walk.{Repairs};
+ghost use Rattle.delay_of_repair.specs.Walk.{Repairs, IsPastAbove};
 
 use crate::grounds::due_by;
 use crate::shutdowns::Ends;
@@ -30,19 +30,31 @@ fn undelayed(detected: Day) -> Repair
     }
 }
 
-/// The same by the ends of the shutdowns: one walk over the delays, and a due day only for one that is not ignored.
+/// A number above which those of the days lie on which the due day is past.
+fn last_number(due: &Until) -> u32
+    ensures value { IsPastAbove due.now result }
+{
+    match *due {
+        Until::Date(day) => day.number(),
+        _ => u32::MAX,
+    }
+}
+
+/// The same by the days on which a delay may end: one walk over the delays, and a due day only for one that is not ignored.
 fn delayed(detected: Day, delays: &[DelayEntry], ends: &Ends) -> Repair
     ensures value { (attempts : List ℕ) (stops : List SomeStop) → AreEnds detected attempts stops ends.now
         → Repairs detected attempts stops (reverse delays.now) result }
 {
     let mut repair = undelayed(detected);
+    let mut last = last_number(&repair.due);
     for (place, delay) in delays.iter().enumerate() {
-        // The due day so far is what the delays up to here give.
-        if !repair.due.is_past_on(delay.key.day) {
+        // The due day so far is what the delays up to here give. Most are past it.
+        if delay.key.day.number() <= last {
             repair = Repair {
-                due: due_by(detected, ends, delay.ground, delay.key.day),
+                due: due_by(ends, delay.ground, delay.key.day),
                 counted: Some(place),
             };
+            last = last_number(&repair.due);
         }
     }
     repair

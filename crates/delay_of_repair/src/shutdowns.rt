@@ -3,7 +3,7 @@ ghost use Rattle.ldar_law.specs.Delays as law;
 ghost use Rattle.delay_of_repair.specs.Ends.{AreEnds};
 
 use ldar_days::Day;
-use ldar_law::{Stop, Until, VERIFICATION_DAYS};
+use ldar_law::{Stop, Until, VERIFICATION_DAYS, repair_by};
 
 /// Whether an attempt lies on a day of the shutdown.
 fn has_attempt_in(attempts: &[Day], stop: &Stop) -> bool
@@ -78,9 +78,13 @@ fn end_of_second(detected: Day, attempts: &[Day], stops: &[Stop]) -> Until
     }
 }
 
-/// The ends of the shutdowns that may delay a repair, each found once.
+/// The days on which a delay may end, each found once.
 #[derive(Clone, Copy)]
 pub struct Ends {
+    /// The day by which the repair is due without a delay (40 CFR 60.482-7a(d)(1)).
+    pub repair_by: Day,
+    /// The day six months after the detection (40 CFR 60.482-9a(d)).
+    pub half_year: Day,
     /// That of the first shutdown after the detection (40 CFR 60.482-9a(a)).
     pub first: Until,
     /// That of the second, or of the third where the second comes too soon (40 CFR 60.482-9a(e)).
@@ -93,6 +97,8 @@ impl Ends {
         ensures value { AreEnds detected attempts.now stops.now result }
     {
         Ends {
+            repair_by: repair_by(detected),
+            half_year: detected.plus_months(6),
             first: end_of_first(detected, attempts, stops),
             second: end_of_second(detected, attempts, stops),
         }

@@ -1,10 +1,11 @@
 -- A reading is judged alike by all facts of its instrument and by those that matter, each sort apart.
-use Rattle.std.proofs.Common.{◌≡◌, ℕ, ◌+◌, ◌≤◌, ◌<◌, Bool, true, false, not, ◌&&◌, nat_eq, nat_lt, nat_le, Option, Some, None, List, length, take, drop, find}
+use Rattle.std.proofs.Common.{◌≡◌, ℕ, ◌+◌, ◌≤◌, ◌<◌, Bool, true, false, not, ◌&&◌, nat_eq, nat_lt, nat_le, Option, Some, None, List, [], ◌∷◌, length, take, drop, find}
 use Rattle.std.proofs.Common.{filter, get_or, option_map, refl, sym, ap, ◌∙◌, inl, inr, arith}
+use Rattle.std.specs.Prelude.{unwrap_or, if◌then◌else◌}
 use Rattle.std.specs.List.{list_any}
 use Rattle.std.specs.List.Sorted.{IsPartitionPoint}
 use Rattle.std.specs.Option.{option_map_or}
-use Rattle.std.proofs.lemmas.Bool.{cases_Bool, false≢true, eq-eqb, ne_eqb, eqb-true, leb-true, le-leb, leb-false, ltb-true, ltb-false}
+use Rattle.std.proofs.lemmas.Bool.{cases_Bool, false≢true, eq-eqb, ne_eqb, eqb-true, leb-true, le-leb, leb-false, le-ltb, ltb-true, ltb-false}
 use Rattle.std.proofs.lemmas.List.{get_or-drop, length-drop}
 use Rattle.list_words.specs.Order.{Ascends}
 use Rattle.list_words.specs.Words.{last_such}
@@ -17,9 +18,11 @@ use Rattle.fact_kinds.specs.Facts.{Entry, is_earlier, goes_first}
 use Rattle.fact_kinds.proofs.Cuts.{earlier_day}
 use Rattle.ldar_law.specs.Fitness.{is_calibration, is_calibration_within, is_passed_precision, is_drift_past, is_calibrated, is_calibrated_within, is_tested}
 use Rattle.ldar_law.specs.Fitness.{is_calibrated_before, is_voided_by, fitness_of, unless_voided}
+use Rattle.ldar_law.specs.declared.fitness.Fitness.{Fitness}
+use Rattle.ldar_law.specs.declared.fitness.Fitness.TheVariants.{NoCalibration, GasTooHigh, NoPrecision}
 use Rattle.ldar_law.specs.declared.numbers.TheConstants.{GAS_MARGIN}
 use Rattle.ldar_law.proofs.TestLemmas.{both}
-use Rattle.method21_reading.specs.Instruments.{is_calibrating, is_passed_test, is_failed_drift, Apart, AreThoseOf, is_of_day, fitness_apart}
+use Rattle.method21_reading.specs.Instruments.{is_calibrating, is_passed_test, is_failed_drift, Apart, AreThoseOf, is_of_day, fitness_apart, refusal_apart}
 use Rattle.method21_reading.proofs.FrontLemmas.{filter_front, filter_behind, last_such_both, latest_decides}
 use Rattle.method21_reading.proofs.LaterLemmas.{later_rises}
 
@@ -99,6 +102,39 @@ module _ (facts calibrations tests drifts : List Entry) (key : Key) where
     apart_is_whole limit instrument ppm =
         rw (calibrated_same instrument, within_same instrument (limit + GAS_MARGIN), tested_same instrument, voided_same limit instrument ppm) refl
 
+-- ---- one answer after the other
+
+-- the first of three tests that fails gives the answer, and else what is left does
+first_answer : (a b c : Bool) (left : Fitness) →
+    unwrap_or (if not a then Some NoCalibration else if not b then Some GasTooHigh else if not c then Some NoPrecision else None) left
+    ≡ (if not a then NoCalibration else if not b then GasTooHigh else if not c then NoPrecision else left)
+first_answer false b c left = refl
+first_answer true false c left = refl
+first_answer true true false left = refl
+first_answer true true true left = refl
+
+-- what speaks against a reading gives its fitness, and else the drift assessments do
+refused_or_voided : (calibrations tests drifts : List Entry) (key : Key) (limit instrument ppm : ℕ) →
+    unwrap_or (refusal_apart calibrations tests limit key instrument) (unless_voided (find (is_voided_by calibrations key instrument limit ppm) drifts))
+    ≡ fitness_apart calibrations tests drifts limit key instrument ppm
+refused_or_voided calibrations tests drifts key limit instrument ppm =
+    first_answer (is_calibrated calibrations key instrument) (is_calibrated_within calibrations key instrument (limit + GAS_MARGIN))
+    (is_tested tests key instrument) (unless_voided (find (is_voided_by calibrations key instrument limit ppm) drifts))
+
+-- nothing is found that never passes
+finds_none : (p : Entry → Bool) → ((e : Entry) → p e ≡ false) → (es : List Entry) → find p es ≡ None
+finds_none p never [] = refl
+finds_none p never (e ∷ es) = rw (never e) (finds_none p never es)
+
+-- no drift voids a reading that isn't below the leak definition
+pub never_voided : (calibrations drifts : List Entry) (key : Key) (limit instrument ppm : ℕ) → limit ≤ ppm →
+    find (is_voided_by calibrations key instrument limit ppm) drifts ≡ None
+never_voided calibrations drifts key limit instrument ppm reached =
+    let not_below : nat_lt ppm limit ≡ false = le-ltb ppm limit reached in
+    finds_none (is_voided_by calibrations key instrument limit ppm) (λ e. rw not_below refl) drifts
+
+-- ---- the facts of the day and the sorts judge
+
 module _ (facts : List Entry) (key : Key) where
   -- the facts of the day judge as all do, with all for the precision tests
   pub day_judges : (today : List Entry) (limit instrument ppm : ℕ) → today ≡ filter (is_of_day key.day) facts →
@@ -125,6 +161,19 @@ module _ (facts : List Entry) (key : Key) where
       ∙ find_narrowed p (is_of_day key.day) day (filter (λ e. is_failed_drift e.1.body) facts)
       ∙ find_narrowed p (λ e. is_failed_drift e.1.body) sort facts)
       limit instrument ppm
+
+  -- .. where the drift assessments of the day are asked last
+  pub answers_judge : (apart : Apart) (calibrations tests : List Entry) (limit instrument ppm : ℕ) (refusal : Option Fitness) → AreThoseOf facts apart →
+      calibrations ≡ filter (is_of_day key.day) apart.calibrations → tests ≡ apart.tests →
+      refusal ≡ refusal_apart calibrations tests limit key instrument →
+      unwrap_or refusal (unless_voided (find (is_voided_by calibrations key instrument limit ppm) (filter (is_of_day key.day) apart.drifts)))
+      ≡ fitness_of facts limit key instrument ppm
+  answers_judge apart calibrations tests limit instrument ppm refusal those calibrations_are tests_are refusal_is =
+      let drifts = filter (is_of_day key.day) apart.drifts in
+      ap (λ o. unwrap_or o (unless_voided (find (is_voided_by calibrations key instrument limit ppm) drifts))) refusal_is
+      ∙ refused_or_voided calibrations tests drifts key limit instrument ppm
+      ∙ ap (λ ts. fitness_apart calibrations ts drifts limit key instrument ppm) tests_are
+      ∙ sorts_judge apart calibrations drifts limit instrument ppm those calibrations_are refl
 
 -- ---- the latest precision test
 

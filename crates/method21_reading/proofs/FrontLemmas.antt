@@ -2,9 +2,9 @@
 use Rattle.std.proofs.Common.{◌≡◌, ℕ, zero, suc, ◌+◌, ◌-◌, ◌<◌, ◌≤◌, Bool, true, false, ◌&&◌, ◌||◌, cond, Option, Some, None, List, [], ◌∷◌, ◌++◌, length}
 use Rattle.std.proofs.Common.{take, drop, filter, get_or, refl, sym, ap, ◌∙◌, subst, inl, inr, arith}
 use Rattle.std.specs.List.{AllByRecursion, AllWithin, list_any}
-use Rattle.std.specs.List.Sorted.{IsPartitionedBy}
+use Rattle.std.specs.List.Sorted.{IsPartitionedBy, IsPartitionPoint}
 use Rattle.std.specs.Option.{option_or, option_map_or}
-use Rattle.std.proofs.lemmas.Bool.{cases_Bool}
+use Rattle.std.proofs.lemmas.Bool.{cases_Bool, false≢true}
 use Rattle.std.proofs.lemmas.List.{take-append-drop, get_or-take, get_or-drop, length-take-le, length-drop, append-nil}
 use Rattle.std.proofs.lemmas.List.Elements.{filter-append}
 use Rattle.list_words.specs.Order.{Ascends}
@@ -147,3 +147,20 @@ latest_decides before p r grows (x ∷ xs) up =
     latest_step r x (p x) (list_any (λ y. p y && r y) xs) (last_such p xs) (latest_decides before p r grows xs up.1)
     (λ y found t. grows x y (last_holds (λ z. before x z ≡ true) p xs y up.0 found) t)
     ∙ ap (λ o. option_map_or r o false) (sym (last_such-cons p x xs))
+
+-- where what passes stands in front, the first that fails parts it from the rest
+pub parted_at : {X : Type 0} (p : X → Bool) (xs : List X) (count : ℕ) → IsPartitionedBy p xs → AllWithin (λ x. p x ≡ true) xs 0 count →
+    ((d : X) → count < length xs → p (get_or xs count d) ≡ false) → IsPartitionPoint (λ x. p x ≡ true) (λ x. p x ≡ false) xs count
+parted_at p xs count parted passed failed = (
+  passed,
+  λ k d low l. elim (cases_Bool (p (get_or xs k d))) [
+    | inl t ↦ absurd (false≢true (sym (failed d (omega (arith, low, l))) ∙ parted count k d low l t))
+    | inr f ↦ f
+  ],
+)
+
+-- what holds of the element at a place within a list holds whatever would stand in for it
+pub same_within : {X : Type 0} (P : X → Type 0) (xs : List X) (count : ℕ) (x d : X) → x ≡ get_or xs count x → count < length xs → P x → P (get_or xs count d)
+same_within P [] count x d is within h = absurd (omega arith)
+same_within P (y ∷ ys) zero x d is within h = subst P is h
+same_within P (y ∷ ys) (suc count) x d is within h = same_within P ys count x d is (omega (arith, within)) h

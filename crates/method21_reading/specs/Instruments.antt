@@ -1,5 +1,5 @@
 -- What of an instrument's facts judges readings, each sort apart, and readings judged by these sorts (40 CFR 60.485a(b)).
-use Rattle.std.specs.Prelude.{◌≡◌, ℕ, ◌+◌, Bool, true, false, not, nat_eq, if◌then◌else◌, List, filter, find}
+use Rattle.std.specs.Prelude.{◌≡◌, ℕ, ◌+◌, Bool, true, false, not, nat_eq, if◌then◌else◌, Option, Some, None, List, filter, find}
 use Rattle.fact_kinds.specs.declared.body.FactBody.{FactBody}
 use Rattle.fact_kinds.specs.declared.body.FactBody.TheVariants.{Calibration, Precision, Drift}
 use Rattle.fact_kinds.specs.declared.key.Key.{Key}
@@ -47,3 +47,11 @@ fitness_apart calibrations tests drifts limit key instrument ppm =
     else if not (is_calibrated_within calibrations key instrument (limit + GAS_MARGIN)) then GasTooHigh
     else if not (is_tested tests key instrument) then NoPrecision
     else unless_voided (find (is_voided_by calibrations key instrument limit ppm) drifts)
+
+-- why the calibrations and the precision tests that stand apart speak against a reading, if they do
+abbrev pub refusal_apart : (calibrations tests : List Entry) → ℕ → Key → ℕ → Option Fitness
+refusal_apart calibrations tests limit key instrument =
+    if not (is_calibrated calibrations key instrument) then Some NoCalibration
+    else if not (is_calibrated_within calibrations key instrument (limit + GAS_MARGIN)) then Some GasTooHigh
+    else if not (is_tested tests key instrument) then Some NoPrecision
+    else None

@@ -1,4 +1,5 @@
-ghost use Rattle.std.specs.Prelude.{◌≡◌, filter};
+ghost use Rattle.std.specs.Prelude.{◌≡◌, ◌≤◌, true, false, nat_le, filter, length};
+ghost use Rattle.std.specs.List.Sorted.{IsPartitionPoint};
 ghost use Rattle.list_words.specs.Order.{Ascends};
 ghost use Rattle.fact_kinds.specs.Facts.{goes_first};
 ghost use Rattle.method21_reading.specs.Instruments.{is_of_day};
@@ -6,13 +7,27 @@ ghost use Rattle.method21_reading.specs.Instruments.{is_of_day};
 use fact_kinds::{Fact, Key};
 use ldar_days::Day;
 
-/// The facts of a day, found by halving among facts in key order.
+/// How many facts in front are of a day or an earlier one.
+fn count_to(facts: &[(Key, Fact)], day: Day) -> usize
+    requires ordered { Ascends goes_first facts.now }
+    ensures bound { result ≤ length facts.now }
+    ensures partitioned { IsPartitionPoint (λ e. nat_le e.0.day day ≡ true) (λ e. nat_le e.0.day day ≡ false) facts.now result }
+{
+    for (count, e) in facts.iter().enumerate() {
+        if day < e.0.day {
+            return count;
+        }
+    }
+    facts.len()
+}
+
+/// The facts of a day: the first of them is found by halving among facts in key order, and from there on they are few.
 pub fn facts_on(facts: &[(Key, Fact)], day: Day) -> &[(Key, Fact)]
     requires ordered { Ascends goes_first facts.now }
     ensures value { result.now ≡ filter (is_of_day day) facts.now }
 {
     let from = facts.partition_point(|e| e.0.day < day);
     let rest = &facts[from..];
-    let count = rest.partition_point(|e| e.0.day <= day);
+    let count = count_to(rest, day);
     &rest[..count]
 }

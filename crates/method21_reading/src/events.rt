@@ -26,7 +26,7 @@ pub fn events_of(
     ensures value { IfOk result (λ events. events.items ≡ law.events_with equipment.now classes.now facts.now fitness.now) }
     ensures of_all { IfOk result (λ events. AreEventsAmongAll equipment.now classes.now facts.now fitness.now events.items) }
 {
-    let mut events = Vec::new(alloc);
+    let mut events = Vec::with_capacity(alloc, facts.len())?;
     let mut left = fitness;
     let mut place = 0;
     for e in facts {

@@ -2,7 +2,7 @@ ghost use Rattle.std.specs.Prelude.{◌≡◌};
 ghost use Rattle.list_words.specs.Order.{Ascends};
 ghost use Rattle.fact_kinds.specs.Facts.{goes_first};
 ghost use Rattle.ldar_law.specs.Fitness.{fitness_of};
-ghost use Rattle.method21_reading.specs.Instruments.{fitness_apart};
+ghost use Rattle.method21_reading.specs.Instruments.{fitness_apart, refusal_apart};
 ghost use Rattle.method21_reading.specs.Readings.{fitness_by, IsFitnessAmongAll};
 
 use crate::calibration::{is_calibrated, is_calibrated_within};
@@ -41,8 +41,32 @@ fn judged(facts: &[(Key, Fact)], limit: u32, key: &Key, instrument: u16, ppm: u3
     judged_apart(today, facts, today, limit, key, instrument, ppm)
 }
 
-/// The same by calibrations, precision tests and drift assessments that stand apart.
-pub fn judged_apart(
+/// Why the calibrations and the precision tests that stand apart speak against a reading, if they do.
+pub fn refused(
+    calibrations: &[(Key, Fact)],
+    tests: &[(Key, Fact)],
+    limit: u32,
+    key: &Key,
+    instrument: u16,
+) -> Option<Fitness>
+    requires ordered { Ascends goes_first tests.now }
+    ensures value { result ≡ refusal_apart calibrations.now tests.now limit key.now instrument }
+{
+    if !is_calibrated(calibrations, key, instrument) {
+        return Some(Fitness::NoCalibration);
+    }
+    let most = u64::from(limit) + u64::from(GAS_MARGIN);
+    if !is_calibrated_within(calibrations, key, instrument, most) {
+        return Some(Fitness::GasTooHigh);
+    }
+    if !is_tested(tests, key, instrument) {
+        return Some(Fitness::NoPrecision);
+    }
+    None
+}
+
+/// The same as `judged` by calibrations, precision tests and drift assessments that stand apart.
+fn judged_apart(
     calibrations: &[(Key, Fact)],
     tests: &[(Key, Fact)],
     drifts: &[(Key, Fact)],
@@ -54,15 +78,8 @@ pub fn judged_apart(
     requires ordered { Ascends goes_first tests.now }
     ensures value { result ≡ fitness_apart calibrations.now tests.now drifts.now limit key.now instrument ppm }
 {
-    if !is_calibrated(calibrations, key, instrument) {
-        return Fitness::NoCalibration;
-    }
-    let most = u64::from(limit) + u64::from(GAS_MARGIN);
-    if !is_calibrated_within(calibrations, key, instrument, most) {
-        return Fitness::GasTooHigh;
-    }
-    if !is_tested(tests, key, instrument) {
-        return Fitness::NoPrecision;
+    if let Some(why) = refused(calibrations, tests, limit, key, instrument) {
+        return why;
     }
     match voiding_drift(calibrations, drifts, key, instrument, limit, ppm) {
         Some(drift) => Fitness::Voided { drift },

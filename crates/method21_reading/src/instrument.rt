@@ -1,14 +1,15 @@
 //! An instrument made ready once, for its many readings.
 
-ghost use Rattle.std.specs.Prelude.{◌≡◌, List, filter, IfOk};
+ghost use Rattle.std.specs.Prelude.{◌≡◌, List, filter, find, IfOk};
 ghost use Rattle.list_words.specs.Order.{Ascends};
 ghost use Rattle.fact_kinds.specs.Facts.{goes_first, Entry};
-ghost use Rattle.ldar_law.specs.Fitness.{fitness_of};
+ghost use Rattle.ldar_law.specs.Fitness.{fitness_of, is_voided_by, unless_voided as unless_voided_by};
 ghost use Rattle.method21_reading.specs.Instruments.{AreThoseOf, is_of_day};
 ghost use Rattle.method21_reading.specs.Readings.{fitness_by, IsFitnessAmongAll};
 
 use crate::day::facts_on;
-use crate::fitness::judged_apart;
+use crate::drift::voiding_drift;
+use crate::fitness::refused;
 use crate::part::{Part, part_of};
 use fact_kinds::{Fact, FactBody, Key, Memory};
 use ldar_days::Day;
@@ -74,21 +75,38 @@ impl Instrument {
         self.tests.as_slice()
     }
 
+    /// What the failed drift assessments of its day make of a reading against which nothing else speaks.
+    fn unless_voided(
+        &self,
+        calibrations: &[(Key, Fact)],
+        limit: u32,
+        key: &Key,
+        instrument: u16,
+        ppm: u32,
+    ) -> Fitness
+        ensures value { result ≡ unless_voided_by (find (is_voided_by calibrations.now key.now instrument limit ppm) (filter (is_of_day key.now.day) self.now.drifts)) }
+    {
+        // A drift voids readings below the leak definition alone: for others none is looked for.
+        if limit <= ppm {
+            return Fitness::Fit;
+        }
+        let drifts = self.drifts_on(key.day);
+        match voiding_drift(calibrations, drifts, key, instrument, limit, ppm) {
+            Some(drift) => Fitness::Voided { drift },
+            None => Fitness::Fit,
+        }
+    }
+
     /// Whether a reading of so many parts per million with an instrument may be used.
     fn judged(&self, limit: u32, key: &Key, instrument: u16, ppm: u32) -> Fitness
         ensures value { (facts : List Entry) → AreThoseOf facts self.now → result ≡ fitness_of facts limit key.now instrument ppm }
     {
         let calibrations = self.calibrations_on(key.day);
-        let drifts = self.drifts_on(key.day);
-        judged_apart(
-            calibrations,
-            self.passed_tests(),
-            drifts,
-            limit,
-            key,
-            instrument,
-            ppm,
-        )
+        let refusal = refused(calibrations, self.passed_tests(), limit, key, instrument);
+        match refusal {
+            Some(why) => why,
+            None => self.unless_voided(calibrations, limit, key, instrument, ppm),
+        }
     }
 
     /// Whether a reading with this key may be used.

@@ -12,8 +12,7 @@ use Rattle.list_words.specs.Order.{put_in_order, in_order, AllApart}
 use Rattle.list_words.proofs.Ascending.{among_in_order, in_order_permutes, apart_permutation}
 use Rattle.list_words.proofs.Members.{Among, among_from_Contains, among_right, all_at, all_weaker, all_from_among}
 use Rattle.ldar_law.proofs.WeakOrder.{InOrder, before_all, each_in_order}
-use Rattle.route_planner.specs.declared.visits.Visit.{Visit}
-use Rattle.route_planner.specs.Visits.{goes_first, with_visit, visits_from, IsBy, TellsLeast}
+use Rattle.route_planner.specs.Visits.{Visit, goes_first, with_visit, visits_from, IsBy, TellsLeast}
 use Rattle.route_planner.proofs.Sorted.{weak, permuted_in_order}
 use Rattle.route_planner.proofs.VisitLemmas.{goes_first_order, goes_first_is, visit_same, visit_on, known_stop, new_stop}
 

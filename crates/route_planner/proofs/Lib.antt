@@ -1,4 +1,6 @@
+mod ChainLemmas
 mod CoverLemmas
+mod DayLemmas
 mod LeastLemmas
 mod RouteLemmas
 mod Sorted

@@ -11,8 +11,7 @@ use Rattle.std.proofs.lemmas.List.Sorted.{ranks_by}
 use Rattle.list_words.specs.Order.{put_in_order, in_order}
 use Rattle.ldar_law.specs.declared.duty.Duty.{Duty}
 use Rattle.ldar_law.specs.Routes.{is_more_urgent, with_stop, stops_in_order}
-use Rattle.route_planner.specs.declared.visits.Visit.{Visit}
-use Rattle.route_planner.specs.Visits.{visit_of, visits_asked, visit_cmp, goes_first, with_visit}
+use Rattle.route_planner.specs.Visits.{Visit, visit_of, visits_asked, visit_cmp, goes_first, with_visit}
 use Rattle.route_planner.proofs.Sorted.{sorted_is_in_order}
 
 visit_cmp_total : IsTotalOrder visit_cmp

@@ -6,7 +6,11 @@ use Rattle.std.specs.declared.cmp.Ordering.{Ordering}
 use Rattle.ldar_law.specs.declared.duty.Duty.{Duty}
 use Rattle.ldar_law.specs.declared.route.Route.{Route}
 use Rattle.route_planner.specs.declared.visits.TheConstants.{NUMBERS}
-use Rattle.route_planner.specs.declared.visits.Visit.{Visit}
+
+-- a visit to a component by a day
+pub record Visit : Type 0 where
+  pub due : ℕ
+  pub component : ℕ
 
 -- the visit that a duty asks for
 abbrev pub visit_of : Duty → Visit

@@ -1,6 +1,7 @@
 //! Routes through a process unit, to the components at which something has to be done.
 #![tactic(auto)]
 
+mod chains;
 mod error;
 mod planner;
 mod visits;

@@ -10,12 +10,20 @@ use Rattle.method21_reading.proofs.ApartLemmas.{day_part}
 use Rattle.method21_reading.proofs.FrontLemmas.{stands_in_front, ascends_drop}
 use Rattle.method21_reading.proofs.day.facts_on.Goals as goal
 
+pub count_to-count-requires : goal.count_to-count-requires
+count_to-count-requires c =
+    let facts = c.args.facts.now in
+    let from = c.partition_point-from in
+    let same : take (length facts - from.result) (drop from.result facts) ≡ drop from.result facts = take_all (length facts - from.result)
+    (drop from.result facts) (omega (arith, length-drop from.result facts)) in
+    record { ordered = subst (Ascends goes_first) (sym same) (ascends_drop goes_first from.result facts c.requires.ordered) }
+
 pub returns : goal.returns
 returns c =
     let facts = c.args.facts.now in
     let day = c.args.day in
     let from = c.partition_point-from in
-    let count = c.partition_point-count in
+    let count = c.count_to-count in
     let rest = take (length facts - from.result) (drop from.result facts) in
     let same : rest ≡ drop from.result facts = take_all (length facts - from.result) (drop from.result facts) (omega
     (arith, length-drop from.result facts)) in
@@ -23,11 +31,6 @@ returns c =
     IsPartitionPoint-from_clause (λ e. nat_lt e.0.day day) facts from.result from.ensures.partitioned
     (stands_in_front goes_first (λ e. nat_lt e.0.day day)
     (λ x y before t. lt-ltb x.0.day day (omega (arith, earlier_day x.0 y.0 before, ltb-true y.0.day day t))) facts c.requires.ordered) (search rules) in
-    let up : Ascends goes_first rest = subst (Ascends goes_first) (sym same) (ascends_drop goes_first from.result facts c.requires.ordered) in
-    let in_rest : IsPartitionPoint (λ e. nat_le e.0.day day ≡ true) (λ e. nat_le e.0.day day ≡ false) rest count.result =
-    IsPartitionPoint-from_clause (λ e. nat_le e.0.day day) rest count.result count.ensures.partitioned
-    (stands_in_front goes_first (λ e. nat_le e.0.day day)
-    (λ x y before t. le-leb x.0.day day (omega (arith, earlier_day x.0 y.0 before, leb-true y.0.day day t))) rest up) (search rules) in
-    let here = subst (λ es. IsPartitionPoint (λ e. nat_le e.0.day day ≡ true) (λ e. nat_le e.0.day day ≡ false) es count.result) same in_rest in
+    let here = subst (λ es. IsPartitionPoint (λ e. nat_le e.0.day day ≡ true) (λ e. nat_le e.0.day day ≡ false) es count.result) same count.ensures.partitioned in
     let within : count.result ≤ length (drop from.result facts) = subst (λ es. count.result ≤ length es) same count.ensures.bound in
     record { value = ap (take count.result) same ∙ day_part facts day from.result count.result from.ensures.bound within early here }
