@@ -148,6 +148,35 @@ fn reads(day: Day, leak: bool) -> Event {
     }
 }
 
+/// A counting reading after an attempt at repair, which is a leak but no routine monitoring.
+fn reads_again(day: Day) -> Event {
+    let what = Happening::Read {
+        ppm: 700,
+        background: 0,
+        routine: false,
+        counts: true,
+        below: false,
+        leak: true,
+    };
+    Event {
+        key: key(day),
+        what,
+    }
+}
+
+/// A visual inspection that finds a leak.
+fn looks(day: Day) -> Event {
+    let what = Happening::Look {
+        drips: true,
+        designated: true,
+        leak: true,
+    };
+    Event {
+        key: key(day),
+        what,
+    }
+}
+
 const UNCOUNTED: Mark = Mark {
     leaking: false,
     monitored: false,
@@ -188,6 +217,12 @@ fn a_valve_counts_by_its_readings_and_its_delay(rt: HostRuntime) -> Result<(), F
     assert_eq!(rt;
         mark(&valve_of, &[], startup(), &before, true, 16, view),
         FOUND
+    );
+    // A leak that no routine reading found says nothing of its quarter.
+    let found_else = [reads_again(day("2024-02-01")?), looks(day("2024-02-02")?)];
+    assert_eq!(rt;
+        mark(&valve_of, &[], startup(), &found_else, false, 16, view),
+        UNCOUNTED
     );
     assert_eq!(rt;
         mark(&sealed, &[], startup(), &leak, true, 16, view),
@@ -281,10 +316,14 @@ fn a_walk_over_the_events_marks_as_each_quarter_alone(rt: HostRuntime) -> Result
             ..item.class
         },
     )];
-    // In quarters 15, 16 and 18, and the repair is delayed in quarter 17.
+    // Routine readings in quarters 15, 16 and 18, and the repair is delayed in quarter 17. What leaks in quarters 14 and 16
+    // no routine reading found.
     let events = [
+        reads_again(day("2023-08-01")?),
+        looks(day("2023-08-02")?),
         reads(day("2023-12-31")?, true),
         reads(day("2024-01-01")?, false),
+        reads_again(day("2024-02-01")?),
         reads(day("2024-07-05")?, false),
         reads(day("2024-07-20")?, true),
     ];
