@@ -19,12 +19,12 @@ SERVICES = {"gas": "Gas", "light": "Light", "heavy": "Heavy", "vacuum": "Vacuum"
 DESIGNATIONS = {"none": "Plain", "nde": "Nde", "unsafe": "Unsafe", "difficult": "Difficult"}
 STATES = {"dry": "Dry", "drips": "Drips", "leak": "Designated"}
 GROUNDS = ("none", "a", "b", "c", "d", "e")
-FAMILY = "Rattle.ldar_facts.specs.declared"
+FAMILY = "Rattle.fact_kinds.specs.declared"
 HEAD = f"""use Rattle.std.proofs.Common.{{◌≡◌, ℕ, true, false, Some, None, List, [], ◌∷◌, refl}}
 use Rattle.std.specs.Prelude.{{codes}}
 use Rattle.std.specs.Fmt.{{digits}}
 use {FAMILY}.batch.Batch.{{Batch}}
-use Rattle.ldar_facts.specs.Stated.{{Stated}}
+use Rattle.fact_kinds.specs.Stated.{{Stated}}
 use {FAMILY}.class.Class.{{Class}}
 use {FAMILY}.class.Kind.TheVariants.{{Valve, Pump, Compressor, Relief}}
 use {FAMILY}.class.Service.{{Service}}

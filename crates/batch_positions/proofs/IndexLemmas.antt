@@ -9,7 +9,7 @@ use Rattle.std.proofs.lemmas.Bool.Decides.{nat_tests}
 use Rattle.std.proofs.lemmas.Grind.{common_steps}
 use Rattle.std.proofs.lemmas.List.{length-set, append-nil, drop_all, drop-append-le, get_or-replicate, length-replicate}
 use Rattle.std.proofs.Math.Seq.{take-append_seam}
-use Rattle.ldar_facts.specs.declared.identity.Identity.{Identity}
+use Rattle.fact_kinds.specs.declared.identity.Identity.{Identity}
 use Rattle.batch_positions.specs.Links.{at_position}
 use Rattle.batch_positions.specs.Positions.{is_identity, position_in}
 use Rattle.batch_positions.specs.declared.entry.Entry.{Entry}

@@ -7,7 +7,7 @@ use Rattle.std.proofs.lemmas.Bool.Decides.{nat_tests}
 use Rattle.std.proofs.lemmas.List.{append-nil, take_all, drop_all}
 use Rattle.batch_positions.specs.Links.{at_position}
 use Rattle.std.specs.Option.{option_map}
-use Rattle.ldar_facts.specs.declared.identity.Identity.{Identity}
+use Rattle.fact_kinds.specs.declared.identity.Identity.{Identity}
 use Rattle.batch_positions.specs.declared.late.Late.{Late}
 use Rattle.batch_positions.specs.declared.late.Node.{Node}
 use Rattle.batch_positions.specs.LateTree.{child_of, path_of, Leads, IsReached, IsTree, GoesOn, EndsHere, KeepsPaths, with_child, SetsChild, SameLates, Hangs}

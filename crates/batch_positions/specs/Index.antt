@@ -1,6 +1,6 @@
 -- An index of identities: runs in which the numbers of one handheld rise, and those that came late.
 use Rattle.std.specs.Prelude.{◌≡◌, ◌+◌, ◌<◌, ◌≤◌, ℕ, if◌then◌else◌, false, true, Some, ◌-◌, not, List, [], ◌∷◌, length, drop, slice_get, count_by}
-use Rattle.ldar_facts.specs.declared.identity.Identity.{Identity}
+use Rattle.fact_kinds.specs.declared.identity.Identity.{Identity}
 use Rattle.batch_positions.specs.Links.{at_position}
 use Rattle.batch_positions.specs.declared.entry.Entry.{Entry}
 use Rattle.batch_positions.specs.declared.late.Late.{Late}

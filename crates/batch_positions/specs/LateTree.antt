@@ -1,6 +1,6 @@
 -- A tree of identities that came late, in which each is found by its bits.
 use Rattle.std.specs.Prelude.{◌≡◌, ◌≢◌, ◌<◌, ◌≤◌, ◌+◌, ◌*◌, ◌/◌, ◌%◌, ℕ, zero, suc, eqb, if◌then◌else◌, Some, List, [], ◌∷◌, ◌++◌, length}
-use Rattle.ldar_facts.specs.declared.identity.Identity.{Identity}
+use Rattle.fact_kinds.specs.declared.identity.Identity.{Identity}
 use Rattle.batch_positions.specs.Links.{at_position}
 use Rattle.batch_positions.specs.declared.late.Late.{Late}
 use Rattle.batch_positions.specs.declared.late.Node.{Node}

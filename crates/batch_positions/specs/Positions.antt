@@ -1,7 +1,7 @@
 -- Where identities stand in a list.
 use Rattle.std.specs.Prelude.{ℕ, Bool, nat_eq, ◌&&◌, Option, List}
 use Rattle.std.specs.List.{position_from}
-use Rattle.ldar_facts.specs.declared.identity.Identity.{Identity}
+use Rattle.fact_kinds.specs.declared.identity.Identity.{Identity}
 
 -- the two are one identity
 abbrev pub is_identity : Identity → Identity → Bool

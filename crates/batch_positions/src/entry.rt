@@ -1,7 +1,7 @@
 ghost use Rattle.std.specs.Prelude.{◌≡◌};
 ghost use Rattle.batch_positions.specs.Index.{late_entry};
 
-use ldar_facts::Identity;
+use fact_kinds::Identity;
 
 /// What the index holds of the identity at a position. Links are positions, and 0 is none.
 #[derive(Clone, Copy)]

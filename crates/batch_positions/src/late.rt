@@ -3,7 +3,7 @@ ghost use Rattle.batch_positions.specs.Links.{at_position};
 ghost use Rattle.batch_positions.specs.LateTree.{child_of, path_of, IsReached, IsTree, GoesOn, EndsHere, KeepsPaths, SetsChild, Hangs, CutsOff};
 
 use crate::links::at_position;
-use ldar_facts::Identity;
+use fact_kinds::Identity;
 use std::alloc::{AllocError, Global};
 use std::marker::Model;
 

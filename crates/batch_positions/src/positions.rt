@@ -4,7 +4,7 @@ ghost use Rattle.batch_positions.specs.Positions.{position_in};
 use crate::entry::Entry;
 use crate::late::{Late, LateTree};
 use crate::runs::{head_of, is_above, next_in_run, position_in_run, set_head};
-use ldar_facts::Identity;
+use fact_kinds::Identity;
 use std::alloc::{AllocError, Global};
 use std::marker::Model;
 

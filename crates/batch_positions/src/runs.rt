@@ -4,7 +4,7 @@ ghost use Rattle.batch_positions.specs.Index.{identity_at, IsLastOf, AreRuns, Sk
 
 use crate::entry::Entry;
 use crate::links::at_position;
-use ldar_facts::Identity;
+use fact_kinds::Identity;
 
 /// The last position of a handheld's run.
 pub fn head_of(heads: &[u32], handheld: u16) -> u32

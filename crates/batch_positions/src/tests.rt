@@ -1,7 +1,7 @@
 ghost use Rattle.std.specs.Prelude.{◌≡◌, length, IfOk};
 
 use crate::Positions;
-use ldar_facts::Identity;
+use fact_kinds::Identity;
 use std::alloc::Global;
 use std::test::Fail;
 

@@ -1,11 +1,11 @@
 use Rattle.std.proofs.Common.{◌≡◌, ℕ, Bool, true, false, not, ◌&&◌, nat_eq, eq-eqb, Option, Some, None, refl, sym, ap, ◌∙◌}
 use Rattle.std.specs.Option.{option_map, is_none, is_some}
-use Rattle.ldar_facts.specs.declared.body.FactBody.{FactBody}
-use Rattle.ldar_facts.specs.declared.body.FactBody.TheVariants.{Component as ComponentFact, Class as ClassFact, Reading, Visual, Delay, Release, Indication}
-use Rattle.ldar_facts.specs.declared.body.Sort.{Sort}
-use Rattle.ldar_facts.specs.declared.body.VisualState.{VisualState}
-use Rattle.ldar_facts.specs.declared.class.Class.{Class}
-use Rattle.ldar_facts.specs.declared.class.Kind.{Kind}
+use Rattle.fact_kinds.specs.declared.body.FactBody.{FactBody}
+use Rattle.fact_kinds.specs.declared.body.FactBody.TheVariants.{Component as ComponentFact, Class as ClassFact, Reading, Visual, Delay, Release, Indication}
+use Rattle.fact_kinds.specs.declared.body.Sort.{Sort}
+use Rattle.fact_kinds.specs.declared.body.VisualState.{VisualState}
+use Rattle.fact_kinds.specs.declared.class.Class.{Class}
+use Rattle.fact_kinds.specs.declared.class.Kind.{Kind}
 use Rattle.ldar_law.specs.declared.equipment.Equipment.{Equipment}
 use Rattle.ldar_law.specs.Denials.{component_asked, component_looked_at, is_ground_for_another, suits, class_unsuited}
 use Rattle.ldar_law.specs.Judged.{Register, Case, first_entry, class_held, is_so_of, is_kind_so}

@@ -1,9 +1,9 @@
 use Rattle.std.proofs.Common.{◌≡◌, ℕ, ◌+◌, ◌<◌, ◌≤◌, List, [], ◌∷◌, ◌++◌, length, take, drop, get_or}
 use Rattle.std.proofs.Common.{refl, sym, ap, ◌∙◌, arith}
 use Rattle.std.proofs.lemmas.List.{take_more, drop_more, length-take-le, take-append-drop}
-use Rattle.ldar_facts.specs.declared.batch.Batch.{Batch}
-use Rattle.ldar_facts.specs.Facts.{key_of, entries_from}
-use Rattle.ldar_facts.specs.Stated.{Stated}
+use Rattle.fact_kinds.specs.declared.batch.Batch.{Batch}
+use Rattle.fact_kinds.specs.Facts.{key_of, entries_from}
+use Rattle.fact_kinds.specs.Stated.{Stated}
 
 -- the keys of facts are by the batch's identity alone
 pub same_entries : (a b : Batch) → a.handheld ≡ b.handheld → a.number ≡ b.number → (index : ℕ) (facts : List Stated)

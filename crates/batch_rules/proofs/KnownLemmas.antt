@@ -4,15 +4,15 @@ use Rattle.std.proofs.Common.{refl, sym, ap, ◌∙◌}
 use Rattle.std.specs.Option.{option_map, option_or, is_some}
 use Rattle.std.proofs.lemmas.List.{drop_more, drop_all}
 use Rattle.std.specs.List.{filter_map, cons_option, list_any}
-use Rattle.ldar_facts.specs.declared.batch.Batch.{Batch}
+use Rattle.fact_kinds.specs.declared.batch.Batch.{Batch}
 use Rattle.list_words.specs.Order.{in_order}
-use Rattle.ldar_facts.specs.Facts.{Entry, goes_first, key_of, entries_from, entries_of}
-use Rattle.ldar_facts.specs.Stated.{Stated}
+use Rattle.fact_kinds.specs.Facts.{Entry, goes_first, key_of, entries_from, entries_of}
+use Rattle.fact_kinds.specs.Stated.{Stated}
 use Rattle.ldar_law.specs.BatchLaws.{unretired}
 use Rattle.ldar_law.specs.Equipment.{retires, retired_on, class_at, component_entered, equipment_of, unit_entered, unit_entry_of}
 use Rattle.ldar_law.specs.Force.{has_come}
-use Rattle.ldar_facts.specs.declared.class.Class.{Class}
-use Rattle.ldar_facts.specs.declared.key.Key.{Key}
+use Rattle.fact_kinds.specs.declared.class.Class.{Class}
+use Rattle.fact_kinds.specs.declared.key.Key.{Key}
 use Rattle.ldar_law.specs.DenialLaws.{later_class}
 use Rattle.ldar_law.specs.RegisterLaws.{with_class}
 use Rattle.ldar_law.specs.Judged.{register_with, first_entry}

@@ -5,10 +5,10 @@ use Rattle.std.proofs.lemmas.Bool.{cases_Bool}
 use Rattle.std.proofs.lemmas.List.{append-nil, append_assoc}
 use Rattle.std.proofs.lemmas.List.Elements.{filter-append}
 use Rattle.list_words.specs.Order.{put_in_order, put_each}
-use Rattle.ldar_facts.specs.declared.body.FactBody.{FactBody}
-use Rattle.ldar_facts.specs.Facts.{Entry, goes_first, key_of, entries_from}
-use Rattle.ldar_facts.specs.Named.{component_of}
-use Rattle.ldar_facts.specs.Stated.{Stated}
+use Rattle.fact_kinds.specs.declared.body.FactBody.{FactBody}
+use Rattle.fact_kinds.specs.Facts.{Entry, goes_first, key_of, entries_from}
+use Rattle.fact_kinds.specs.Named.{component_of}
+use Rattle.fact_kinds.specs.Stated.{Stated}
 use Rattle.fact_store.specs.Kept.{facts_in}
 use Rattle.ldar_law.proofs.ShareLemmas.{one_more_fact_counts, other_facts_count_nothing}
 use Rattle.ldar_law.specs.Judged.{Register, register_with}

@@ -1,10 +1,10 @@
 -- What is known of the component that a fact asks for.
 use Rattle.std.specs.Prelude.{◌≡◌, ℕ, ◌≤◌, Option, List, length, take}
-use Rattle.ldar_facts.specs.declared.batch.Batch.{Batch}
-use Rattle.ldar_facts.specs.declared.class.Class.{Class}
-use Rattle.ldar_facts.specs.declared.class.Kind.{Kind}
-use Rattle.ldar_facts.specs.Facts.{Entry, key_of, entries_from, entries_of}
-use Rattle.ldar_facts.specs.Stated.{Stated}
+use Rattle.fact_kinds.specs.declared.batch.Batch.{Batch}
+use Rattle.fact_kinds.specs.declared.class.Class.{Class}
+use Rattle.fact_kinds.specs.declared.class.Kind.{Kind}
+use Rattle.fact_kinds.specs.Facts.{Entry, key_of, entries_from, entries_of}
+use Rattle.fact_kinds.specs.Stated.{Stated}
 use Rattle.ldar_law.specs.Judged.{Case, register_with}
 use Rattle.batch_rules.specs.declared.known.Known.{Known}
 use Rattle.batch_rules.specs.Known.{batch_of, register_at}

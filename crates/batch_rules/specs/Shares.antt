@@ -1,7 +1,7 @@
 -- How many valves of a process unit are in service on a day, and how many of them are difficult to monitor (40 CFR 60.482-7a(h)(2)(ii)).
 use Rattle.std.specs.Prelude.{ℕ, Bool, if◌then◌else◌, Option, None}
-use Rattle.ldar_facts.specs.declared.body.FactBody.{FactBody}
-use Rattle.ldar_facts.specs.Named.{component_of}
+use Rattle.fact_kinds.specs.declared.body.FactBody.{FactBody}
+use Rattle.fact_kinds.specs.Named.{component_of}
 use Rattle.ldar_law.specs.Judged.{Register, Case, class_held}
 use Rattle.ldar_law.specs.declared.equipment.Equipment.{Equipment}
 use Rattle.ldar_law.specs.ShareLaws.{counts_as_valve, counts_as_difficult, adds, count_in}

@@ -1,9 +1,9 @@
 -- What is known of a component: its kind, and its class on a day.
 use Rattle.std.specs.Prelude.{ℕ, Bool, false, Option, Some, None}
 use Rattle.std.specs.Option.{option_map}
-use Rattle.ldar_facts.specs.declared.body.FactBody.{FactBody}
-use Rattle.ldar_facts.specs.declared.class.Class.{Class}
-use Rattle.ldar_facts.specs.declared.class.Kind.{Kind}
+use Rattle.fact_kinds.specs.declared.body.FactBody.{FactBody}
+use Rattle.fact_kinds.specs.declared.class.Class.{Class}
+use Rattle.fact_kinds.specs.declared.class.Kind.{Kind}
 use Rattle.ldar_law.specs.Denials.{component_asked}
 use Rattle.ldar_law.specs.Judged.{Register, first_entry, class_held}
 

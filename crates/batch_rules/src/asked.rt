@@ -6,7 +6,7 @@ ghost use Rattle.ldar_law.specs.Kinds as kinds;
 ghost use Rattle.ldar_law.specs.Standing as standing;
 ghost use Rattle.batch_rules.specs.Standings.{is_so};
 
-use ldar_facts::{Class, Kind};
+use fact_kinds::{Class, Kind};
 use ldar_law::{Regime, is_pump, is_under_300 as is_short_service, is_vacuum, is_valve, suits};
 
 /// The kind of a component that is known, and its class on a day.

@@ -3,8 +3,8 @@ ghost use Rattle.std.specs.Prelude.{◌≡◌, ◌≤◌, false, IsTrue, length}
 use crate::asked::Standing;
 use crate::known::Known;
 use crate::passed::Passed;
+use fact_kinds::{Fact, FactBody};
 use ldar_days::Day;
-use ldar_facts::{Fact, FactBody};
 use std::marker::Model;
 
 /// A fact of a batch as it is judged, with what is known there. Contracts see the law's case.

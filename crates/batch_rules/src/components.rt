@@ -9,7 +9,7 @@ use crate::asked::{
     is_without_evidence,
 };
 use crate::case::Case;
-use ldar_facts::{FactBody, Sort};
+use fact_kinds::{FactBody, Sort};
 use ldar_law::component_asked;
 
 /// Rule 1 (40 CFR 60.486a(e)(1)): the component was not entered.

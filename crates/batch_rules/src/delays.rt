@@ -6,7 +6,7 @@ ghost use Rattle.ldar_law.specs.Denials as law;
 
 use crate::asked::{is_no_pump, is_no_valve};
 use crate::case::Case;
-use ldar_facts::FactBody;
+use fact_kinds::FactBody;
 
 /// Paragraph (a): the repair needs a process unit shutdown.
 const NEEDS_SHUTDOWN: u8 = 1;

@@ -1,7 +1,7 @@
 ghost use Rattle.std.specs.Prelude.{◌≡◌, ◌+◌, ◌<◌, ◌≤◌, ◌^◌, if◌then◌else◌, None, IfSome, List, length};
-ghost use Rattle.ldar_facts.specs.declared.limits.TheConstants.{MOST_FACTS};
-ghost use Rattle.ldar_facts.specs.declared.batch.Batch.{Batch as FactBatch};
-ghost use Rattle.ldar_facts.specs.Facts.{facts_of};
+ghost use Rattle.fact_kinds.specs.declared.limits.TheConstants.{MOST_FACTS};
+ghost use Rattle.fact_kinds.specs.declared.batch.Batch.{Batch as FactBatch};
+ghost use Rattle.fact_kinds.specs.Facts.{facts_of};
 ghost use Rattle.fact_store.specs.Kept.{facts_in};
 ghost use Rattle.ldar_law.specs.Slices.{is_registered as says_registered, register_facts};
 ghost use Rattle.ldar_law.specs.Verdicts.{denial_after, least_rule as least, verdict_by, verdict_on};
@@ -15,7 +15,7 @@ use crate::known::Known;
 use crate::passed::Passed;
 use crate::rules::least_rule;
 use component_register::Register;
-use ldar_facts::{Batch, Fact, FactBody, MOST_FACTS};
+use fact_kinds::{Batch, Fact, FactBody, MOST_FACTS};
 use ldar_law::{Verdict, is_registered};
 
 /// How many facts of a batch stand up to its last entry in the register, where the fact at a place has come too.

@@ -8,7 +8,7 @@ ghost use Rattle.batch_rules.specs.Passed.{IsPassed};
 
 use crate::case::Case;
 use crate::valves::share_known;
-use ldar_facts::{Class, FactBody, Kind};
+use fact_kinds::{Class, FactBody, Kind};
 use ldar_law::{is_difficult_designated, is_valve};
 
 /// Whether a class makes a component a difficult valve.

@@ -6,8 +6,8 @@ ghost use Rattle.ldar_law.specs.declared.numbers.TheConstants.{LAST_FACT_DAY};
 ghost use Rattle.batch_rules.specs.Table.{elected_if_in_time};
 
 use crate::case::Case;
+use fact_kinds::FactBody;
 use ldar_days::{Day, quarter_first, quarter_of};
-use ldar_facts::FactBody;
 use ldar_law::{LAST_FACT_DAY, NOTICE_DAYS};
 
 /// Rule 14 (40 CFR 60.487a(d)): skip periods are elected with less than 90 days' notice.

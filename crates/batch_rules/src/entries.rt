@@ -5,7 +5,7 @@ ghost use Rattle.ldar_law.specs.Denials as law;
 
 use crate::asked::is_unsuited;
 use crate::case::Case;
-use ldar_facts::FactBody;
+use fact_kinds::FactBody;
 use ldar_law::{LAST_FACT_DAY, is_registered, suits, unit_asked};
 
 /// Rule 16 (our own): a handheld other than the office's own, which is 0, enters into the register.

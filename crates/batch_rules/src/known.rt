@@ -9,8 +9,8 @@ ghost use Rattle.batch_rules.specs.Standings.{standing_of, standing_by};
 
 use crate::asked::Standing;
 use component_register::{Register, component_entered, retires, unit_entered};
+use fact_kinds::{Class, Fact, FactBody, Key, precedes};
 use ldar_days::Day;
-use ldar_facts::{Class, Fact, FactBody, Key, precedes};
 use ldar_law::{Equipment, UnitEntry, component_asked};
 
 /// What is known where a fact of a batch is judged: the register, and the facts of the batch that came before.

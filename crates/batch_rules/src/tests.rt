@@ -1,17 +1,17 @@
 ghost use Rattle.std.specs.Prelude.{◌≡◌, ◌≤◌, false, IsTrue, OnOk};
 ghost use Rattle.fact_store.specs.Kept.{facts_in, is_held};
-ghost use Rattle.ldar_facts.specs.Fields.{IsFact};
+ghost use Rattle.fact_kinds.specs.Fields.{IsFact};
 ghost use Rattle.component_register.specs.Once.{IsFirstOfNumber};
-ghost use Rattle.ldar_facts.specs.declared.body.FactBody.TheVariants.{Class as ClassFact, Component as ComponentFact};
-ghost use Rattle.ldar_facts.specs.declared.class.Designation.TheVariants.{Plain};
+ghost use Rattle.fact_kinds.specs.declared.body.FactBody.TheVariants.{Class as ClassFact, Component as ComponentFact};
+ghost use Rattle.fact_kinds.specs.declared.class.Designation.TheVariants.{Plain};
 
 use crate::verdict;
 use component_register::Register;
-use ldar_days::Day;
-use ldar_facts::{
+use fact_kinds::{
     Batch, Class, Designation, Fact, FactBody, Key, Kind, Memory, Name, Purpose, Service, Sort,
     VisualState,
 };
+use ldar_days::Day;
 use ldar_law::{Verdict, is_registered};
 use std::alloc::Global;
 use std::test::Fail;

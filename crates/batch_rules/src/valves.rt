@@ -2,7 +2,7 @@
 //! (40 CFR 60.482-7a(h)(2)(ii)).
 
 ghost use Rattle.std.specs.Prelude.{◌≡◌, ◌+◌, ◌<◌, ◌≤◌, [], length, ◌^◌};
-ghost use Rattle.ldar_facts.specs.declared.limits.TheConstants.{MOST_FACTS};
+ghost use Rattle.fact_kinds.specs.declared.limits.TheConstants.{MOST_FACTS};
 ghost use Rattle.fact_store.specs.Kept.{facts_in};
 ghost use Rattle.ldar_law.specs.Judged.{register_with};
 ghost use Rattle.ldar_law.specs.ShareLaws.{counts_as_valve};
@@ -12,8 +12,8 @@ ghost use Rattle.batch_rules.specs.Shares.{added, changed as changed_by, is_diff
 use crate::known::Known;
 use crate::share::{NOTHING, Share};
 use component_register::Register;
+use fact_kinds::{FactBody, component_of};
 use ldar_days::Day;
-use ldar_facts::{FactBody, component_of};
 use ldar_law::{Equipment, is_difficult_designated, is_registered, is_valve};
 
 /// Whether the component is a valve of the process unit, in service on the day.

@@ -8,9 +8,9 @@ use Rattle.std.proofs.lemmas.List.Sums.{sum_by-cons}
 use Rattle.list_words.specs.Order.{put_in_order, Ascends}
 use Rattle.list_words.proofs.Ascending.{before_all}
 use Rattle.list_words.proofs.Members.{all_weaker}
-use Rattle.ldar_facts.specs.Facts.{Entry, goes_first}
-use Rattle.ldar_facts.proofs.Cuts.{earlier_day as day_of_earlier}
-use Rattle.ldar_facts.proofs.KeyOrder.{strict_goes_first}
+use Rattle.fact_kinds.specs.Facts.{Entry, goes_first}
+use Rattle.fact_kinds.proofs.Cuts.{earlier_day as day_of_earlier}
+use Rattle.fact_kinds.proofs.KeyOrder.{strict_goes_first}
 use Rattle.ldar_law.proofs.RegisterLemmas.{day_of_later}
 use Rattle.component_register.specs.Slots.{earlier_day}
 

@@ -8,14 +8,14 @@ use Rattle.std.proofs.lemmas.List.Sorted.{length_permutation}
 use Rattle.list_words.proofs.Ascending.{ascends_in_order, in_order_permutes}
 use Rattle.list_words.proofs.Members.{all_weaker, all_append}
 use Rattle.std.proofs.lemmas.List.{take_more, length_push}
-use Rattle.ldar_facts.specs.declared.body.FactBody.{FactBody}
-use Rattle.ldar_facts.specs.declared.body.FactBody.TheVariants.{Unit as UnitFact, Component as ComponentFact}
-use Rattle.ldar_facts.specs.declared.class.Class.{Class}
-use Rattle.ldar_facts.specs.declared.key.Key.{Key}
-use Rattle.ldar_facts.specs.Stated.{Stated}
-use Rattle.ldar_facts.specs.Facts.{Entry, goes_first}
-use Rattle.ldar_facts.specs.Named.{component_of, unit_of}
-use Rattle.ldar_facts.proofs.KeyOrder.{strict_goes_first}
+use Rattle.fact_kinds.specs.declared.body.FactBody.{FactBody}
+use Rattle.fact_kinds.specs.declared.body.FactBody.TheVariants.{Unit as UnitFact, Component as ComponentFact}
+use Rattle.fact_kinds.specs.declared.class.Class.{Class}
+use Rattle.fact_kinds.specs.declared.key.Key.{Key}
+use Rattle.fact_kinds.specs.Stated.{Stated}
+use Rattle.fact_kinds.specs.Facts.{Entry, goes_first}
+use Rattle.fact_kinds.specs.Named.{component_of, unit_of}
+use Rattle.fact_kinds.proofs.KeyOrder.{strict_goes_first}
 use Rattle.fact_store.specs.Kept.{Kept, facts_in, is_held}
 use Rattle.fact_store.specs.Lists.{items_in, OnlyGrow}
 use Rattle.fact_store.specs.Naming.{HasRoomFor}

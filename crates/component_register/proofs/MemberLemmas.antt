@@ -2,9 +2,9 @@ use Rattle.std.proofs.Common.{◌≡◌, ℕ, ◌<◌, cond, nat_eq, nat_lt, Opt
 use Rattle.std.specs.List.{filter_map, cons_option}
 use Rattle.std.proofs.lemmas.Bool.{cases_Bool, cases_lt, cases_eq, lt-ltb, le-ltb}
 use Rattle.list_words.specs.Order.{put_in_order, in_order}
-use Rattle.ldar_facts.specs.declared.body.FactBody.{FactBody}
-use Rattle.ldar_facts.specs.declared.body.FactBody.TheVariants.{Component as ComponentFact}
-use Rattle.ldar_facts.specs.Facts.{Entry, goes_first}
+use Rattle.fact_kinds.specs.declared.body.FactBody.{FactBody}
+use Rattle.fact_kinds.specs.declared.body.FactBody.TheVariants.{Component as ComponentFact}
+use Rattle.fact_kinds.specs.Facts.{Entry, goes_first}
 use Rattle.ldar_law.specs.Equipment.{member_entered, members_of}
 use Rattle.component_register.specs.Classes.{put_if_any}
 use Rattle.component_register.specs.Members.{joined}

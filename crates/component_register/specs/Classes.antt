@@ -1,11 +1,11 @@
 -- How the classes of components take one more.
 use Rattle.std.specs.Prelude.{◌≡◌, ℕ, ◌+◌, ◌≤◌, Bool, if◌then◌else◌, Vec, Option, Some, None, List}
 use Rattle.list_words.specs.Order.{put_in_order}
-use Rattle.ldar_facts.specs.declared.body.FactBody.{FactBody}
-use Rattle.ldar_facts.specs.declared.body.FactBody.TheVariants.{Class as ClassFact}
-use Rattle.ldar_facts.specs.declared.class.Class.{Class}
-use Rattle.ldar_facts.specs.declared.key.Key.{Key}
-use Rattle.ldar_facts.specs.Named.{is_numbered}
+use Rattle.fact_kinds.specs.declared.body.FactBody.{FactBody}
+use Rattle.fact_kinds.specs.declared.body.FactBody.TheVariants.{Class as ClassFact}
+use Rattle.fact_kinds.specs.declared.class.Class.{Class}
+use Rattle.fact_kinds.specs.declared.key.Key.{Key}
+use Rattle.fact_kinds.specs.Named.{is_numbered}
 use Rattle.fact_store.specs.Lists.{items_in, room_in}
 use Rattle.ldar_law.specs.Equipment.{class_entered}
 use Rattle.ldar_law.specs.RegisterLaws.{class_first}

@@ -1,11 +1,11 @@
 -- What is true inside every register.
 use Rattle.std.specs.Prelude.{◌≡◌, ℕ, ◌≤◌, None, Vec, Option, List, length}
-use Rattle.ldar_facts.specs.declared.limits.TheConstants.{MOST_FACTS}
+use Rattle.fact_kinds.specs.declared.limits.TheConstants.{MOST_FACTS}
 use Rattle.list_words.specs.Order.{AllApart}
-use Rattle.ldar_facts.specs.declared.class.Class.{Class}
-use Rattle.ldar_facts.specs.declared.key.Key.{Key}
-use Rattle.ldar_facts.specs.Facts.{Entry, goes_first}
-use Rattle.ldar_facts.specs.Named.{component_of, unit_of}
+use Rattle.fact_kinds.specs.declared.class.Class.{Class}
+use Rattle.fact_kinds.specs.declared.key.Key.{Key}
+use Rattle.fact_kinds.specs.Facts.{Entry, goes_first}
+use Rattle.fact_kinds.specs.Named.{component_of, unit_of}
 use Rattle.fact_store.specs.Kept.{Kept, facts_in}
 use Rattle.fact_store.specs.Lists.{items_in}
 use Rattle.fact_store.specs.Naming.{HasRoomFor}

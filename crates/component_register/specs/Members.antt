@@ -1,9 +1,9 @@
 -- How the members of process units take one more.
 use Rattle.std.specs.Prelude.{◌≡◌, ℕ, ◌+◌, ◌≤◌, nat_lt, if◌then◌else◌, Vec, Option, Some, None, List}
 use Rattle.std.specs.Option.{option_map}
-use Rattle.ldar_facts.specs.declared.body.FactBody.{FactBody}
-use Rattle.ldar_facts.specs.declared.body.FactBody.TheVariants.{Component as ComponentFact}
-use Rattle.ldar_facts.specs.Named.{is_numbered}
+use Rattle.fact_kinds.specs.declared.body.FactBody.{FactBody}
+use Rattle.fact_kinds.specs.declared.body.FactBody.TheVariants.{Component as ComponentFact}
+use Rattle.fact_kinds.specs.Named.{is_numbered}
 use Rattle.fact_store.specs.Lists.{items_in, room_in}
 use Rattle.ldar_law.specs.Equipment.{member_entered}
 use Rattle.component_register.specs.Classes.{put_if_any}

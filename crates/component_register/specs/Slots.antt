@@ -2,8 +2,8 @@
 use Rattle.std.specs.Prelude.{◌≡◌, ℕ, ◌<◌, ◌≤◌, nat_eq, nat_le, if◌then◌else◌, Option, Some, None, List, length}
 use Rattle.std.specs.List.{AllByRecursion}
 use Rattle.std.specs.Option.{option_or}
-use Rattle.ldar_facts.specs.declared.body.FactBody.{FactBody}
-use Rattle.ldar_facts.specs.Stated.{Stated}
+use Rattle.fact_kinds.specs.declared.body.FactBody.{FactBody}
+use Rattle.fact_kinds.specs.Stated.{Stated}
 use Rattle.fact_store.specs.Lists.{value_at}
 use Rattle.ldar_law.specs.declared.unit_entry.UnitEntry.{UnitEntry}
 use Rattle.ldar_law.specs.Equipment.{retires, component_entered, unit_entered}

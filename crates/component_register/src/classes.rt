@@ -1,15 +1,15 @@
 ghost use Rattle.std.specs.Prelude.{◌≡◌, ℕ, ◌<◌, ◌≤◌, IsTrue, IfOk, length, insert, option_map, unwrap_or};
 ghost use Rattle.std.specs.List.{filter_map};
 ghost use Rattle.list_words.specs.Order.{put_in_order, Ascends};
-ghost use Rattle.ldar_facts.specs.Named.{is_numbered};
+ghost use Rattle.fact_kinds.specs.Named.{is_numbered};
 ghost use Rattle.fact_store.specs.Lists.{items_in, room_in};
 ghost use Rattle.ldar_law.specs.Force as force;
 ghost use Rattle.ldar_law.specs.RegisterLaws.{class_first};
 ghost use Rattle.component_register.specs.Classes.{class_named, TakesClass};
 
+use fact_kinds::{Class, Fact, FactBody, Key, precedes};
 use fact_store::lists::{Lists, list_of, put_in};
 use ldar_days::Day;
-use ldar_facts::{Class, Fact, FactBody, Key, precedes};
 use std::alloc::{AllocError, Global};
 
 /// The component of which a fact enters a class.

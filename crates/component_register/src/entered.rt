@@ -3,8 +3,8 @@ ghost use Rattle.ldar_law.specs.Equipment as law;
 ghost use Rattle.ldar_law.specs.Slices as slices;
 ghost use Rattle.component_register.specs.Members.{joined};
 
+use fact_kinds::FactBody;
 use ldar_days::Day;
-use ldar_facts::FactBody;
 use ldar_law::{Equipment, UnitEntry};
 
 /// Whether a fact is an entry of the register.

@@ -1,13 +1,13 @@
 ghost use Rattle.std.specs.Prelude.{◌≡◌, ℕ, ◌<◌, ◌≤◌, nat_lt, nat_le, IsTrue, IfOk, length, insert};
 ghost use Rattle.std.specs.List.{filter_map};
 ghost use Rattle.list_words.specs.Order.{put_in_order, Ascends};
-ghost use Rattle.ldar_facts.specs.Named.{is_numbered};
+ghost use Rattle.fact_kinds.specs.Named.{is_numbered};
 ghost use Rattle.fact_store.specs.Lists.{items_in, room_in};
 ghost use Rattle.component_register.specs.Members.{unit_joined, TakesMember};
 
 use crate::entered::membership;
+use fact_kinds::{Fact, FactBody};
 use fact_store::lists::{Lists, list_of, put_in};
-use ldar_facts::{Fact, FactBody};
 use std::alloc::{AllocError, Global};
 
 /// The process unit in which a fact enters a component, as the number of a list.

@@ -1,5 +1,5 @@
 ghost use Rattle.std.specs.Prelude.{◌≡◌, ℕ, ◌<◌, ◌≤◌, Some, false, [], ◌∷◌, ◌++◌, length, drop, filter, slice_get, option_map, OnOk, OnErr, IfOk};
-ghost use Rattle.ldar_facts.specs.declared.limits.TheConstants.{MOST_FACTS};
+ghost use Rattle.fact_kinds.specs.declared.limits.TheConstants.{MOST_FACTS};
 ghost use Rattle.fact_store.specs.Kept.{Kept, facts_in, is_held};
 ghost use Rattle.ldar_law.specs.Equipment as law;
 ghost use Rattle.ldar_law.specs.Force as force;
@@ -11,10 +11,10 @@ use crate::entered::is_registered;
 use crate::members::{joined_among, put_member};
 use crate::slots::{EMPTY, Slot, enter, make_slots, row_of};
 use crate::units::{Units, enter_unit, make_units};
+use fact_kinds::{Class, Fact, Key, Memory};
 use fact_store::FactStore;
 use fact_store::lists::{Lists, list_of, make_rooms};
 use ldar_days::Day;
-use ldar_facts::{Class, Fact, Key, Memory};
 use ldar_law::{Equipment, UnitEntry};
 use std::alloc::Global;
 use std::marker::Model;

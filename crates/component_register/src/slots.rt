@@ -1,10 +1,10 @@
 ghost use Rattle.std.specs.Prelude.{◌≡◌, ℕ, ◌+◌, ◌<◌, ◌≤◌, OnOk, vec_len, length};
 ghost use Rattle.component_register.specs.Slots.{row_in, no_slot, slot_with, earlier_day, HasRow, HaveRows, OnlyAdds, SetsRow, TakesEntry};
-ghost use Rattle.ldar_facts.specs.Named as named;
+ghost use Rattle.fact_kinds.specs.Named as named;
 
 use crate::entered::{component_entered, retires};
+use fact_kinds::{Fact, FactBody, Key, Memory, component_of};
 use ldar_days::Day;
-use ldar_facts::{Fact, FactBody, Key, Memory, component_of};
 use ldar_law::Equipment;
 
 /// What the register holds of a component, apart from its classes.

@@ -4,8 +4,8 @@ ghost use Rattle.component_register.specs.Once.{IsFirstOfNumber};
 
 use crate::Register;
 use crate::entered::is_registered;
+use fact_kinds::{Class, Designation, Fact, FactBody, Key, Kind, Memory, Name, Service};
 use ldar_days::Day;
-use ldar_facts::{Class, Designation, Fact, FactBody, Key, Kind, Memory, Name, Service};
 use ldar_law::{Equipment, UnitEntry};
 use std::alloc::Global;
 use std::test::Fail;

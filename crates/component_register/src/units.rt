@@ -1,10 +1,10 @@
 ghost use Rattle.std.specs.Prelude.{◌≡◌, None, OnOk};
-ghost use Rattle.ldar_facts.specs.Named as named;
+ghost use Rattle.fact_kinds.specs.Named as named;
 ghost use Rattle.component_register.specs.Slots.{HasRow, HaveRows, OnlyAdds, TakesUnit};
 
 use crate::entered::unit_entered;
 use crate::slots::{make_row, row_of, set_row};
-use ldar_facts::{Fact, FactBody, Key, Memory, unit_of};
+use fact_kinds::{Fact, FactBody, Key, Memory, unit_of};
 use ldar_law::UnitEntry;
 
 /// The process units by number.

@@ -1,6 +1,6 @@
 use crate::{Repair, counted, repair_due, repair_of};
+use fact_kinds::Key;
 use ldar_days::Day;
-use ldar_facts::Key;
 use ldar_law::{DelayEntry, Stop, Until};
 use std::test::Fail;
 

@@ -1,7 +1,7 @@
 -- Entries that came each as a batch of its own.
 use Rattle.std.specs.Prelude.{◌≡◌, ℕ, ◌≤◌, false, List, length}
-use Rattle.ldar_facts.specs.declared.key.Key.{Key}
-use Rattle.ldar_facts.specs.Facts.{Entry}
+use Rattle.fact_kinds.specs.declared.key.Key.{Key}
+use Rattle.fact_kinds.specs.Facts.{Entry}
 use Rattle.fact_store.specs.Kept.{is_held}
 
 -- so many facts came, and no key with that batch number or a later one is among theirs

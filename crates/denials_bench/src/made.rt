@@ -1,7 +1,7 @@
 //! The facts that are judged.
 
+use fact_kinds::{Batch, Class, Designation, Fact, FactBody, Kind, Memory, Name, Purpose, Service};
 use ldar_days::Day;
-use ldar_facts::{Batch, Class, Designation, Fact, FactBody, Kind, Memory, Name, Purpose, Service};
 use std::alloc::{AllocError, Global};
 
 /// What the facts are.

@@ -11,7 +11,7 @@ mod office;
 
 use batch_rules::verdict;
 use component_register::Register;
-use ldar_facts::Batch;
+use fact_kinds::Batch;
 use ldar_law::Verdict;
 use made::{Sort, batch_at, first_entries};
 use office::enter;

@@ -6,7 +6,7 @@ ghost use Rattle.component_register.specs.Once.{IsFirstOfNumber};
 ghost use Rattle.denials_bench.specs.Numbered.{AreNumbered};
 
 use component_register::Register;
-use ldar_facts::{Fact, FactBody, Key, MOST_FACTS, Memory};
+use fact_kinds::{Fact, FactBody, Key, MOST_FACTS, Memory};
 use ldar_law::is_registered;
 
 /// Enters facts, each as a batch of its own with the next number. The result is how many there are then.

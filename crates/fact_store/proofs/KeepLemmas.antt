@@ -8,11 +8,11 @@ use Rattle.list_words.specs.Order.{put_in_order, in_order, AllApart}
 use Rattle.list_words.proofs.Ascending.{apart_append, ascends_in_order, put_each_in_order}
 use Rattle.list_words.proofs.Members.{all_at, among_right}
 use Rattle.list_words.proofs.PutLemmas.{filter-put, ascends_filter}
-use Rattle.ldar_facts.specs.declared.body.FactBody.{FactBody}
-use Rattle.ldar_facts.specs.declared.key.Key.{Key}
-use Rattle.ldar_facts.specs.Facts.{Entry, key_cmp, goes_first}
-use Rattle.ldar_facts.specs.Stated.{Stated}
-use Rattle.ldar_facts.proofs.KeyOrder.{strict_goes_first, apart_keys, no_tie}
+use Rattle.fact_kinds.specs.declared.body.FactBody.{FactBody}
+use Rattle.fact_kinds.specs.declared.key.Key.{Key}
+use Rattle.fact_kinds.specs.Facts.{Entry, key_cmp, goes_first}
+use Rattle.fact_kinds.specs.Stated.{Stated}
+use Rattle.fact_kinds.proofs.KeyOrder.{strict_goes_first, apart_keys, no_tie}
 use Rattle.fact_store.specs.declared.place.Place.{Place}
 use Rattle.fact_store.specs.declared.index.Index.{Index}
 use Rattle.fact_store.specs.declared.naming.Naming.{Naming}

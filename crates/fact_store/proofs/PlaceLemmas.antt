@@ -4,10 +4,10 @@ use Rattle.std.specs.List.{AllByRecursion, AllWithin, insert}
 use Rattle.std.specs.List.Sorted.{IsPartitionedBy}
 use Rattle.std.proofs.lemmas.Bool.{cases_Bool, not-true, not-false, false≢true}
 use Rattle.list_words.specs.Order.{put_in_order, Ascends}
-use Rattle.ldar_facts.specs.declared.key.Key.{Key}
-use Rattle.ldar_facts.specs.Facts.{Entry, is_earlier, goes_first}
-use Rattle.ldar_facts.specs.Stated.{Stated}
-use Rattle.ldar_facts.proofs.KeyOrder.{strict_earlier}
+use Rattle.fact_kinds.specs.declared.key.Key.{Key}
+use Rattle.fact_kinds.specs.Facts.{Entry, is_earlier, goes_first}
+use Rattle.fact_kinds.specs.Stated.{Stated}
+use Rattle.fact_kinds.proofs.KeyOrder.{strict_earlier}
 use Rattle.fact_store.specs.declared.place.Place.{Place}
 use Rattle.fact_store.specs.Kept.{entries_at}
 use Rattle.fact_store.specs.Takes.{AreHeld, is_up_to}

@@ -3,9 +3,9 @@ use Rattle.std.specs.List.{insert}
 use Rattle.std.proofs.lemmas.Bool.{cases_eq, eq-eqb, ne_eqb}
 use Rattle.list_words.specs.Order.{put_in_order}
 use Rattle.list_words.proofs.Members.{all_weaker}
-use Rattle.ldar_facts.specs.declared.key.Key.{Key}
-use Rattle.ldar_facts.specs.Facts.{Entry, goes_first}
-use Rattle.ldar_facts.specs.Stated.{Stated}
+use Rattle.fact_kinds.specs.declared.key.Key.{Key}
+use Rattle.fact_kinds.specs.Facts.{Entry, goes_first}
+use Rattle.fact_kinds.specs.Stated.{Stated}
 use Rattle.fact_store.specs.declared.place.Place.{Place}
 use Rattle.fact_store.specs.Kept.{entries_at}
 use Rattle.fact_store.specs.Lists.{items_in, PutsIn}

@@ -1,11 +1,11 @@
 -- What is true inside every store.
 use Rattle.std.specs.Prelude.{◌≡◌, ℕ, ◌+◌, ◌≤◌, Vec, Option, List, length, filter}
 use Rattle.std.specs.Vec.{vec_len, vec_capacity}
-use Rattle.ldar_facts.specs.declared.limits.TheConstants.{MOST_FACTS}
+use Rattle.fact_kinds.specs.declared.limits.TheConstants.{MOST_FACTS}
 use Rattle.list_words.specs.Order.{in_order, AllApart}
-use Rattle.ldar_facts.specs.declared.body.FactBody.{FactBody}
-use Rattle.ldar_facts.specs.Facts.{Entry, goes_first}
-use Rattle.ldar_facts.specs.Stated.{Stated}
+use Rattle.fact_kinds.specs.declared.body.FactBody.{FactBody}
+use Rattle.fact_kinds.specs.Facts.{Entry, goes_first}
+use Rattle.fact_kinds.specs.Stated.{Stated}
 use Rattle.fact_store.specs.declared.place.Place.{Place}
 use Rattle.fact_store.specs.declared.index.Index.{Index}
 use Rattle.fact_store.specs.declared.naming.Naming.{Naming}

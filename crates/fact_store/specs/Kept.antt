@@ -2,11 +2,11 @@ use Rattle.std.specs.Prelude.{◌≡◌, ◌<◌, length, filter, All, ℕ, Bool
 use Rattle.std.specs.List.{list_any, filter_map}
 use Rattle.std.specs.Ordering.{is_eq}
 use Rattle.list_words.specs.Order.{in_order}
-use Rattle.ldar_facts.specs.declared.body.FactBody.{FactBody}
-use Rattle.ldar_facts.specs.declared.key.Key.{Key}
-use Rattle.ldar_facts.specs.Facts.{Entry, key_cmp, goes_first}
-use Rattle.ldar_facts.specs.Named.{is_numbered}
-use Rattle.ldar_facts.specs.Stated.{Stated}
+use Rattle.fact_kinds.specs.declared.body.FactBody.{FactBody}
+use Rattle.fact_kinds.specs.declared.key.Key.{Key}
+use Rattle.fact_kinds.specs.Facts.{Entry, key_cmp, goes_first}
+use Rattle.fact_kinds.specs.Named.{is_numbered}
+use Rattle.fact_kinds.specs.Stated.{Stated}
 use Rattle.fact_store.specs.declared.place.Place.{Place}
 
 -- what a store holds: facts with their keys, in the order in which they came, and the facts that have room

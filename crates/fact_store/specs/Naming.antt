@@ -1,8 +1,8 @@
 -- By which number an index lists facts.
 use Rattle.std.specs.Prelude.{ℕ, ◌≤◌, Vec, Option, List, count_by}
-use Rattle.ldar_facts.specs.declared.body.FactBody.{FactBody}
-use Rattle.ldar_facts.specs.Named.{component_of, unit_of, tested_instrument, reading_instrument, is_numbered}
-use Rattle.ldar_facts.specs.Stated.{Stated}
+use Rattle.fact_kinds.specs.declared.body.FactBody.{FactBody}
+use Rattle.fact_kinds.specs.Named.{component_of, unit_of, tested_instrument, reading_instrument, is_numbered}
+use Rattle.fact_kinds.specs.Stated.{Stated}
 use Rattle.fact_store.specs.declared.naming.Naming.{Naming}
 use Rattle.fact_store.specs.declared.naming.Naming.TheVariants.{Component, Unit as OfUnit, Tested, Reading}
 use Rattle.fact_store.specs.Lists.{room_in}

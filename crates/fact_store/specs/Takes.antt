@@ -3,10 +3,10 @@ use Rattle.std.specs.Prelude.{◌≡◌, ℕ, ◌+◌, ◌<◌, ◌≤◌, Bool,
 use Rattle.std.specs.List.{AllByRecursion}
 use Rattle.std.specs.Option.{option_map_or}
 use Rattle.list_words.specs.Order.{put_in_order, Ascends}
-use Rattle.ldar_facts.specs.declared.key.Key.{Key}
-use Rattle.ldar_facts.specs.Facts.{Entry, is_earlier, goes_first}
-use Rattle.ldar_facts.specs.Named.{is_numbered}
-use Rattle.ldar_facts.specs.Stated.{Stated}
+use Rattle.fact_kinds.specs.declared.key.Key.{Key}
+use Rattle.fact_kinds.specs.Facts.{Entry, is_earlier, goes_first}
+use Rattle.fact_kinds.specs.Named.{is_numbered}
+use Rattle.fact_kinds.specs.Stated.{Stated}
 use Rattle.fact_store.specs.declared.place.Place.{Place}
 use Rattle.fact_store.specs.Kept.{entries_at}
 use Rattle.fact_store.specs.Lists.{items_in, room_in}

@@ -7,7 +7,7 @@ use crate::lists::{Lists, list_of, make_rooms};
 use crate::naming::Naming;
 use crate::place::Place;
 use crate::put::put_place;
-use ldar_facts::{Fact, FactBody, Key};
+use fact_kinds::{Fact, FactBody, Key};
 use std::alloc::{AllocError, Global};
 
 /// The places of facts by a number that they name, in key order.

@@ -2,7 +2,7 @@ ghost use Rattle.std.specs.Prelude.{◌≡◌, IfOk};
 ghost use Rattle.std.specs.List.{filter_map};
 ghost use Rattle.fact_store.specs.Naming.{named_by};
 
-use ldar_facts::{Fact, FactBody, component_of, reading_instrument, tested_instrument, unit_of};
+use fact_kinds::{Fact, FactBody, component_of, reading_instrument, tested_instrument, unit_of};
 use std::alloc::{AllocError, Global};
 
 /// By which of the numbers that facts name an index lists them.

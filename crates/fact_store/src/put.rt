@@ -1,13 +1,13 @@
 ghost use Rattle.std.specs.Prelude.{◌≡◌, ℕ, ◌^◌, ◌<◌, ◌≤◌, Some, length, insert};
 ghost use Rattle.list_words.specs.Order.{put_in_order, Ascends};
-ghost use Rattle.ldar_facts.specs.Facts.{goes_first};
-ghost use Rattle.ldar_facts.specs.Stated.{Stated};
+ghost use Rattle.fact_kinds.specs.Facts.{goes_first};
+ghost use Rattle.fact_kinds.specs.Stated.{Stated};
 ghost use Rattle.fact_store.specs.Kept.{entries_at};
 ghost use Rattle.fact_store.specs.Takes.{AreHeld, CanTake, Takes, is_up_to};
 
 use crate::lists::{Lists, list_of, put_in};
 use crate::place::Place;
-use ldar_facts::{Fact, Key, precedes};
+use fact_kinds::{Fact, Key, precedes};
 
 /// Whether the fact at a place does not come after a key.
 fn stands_up_to(arrived: &[(Key, Fact)], key: &Key, place: Place) -> bool

@@ -1,13 +1,13 @@
 ghost use Rattle.std.specs.Prelude.{◌≡◌, ℕ, ◌+◌, ◌<◌, Some, false, [], ◌∷◌, ◌++◌, length, drop, slice_get, OnOk, OnErr};
-ghost use Rattle.ldar_facts.specs.declared.limits.TheConstants.{MOST_FACTS};
-ghost use Rattle.ldar_facts.specs.Named as named;
+ghost use Rattle.fact_kinds.specs.declared.limits.TheConstants.{MOST_FACTS};
+ghost use Rattle.fact_kinds.specs.Named as named;
 ghost use Rattle.fact_store.specs.Kept.{Kept, ArePlacesOf, is_held};
 
 use crate::index::Index;
 use crate::naming::Naming;
 use crate::place::Place;
 use crate::steps::Steps;
-use ldar_facts::{Fact, Key, Memory};
+use fact_kinds::{Fact, Key, Memory};
 use std::alloc::Global;
 use std::marker::Model;
 use std::sync::ledger::Ledger;

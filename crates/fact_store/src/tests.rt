@@ -2,7 +2,7 @@ ghost use Rattle.std.specs.Prelude.{◌≡◌, ◌<◌, length, All, OnOk};
 ghost use Rattle.fact_store.specs.Kept.{is_held};
 
 use crate::{FactStore, Place, Steps};
-use ldar_facts::{Day, Fact, FactBody, Key, Memory, Purpose};
+use fact_kinds::{Day, Fact, FactBody, Key, Memory, Purpose};
 use std::alloc::{AllocError, Global};
 use std::marker::Brand;
 use std::sync::ledger::{Blank, Ledger};

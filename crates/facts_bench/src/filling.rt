@@ -2,8 +2,8 @@ ghost use Rattle.std.specs.Prelude.{◌≡◌, IfOk};
 ghost use Rattle.facts_bench.specs.Numbered.{AreNumbered};
 
 use crate::sort::{Sort, fact_at};
+use fact_kinds::{Fact, Key, MOST_FACTS, Memory};
 use fact_store::FactStore;
-use ldar_facts::{Fact, Key, MOST_FACTS, Memory};
 use std::alloc::{AllocError, Global};
 
 /// How many facts room is made for at once: as many as a batch may have.

@@ -13,8 +13,8 @@ mod reading;
 mod sort;
 mod total;
 
+use fact_kinds::Memory;
 use filling::filled;
-use ldar_facts::Memory;
 use listing::listed;
 use order::{Order, places};
 use reading::read_all;

@@ -1,4 +1,4 @@
-use ldar_facts::{Day, Fact, FactBody, Purpose};
+use fact_kinds::{Day, Fact, FactBody, Purpose};
 
 /// What the facts are.
 #[derive(Clone, Copy)]

@@ -1,4 +1,4 @@
-use ldar_facts::{Fact, component_of};
+use fact_kinds::{Fact, component_of};
 
 /// How many facts were read, and a sum over them, so that no reading can be left out.
 #[derive(Clone, Copy)]

@@ -5,7 +5,7 @@ use Rattle.std.specs.Str.{IsUtf8, is_utf8}
 use Rattle.std.proofs.lemmas.Str.{IsUtf8-from_is_utf8, is_utf8-from_IsUtf8}
 use Rattle.httparse.specs.Grammar.{RequestHead}
 use Rattle.serde_json.specs.Read.{read}
-use Rattle.ldar_facts.specs.declared.batch.Batch.{Batch}
+use Rattle.fact_kinds.specs.declared.batch.Batch.{Batch}
 use Rattle.handheld_http.specs.BatchJson.{Says, IsBatchText, batch_of}
 use Rattle.handheld_http.specs.Heads.{IsHead, is_post}
 use Rattle.handheld_http.specs.Items.{IsItem}

@@ -2,22 +2,22 @@
 use Rattle.std.specs.Prelude.{ℕ, ◌==◌, List, [], ◌∷◌, codes, Option, Some, None, option_map, is_none, if◌then◌else◌}
 use Rattle.serde_json.specs.Data.{Data}
 use Rattle.serde_json.specs.Find.{get, at}
-use Rattle.ldar_facts.specs.declared.class.Class.{Class}
-use Rattle.ldar_facts.specs.declared.class.Kind.{Kind}
-use Rattle.ldar_facts.specs.declared.class.Kind.TheVariants.{Valve, Pump, Compressor, Relief}
-use Rattle.ldar_facts.specs.declared.class.Service.{Service}
-use Rattle.ldar_facts.specs.declared.class.Service.TheVariants.{Gas, Light, Heavy, Vacuum, Under300}
-use Rattle.ldar_facts.specs.declared.class.Designation.{Designation}
-use Rattle.ldar_facts.specs.declared.class.Designation.TheVariants.{Plain, Nde, Unsafe, Difficult}
-use Rattle.ldar_facts.specs.declared.body.Purpose.{Purpose}
-use Rattle.ldar_facts.specs.declared.body.Purpose.TheVariants.{Routine, FollowUp}
-use Rattle.ldar_facts.specs.declared.body.VisualState.{VisualState}
-use Rattle.ldar_facts.specs.declared.body.VisualState.TheVariants.{Dry, Drips, Designated}
-use Rattle.ldar_facts.specs.declared.limits.TheConstants.{LONGEST_SHUTDOWN}
-use Rattle.ldar_facts.specs.declared.body.Sort.{Sort}
-use Rattle.ldar_facts.specs.declared.body.Sort.TheVariants.{Sensor, Evidence}
-use Rattle.ldar_facts.specs.declared.body.FactBody.{FactBody}
-use Rattle.ldar_facts.specs.declared.body.FactBody.TheVariants.{Unit as UnitFact, Component as ComponentFact, Class as ClassFact, Retire, Election, Shutdown, Calibration, Precision, Drift, Reading, Visual, Attempt, Delay, Release, Indication}
+use Rattle.fact_kinds.specs.declared.class.Class.{Class}
+use Rattle.fact_kinds.specs.declared.class.Kind.{Kind}
+use Rattle.fact_kinds.specs.declared.class.Kind.TheVariants.{Valve, Pump, Compressor, Relief}
+use Rattle.fact_kinds.specs.declared.class.Service.{Service}
+use Rattle.fact_kinds.specs.declared.class.Service.TheVariants.{Gas, Light, Heavy, Vacuum, Under300}
+use Rattle.fact_kinds.specs.declared.class.Designation.{Designation}
+use Rattle.fact_kinds.specs.declared.class.Designation.TheVariants.{Plain, Nde, Unsafe, Difficult}
+use Rattle.fact_kinds.specs.declared.body.Purpose.{Purpose}
+use Rattle.fact_kinds.specs.declared.body.Purpose.TheVariants.{Routine, FollowUp}
+use Rattle.fact_kinds.specs.declared.body.VisualState.{VisualState}
+use Rattle.fact_kinds.specs.declared.body.VisualState.TheVariants.{Dry, Drips, Designated}
+use Rattle.fact_kinds.specs.declared.limits.TheConstants.{LONGEST_SHUTDOWN}
+use Rattle.fact_kinds.specs.declared.body.Sort.{Sort}
+use Rattle.fact_kinds.specs.declared.body.Sort.TheVariants.{Sensor, Evidence}
+use Rattle.fact_kinds.specs.declared.body.FactBody.{FactBody}
+use Rattle.fact_kinds.specs.declared.body.FactBody.TheVariants.{Unit as UnitFact, Component as ComponentFact, Class as ClassFact, Retire, Election, Shutdown, Calibration, Precision, Drift, Reading, Visual, Attempt, Delay, Release, Indication}
 use Rattle.handheld_http.specs.Members.{◌>>=◌, has_only, number, flag, word, day, name, number_or_none, day_or_none}
 
 -- ---- words, by their places

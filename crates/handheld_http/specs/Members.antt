@@ -5,7 +5,7 @@ use Rattle.std.specs.Cmp.Lexicographic.{pointwise}
 use Rattle.serde_json.specs.Data.{Data, Members, no_members, member}
 use Rattle.serde_json.specs.Find.{as_number, as_u64, as_str, as_bool, as_object}
 use Rattle.ldar_days.specs.Texts.{day_of}
-use Rattle.ldar_facts.specs.Name.{is_name_byte}
+use Rattle.fact_kinds.specs.Name.{is_name_byte}
 
 -- one reading behind another
 infixl 10 ◌>>=◌

@@ -5,7 +5,7 @@ use Rattle.std.specs.Cmp.Lexicographic.{pointwise}
 use Rattle.std.specs.Str.Parse.{digits_value}
 use Rattle.httparse.specs.Grammar.{RequestHead}
 use Rattle.ldar_days.specs.Texts.{day_of}
-use Rattle.ldar_facts.specs.declared.batch.Batch.{Batch}
+use Rattle.fact_kinds.specs.declared.batch.Batch.{Batch}
 use Rattle.ldar_law.specs.declared.request.Request.{Request}
 use Rattle.ldar_law.specs.declared.request.Request.TheVariants.{Sync as SyncRequest, Due as DueRequest, Tags as TagsRequest, Delays as DelaysRequest, Route as RouteRequest, Percent as PercentRequest, Report as ReportRequest}
 use Rattle.ldar_law.specs.declared.request.What.{What}

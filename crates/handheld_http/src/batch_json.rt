@@ -7,7 +7,7 @@ ghost use Rattle.handheld_http.specs.BatchJson.{Says};
 
 use crate::fact_json::body;
 use crate::members::{day, has_only, number, word};
-use ldar_facts::{Batch, Fact, Memory};
+use fact_kinds::{Batch, Fact, Memory};
 use serde_json::Value;
 use std::alloc::Global;
 

@@ -1,12 +1,12 @@
 ghost use Rattle.std.specs.Prelude.{◌≡◌, ◌<◌, IfSome};
 ghost use Rattle.std.specs.List.{AllByRecursion};
 ghost use Rattle.serde_json.specs.View.{view};
-ghost use Rattle.ldar_facts.specs.Fields.{IsFilled, body_fields};
+ghost use Rattle.fact_kinds.specs.Fields.{IsFilled, body_fields};
 ghost use Rattle.handheld_http.specs.FactJson as spec;
 
 use crate::field_json::{class, mode, purpose, readings, sort, state, type_of};
 use crate::members::{day, day_or_none, flag, has_only, name, number, number_or_none, word};
-use ldar_facts::{FactBody, LONGEST_SHUTDOWN};
+use fact_kinds::{FactBody, LONGEST_SHUTDOWN};
 use serde_json::Value;
 
 /// What a fact of the kind at this place in the table says.

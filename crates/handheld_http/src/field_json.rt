@@ -1,12 +1,12 @@
 ghost use Rattle.std.specs.Prelude.{◌≡◌, ℕ, ◌<◌, ◌≤◌, ◌≢◌, IfSome, option_map, option_and_then, Some};
 ghost use Rattle.std.specs.List.{AllByRecursion};
 ghost use Rattle.serde_json.specs.View.{view};
-ghost use Rattle.ldar_facts.specs.Fields.{IsAmong, IsFilled, class_fields, designation_number, plans, readings_fields, service_number};
+ghost use Rattle.fact_kinds.specs.Fields.{IsAmong, IsFilled, class_fields, designation_number, plans, readings_fields, service_number};
 ghost use Rattle.handheld_http.specs.FactJson as spec;
 ghost use Rattle.handheld_http.specs.Members as members;
 
 use crate::members::{number, word};
-use ldar_facts::{Class, Designation, Kind, Purpose, Service, Sort, VisualState};
+use fact_kinds::{Class, Designation, Kind, Purpose, Service, Sort, VisualState};
 use serde_json::Value;
 
 /// What a component is.

@@ -3,10 +3,10 @@ ghost use Rattle.std.specs.List.{list_all, list_any, position};
 ghost use Rattle.std.specs.Cmp.Lexicographic.{pointwise};
 ghost use Rattle.serde_json.specs.View.{view, members_view};
 ghost use Rattle.ldar_days.specs.Calendar.{IsDay};
-ghost use Rattle.ldar_facts.specs.Name.{IsName};
+ghost use Rattle.fact_kinds.specs.Name.{IsName};
 ghost use Rattle.handheld_http.specs.Members as spec;
 
-use ldar_facts::{Day, Name};
+use fact_kinds::{Day, Name};
 use serde_json::{Map, Value};
 
 /// Whether the value is an object that has no other keys than these.

@@ -9,7 +9,7 @@ use crate::fields::is_post;
 use crate::heads::line_of;
 use crate::paths::{parts_of, path_of, view_of};
 use crate::routes::{Page, Resource, resource_of};
-use ldar_facts::Memory;
+use fact_kinds::Memory;
 use ldar_law::Request;
 use std::alloc::Global;
 use std::str::from_utf8;

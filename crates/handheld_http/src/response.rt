@@ -5,8 +5,8 @@ ghost use Rattle.handheld_http.specs.Answers.{response, connection_of, allow_pos
 ghost use Rattle.ldar_law.specs.Replies.{reply_text, HasRule};
 
 use crate::answer::{Answer, Refusal};
+use fact_kinds::Memory;
 use http::StatusCode;
-use ldar_facts::Memory;
 use ldar_law::{Reply, What};
 use std::alloc::Global;
 

@@ -1,7 +1,7 @@
 ghost use Rattle.std.specs.Prelude.{◌≡◌, IfOk, OnOk};
 ghost use Rattle.handheld_http.specs.Routes as spec;
 
-use ldar_facts::Memory;
+use fact_kinds::Memory;
 use matchit::Router;
 use std::alloc::Global;
 

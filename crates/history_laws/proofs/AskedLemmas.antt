@@ -4,8 +4,8 @@ use Rattle.std.specs.Prelude.{codes}
 use Rattle.std.specs.List.{list_any}
 use Rattle.std.specs.Option.{is_some, is_none}
 use Rattle.list_words.proofs.Members.{all_at, all_from_among}
-use Rattle.ldar_facts.specs.declared.batch.Batch.{Batch}
-use Rattle.ldar_facts.specs.Facts.{Entry, facts_of}
+use Rattle.fact_kinds.specs.declared.batch.Batch.{Batch}
+use Rattle.fact_kinds.specs.Facts.{Entry, facts_of}
 use Rattle.ldar_law.specs.Denials as denials
 use Rattle.ldar_law.specs.Denials.{component_asked, unit_asked}
 use Rattle.ldar_law.specs.Equipment.{unit_entry_of}

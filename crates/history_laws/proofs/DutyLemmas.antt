@@ -4,8 +4,8 @@ use Rattle.std.specs.List.{AllByRecursion, filter_map}
 use Rattle.ldar_days.specs.Calendar.{last_day, end_by, week_last}
 use Rattle.list_words.specs.Words.{each_from, each_where}
 use Rattle.list_words.proofs.Members.{all_weaker}
-use Rattle.ldar_facts.specs.declared.class.Class.{Class}
-use Rattle.ldar_facts.specs.declared.key.Key.{Key}
+use Rattle.fact_kinds.specs.declared.class.Class.{Class}
+use Rattle.fact_kinds.specs.declared.key.Key.{Key}
 use Rattle.ldar_law.specs.declared.duty.Duty.{Duty}
 use Rattle.ldar_law.specs.declared.equipment.Equipment.{Equipment}
 use Rattle.ldar_law.specs.declared.event.Event.{Event}

@@ -8,14 +8,14 @@ use Rattle.list_words.specs.Order.{Ascends}
 use Rattle.list_words.proofs.CutLemmas.{filter_none, filter_all, front_is_cut}
 use Rattle.list_words.proofs.Members.{all_weaker}
 use Rattle.list_words.proofs.Narrowing.{list_any_narrowed, find_narrowed, find_agree}
-use Rattle.ldar_facts.specs.declared.body.FactBody.{FactBody}
-use Rattle.ldar_facts.specs.declared.body.FactBody.TheVariants.{Reading, Visual, Indication}
-use Rattle.ldar_facts.specs.declared.body.Sort.TheVariants.{Sensor as SensorSort, Evidence as EvidenceSort}
-use Rattle.ldar_facts.specs.declared.class.Class.{Class}
-use Rattle.ldar_facts.specs.declared.key.Key.{Key}
-use Rattle.ldar_facts.specs.Facts.{Entry, is_earlier}
-use Rattle.ldar_facts.specs.Named.{component_of, is_numbered}
-use Rattle.ldar_facts.proofs.Cuts.{earlier_day}
+use Rattle.fact_kinds.specs.declared.body.FactBody.{FactBody}
+use Rattle.fact_kinds.specs.declared.body.FactBody.TheVariants.{Reading, Visual, Indication}
+use Rattle.fact_kinds.specs.declared.body.Sort.TheVariants.{Sensor as SensorSort, Evidence as EvidenceSort}
+use Rattle.fact_kinds.specs.declared.class.Class.{Class}
+use Rattle.fact_kinds.specs.declared.key.Key.{Key}
+use Rattle.fact_kinds.specs.Facts.{Entry, is_earlier}
+use Rattle.fact_kinds.specs.Named.{component_of, is_numbered}
+use Rattle.fact_kinds.proofs.Cuts.{earlier_day}
 use Rattle.ldar_law.specs.declared.equipment.Equipment.{Equipment}
 use Rattle.ldar_law.specs.declared.event.Event.{Event}
 use Rattle.ldar_law.specs.declared.event.Happening.{Happening}

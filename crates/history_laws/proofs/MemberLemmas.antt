@@ -7,9 +7,9 @@ use Rattle.list_words.specs.Order.{AllApart}
 use Rattle.list_words.proofs.Ascending.{ascends_in_order}
 use Rattle.list_words.proofs.Members.{Among, all_from_among}
 use Rattle.list_words.proofs.Members.{among_from_Contains, Contains-from_among}
-use Rattle.ldar_facts.specs.declared.body.FactBody.{FactBody}
-use Rattle.ldar_facts.specs.declared.body.FactBody.TheVariants.{Component as ComponentFact}
-use Rattle.ldar_facts.specs.Facts.{Entry}
+use Rattle.fact_kinds.specs.declared.body.FactBody.{FactBody}
+use Rattle.fact_kinds.specs.declared.body.FactBody.TheVariants.{Component as ComponentFact}
+use Rattle.fact_kinds.specs.Facts.{Entry}
 use Rattle.ldar_law.specs.declared.equipment.Equipment.{Equipment}
 use Rattle.ldar_law.specs.Equipment.{retired_on, component_entered, member_entered, members_of}
 use Rattle.ldar_law.specs.RegisterLaws.{enters_component}

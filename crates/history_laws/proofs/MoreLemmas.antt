@@ -6,14 +6,14 @@ use Rattle.list_words.specs.Order.{put_in_order, in_order, put_each, AllApart}
 use Rattle.list_words.proofs.Ascending.{put_permutes, in_order_permutes, apart_permutation, put_each_in_order, same_in_order, in_order_forgets}
 use Rattle.list_words.proofs.Members.{Among, among_permutation, among_left, among_right, among_append, all_weaker}
 use Rattle.list_words.proofs.Narrowing.{filter_map_narrowed}
-use Rattle.ldar_facts.specs.declared.batch.Batch.{Batch}
-use Rattle.ldar_facts.specs.declared.body.FactBody.{FactBody}
-use Rattle.ldar_facts.specs.declared.body.FactBody.TheVariants.{Shutdown}
-use Rattle.ldar_facts.specs.declared.key.Key.{Key}
-use Rattle.ldar_facts.specs.Facts.{Entry, is_earlier, goes_first, entries_of, facts_of, facts_to}
-use Rattle.ldar_facts.specs.Identity.{identities_differ}
-use Rattle.ldar_facts.specs.Named.{component_of, unit_of, tested_instrument, reading_instrument, is_numbered}
-use Rattle.ldar_facts.proofs.OrderFree.{one_more_batch}
+use Rattle.fact_kinds.specs.declared.batch.Batch.{Batch}
+use Rattle.fact_kinds.specs.declared.body.FactBody.{FactBody}
+use Rattle.fact_kinds.specs.declared.body.FactBody.TheVariants.{Shutdown}
+use Rattle.fact_kinds.specs.declared.key.Key.{Key}
+use Rattle.fact_kinds.specs.Facts.{Entry, is_earlier, goes_first, entries_of, facts_of, facts_to}
+use Rattle.fact_kinds.specs.Identity.{identities_differ}
+use Rattle.fact_kinds.specs.Named.{component_of, unit_of, tested_instrument, reading_instrument, is_numbered}
+use Rattle.fact_kinds.proofs.OrderFree.{one_more_batch}
 use Rattle.ldar_law.specs.Equipment.{class_at, election_entered, member_entered, members_of, stop_entered, stops_of}
 use Rattle.ldar_law.specs.RegisterLaws.{enters_component}
 use Rattle.std.proofs.lemmas.List.{append-nil}

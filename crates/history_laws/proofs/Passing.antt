@@ -6,8 +6,8 @@ use Rattle.std.specs.Option.{option_map, is_some, is_none}
 use Rattle.std.proofs.lemmas.Bool.{false≢true, and_parts, and_from}
 use Rattle.list_words.proofs.Ascending.{among_in_order}
 use Rattle.list_words.proofs.Members.{Among, among_left, among_right, among_append, among_flat_map, flat_map_among}
-use Rattle.ldar_facts.specs.declared.batch.Batch.{Batch}
-use Rattle.ldar_facts.specs.Facts.{Entry, goes_first, entries_of, facts_of}
+use Rattle.fact_kinds.specs.declared.batch.Batch.{Batch}
+use Rattle.fact_kinds.specs.Facts.{Entry, goes_first, entries_of, facts_of}
 use Rattle.ldar_law.specs.declared.verdict.Verdict.{Verdict}
 use Rattle.ldar_law.specs.declared.verdict.Verdict.TheVariants.{Pass, Denied, Full}
 use Rattle.ldar_law.specs.Judged.{case_of}

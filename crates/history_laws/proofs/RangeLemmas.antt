@@ -5,12 +5,12 @@ use Rattle.std.proofs.lemmas.Bool.Decides.{nat_tests}
 use Rattle.ldar_days.specs.Calendar.{IsDay}
 use Rattle.list_words.proofs.Ascending.{all_in_order}
 use Rattle.list_words.proofs.Members.{all_append, all_at, all_from_among, among_from_Contains, Contains-from_among}
-use Rattle.ldar_facts.specs.declared.batch.Batch.{Batch}
-use Rattle.ldar_facts.specs.declared.body.FactBody.{FactBody}
-use Rattle.ldar_facts.specs.declared.body.FactBody.TheVariants.{Unit as UnitFact, Component as ComponentFact}
-use Rattle.ldar_facts.specs.Facts.{Entry, goes_first, entries_from, entries_of}
-use Rattle.ldar_facts.specs.Fields.{IsFilled, IsFact, body_fields}
-use Rattle.ldar_facts.specs.Stated.{Stated}
+use Rattle.fact_kinds.specs.declared.batch.Batch.{Batch}
+use Rattle.fact_kinds.specs.declared.body.FactBody.{FactBody}
+use Rattle.fact_kinds.specs.declared.body.FactBody.TheVariants.{Unit as UnitFact, Component as ComponentFact}
+use Rattle.fact_kinds.specs.Facts.{Entry, goes_first, entries_from, entries_of}
+use Rattle.fact_kinds.specs.Fields.{IsFilled, IsFact, body_fields}
+use Rattle.fact_kinds.specs.Stated.{Stated}
 use Rattle.ldar_law.specs.Equipment.{member_entered, members_of}
 use Rattle.ldar_law.specs.RegisterLaws.{enters_component, enters_unit}
 use Rattle.ldar_law.proofs.EnteredLemmas.{members_are_entered}

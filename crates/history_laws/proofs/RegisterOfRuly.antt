@@ -1,6 +1,6 @@
 use Rattle.std.proofs.Common.{◌≤◌, nat_le, List}
 use Rattle.std.specs.List.{AllByRecursion}
-use Rattle.ldar_facts.specs.Facts.{Entry, facts_of}
+use Rattle.fact_kinds.specs.Facts.{Entry, facts_of}
 use Rattle.history_laws.specs.RulyLaws.{IsEachOnce, GivesRegister, RulyGivesRegister}
 use Rattle.history_laws.proofs.MemberLemmas.{members_ascend}
 use Rattle.history_laws.proofs.OnceLemmas.{each_is_entered_once, part_has_each_once}

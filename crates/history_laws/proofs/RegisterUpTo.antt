@@ -7,10 +7,10 @@ use Rattle.list_words.specs.Order.{in_order}
 use Rattle.list_words.proofs.Members.{Among, all_from_among}
 use Rattle.list_words.proofs.Narrowing.{last_such_narrowed, filter_map_narrowed}
 use Rattle.list_words.proofs.PutLemmas.{filter-in_order}
-use Rattle.ldar_facts.specs.declared.body.FactBody.{FactBody}
-use Rattle.ldar_facts.specs.declared.body.FactBody.TheVariants.{Election, Shutdown}
-use Rattle.ldar_facts.specs.declared.key.Key.{Key}
-use Rattle.ldar_facts.specs.Facts.{Entry}
+use Rattle.fact_kinds.specs.declared.body.FactBody.{FactBody}
+use Rattle.fact_kinds.specs.declared.body.FactBody.TheVariants.{Election, Shutdown}
+use Rattle.fact_kinds.specs.declared.key.Key.{Key}
+use Rattle.fact_kinds.specs.Facts.{Entry}
 use Rattle.ldar_law.specs.declared.election.ElectionEntry.{ElectionEntry}
 use Rattle.ldar_law.specs.declared.delay.Stop.{Stop}
 use Rattle.ldar_law.specs.declared.equipment.Equipment.{Equipment}

@@ -6,8 +6,8 @@ use Rattle.std.proofs.lemmas.Bool.{cases_Bool, false≢true, leb-true, le-leb}
 use Rattle.list_words.proofs.Ascending.{not_behind}
 use Rattle.list_words.proofs.CutLemmas.{filter_none, filter_all, take_while-cons}
 use Rattle.list_words.proofs.Members.{all_weaker}
-use Rattle.ldar_facts.specs.Facts.{Entry, goes_first, entries_of, facts_of}
-use Rattle.ldar_facts.proofs.KeyOrder.{strict_goes_first}
+use Rattle.fact_kinds.specs.Facts.{Entry, goes_first, entries_of, facts_of}
+use Rattle.fact_kinds.proofs.KeyOrder.{strict_goes_first}
 use Rattle.std.specs.List.{flat_map}
 use Rattle.ldar_law.proofs.RegisterLemmas.{day_of_later}
 use Rattle.ldar_law.proofs.WeakOrder.{InOrder, each_in_order, weak_goes_first}

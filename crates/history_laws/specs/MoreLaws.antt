@@ -2,12 +2,12 @@
 use Rattle.std.specs.Prelude.{◌≡◌, ℕ, Bool, false, nat_eq, nat_lt, IsTrue, Some, List, [], ◌∷◌, ◌++◌, filter}
 use Rattle.std.specs.List.{AllByRecursion, list_any}
 use Rattle.list_words.specs.Order.{put_each}
-use Rattle.ldar_facts.specs.declared.batch.Batch.{Batch}
-use Rattle.ldar_facts.specs.declared.body.FactBody.{FactBody}
-use Rattle.ldar_facts.specs.declared.body.FactBody.TheVariants.{Shutdown}
-use Rattle.ldar_facts.specs.Facts.{Entry, is_earlier, goes_first, entries_of, facts_of, facts_to}
-use Rattle.ldar_facts.specs.Identity.{identities_differ}
-use Rattle.ldar_facts.specs.Named.{component_of, reading_instrument, is_numbered}
+use Rattle.fact_kinds.specs.declared.batch.Batch.{Batch}
+use Rattle.fact_kinds.specs.declared.body.FactBody.{FactBody}
+use Rattle.fact_kinds.specs.declared.body.FactBody.TheVariants.{Shutdown}
+use Rattle.fact_kinds.specs.Facts.{Entry, is_earlier, goes_first, entries_of, facts_of, facts_to}
+use Rattle.fact_kinds.specs.Identity.{identities_differ}
+use Rattle.fact_kinds.specs.Named.{component_of, reading_instrument, is_numbered}
 use Rattle.ldar_law.specs.declared.election.ElectionEntry.{ElectionEntry}
 use Rattle.ldar_law.specs.declared.equipment.Equipment.{Equipment}
 use Rattle.ldar_law.specs.Equipment.{classes_of, elections_of, members_of}

@@ -2,9 +2,9 @@
 use Rattle.std.specs.Prelude.{◌≡◌, ℕ, ◌≤◌, Bool, Some, List, length, filter}
 use Rattle.std.specs.List.{AllByRecursion}
 use Rattle.ldar_days.specs.Calendar.{IsDay}
-use Rattle.ldar_facts.specs.declared.batch.Batch.{Batch}
-use Rattle.ldar_facts.specs.Facts.{Entry, facts_of}
-use Rattle.ldar_facts.specs.Fields.{IsFact}
+use Rattle.fact_kinds.specs.declared.batch.Batch.{Batch}
+use Rattle.fact_kinds.specs.Facts.{Entry, facts_of}
+use Rattle.fact_kinds.specs.Fields.{IsFact}
 use Rattle.ldar_law.specs.declared.equipment.Equipment.{Equipment}
 use Rattle.ldar_law.specs.declared.numbers.TheConstants.{MOST_COMPONENTS}
 use Rattle.ldar_law.specs.declared.unit_entry.UnitEntry.{UnitEntry}

@@ -2,8 +2,8 @@
 use Rattle.std.specs.Prelude.{◌≡◌, ℕ, ◌≤◌, Bool, true, nat_lt, Some, None, is_some, IsTrue, List, [], ◌∷◌, ◌++◌, length, count_by, Contains, filter}
 use Rattle.std.specs.List.{AllByRecursion, flat_map}
 use Rattle.list_words.specs.Order.{Ascends}
-use Rattle.ldar_facts.specs.declared.batch.Batch.{Batch}
-use Rattle.ldar_facts.specs.Facts.{Entry, entries_of, facts_of, facts_to}
+use Rattle.fact_kinds.specs.declared.batch.Batch.{Batch}
+use Rattle.fact_kinds.specs.Facts.{Entry, entries_of, facts_of, facts_to}
 use Rattle.ldar_law.specs.declared.equipment.Equipment.{Equipment}
 use Rattle.ldar_law.specs.declared.numbers.TheConstants.{LAST_FACT_DAY}
 use Rattle.ldar_law.specs.declared.unit_entry.UnitEntry.{UnitEntry}

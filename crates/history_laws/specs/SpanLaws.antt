@@ -1,9 +1,9 @@
 -- The tags of a component by the events up to a day beside those of all events: the statements of `spans`.
 use Rattle.std.specs.Prelude.{◌≡◌, ℕ, nat_le, Option, Some, None, option_and_then, if◌then◌else◌, List, filter, map}
 use Rattle.list_words.specs.Order.{Ascends}
-use Rattle.ldar_facts.specs.declared.class.Kind.{Kind}
-use Rattle.ldar_facts.specs.declared.key.Key.{Key}
-use Rattle.ldar_facts.specs.Facts.{Entry, is_earlier, goes_first}
+use Rattle.fact_kinds.specs.declared.class.Kind.{Kind}
+use Rattle.fact_kinds.specs.declared.key.Key.{Key}
+use Rattle.fact_kinds.specs.Facts.{Entry, is_earlier, goes_first}
 use Rattle.ldar_law.specs.declared.equipment.Equipment.{Equipment}
 use Rattle.ldar_law.specs.declared.event.Event.{Event}
 use Rattle.ldar_law.specs.declared.span.Span.{Span}

@@ -1,19 +1,19 @@
 -- Small histories and lists of facts, for examples of the laws and of what their premises are for.
 use Rattle.std.specs.Prelude.{ℕ, Bool, false, Option, Some, List, [], ◌∷◌, map, option_map}
-use Rattle.ldar_facts.specs.declared.batch.Batch.{Batch}
-use Rattle.ldar_facts.specs.declared.body.FactBody.TheVariants.{Component as ComponentFact, Class as ClassFact, Retire, Shutdown, Attempt, Delay}
-use Rattle.ldar_facts.specs.declared.class.Designation.TheVariants.{Plain}
-use Rattle.ldar_facts.specs.declared.class.Kind.TheVariants.{Valve}
-use Rattle.ldar_facts.specs.declared.class.Service.TheVariants.{Gas, Heavy}
-use Rattle.ldar_facts.specs.Facts.{Entry}
+use Rattle.fact_kinds.specs.declared.batch.Batch.{Batch}
+use Rattle.fact_kinds.specs.declared.body.FactBody.TheVariants.{Component as ComponentFact, Class as ClassFact, Retire, Shutdown, Attempt, Delay}
+use Rattle.fact_kinds.specs.declared.class.Designation.TheVariants.{Plain}
+use Rattle.fact_kinds.specs.declared.class.Kind.TheVariants.{Valve}
+use Rattle.fact_kinds.specs.declared.class.Service.TheVariants.{Gas, Heavy}
+use Rattle.fact_kinds.specs.Facts.{Entry}
 use Rattle.ldar_law.specs.declared.delay.Until.{Until}
 use Rattle.ldar_law.specs.declared.equipment.Equipment.{Equipment}
 use Rattle.ldar_law.specs.declared.event.Event.{Event}
 use Rattle.ldar_law.specs.Equipment.{equipment_of, classes_of}
 use Rattle.ldar_law.specs.Events.{events_in}
 use Rattle.ldar_law.specs.Happenings.{is_leak}
-use Rattle.ldar_facts.specs.declared.class.Class.{Class}
-use Rattle.ldar_facts.specs.declared.key.Key.{Key}
+use Rattle.fact_kinds.specs.declared.class.Class.{Class}
+use Rattle.fact_kinds.specs.declared.key.Key.{Key}
 use Rattle.ldar_law.specs.Short.{date, class, entered_on, fact, calibrated, precise, measured, valve}
 use Rattle.ldar_law.specs.ShortEvents.{reads, attempts}
 use Rattle.ldar_law.specs.SmallOffice.{on, enters, sends, component, crude}

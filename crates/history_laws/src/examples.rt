@@ -3,9 +3,9 @@
 
 ghost use Rattle.std.specs.Prelude.{◌≡◌, None, Some, [], false, is_none, is_some, length, map, nat_le, take_while, true, ◌++◌, ◌∷◌};
 ghost use Rattle.list_words.specs.Order.{put_each};
-ghost use Rattle.ldar_facts.specs.Facts.{entries_of, facts_of, facts_to, goes_first};
-ghost use Rattle.ldar_facts.specs.Named.{component_of};
-ghost use Rattle.ldar_facts.specs.declared.class.Kind.TheVariants.{Valve};
+ghost use Rattle.fact_kinds.specs.Facts.{entries_of, facts_of, facts_to, goes_first};
+ghost use Rattle.fact_kinds.specs.Named.{component_of};
+ghost use Rattle.fact_kinds.specs.declared.class.Kind.TheVariants.{Valve};
 ghost use Rattle.ldar_law.specs.declared.delay.Until.TheVariants.{Date, Shutdown};
 ghost use Rattle.ldar_law.specs.declared.fitness.Fitness.TheVariants.{Fit, NoCalibration};
 ghost use Rattle.ldar_law.specs.Equipment.{classes_of, members_of, stops_of, unit_entry_of};
@@ -20,9 +20,9 @@ ghost use Rattle.ldar_law.specs.Verdicts.{is_ruly, verdict_on};
 ghost use Rattle.ldar_law.specs.declared.verdict.Verdict.TheVariants.{Denied};
 ghost use Rattle.ldar_law.specs.Force.{class_on};
 ghost use Rattle.ldar_law.specs.ShortLists.{duties_on, duties_with, owes};
-ghost use Rattle.ldar_facts.specs.declared.class.Service.TheVariants.{Gas, Heavy};
+ghost use Rattle.fact_kinds.specs.declared.class.Service.TheVariants.{Gas, Heavy};
 ghost use Rattle.history_laws.specs.DayLaws.{events_to, has_begun, item_on, up_to};
-ghost use Rattle.ldar_facts.specs.declared.body.FactBody.TheVariants.{Calibration, Drift, Precision};
+ghost use Rattle.fact_kinds.specs.declared.body.FactBody.TheVariants.{Calibration, Drift, Precision};
 ghost use Rattle.history_laws.specs.KnownLaws.{is_of_matter};
 ghost use Rattle.history_laws.specs.SpanLaws.{detected_by, span_on};
 ghost use Rattle.history_laws.specs.Witnesses.{before_its_unit, beginning_of_1, changing_valve, delayed_leak, due_days_of_1, entered_again, entered_twice, first_of_identity, heavy_from, in_two_units, leak_without_shutdown, leak_without_tests, leaks_again, leaks_in, leaks_of_1, one_retires_one_begins, out_of_order, retirement_of_1, second_of_identity, too_late, unit_of_1, valve_1, without_its_unit};

@@ -1,12 +1,12 @@
 //! A component with its facts and its events.
 
 ghost use Rattle.list_words.specs.Order.{Ascends};
-ghost use Rattle.ldar_facts.specs.Facts.{is_earlier};
+ghost use Rattle.fact_kinds.specs.Facts.{is_earlier};
 ghost use Rattle.monitor_calendar.specs.InOrder.{Ascends-prop};
 
 use crate::equipment::{classes, equipment, key_of};
 use crate::history::History;
-use ldar_facts::{Class, Fact, Key, Memory};
+use fact_kinds::{Class, Fact, Key, Memory};
 use ldar_law::{Equipment, Event, Fitness};
 use method21_reading::events_of;
 use monitor_calendar::{are_classes_ordered, are_events_ordered};

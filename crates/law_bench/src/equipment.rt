@@ -2,8 +2,8 @@
 
 use crate::day_at::{day_after, day_at};
 use crate::history::{History, component_number};
+use fact_kinds::{Class, Designation, Key, Kind, Service};
 use ldar_days::Day;
-use ldar_facts::{Class, Designation, Key, Kind, Service};
 use ldar_law::Equipment;
 use std::alloc::{AllocError, Global};
 

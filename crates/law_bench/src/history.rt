@@ -3,8 +3,8 @@
 ghost use Rattle.std.specs.Prelude.{◌≤◌};
 
 use crate::day_at::{SIXTEEN_YEARS, day_at};
+use fact_kinds::{Fact, FactBody, Kind, Purpose, VisualState};
 use ldar_days::Day;
-use ldar_facts::{Fact, FactBody, Kind, Purpose, VisualState};
 
 /// Whose life it is.
 #[derive(Clone, Copy, PartialEq, Eq)]

@@ -2,13 +2,13 @@
 
 ghost use Rattle.std.specs.Prelude.{◌≤◌};
 ghost use Rattle.list_words.specs.Order.{Ascends};
-ghost use Rattle.ldar_facts.specs.Facts.{goes_first};
+ghost use Rattle.fact_kinds.specs.Facts.{goes_first};
 
 use crate::day_at::{SIXTEEN_YEARS, day_at};
 use crate::equipment::key_of;
 use crate::said;
+use fact_kinds::{Fact, FactBody, Key, Memory, Purpose};
 use ldar_days::Day;
-use ldar_facts::{Fact, FactBody, Key, Memory, Purpose};
 use ldar_law::are_in_key_order;
 use method21_reading::Instrument;
 use std::alloc::{AllocError, Global};

@@ -4,7 +4,7 @@ use crate::component::Component;
 use crate::day_at::startup;
 use crate::said;
 use crate::view::View;
-use ldar_facts::Memory;
+use fact_kinds::Memory;
 use leak_tags::spans_of;
 use method21_reading::events_of;
 use monitor_calendar::duties_of;

@@ -1,6 +1,6 @@
 //! Sums over what is answered, so that no answer can be left out.
 
-use ldar_facts::Key;
+use fact_kinds::Key;
 use ldar_law::{Duty, Event, Fitness, Mark, Span, Until};
 
 /// A sum with one thing more that was said.

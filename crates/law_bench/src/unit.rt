@@ -4,7 +4,7 @@ use crate::component::{Component, made_component};
 use crate::history::History;
 use crate::life::{Call, add_answer};
 use crate::view::View;
-use ldar_facts::Memory;
+use fact_kinds::Memory;
 use std::alloc::Global;
 
 /// So many components with so many facts each, up to the first whose facts come out of order.

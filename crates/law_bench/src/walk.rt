@@ -3,7 +3,7 @@
 use crate::day_at::day_after;
 use crate::equipment::key_of;
 use crate::said;
-use ldar_facts::Key;
+use fact_kinds::Key;
 use ldar_law::{Duty, Route};
 use route_planner::routes;
 use std::alloc::{AllocError, Global};

@@ -8,9 +8,9 @@ use Rattle.std.proofs.lemmas.List.{append-nil}
 use Rattle.disk_model.specs.Told.{Told, BothTold}
 use Rattle.ldar_ports.specs.Source.{Takes, HasEnded}
 use Rattle.ldar_ports.specs.Sink.{Piece, Puts}
-use Rattle.ldar_facts.specs.declared.batch.Batch.{Batch}
+use Rattle.fact_kinds.specs.declared.batch.Batch.{Batch}
 use Rattle.ldar_facts.specs.Grammar.{Spells}
-use Rattle.ldar_facts.specs.Identity.{identity_of, position_of}
+use Rattle.fact_kinds.specs.Identity.{identity_of, position_of}
 use Rattle.ldar_facts.proofs.GrammarLaws.{spelling_length}
 use Rattle.ldar_journal.specs.Image.{header, batches_of, Opens}
 use Rattle.ldar_journal.specs.Damage.{IsDamagedAt}

@@ -1,7 +1,7 @@
 -- What keeping a batch does to the disk.
 use Rattle.std.specs.Prelude.{◌≡◌, ℕ, Option, List, [], ◌∷◌}
 use Rattle.disk_model.specs.Told.{BothTold}
-use Rattle.ldar_facts.specs.declared.batch.Batch.{Batch}
+use Rattle.fact_kinds.specs.declared.batch.Batch.{Batch}
 use Rattle.ldar_journal.specs.Image.{Opens}
 use Rattle.ldar_journal.specs.Shelf.{OpensEither}
 use Rattle.ldar_journal.specs.declared.opening.OpenWhy.{OpenWhy}

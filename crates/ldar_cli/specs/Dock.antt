@@ -1,10 +1,10 @@
 -- What is answered to a batch that is docked.
 use Rattle.std.specs.Prelude.{◌≡◌, ℕ, ◌+◌, ◌-◌, ◌<◌, ◌≤◌, ◌⊎◌, Option, Some, None, List, [], ◌∷◌, ◌++◌, length, codes, slice_get}
 use Rattle.std.specs.Fmt.{decimal}
-use Rattle.ldar_facts.specs.declared.limits.TheConstants.{MOST_FACTS}
-use Rattle.ldar_facts.specs.declared.batch.Batch.{Batch}
+use Rattle.fact_kinds.specs.declared.limits.TheConstants.{MOST_FACTS}
+use Rattle.fact_kinds.specs.declared.batch.Batch.{Batch}
 use Rattle.ldar_facts.specs.Grammar.{Spells}
-use Rattle.ldar_facts.specs.Identity.{identity_of, position_of}
+use Rattle.fact_kinds.specs.Identity.{identity_of, position_of}
 use Rattle.ldar_journal.specs.Image.{fact_count}
 use Rattle.ldar_cli.specs.declared.reply.Reply.{Reply}
 use Rattle.ldar_cli.specs.declared.reply.Reply.TheVariants.{Receipt, Conflict, Full}

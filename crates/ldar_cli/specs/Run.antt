@@ -3,7 +3,7 @@ use Rattle.std.specs.Prelude.{◌≡◌, ℕ, ◌<◌, ◌≤◌, ◌⊎◌, Opt
 use Rattle.ldar_facts.specs.declared.laws.TheConstants.{LONGEST_BATCH}
 use Rattle.disk_model.specs.Told.{BothTold}
 use Rattle.ldar_ports.specs.Source.{HasEnded}
-use Rattle.ldar_facts.specs.declared.batch.Batch.{Batch}
+use Rattle.fact_kinds.specs.declared.batch.Batch.{Batch}
 use Rattle.ldar_facts.specs.Grammar.{Spells}
 use Rattle.ldar_journal.specs.Image.{Opens}
 use Rattle.ldar_journal.specs.Shelf.{OpensEither}

@@ -3,10 +3,11 @@ ghost use Rattle.ldar_facts.specs.declared.laws.TheConstants.{LONGEST_BATCH};
 ghost use Rattle.disk_model.specs.Faults.{Rose};
 ghost use Rattle.ldar_ports.specs.Source.{Takes, HasEnded};
 ghost use Rattle.ldar_facts.specs.Grammar.{Spells};
-ghost use Rattle.ldar_facts.specs.declared.batch.Batch.{Batch};
+ghost use Rattle.fact_kinds.specs.declared.batch.Batch.{Batch};
 
 use crate::status::Status;
-use ldar_facts::{Batch, Memory, Read, read_batch};
+use fact_kinds::{Batch, Memory};
+use ldar_facts::{Read, read_batch};
 use ldar_ports::{Source, Window};
 use std::alloc::Global;
 

@@ -2,7 +2,7 @@ ghost use Rattle.std.specs.Prelude.{◌≡◌, IfOk};
 ghost use Rattle.std.specs.String.{string_bytes};
 ghost use Rattle.ldar_cli.specs.Dock.{line_of};
 
-use ldar_facts::Memory;
+use fact_kinds::Memory;
 use std::alloc::Global;
 
 /// What is answered to a batch.

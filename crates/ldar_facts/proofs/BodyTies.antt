@@ -4,11 +4,11 @@ use Rattle.std.specs.Prelude.{◌==◌}
 use Rattle.std.specs.List.{AllByRecursion}
 use Rattle.std.proofs.lemmas.Bool.{eqb-true, eqb-false}
 use Rattle.std.proofs.lemmas.List.{append-nil}
-use Rattle.ldar_facts.specs.declared.body.FactBody.{FactBody}
-use Rattle.ldar_facts.specs.declared.body.FactBody.TheVariants.{Unit as UnitFact, Component as ComponentFact, Class as ClassFact, Retire, Election}
-use Rattle.ldar_facts.specs.declared.body.FactBody.TheVariants.{Shutdown, Calibration, Precision, Drift, Reading, Visual, Attempt, Delay, Release}
-use Rattle.ldar_facts.specs.declared.body.FactBody.TheVariants.{Indication}
-use Rattle.ldar_facts.specs.Fields.{IsFilled, IsAmong, fact_kinds, body_number, body_fields}
+use Rattle.fact_kinds.specs.declared.body.FactBody.{FactBody}
+use Rattle.fact_kinds.specs.declared.body.FactBody.TheVariants.{Unit as UnitFact, Component as ComponentFact, Class as ClassFact, Retire, Election}
+use Rattle.fact_kinds.specs.declared.body.FactBody.TheVariants.{Shutdown, Calibration, Precision, Drift, Reading, Visual, Attempt, Delay, Release}
+use Rattle.fact_kinds.specs.declared.body.FactBody.TheVariants.{Indication}
+use Rattle.fact_kinds.specs.Fields.{IsFilled, IsAmong, fact_kinds, body_number, body_fields}
 use Rattle.ldar_facts.specs.Grammar.{spelled}
 use Rattle.ldar_facts.specs.Form.{Form}
 use Rattle.ldar_facts.specs.Compose.{either}

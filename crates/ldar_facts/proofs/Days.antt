@@ -3,7 +3,7 @@ use Rattle.std.proofs.Common.{◌≡◌, ℕ, Option, Some, None, refl, inl, inr
 use Rattle.std.specs.Prelude.{IsNone, IsSome, IfSome}
 use Rattle.std.proofs.lemmas.Bool.{eq-eqb, ne_eqb}
 use Rattle.ldar_days.specs.Calendar.{IsDay}
-use Rattle.ldar_facts.specs.Fields.{IsAmong, days_or_none}
+use Rattle.fact_kinds.specs.Fields.{IsAmong, days_or_none}
 use Rattle.ldar_facts.specs.FieldForms.{expected_of}
 
 -- the day with a number, as it is found

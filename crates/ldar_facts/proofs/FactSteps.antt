@@ -3,7 +3,7 @@ use Rattle.std.proofs.Common.{◌≡◌, ℕ, suc, ◌+◌, ◌-◌, ◌<◌, �
 use Rattle.std.specs.Prelude.{Option, Some, None, IfSome}
 use Rattle.std.proofs.lemmas.List.{append-nil}
 use Rattle.ldar_facts.specs.declared.stop.Stop.{Stop}
-use Rattle.ldar_facts.specs.Stated.{Stated}
+use Rattle.fact_kinds.specs.Stated.{Stated}
 use Rattle.ldar_facts.specs.Form.{Outcome, ◌then◌}
 use Rattle.ldar_facts.specs.FactForms as forms
 

@@ -3,10 +3,11 @@ use Rattle.std.proofs.Common.{◌≡◌, ℕ, zero, suc, List, [], ◌∷◌, �
 use Rattle.std.specs.List.{flat_map, AllByRecursion}
 use Rattle.std.proofs.lemmas.List.{append-nil}
 use Rattle.std.proofs.lemmas.List.Concat.{flat_map-append}
-use Rattle.ldar_facts.specs.declared.batch.Batch.{Batch}
-use Rattle.ldar_facts.specs.declared.body.FactBody.{FactBody}
-use Rattle.ldar_facts.specs.Stated.{Stated}
-use Rattle.ldar_facts.specs.Fields.{Field, IsFilled, IsAmong, bytes_of, counts, body_number, fact_fields}
+use Rattle.fact_kinds.specs.declared.batch.Batch.{Batch}
+use Rattle.fact_kinds.specs.declared.body.FactBody.{FactBody}
+use Rattle.fact_kinds.specs.Stated.{Stated}
+use Rattle.fact_kinds.specs.Fields.{Field, IsFilled, IsAmong, bytes_of, counts, body_number, fact_fields}
+use Rattle.fact_kinds.proofs.Equality.{same_stated}
 use Rattle.ldar_facts.specs.Grammar.{spelled, batch_fields}
 use Rattle.ldar_facts.specs.FactForms as forms
 use Rattle.ldar_facts.proofs.FieldTies as field
@@ -14,14 +15,6 @@ use Rattle.ldar_facts.proofs.FieldTies.{AreFields}
 use Rattle.ldar_facts.proofs.BodyTies as kind
 
 -- ---- a fact
-
--- a fact of this day and minute that says this
-abbrev pub stated : ℕ → ℕ → FactBody → Stated
-stated day minute body = record { day = day; minute = minute; body = body }
-
--- facts with the same day, minute and body are the same
-pub same_stated : (d d' m m' : ℕ) (b b' : FactBody) → d ≡ d' → m ≡ m' → b ≡ b' → stated d m b ≡ stated d' m' b'
-same_stated d d' m m' b b' x y z = cc
 
 -- each filled fact has a way through the form of a fact
 fact_path : (fact : Stated) → AllByRecursion IsFilled (fact_fields fact) → (p : (forms.fact).Path) × ((forms.fact).value p ≡ fact)

@@ -3,21 +3,21 @@ use Rattle.std.proofs.Common.{◌≡◌, ℕ, zero, suc, Bool, true, false, List
 use Rattle.std.specs.Prelude.{if◌then◌else◌, ◌==◌}
 use Rattle.std.specs.List.{AllByRecursion}
 use Rattle.std.proofs.lemmas.Bool.{ne_eqb}
-use Rattle.ldar_facts.specs.declared.class.Class.{Class}
-use Rattle.ldar_facts.specs.declared.class.Kind.{Kind}
-use Rattle.ldar_facts.specs.declared.class.Kind.TheVariants.{Valve, Pump, Compressor, Relief}
-use Rattle.ldar_facts.specs.declared.class.Service.{Service}
-use Rattle.ldar_facts.specs.declared.class.Service.TheVariants.{Gas, Light, Heavy, Vacuum, Under300}
-use Rattle.ldar_facts.specs.declared.class.Designation.{Designation}
-use Rattle.ldar_facts.specs.declared.class.Designation.TheVariants.{Plain, Nde, Unsafe, Difficult}
-use Rattle.ldar_facts.specs.declared.body.Purpose.{Purpose}
-use Rattle.ldar_facts.specs.declared.body.Purpose.TheVariants.{Routine, FollowUp}
-use Rattle.ldar_facts.specs.declared.body.VisualState.{VisualState}
-use Rattle.ldar_facts.specs.declared.body.VisualState.TheVariants.{Dry, Drips, Designated}
-use Rattle.ldar_facts.specs.declared.body.Sort.{Sort}
-use Rattle.ldar_facts.specs.declared.body.Sort.TheVariants.{Sensor, Evidence}
-use Rattle.ldar_facts.specs.Fields as fields
-use Rattle.ldar_facts.specs.Fields.{Field, number, name, IsAmong, IsFilled, bytes_of, big_endian}
+use Rattle.fact_kinds.specs.declared.class.Class.{Class}
+use Rattle.fact_kinds.specs.declared.class.Kind.{Kind}
+use Rattle.fact_kinds.specs.declared.class.Kind.TheVariants.{Valve, Pump, Compressor, Relief}
+use Rattle.fact_kinds.specs.declared.class.Service.{Service}
+use Rattle.fact_kinds.specs.declared.class.Service.TheVariants.{Gas, Light, Heavy, Vacuum, Under300}
+use Rattle.fact_kinds.specs.declared.class.Designation.{Designation}
+use Rattle.fact_kinds.specs.declared.class.Designation.TheVariants.{Plain, Nde, Unsafe, Difficult}
+use Rattle.fact_kinds.specs.declared.body.Purpose.{Purpose}
+use Rattle.fact_kinds.specs.declared.body.Purpose.TheVariants.{Routine, FollowUp}
+use Rattle.fact_kinds.specs.declared.body.VisualState.{VisualState}
+use Rattle.fact_kinds.specs.declared.body.VisualState.TheVariants.{Dry, Drips, Designated}
+use Rattle.fact_kinds.specs.declared.body.Sort.{Sort}
+use Rattle.fact_kinds.specs.declared.body.Sort.TheVariants.{Sensor, Evidence}
+use Rattle.fact_kinds.specs.Fields as fields
+use Rattle.fact_kinds.specs.Fields.{Field, number, name, IsAmong, IsFilled, bytes_of, big_endian}
 use Rattle.ldar_facts.specs.Form.{Form}
 use Rattle.ldar_facts.specs.Grammar.{spelled}
 use Rattle.ldar_facts.specs.Letters.{name_form}

@@ -4,14 +4,14 @@ use Rattle.std.proofs.Common.{subst, ◌∙◌, append_assoc, length-append, ari
 use Rattle.std.specs.List.{flat_map, AllByRecursion}
 use Rattle.std.proofs.lemmas.Bool.{cases_lt}
 use Rattle.std.proofs.lemmas.List.{append-nil, length-replicate, take-append-drop, take-take}
-use Rattle.ldar_facts.specs.declared.batch.Batch.{Batch}
-use Rattle.ldar_facts.specs.declared.body.FactBody.{FactBody}
-use Rattle.ldar_facts.specs.declared.body.FactBody.TheVariants.{Unit as UnitFact, Component as ComponentFact, Class as ClassFact, Retire, Election}
-use Rattle.ldar_facts.specs.declared.body.FactBody.TheVariants.{Shutdown, Calibration, Precision, Drift, Reading, Visual, Attempt, Delay, Release}
-use Rattle.ldar_facts.specs.declared.body.FactBody.TheVariants.{Indication}
-use Rattle.ldar_facts.specs.Stated.{Stated}
-use Rattle.ldar_facts.specs.Name.{IsName, spelled_name}
-use Rattle.ldar_facts.specs.Fields.{IsFilled, IsFact, body_fields, fact_fields}
+use Rattle.fact_kinds.specs.declared.batch.Batch.{Batch}
+use Rattle.fact_kinds.specs.declared.body.FactBody.{FactBody}
+use Rattle.fact_kinds.specs.declared.body.FactBody.TheVariants.{Unit as UnitFact, Component as ComponentFact, Class as ClassFact, Retire, Election}
+use Rattle.fact_kinds.specs.declared.body.FactBody.TheVariants.{Shutdown, Calibration, Precision, Drift, Reading, Visual, Attempt, Delay, Release}
+use Rattle.fact_kinds.specs.declared.body.FactBody.TheVariants.{Indication}
+use Rattle.fact_kinds.specs.Stated.{Stated}
+use Rattle.fact_kinds.specs.Name.{IsName, spelled_name}
+use Rattle.fact_kinds.specs.Fields.{IsFilled, IsFact, body_fields, fact_fields}
 use Rattle.ldar_facts.specs.Grammar.{spelled, Spells, Begins, IsFirstWrongPlace}
 use Rattle.ldar_facts.specs.Compose.{ok_pair}
 use Rattle.ldar_facts.specs.FactForms.{batch}

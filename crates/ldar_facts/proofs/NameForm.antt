@@ -6,8 +6,8 @@ use Rattle.std.proofs.Common.{sym, ◌∙◌, inl, inr, append_assoc, length-app
 use Rattle.std.proofs.lemmas.Bool.{eqb-true, eqb-false, eq-eqb, ne_eqb, leb-true, le-leb, and_parts, and_from, or_cases, or_left, or_right}
 use Rattle.std.proofs.lemmas.List.{append-nil}
 use Rattle.std.proofs.lemmas.List.Folds.{list_all-append}
-use Rattle.ldar_facts.specs.Fields.{IsAmong, big_endian}
-use Rattle.ldar_facts.specs.Name.{IsName, is_name_byte, spelled_name}
+use Rattle.fact_kinds.specs.Fields.{IsAmong, big_endian}
+use Rattle.fact_kinds.specs.Name.{IsName, is_name_byte, spelled_name}
 use Rattle.ldar_facts.specs.Form.{Form}
 use Rattle.ldar_facts.specs.Compose.{either}
 use Rattle.ldar_facts.specs.Letters.{letters, letters_or_zero, letter, zeros, ended, behind, name_form}

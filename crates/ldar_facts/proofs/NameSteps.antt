@@ -5,7 +5,7 @@ use Rattle.std.proofs.lemmas.Bool.{eq-eqb, ne_eqb}
 use Rattle.std.proofs.lemmas.List.{take_all}
 use Rattle.ldar_facts.specs.declared.stop.Stop.{Stop}
 use Rattle.ldar_facts.specs.Form.{◌then◌}
-use Rattle.ldar_facts.specs.Name.{IsName}
+use Rattle.fact_kinds.specs.Name.{IsName}
 use Rattle.ldar_facts.specs.Number.{number_from}
 use Rattle.ldar_facts.specs.Letters.{letters_or_zero, zeros, ended, behind, name_form}
 use Rattle.ldar_facts.proofs.NameForm.{name_text}

@@ -4,7 +4,7 @@ use Rattle.std.specs.Prelude.{◌==◌}
 use Rattle.std.specs.List.{list_all}
 use Rattle.std.proofs.lemmas.Bool.{eqb-true, and_parts}
 use Rattle.std.proofs.lemmas.List.{drop-drop, take-append-drop, length-drop, length-take-le, take_all}
-use Rattle.ldar_facts.specs.Name.{IsName, is_name_byte, spelled_name}
+use Rattle.fact_kinds.specs.Name.{IsName, is_name_byte, spelled_name}
 use Rattle.ldar_facts.specs.Letters.{name_form}
 use Rattle.ldar_facts.proofs.NameForm.{name_text, name_path}
 
@@ -16,20 +16,17 @@ all_zeros (b ∷ bytes) h =
     let is : b ≡ 0 = eqb-true b 0 parts.0 in
     rw is (ap (λ l. 0 ∷ l) (all_zeros bytes parts.1))
 
--- letters at the front of twelve bytes, and zero bytes behind them, are a name in its twelve bytes
-pub padded_name : (len : ℕ) (bytes : List ℕ) → length bytes ≡ 12 → 0 < len → len ≤ 12 → list_all is_name_byte (take len bytes) ≡ true
-    → list_all (λ b. b == 0) (take (12 - len) (drop len bytes)) ≡ true
-    → (length (take len bytes) ≡ len) × (bytes ≡ spelled_name (take len bytes)) × IsName (take len bytes)
-padded_name len bytes twelve some fits letters zeros =
+-- a name at the front of twelve bytes, and zero bytes behind it, are the name in its twelve bytes
+pub padded_name : (len : ℕ) (bytes name : List ℕ) → length bytes ≡ 12 → len ≤ 12 → list_all (λ b. b == 0) (take (12 - len) (drop len bytes)) ≡ true
+    → name ≡ take len bytes → bytes ≡ spelled_name name
+padded_name len bytes name twelve fits zeros is =
     let behind = length-drop len bytes in
     let long : length (take len bytes) ≡ len = length-take-le len bytes (omega (arith, twelve, fits)) in
     let left : length (drop len bytes) ≡ 12 - length (take len bytes) = omega (arith, behind, long, twelve) in
-    let all : take (12 - len) (drop len bytes) ≡ drop len bytes = take_all (12 - len) (drop len bytes) (omega (arith, behind, twelve)) in (
-      long,
-      sym (take-append-drop len bytes)
-          ∙ ap (λ l. take len bytes ++ l) (all_zeros (drop len bytes) (rw all at zeros) ∙ ap (λ n. replicate n 0) left),
-      record { some = omega (arith, long, some); fits = omega (arith, long, fits); letters = letters },
-    )
+    let all : take (12 - len) (drop len bytes) ≡ drop len bytes = take_all (12 - len) (drop len bytes) (omega (arith, behind, twelve)) in
+    rw is
+    (sym (take-append-drop len bytes)
+    ∙ ap (λ l. take len bytes ++ l) (all_zeros (drop len bytes) (rw all at zeros) ∙ ap (λ n. replicate n 0) left))
 
 -- a name in its twelve bytes at a place is read
 pub name_stands : (at : ℕ) (bytes name : List ℕ) → IsName name → take 12 (drop at bytes) ≡ spelled_name name

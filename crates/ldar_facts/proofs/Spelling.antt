@@ -5,9 +5,9 @@ use Rattle.std.specs.Prelude.{OnOk}
 use Rattle.std.specs.List.{flat_map, AllByRecursion}
 use Rattle.std.proofs.lemmas.List.{append-nil, take_more, take_all}
 use Rattle.std.proofs.lemmas.List.Concat.{flat_map-append}
-use Rattle.ldar_facts.specs.declared.batch.Batch.{Batch}
-use Rattle.ldar_facts.specs.Stated.{Stated}
-use Rattle.ldar_facts.specs.Fields.{Field, number, IsFilled, IsFact, first_letters, handhelds, batch_numbers, counts, fact_fields}
+use Rattle.fact_kinds.specs.declared.batch.Batch.{Batch}
+use Rattle.fact_kinds.specs.Stated.{Stated}
+use Rattle.fact_kinds.specs.Fields.{Field, number, IsFilled, IsFact, first_letters, handhelds, batch_numbers, counts, fact_fields}
 use Rattle.ldar_facts.specs.Grammar.{spelled, Spells}
 use Rattle.ldar_facts.proofs.FactTies.{spelled-append, filled-append}
 

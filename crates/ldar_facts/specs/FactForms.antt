@@ -1,14 +1,14 @@
 -- How the private readers are proved; nothing here has to be believed. It stands in specs/ since their clauses cite it.
 -- How the facts of each kind are read, and a batch of them.
 use Rattle.std.specs.Prelude.{ℕ, zero, suc, ◌==◌, List, [], ◌∷◌, refl}
-use Rattle.ldar_facts.specs.declared.batch.Batch.{Batch}
-use Rattle.ldar_facts.specs.declared.body.FactBody.{FactBody}
-use Rattle.ldar_facts.specs.declared.body.FactBody.TheVariants.{Unit as UnitFact, Component as ComponentFact, Class as ClassFact, Retire, Election}
-use Rattle.ldar_facts.specs.declared.body.FactBody.TheVariants.{Shutdown, Calibration, Precision, Drift, Reading, Visual, Attempt, Delay, Release}
-use Rattle.ldar_facts.specs.declared.body.FactBody.TheVariants.{Indication}
+use Rattle.fact_kinds.specs.declared.batch.Batch.{Batch}
+use Rattle.fact_kinds.specs.declared.body.FactBody.{FactBody}
+use Rattle.fact_kinds.specs.declared.body.FactBody.TheVariants.{Unit as UnitFact, Component as ComponentFact, Class as ClassFact, Retire, Election}
+use Rattle.fact_kinds.specs.declared.body.FactBody.TheVariants.{Shutdown, Calibration, Precision, Drift, Reading, Visual, Attempt, Delay, Release}
+use Rattle.fact_kinds.specs.declared.body.FactBody.TheVariants.{Indication}
 use Rattle.ldar_facts.specs.declared.read_fact.Head.{Head}
-use Rattle.ldar_facts.specs.Fields as fields
-use Rattle.ldar_facts.specs.Stated.{Stated}
+use Rattle.fact_kinds.specs.Fields as fields
+use Rattle.fact_kinds.specs.Stated.{Stated}
 use Rattle.ldar_facts.specs.Form.{Form}
 use Rattle.ldar_facts.specs.Compose.{done, either, ◌>>=◌}
 use Rattle.ldar_facts.specs.Number.{number_form}

@@ -1,7 +1,7 @@
 -- How the private readers are proved; nothing here has to be believed. It stands in specs/ since their clauses cite it.
 -- What stands at the front of some bytes, from how the form of a batch was read.
 use Rattle.std.specs.Prelude.{ℕ, ◌-◌, ◌≤◌, length, Ok, Err}
-use Rattle.ldar_facts.specs.declared.batch.Batch.{Batch}
+use Rattle.fact_kinds.specs.declared.batch.Batch.{Batch}
 use Rattle.ldar_facts.specs.declared.read.Read.{Read}
 use Rattle.ldar_facts.specs.declared.read.Read.TheVariants as reads
 use Rattle.ldar_facts.specs.declared.stop.Stop.{Stop}

@@ -1,10 +1,10 @@
 -- The grammar of batches: which bytes are a batch, may become one, or go wrong, and where.
 use Rattle.std.specs.Prelude.{◌≡◌, ℕ, ◌+◌, ◌<◌, List, ◌∷◌, ◌++◌, length, take}
 use Rattle.std.specs.List.{flat_map, AllByRecursion}
-use Rattle.ldar_facts.specs.declared.batch.Batch.{Batch}
+use Rattle.fact_kinds.specs.declared.batch.Batch.{Batch}
 use Rattle.ldar_facts.specs.declared.read.Read.{Read}
 use Rattle.ldar_facts.specs.declared.read.Read.TheVariants.{Whole, Short, Bad}
-use Rattle.ldar_facts.specs.Fields.{Field, number, IsFilled, bytes_of, first_letters, handhelds, batch_numbers, counts, fact_fields}
+use Rattle.fact_kinds.specs.Fields.{Field, number, IsFilled, bytes_of, first_letters, handhelds, batch_numbers, counts, fact_fields}
 
 -- the fields of a batch, in order: the letter B, who sends it, its number, how many facts, and theirs
 abbrev pub batch_fields : Batch → List Field

@@ -1,15 +1,9 @@
 pub mod Compose
 pub mod FactForms
-pub mod Facts
 pub mod FieldForms
-pub mod Fields
 pub mod Form
 pub mod Front
 pub mod Grammar
-pub mod Identity
 pub mod Letters
-pub mod Name
-pub mod Named
 pub mod Number
 pub mod Places
-pub mod Stated

@@ -10,7 +10,7 @@ use Rattle.std.proofs.lemmas.Nat.{mul-le, le-div, div_below}
 use Rattle.std.proofs.Math.Nat.{pow-suc, one-le-pow, div-eq_of_lt-le}
 use Rattle.ldar_facts.specs.declared.stop.Stop.{Stop}
 use Rattle.ldar_facts.specs.declared.stop.Stop.TheVariants.{Short, Wrong}
-use Rattle.ldar_facts.specs.Fields.{IsAmong, big_endian}
+use Rattle.fact_kinds.specs.Fields.{IsAmong, big_endian}
 use Rattle.ldar_facts.specs.Compose.{ok_pair}
 use Rattle.ldar_facts.specs.Form.{Outcome, ◌then◌, IsBytes, IsWrong, Reads, Form}
 

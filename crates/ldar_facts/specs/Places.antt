@@ -3,7 +3,7 @@
 use Rattle.std.specs.Prelude.{◌≡◌, ℕ, ◌-◌, nat_lt, if◌then◌else◌, List, [], ◌∷◌, ◌++◌, drop, Ok}
 use Rattle.ldar_facts.specs.declared.stop.Stop.{Stop}
 use Rattle.ldar_facts.specs.declared.stop.Stop.TheVariants.{Short, Wrong}
-use Rattle.ldar_facts.specs.Stated.{Stated}
+use Rattle.fact_kinds.specs.Stated.{Stated}
 use Rattle.ldar_facts.specs.Form.{◌then◌}
 use Rattle.ldar_facts.specs.FactForms as forms
 

@@ -5,16 +5,15 @@ ghost use Rattle.ldar_facts.specs.Form.{Takes};
 ghost use Rattle.ldar_facts.specs.FactForms as forms;
 ghost use Rattle.ldar_facts.specs.Places.{GoesOn, TakesFact};
 
-use crate::body::FactBody;
 use crate::body_at::{
     LONGEST_FACT, attempt_at, calibration_at, class_fact_at, component_at, delay_at, drift_at,
     election_at, indication_at, precision_at, reading_at, release_at, retire_at, shutdown_at,
     unit_at, visual_at,
 };
-use crate::fact::Fact;
 use crate::field_at::{byte_at, day_at, two_bytes_at};
 use crate::ranges::LAST_MINUTE;
 use crate::stop::Stop;
+use fact_kinds::{Fact, FactBody};
 use ldar_days::Day;
 
 /// What stands before what a fact says.

@@ -4,14 +4,13 @@ ghost use Rattle.std.specs.Prelude.{◌+◌, ◌<◌, ◌≤◌, length, drop};
 ghost use Rattle.ldar_facts.specs.Form.{Takes};
 ghost use Rattle.ldar_facts.specs.FactForms as forms;
 
-use crate::body::FactBody;
 use crate::field_at::{
     byte_at, class_at, day_at, day_or_none_at, flag_at, four_bytes_at, kind_at, mode_at, name_at,
     purpose_at, readings_at, sort_at, state_at, two_bytes_at,
 };
-use crate::limits::LONGEST_SHUTDOWN;
 use crate::ranges::{LAST_COMPONENT, LAST_UNIT, MOST_PPM};
 use crate::stop::Stop;
+use fact_kinds::{FactBody, LONGEST_SHUTDOWN};
 
 /// The bytes of the longest fact, a precision test or a drift assessment.
 pub(crate) const LONGEST_FACT: usize = 23;

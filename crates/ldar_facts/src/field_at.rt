@@ -6,13 +6,12 @@ ghost use Rattle.ldar_facts.specs.Number.{number_from, among, stop_of};
 ghost use Rattle.ldar_facts.specs.Letters.{name_form};
 ghost use Rattle.ldar_facts.specs.FieldForms as forms;
 
-use crate::body::{Purpose, Sort, VisualState};
-use crate::class::{Class, Designation, Kind, Service};
 use crate::cursor::Cursor;
-use crate::name::Name;
+use crate::padded_name::padded_name;
 use crate::ranges::{DAYS_OR_NONE, MODES, MOST_PPM};
 use crate::read_number::{self, first_wrong};
 use crate::stop::Stop;
+use fact_kinds::{Class, Designation, Kind, Name, Purpose, Service, Sort, VisualState};
 use ldar_days::Day;
 
 /// Whether the number lies in the range.
@@ -131,7 +130,7 @@ pub(crate) fn name_at(bytes: &[u8], at: usize) -> Result<Name, Stop>
 {
     let mut padded = [0u8; 12];
     padded.copy_from_slice(&bytes[at..at + 12]);
-    match Name::of_padded(padded) {
+    match padded_name(padded) {
         Some(name) => Ok(name),
         None => name_by_letters(bytes_from(bytes, at)),
     }

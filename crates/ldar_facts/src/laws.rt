@@ -1,7 +1,7 @@
 //! Laws of the batch grammar. Each function has an empty body, and its clauses say the law.
 
 ghost use Rattle.std.specs.Prelude.{◌≡◌, ℕ, ◌+◌, ◌*◌, ◌≤◌, List, [], ◌++◌, length};
-ghost use Rattle.ldar_facts.specs.declared.batch.Batch.{Batch};
+ghost use Rattle.fact_kinds.specs.declared.batch.Batch.{Batch};
 ghost use Rattle.ldar_facts.specs.Grammar.{Spells, Begins, IsFirstWrongPlace};
 
 /// The bytes of the longest batch: 9, and 23 for each of 512 facts.

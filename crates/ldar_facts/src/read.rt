@@ -1,13 +1,13 @@
 ghost use Rattle.std.specs.Prelude.{◌≡◌, ℕ, ◌≤◌, length, take, IfOk};
-ghost use Rattle.ldar_facts.specs.declared.batch.Batch.{Batch};
+ghost use Rattle.fact_kinds.specs.declared.batch.Batch.{Batch};
 ghost use Rattle.ldar_facts.specs.declared.read.Read.{Read};
 ghost use Rattle.ldar_facts.specs.FactForms as forms;
 ghost use Rattle.ldar_facts.specs.Front.{IsWithin, read_of, read_of_stop};
 ghost use Rattle.ldar_facts.specs.Grammar.{Spells, Begins, HasNoBatch, IsFirstWrongPlace, IfWhole, OnShort, IfBad};
 
-use crate::batch::Batch;
 use crate::cursor::Cursor;
 use crate::stop::Stop;
+use fact_kinds::Batch;
 use std::alloc::{AllocError, Global};
 
 /// What stands at the front of some bytes.

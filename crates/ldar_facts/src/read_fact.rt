@@ -4,11 +4,10 @@ ghost use Rattle.ldar_facts.specs.FactForms as forms;
 ghost use Rattle.ldar_facts.specs.Places.{TakesFact, stop_before};
 
 use crate::add_fact::add_fact;
-use crate::batch::FactList;
 use crate::body_at::LONGEST_FACT;
 use crate::cursor::Cursor;
-use crate::fact::Fact;
 use crate::stop::Stop;
+use fact_kinds::{Fact, FactList};
 
 /// What stands before the facts of a batch.
 #[derive(Clone, Copy)]

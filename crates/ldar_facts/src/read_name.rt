@@ -2,8 +2,8 @@ ghost use Rattle.ldar_facts.specs.Form.{Takes};
 ghost use Rattle.ldar_facts.specs.Letters.{name_form, zeros};
 
 use crate::cursor::Cursor;
-use crate::name::Name;
 use crate::stop::Stop;
+use fact_kinds::Name;
 
 /// What may stand in a name: hyphen, digits and capital letters.
 const LETTERS: [(u32, u32); 3] = [(45, 45), (48, 57), (65, 90)];

@@ -1,11 +1,10 @@
 ghost use Rattle.std.specs.Prelude.{◌≡◌, ◌++◌, OnOk, OnErr, IfOk};
-ghost use Rattle.ldar_facts.specs.Fields.{IsFact, fact_fields};
+ghost use Rattle.fact_kinds.specs.Fields.{IsFact, fact_fields};
 ghost use Rattle.ldar_facts.specs.Grammar.{Spells, batch_fields, spelled};
 
-use crate::batch::Batch;
-use crate::fact::Fact;
 use crate::write_body::{number_of, put_body};
 use crate::write_field::{put_byte, put_day, put_four_bytes, put_two_bytes};
+use fact_kinds::{Batch, Fact};
 use std::alloc::{AllocError, Global};
 
 /// Adds the one spelling of a batch at the end.

@@ -1,15 +1,13 @@
 ghost use Rattle.std.specs.Prelude.{◌≡◌, ◌++◌, OnOk};
-ghost use Rattle.ldar_facts.specs.declared.body.FactBody.TheVariants as says;
-ghost use Rattle.ldar_facts.specs.Fields.{body_fields, body_number};
+ghost use Rattle.fact_kinds.specs.declared.body.FactBody.TheVariants as says;
+ghost use Rattle.fact_kinds.specs.Fields.{body_fields, body_number};
 ghost use Rattle.ldar_facts.specs.Grammar.{spelled};
 
-use crate::body::{FactBody, Purpose, Sort, VisualState};
-use crate::class::{Class, Kind};
-use crate::name::Name;
 use crate::write_field::{
     kind_number, purpose_number, put_byte, put_class, put_day, put_day_or_none, put_flag,
     put_four_bytes, put_name, put_readings, put_two_bytes, sort_number, state_number,
 };
+use fact_kinds::{Class, FactBody, Kind, Name, Purpose, Sort, VisualState};
 use ldar_days::Day;
 use std::alloc::AllocError;
 

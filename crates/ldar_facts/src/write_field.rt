@@ -1,11 +1,9 @@
 ghost use Rattle.std.specs.Prelude.{◌≡◌, ℕ, ◌++◌, List, OnOk};
-ghost use Rattle.ldar_facts.specs.Fields as fields;
-ghost use Rattle.ldar_facts.specs.Name.{spelled_name};
+ghost use Rattle.fact_kinds.specs.Fields as fields;
+ghost use Rattle.fact_kinds.specs.Name.{spelled_name};
 ghost use Rattle.ldar_facts.specs.Grammar.{spelled};
 
-use crate::body::{Purpose, Sort, VisualState};
-use crate::class::{Class, Designation, Kind, Service};
-use crate::name::Name;
+use fact_kinds::{Class, Designation, Kind, Name, Purpose, Service, Sort, VisualState};
 use ldar_days::Day;
 use std::alloc::AllocError;
 

@@ -1,5 +1,6 @@
 use crate::case::{Case, Front};
-use ldar_facts::{Batch, Read, read_batch, write_batch};
+use fact_kinds::Batch;
+use ldar_facts::{Read, read_batch, write_batch};
 use std::alloc::{AllocError, Global};
 
 /// How many cases were compared, and in how many of each sort the table and `ldar_facts` agree.

@@ -7,8 +7,8 @@ use Rattle.std.proofs.lemmas.Grind.{flat_map-append}
 use Rattle.std.proofs.lemmas.List.{append-nil, take-append-drop, take-append-le, drop-append-le, length-take-le}
 use Rattle.std.proofs.lemmas.Nat.{be_bytes_4}
 use Rattle.std.proofs.Math.Seq.{take-append_seam, drop-append_seam}
-use Rattle.ldar_facts.specs.declared.batch.Batch.{Batch}
-use Rattle.ldar_facts.specs.Fields.{big_endian}
+use Rattle.fact_kinds.specs.declared.batch.Batch.{Batch}
+use Rattle.fact_kinds.specs.Fields.{big_endian}
 use Rattle.ldar_facts.specs.Grammar.{Spells, HasNoBatch}
 use Rattle.ldar_journal.specs.Image.{IsBatch, spelling, payload, frame, IsFrame}
 use Rattle.ldar_journal.specs.FrameAt.{IsPayloadAt, IsFrameOf, HasNoFrame}

@@ -1,8 +1,8 @@
 -- Frames one after the other can be read in one way only.
 use Rattle.std.proofs.Common.{◌≡◌, ℕ, ◌*◌, ◌/◌, ◌%◌, ◌<◌, ◌≤◌, List, [], ◌∷◌, ◌++◌, length, refl, sym, ◌∙◌, arith, append_assoc, length-append}
 use Rattle.std.specs.List.{AllByRecursion}
-use Rattle.ldar_facts.specs.declared.batch.Batch.{Batch}
-use Rattle.ldar_facts.specs.Fields.{big_endian}
+use Rattle.fact_kinds.specs.declared.batch.Batch.{Batch}
+use Rattle.fact_kinds.specs.Fields.{big_endian}
 use Rattle.std.proofs.lemmas.List.Sums.{sum_by-append}
 use Rattle.ldar_journal.specs.Image.{IsBatch, spelling, payload, frame, IsFrame, fact_count}
 use Rattle.ldar_journal.proofs.GrammarLaws.{one_batch, length-spelling, facts-batch}

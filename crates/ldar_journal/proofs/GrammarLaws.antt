@@ -1,6 +1,6 @@
 -- What the grammar of batches says of batches one after the other.
 use Rattle.std.proofs.Common.{◌≡◌, ℕ, ◌≤◌, List, ◌++◌, length, refl, sym, ◌∙◌, ap, arith}
-use Rattle.ldar_facts.specs.declared.batch.Batch.{Batch}
+use Rattle.fact_kinds.specs.declared.batch.Batch.{Batch}
 use Rattle.ldar_facts.specs.FactForms.{batch}
 use Rattle.ldar_facts.specs.Grammar.{Spells}
 use Rattle.ldar_facts.specs.Compose.{ok_pair}

@@ -6,8 +6,8 @@ use Rattle.std.proofs.lemmas.Grind.{flat_map-append, common_steps}
 use Rattle.std.proofs.lemmas.List.{take-append-drop, append_cancel_left, append-nil, length-take-le}
 use Rattle.std.proofs.lemmas.List.Sums.{sum_by-append}
 use Rattle.std.proofs.lemmas.List.Folds.{list_any-append}
-use Rattle.ldar_facts.specs.declared.batch.Batch.{Batch}
-use Rattle.ldar_facts.specs.Identity.{is_same_identity, identities_differ}
+use Rattle.fact_kinds.specs.declared.batch.Batch.{Batch}
+use Rattle.fact_kinds.specs.Identity.{is_same_identity, identities_differ}
 use Rattle.ldar_journal.specs.Image.{header, payload, frame, batches_of, end_of, IsFrame, IsFront, fact_count, IsKept, EndsAt, OpensTo, Opens}
 use Rattle.ldar_journal.specs.Damage.{IsNextFrame, IsDamagedAt}
 use Rattle.ldar_journal.specs.FrameAt.{IsFrameOf}

@@ -4,7 +4,7 @@ use Rattle.std.proofs.Common.{Option, Some, None, refl, sym, ◌∙◌, ap, subs
 use Rattle.std.proofs.lemmas.List.{take-append-drop}
 use Rattle.disk_model.specs.Told.{BothTold}
 use Rattle.disk_model.proofs.ToldLemmas.{BothTold-weaker, BothTold-joins}
-use Rattle.ldar_facts.specs.declared.batch.Batch.{Batch}
+use Rattle.fact_kinds.specs.declared.batch.Batch.{Batch}
 use Rattle.ldar_journal.specs.FrameAt.{IsFrameOf, HasNoFrame}
 use Rattle.ldar_journal.specs.Image.{frame}
 use Rattle.ldar_journal.specs.Opening.{IsBadAt}

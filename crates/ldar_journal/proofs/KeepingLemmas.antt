@@ -5,9 +5,9 @@ use Rattle.std.specs.List.{position_from}
 use Rattle.std.proofs.lemmas.List.{take-take, take_all, length-take-le, map-append, take-append-drop, length-map, append-nil}
 use Rattle.std.proofs.Math.Seq.{take-append_seam, take-suc}
 use Rattle.batch_positions.specs.Positions.{is_identity, position_in, PositionsState}
-use Rattle.ldar_facts.specs.declared.batch.Batch.{Batch}
-use Rattle.ldar_facts.specs.declared.identity.Identity.{Identity}
-use Rattle.ldar_facts.specs.Identity.{identity_of, is_of, position_of}
+use Rattle.fact_kinds.specs.declared.batch.Batch.{Batch}
+use Rattle.fact_kinds.specs.declared.identity.Identity.{Identity}
+use Rattle.fact_kinds.specs.Identity.{identity_of, is_of, position_of}
 use Rattle.ldar_journal.specs.Image.{fact_count, IsKept}
 use Rattle.ldar_journal.specs.Known.{IsKnown, AddsBatch}
 use Rattle.ldar_journal.proofs.Histories.{IsKept-front}

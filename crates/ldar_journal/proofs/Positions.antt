@@ -8,9 +8,9 @@ use Rattle.std.proofs.lemmas.Bool.Decides.{nat_tests}
 use Rattle.std.proofs.lemmas.Grind.{common_steps}
 use Rattle.std.proofs.lemmas.List.Folds.{list_any-append}
 use Rattle.std.proofs.lemmas.List.Sums.{sum_by-append}
-use Rattle.ldar_facts.specs.declared.batch.Batch.{Batch}
-use Rattle.ldar_facts.specs.declared.identity.Identity.{Identity}
-use Rattle.ldar_facts.specs.Identity.{identity_of, is_of, is_same_identity, identities_differ, position_of}
+use Rattle.fact_kinds.specs.declared.batch.Batch.{Batch}
+use Rattle.fact_kinds.specs.declared.identity.Identity.{Identity}
+use Rattle.fact_kinds.specs.Identity.{identity_of, is_of, is_same_identity, identities_differ, position_of}
 use Rattle.ldar_journal.specs.Image.{fact_count, IsKept}
 
 -- the first place that passes, in a list with one more element

@@ -8,8 +8,8 @@ use Rattle.std.proofs.lemmas.Bool.{cases_Bool}
 use Rattle.disk_model.specs.Images.{Same, Only}
 use Rattle.disk_model.specs.Told.{Told, BothTold}
 use Rattle.disk_model.proofs.ToldLemmas.{BothTold-weaker, BothTold-joins, Told-after, Told-weaker}
-use Rattle.ldar_facts.specs.declared.batch.Batch.{Batch}
-use Rattle.ldar_facts.specs.declared.identity.Identity.{Identity}
+use Rattle.fact_kinds.specs.declared.batch.Batch.{Batch}
+use Rattle.fact_kinds.specs.declared.identity.Identity.{Identity}
 use Rattle.ldar_journal.specs.Damage.{IsNextFrame, IsDamagedAt}
 use Rattle.ldar_journal.specs.FrameAt.{IsFrameOf}
 use Rattle.ldar_journal.specs.Image.{header, payload, frame, batches_of, end_of, IsFrame, IsFront, fact_count, IsKept}

@@ -9,8 +9,8 @@ use Rattle.disk_model.specs.Disk.{Torn}
 use Rattle.disk_model.specs.Images.{Only}
 use Rattle.disk_model.specs.Told.{Told, BothTold}
 use Rattle.disk_model.proofs.ToldLemmas.{Told-after, Told-weaker, Told-both}
-use Rattle.ldar_facts.specs.declared.batch.Batch.{Batch}
-use Rattle.ldar_facts.specs.Fields.{big_endian}
+use Rattle.fact_kinds.specs.declared.batch.Batch.{Batch}
+use Rattle.fact_kinds.specs.Fields.{big_endian}
 use Rattle.ldar_journal.specs.Image.{payload, frame, batches_of, end_of, IsFrame, IsFront, IsKept, EndsAt, OpensTo}
 use Rattle.ldar_journal.specs.Damage.{IsDamagedAt}
 use Rattle.ldar_journal.specs.FrameAt.{IsFrameOf}

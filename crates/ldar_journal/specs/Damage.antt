@@ -1,6 +1,6 @@
 -- Why the bytes of a file open to no history.
 use Rattle.std.specs.Prelude.{◌≡◌, ◌⊎◌, ℕ, ◌≤◌, List, ◌++◌, length, take, drop, slice_index}
-use Rattle.ldar_facts.specs.declared.batch.Batch.{Batch}
+use Rattle.fact_kinds.specs.declared.batch.Batch.{Batch}
 use Rattle.ldar_journal.specs.declared.opening.OpenWhy.{OpenWhy}
 use Rattle.ldar_journal.specs.declared.opening.OpenWhy.TheVariants.{Disk, NotAJournal, Damaged, Memory}
 use Rattle.ldar_journal.specs.Image.{frame, batches_of, IsFrame, IsFront, IsKept}

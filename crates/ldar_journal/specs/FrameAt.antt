@@ -1,8 +1,8 @@
 -- What stands at the front of some bytes of a journal.
 use Rattle.std.specs.Prelude.{◌≡◌, ℕ, ◌<◌, ◌≤◌, List, ◌∷◌, ◌++◌, length, drop}
 use Rattle.ldar_journal.specs.declared.frame.TheConstants.{MOST_PAYLOAD}
-use Rattle.ldar_facts.specs.declared.batch.Batch.{Batch}
-use Rattle.ldar_facts.specs.Fields.{big_endian}
+use Rattle.fact_kinds.specs.declared.batch.Batch.{Batch}
+use Rattle.fact_kinds.specs.Fields.{big_endian}
 use Rattle.ldar_journal.specs.Image.{frame, IsFrame}
 
 -- an open gate, a length in range, and a payload of that length

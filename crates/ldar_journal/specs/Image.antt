@@ -1,11 +1,11 @@
 -- The bytes of a journal, and the history that they open to.
 use Rattle.std.specs.Prelude.{◌≡◌, ◌≢◌, ℕ, ◌+◌, ◌<◌, ◌≤◌, List, ◌∷◌, ◌++◌, length, take, codes, replicate, sum_by, slice_index, IsTrue}
 use Rattle.std.specs.List.{flat_map, AllByRecursion}
-use Rattle.ldar_facts.specs.declared.limits.TheConstants.{MOST_FACTS, FRAME_BATCHES}
-use Rattle.ldar_facts.specs.declared.batch.Batch.{Batch}
-use Rattle.ldar_facts.specs.Fields.{IsFilled, big_endian}
+use Rattle.fact_kinds.specs.declared.limits.TheConstants.{MOST_FACTS, FRAME_BATCHES}
+use Rattle.fact_kinds.specs.declared.batch.Batch.{Batch}
+use Rattle.fact_kinds.specs.Fields.{IsFilled, big_endian}
 use Rattle.ldar_facts.specs.Grammar.{batch_fields, spelled}
-use Rattle.ldar_facts.specs.Identity.{identities_differ}
+use Rattle.fact_kinds.specs.Identity.{identities_differ}
 
 -- what a journal begins with: its name and version in letters, and eight zero bytes
 abbrev pub header : List ℕ

@@ -1,10 +1,10 @@
 -- What is known of the batches that were read.
 use Rattle.std.specs.Prelude.{◌≡◌, ℕ, ◌+◌, ◌≤◌, None, List, [], ◌∷◌, ◌++◌, length, map}
-use Rattle.ldar_facts.specs.declared.limits.TheConstants.{MOST_FACTS}
+use Rattle.fact_kinds.specs.declared.limits.TheConstants.{MOST_FACTS}
 use Rattle.batch_positions.specs.Positions.{position_in, PositionsState}
-use Rattle.ldar_facts.specs.declared.batch.Batch.{Batch}
-use Rattle.ldar_facts.specs.declared.identity.Identity.{Identity}
-use Rattle.ldar_facts.specs.Identity.{identity_of}
+use Rattle.fact_kinds.specs.declared.batch.Batch.{Batch}
+use Rattle.fact_kinds.specs.declared.identity.Identity.{Identity}
+use Rattle.fact_kinds.specs.Identity.{identity_of}
 use Rattle.ldar_journal.specs.Image.{fact_count, IsKept}
 
 -- these are the identities of the batches in order and how many facts they have, and the batches may be kept

@@ -3,8 +3,8 @@ use Rattle.std.specs.Prelude.{◌≡◌, ◌≢◌, ◌⊎◌, ℕ, ◌<◌, ◌
 use Rattle.disk_model.specs.Images.{Only}
 use Rattle.disk_model.specs.Told.{Told, BothTold}
 use Rattle.batch_positions.specs.Positions.{PositionsState}
-use Rattle.ldar_facts.specs.declared.batch.Batch.{Batch}
-use Rattle.ldar_facts.specs.declared.identity.Identity.{Identity}
+use Rattle.fact_kinds.specs.declared.batch.Batch.{Batch}
+use Rattle.fact_kinds.specs.declared.identity.Identity.{Identity}
 use Rattle.ldar_journal.specs.declared.judging.Judged.{Judged}
 use Rattle.ldar_journal.specs.declared.judging.Judged.TheVariants.{Closed, Bad, Whole}
 use Rattle.ldar_journal.specs.declared.opening.OpenWhy.{OpenWhy}

@@ -1,8 +1,8 @@
 -- A journal over its disk.
 use Rattle.std.specs.Prelude.{◌≡◌, ◌⊎◌, ℕ, ◌+◌, ◌<◌, Option, List, [], ◌∷◌, ◌++◌, length, take, drop}
 use Rattle.std.specs.List.{AllByRecursion}
-use Rattle.ldar_facts.specs.declared.batch.Batch.{Batch}
-use Rattle.ldar_facts.specs.Fields.{big_endian}
+use Rattle.fact_kinds.specs.declared.batch.Batch.{Batch}
+use Rattle.fact_kinds.specs.Fields.{big_endian}
 use Rattle.ldar_journal.specs.Crash.{OnDisk}
 use Rattle.ldar_journal.specs.Image.{payload, batches_of, end_of, IsFrame, IsFront, IsKept, EndsAt, OpensTo, Opens}
 

@@ -1,11 +1,11 @@
 ghost use Rattle.std.specs.Prelude.{◌≡◌, ℕ, ◌-◌, ◌≤◌, length, slice_get, Some};
-ghost use Rattle.ldar_facts.specs.declared.limits.TheConstants.{MOST_FACTS};
-ghost use Rattle.ldar_facts.specs.Identity.{position_of};
+ghost use Rattle.fact_kinds.specs.declared.limits.TheConstants.{MOST_FACTS};
+ghost use Rattle.fact_kinds.specs.Identity.{position_of};
 ghost use Rattle.ldar_journal.specs.Image.{fact_count, IsKept};
 ghost use Rattle.ldar_journal.specs.Known.{IsKnown};
 
 use batch_positions::Positions;
-use ldar_facts::{Batch, Identity};
+use fact_kinds::{Batch, Identity};
 use std::marker::Model;
 
 /// The batches of a history in order, each identity once, with at most 8,000,000 facts together. Each is found by its identity.
@@ -18,7 +18,7 @@ pub struct Accepted {
 
 impl Model for Accepted {
     ghost use Rattle.std.specs.Prelude.{List, length, ◌≤◌};
-    ghost use Rattle.ldar_facts.specs.declared.batch.Batch.{Batch};
+    ghost use Rattle.fact_kinds.specs.declared.batch.Batch.{Batch};
     ghost use Rattle.ldar_journal.specs.Image.{fact_count};
     ghost use Rattle.ldar_journal.specs.Known.{IsKnown};
 

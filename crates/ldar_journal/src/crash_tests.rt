@@ -1,6 +1,7 @@
 use crate::{CreateError, Journal, Settled, Torn, create, open_journal, prepare};
 use disk_model::{Disk, DiskFault, MemoryDisk, SureDisk};
-use ldar_facts::{Batch, Read, read_batch};
+use fact_kinds::Batch;
+use ldar_facts::{Read, read_batch};
 use std::alloc::Global;
 use std::test::Fail;
 

@@ -2,10 +2,11 @@ ghost use Rattle.std.specs.Prelude.{◌≡◌, ℕ, ◌+◌, ◌≤◌, ◌<◌,
 ghost use Rattle.std.specs.Bool.{MatchBool};
 ghost use Rattle.std.specs.Option.{MatchOption};
 ghost use Rattle.ldar_journal.specs.Image.{payload, IsFrame};
-ghost use Rattle.ldar_facts.specs.declared.batch.Batch.{Batch};
+ghost use Rattle.fact_kinds.specs.declared.batch.Batch.{Batch};
 ghost use Rattle.ldar_journal.specs.FrameAt.{IsFrameOf, HasNoFrame, IsPayloadAt};
 
-use ldar_facts::{Batch, FRAME_BATCHES, Memory, Read, read_batch};
+use fact_kinds::{Batch, FRAME_BATCHES, Memory};
+use ldar_facts::{Read, read_batch};
 use std::alloc::Global;
 
 /// The most bytes that a frame's payload may have: 16 batches of 11,785 bytes.

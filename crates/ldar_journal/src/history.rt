@@ -1,7 +1,7 @@
 ghost use Rattle.std.specs.Prelude.{◌≡◌, [], ◌∷◌, ◌++◌};
 
+use fact_kinds::Batch;
 use http_server::Log;
-use ldar_facts::Batch;
 use std::marker::Model;
 use std::snapshot::Snapshot;
 
@@ -13,7 +13,7 @@ pub struct Chapter {
 
 impl Model for Chapter {
     ghost use Rattle.std.specs.Prelude.{List, map};
-    ghost use Rattle.ldar_facts.specs.declared.batch.Batch.{Batch};
+    ghost use Rattle.fact_kinds.specs.declared.batch.Batch.{Batch};
 
     ghost Value = { List Batch };
 
@@ -56,7 +56,7 @@ pub struct Frames {
 
 impl Model for Frames {
     ghost use Rattle.std.specs.Prelude.{List, map};
-    ghost use Rattle.ldar_facts.specs.declared.batch.Batch.{Batch};
+    ghost use Rattle.fact_kinds.specs.declared.batch.Batch.{Batch};
 
     ghost Value = { List (List Batch) };
 

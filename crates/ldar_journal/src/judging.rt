@@ -12,7 +12,7 @@ use crate::frame::{bytes_wanted, frame_at};
 use crate::opening::OpenWhy;
 use crate::window::{Window, fill};
 use disk_model::{Disk, DiskFault};
-use ldar_facts::Batch;
+use fact_kinds::Batch;
 use std::alloc::Global;
 
 /// What stands at the place of a gate.

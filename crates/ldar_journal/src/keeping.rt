@@ -1,13 +1,13 @@
 ghost use Rattle.std.specs.Prelude.{◌≡◌, ◌≢◌, ◌⊎◌, ◌+◌, ◌-◌, ◌<◌, ◌≤◌, [], ◌∷◌, ◌++◌, length, take, None, IfSome, IsNone};
-ghost use Rattle.ldar_facts.specs.declared.limits.TheConstants.{MOST_FACTS};
+ghost use Rattle.fact_kinds.specs.declared.limits.TheConstants.{MOST_FACTS};
 ghost use Rattle.batch_positions.specs.Positions.{position_in};
-ghost use Rattle.ldar_facts.specs.Identity.{identity_of};
+ghost use Rattle.fact_kinds.specs.Identity.{identity_of};
 ghost use Rattle.ldar_journal.specs.Image.{batches_of, IsKept};
 ghost use Rattle.ldar_journal.specs.Known.{IsKnown, AddsBatch};
 
 use crate::history::Frames;
 use batch_positions::Positions;
-use ldar_facts::{Batch, MOST_FACTS};
+use fact_kinds::{Batch, MOST_FACTS};
 
 /// Adds the batches of one frame more to the identities of these frames, and gives how many facts there are then, unless they
 /// can't all be kept: then the identities stay. It takes no memory.

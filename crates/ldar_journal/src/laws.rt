@@ -1,6 +1,6 @@
 //! Laws of the journal's bytes, as contracts of functions with nothing to do.
 ghost use Rattle.std.specs.Prelude.{◌≡◌, ◌≢◌, ℕ, List, [], ◌∷◌, ◌++◌, take, drop};
-ghost use Rattle.ldar_facts.specs.declared.batch.Batch.{Batch};
+ghost use Rattle.fact_kinds.specs.declared.batch.Batch.{Batch};
 ghost use Rattle.ldar_journal.specs.Image.{header, frame, end_of, EndsAt, OpensTo, Opens};
 ghost use Rattle.ldar_journal.specs.Damage.{IsDamagedAt};
 ghost use Rattle.ldar_journal.specs.Shelf.{OpensToEither};

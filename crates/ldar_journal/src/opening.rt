@@ -13,7 +13,7 @@ use crate::accepted::Accepted;
 use crate::journal::Journal;
 use crate::reader::Opening;
 use disk_model::{Disk, DiskFault};
-use ldar_facts::Batch;
+use fact_kinds::Batch;
 use std::alloc::{AllocError, Global};
 
 /// Why a journal was not opened.

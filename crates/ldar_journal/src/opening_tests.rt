@@ -2,7 +2,7 @@ ghost use Rattle.std.specs.Prelude.{◌^◌, ◌-◌, None};
 
 use crate::{OpenWhy, Opening, open_accepted, open_journal};
 use disk_model::{Disk, DiskFault, MemoryDisk};
-use ldar_facts::Identity;
+use fact_kinds::Identity;
 use std::alloc::Global;
 use std::test::Fail;
 

@@ -1,11 +1,12 @@
 ghost use Rattle.std.specs.Prelude.{◌≡◌, ◌<◌, ◌≤◌, [], ◌∷◌, ◌++◌, length, IfOk, OnOk};
 ghost use Rattle.std.specs.List.{AllByRecursion};
-ghost use Rattle.ldar_facts.specs.declared.limits.TheConstants.{FRAME_BATCHES};
+ghost use Rattle.fact_kinds.specs.declared.limits.TheConstants.{FRAME_BATCHES};
 ghost use Rattle.ldar_journal.specs.Image.{IsBatch, payload, IsFrame};
 ghost use Rattle.ldar_journal.specs.Shelf.{behind_gate};
 
 use crate::history::{Chapter, Frames};
-use ldar_facts::{Batch, Memory, write_batch};
+use fact_kinds::{Batch, Memory};
+use ldar_facts::write_batch;
 use std::alloc::Global;
 use std::marker::Model;
 use std::snapshot::Snapshot;
@@ -19,7 +20,7 @@ pub struct Frame {
 
 impl Model for Frame {
     ghost use Rattle.std.specs.Prelude.{◌≡◌, List};
-    ghost use Rattle.ldar_facts.specs.declared.batch.Batch.{Batch};
+    ghost use Rattle.fact_kinds.specs.declared.batch.Batch.{Batch};
     ghost use Rattle.ldar_journal.specs.Image.{IsFrame};
     ghost use Rattle.ldar_journal.specs.Shelf.{behind_gate};
 

@@ -1,10 +1,10 @@
 ghost use Rattle.std.specs.Prelude.{◌≡◌, ◌≢◌, ◌<◌, ◌≤◌, [], ◌∷◌, ◌++◌, length, take, map, true, false, Ok, Err, IfOk, OnOk, OnErr, IfErr, MatchResult};
-ghost use Rattle.ldar_facts.specs.declared.limits.TheConstants.{MOST_FACTS};
+ghost use Rattle.fact_kinds.specs.declared.limits.TheConstants.{MOST_FACTS};
 ghost use Rattle.disk_model.specs.Faults.{Rose};
 ghost use Rattle.disk_model.specs.Images.{Only};
 ghost use Rattle.disk_model.specs.Keeps.{Keeps};
 ghost use Rattle.disk_model.specs.Told.{Told, BothTold};
-ghost use Rattle.ldar_facts.specs.Identity.{identity_of};
+ghost use Rattle.fact_kinds.specs.Identity.{identity_of};
 ghost use Rattle.ldar_journal.specs.Crash.{LeavesOnly};
 ghost use Rattle.ldar_journal.specs.Damage.{OnNotAJournal, IfDamaged, IsDamagedAt};
 ghost use Rattle.ldar_journal.specs.Image.{header, batches_of, end_of, fact_count, IsKept, EndsAt};
@@ -20,7 +20,7 @@ use crate::opening::{OpenError, OpenWhy};
 use crate::window::{Window, fill};
 use batch_positions::Positions;
 use disk_model::{Disk, DiskFault};
-use ldar_facts::Batch;
+use fact_kinds::Batch;
 use std::alloc::Global;
 use std::marker::Model;
 

@@ -1,6 +1,7 @@
 use crate::{CreateError, Journal, OpenWhy, Torn, create, open_accepted, open_journal, prepare};
 use disk_model::MemoryDisk;
-use ldar_facts::{Batch, MOST_FACTS, Read, read_batch};
+use fact_kinds::{Batch, MOST_FACTS};
+use ldar_facts::{Read, read_batch};
 use std::alloc::Global;
 use std::test::Fail;
 

@@ -6,7 +6,7 @@ ghost use Rattle.disk_model.specs.Told.{BothTold};
 ghost use Rattle.ldar_journal.specs.Window.{IsAhead, OnlyReads};
 
 use disk_model::{Disk, DiskFault};
-use ldar_facts::Memory;
+use fact_kinds::Memory;
 use std::alloc::Global;
 use std::marker::Model;
 

@@ -5,9 +5,9 @@ use Rattle.std.specs.Option.{option_map, option_or}
 use Rattle.std.proofs.lemmas.List.{append-nil, append_assoc}
 use Rattle.std.proofs.lemmas.Bool.{cases_eq, eq-eqb, ne_eqb}
 use Rattle.list_words.specs.Words.{somewhere_from}
-use Rattle.ldar_facts.specs.declared.body.FactBody.{FactBody}
-use Rattle.ldar_facts.specs.declared.body.FactBody.TheVariants.{Component as ComponentFact}
-use Rattle.ldar_facts.specs.Facts.{Entry}
+use Rattle.fact_kinds.specs.declared.body.FactBody.{FactBody}
+use Rattle.fact_kinds.specs.declared.body.FactBody.TheVariants.{Component as ComponentFact}
+use Rattle.fact_kinds.specs.Facts.{Entry}
 use Rattle.list_words.proofs.Narrowing.{filter_map_narrowed}
 use Rattle.ldar_law.specs.declared.equipment.Equipment.{Equipment}
 use Rattle.ldar_law.specs.Equipment.{retired_on, component_entered, equipment_of, unit_entered}

@@ -9,10 +9,10 @@ use Rattle.list_words.specs.Ranges.{until}
 use Rattle.list_words.specs.Words.{each_from}
 use Rattle.ldar_days.specs.Calendar.{IsDay, last_day, month_of, end_by, week_last}
 use Rattle.ldar_days.proofs.Months.{first_day-le, month_of-month}
-use Rattle.ldar_facts.specs.declared.class.Class.{Class}
-use Rattle.ldar_facts.specs.declared.key.Key.{Key}
-use Rattle.ldar_facts.specs.Facts.{is_earlier}
-use Rattle.ldar_facts.proofs.Cuts.{earlier_day}
+use Rattle.fact_kinds.specs.declared.class.Class.{Class}
+use Rattle.fact_kinds.specs.declared.key.Key.{Key}
+use Rattle.fact_kinds.specs.Facts.{is_earlier}
+use Rattle.fact_kinds.proofs.Cuts.{earlier_day}
 use Rattle.ldar_law.specs.declared.duty.Duty.{Duty}
 use Rattle.ldar_law.specs.declared.equipment.Equipment.{Equipment}
 use Rattle.ldar_law.specs.declared.event.Event.{Event}

@@ -7,11 +7,11 @@ use Rattle.list_words.specs.Order.{put_in_order, in_order, Ascends}
 use Rattle.list_words.proofs.Ascending.{all_put, among_in_order}
 use Rattle.list_words.proofs.Members.{Among, among_from_Contains, Contains-from_among, all_weaker}
 use Rattle.list_words.proofs.WordLaws.{last_such_finds}
-use Rattle.ldar_facts.specs.declared.body.FactBody.{FactBody}
-use Rattle.ldar_facts.specs.declared.body.FactBody.TheVariants.{Unit as UnitFact, Component as ComponentFact, Class as ClassFact}
-use Rattle.ldar_facts.specs.declared.key.Key.{Key}
-use Rattle.ldar_facts.specs.declared.class.Class.{Class}
-use Rattle.ldar_facts.specs.Facts.{Entry}
+use Rattle.fact_kinds.specs.declared.body.FactBody.{FactBody}
+use Rattle.fact_kinds.specs.declared.body.FactBody.TheVariants.{Unit as UnitFact, Component as ComponentFact, Class as ClassFact}
+use Rattle.fact_kinds.specs.declared.key.Key.{Key}
+use Rattle.fact_kinds.specs.declared.class.Class.{Class}
+use Rattle.fact_kinds.specs.Facts.{Entry}
 use Rattle.ldar_law.specs.Equipment.{retired_on, component_entered, equipment_of, class_entered, classes_of, unit_entered, member_entered, members_of}
 use Rattle.ldar_law.specs.Force.{class_on}
 use Rattle.ldar_law.specs.RegisterLaws.{enters_component, enters_unit, enters_class, ComponentWhereEntered, UnitWhereEntered, ClassWhereEntered}

@@ -5,8 +5,8 @@ use Rattle.std.proofs.lemmas.Bool.{eq-eqb}
 use Rattle.std.proofs.lemmas.List.{append-nil}
 use Rattle.std.proofs.lemmas.List.Elements.{filter-append}
 use Rattle.list_words.specs.Words.{each_from, each_where}
-use Rattle.ldar_facts.specs.declared.class.Class.{Class}
-use Rattle.ldar_facts.specs.declared.key.Key.{Key}
+use Rattle.fact_kinds.specs.declared.class.Class.{Class}
+use Rattle.fact_kinds.specs.declared.key.Key.{Key}
 use Rattle.ldar_law.specs.declared.duty.Duty.{Duty}
 use Rattle.ldar_law.specs.declared.equipment.Equipment.{Equipment}
 use Rattle.ldar_law.specs.declared.event.Event.{Event}

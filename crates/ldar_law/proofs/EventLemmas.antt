@@ -4,13 +4,13 @@ use Rattle.std.specs.List.{cons_option, AllByRecursion}
 use Rattle.std.proofs.lemmas.Bool.{cases_Bool, false≢true}
 use Rattle.list_words.specs.Order.{Ascends}
 use Rattle.list_words.proofs.PutLemmas.{ascends_filter}
-use Rattle.ldar_facts.specs.declared.body.FactBody.{FactBody}
-use Rattle.ldar_facts.specs.declared.body.FactBody.TheVariants.{Reading}
-use Rattle.ldar_facts.specs.declared.class.Class.{Class}
-use Rattle.ldar_facts.specs.declared.key.Key.{Key}
-use Rattle.ldar_facts.specs.Facts.{Entry, is_earlier, goes_first}
-use Rattle.ldar_facts.specs.Named.{reading_instrument, component_of, is_numbered}
-use Rattle.ldar_facts.proofs.KeyOrder.{strict_goes_first}
+use Rattle.fact_kinds.specs.declared.body.FactBody.{FactBody}
+use Rattle.fact_kinds.specs.declared.body.FactBody.TheVariants.{Reading}
+use Rattle.fact_kinds.specs.declared.class.Class.{Class}
+use Rattle.fact_kinds.specs.declared.key.Key.{Key}
+use Rattle.fact_kinds.specs.Facts.{Entry, is_earlier, goes_first}
+use Rattle.fact_kinds.specs.Named.{reading_instrument, component_of, is_numbered}
+use Rattle.fact_kinds.proofs.KeyOrder.{strict_goes_first}
 use Rattle.ldar_law.specs.declared.equipment.Equipment.{Equipment}
 use Rattle.ldar_law.specs.declared.event.Event.{Event}
 use Rattle.ldar_law.specs.declared.event.Happening.{Happening}

@@ -5,10 +5,10 @@ use Rattle.std.proofs.lemmas.Bool.{cases_Bool}
 use Rattle.list_words.specs.Order.{put_in_order, Ascends}
 use Rattle.list_words.proofs.Ascending.{before_all}
 use Rattle.list_words.proofs.PutLemmas.{put_in_front}
-use Rattle.ldar_facts.specs.declared.class.Class.{Class}
-use Rattle.ldar_facts.specs.declared.key.Key.{Key}
-use Rattle.ldar_facts.specs.Facts.{Entry, is_earlier, goes_first}
-use Rattle.ldar_facts.proofs.KeyOrder.{strict_earlier, strict_goes_first}
+use Rattle.fact_kinds.specs.declared.class.Class.{Class}
+use Rattle.fact_kinds.specs.declared.key.Key.{Key}
+use Rattle.fact_kinds.specs.Facts.{Entry, is_earlier, goes_first}
+use Rattle.fact_kinds.proofs.KeyOrder.{strict_earlier, strict_goes_first}
 use Rattle.ldar_law.specs.Equipment.{class_entered, class_at}
 
 -- What facts give with their keys stands in key order as they do.

@@ -13,11 +13,11 @@ use Rattle.list_words.specs.Order.{put_in_order, in_order, put_each}
 use Rattle.list_words.specs.Words.{first_given_from}
 use Rattle.list_words.proofs.Narrowing.{filter_narrowed, find_narrowed}
 use Rattle.list_words.proofs.PutLemmas.{list_any-put}
-use Rattle.ldar_facts.specs.declared.batch.Batch.{Batch}
-use Rattle.ldar_facts.specs.declared.body.FactBody.{FactBody}
-use Rattle.ldar_facts.specs.declared.body.FactBody.TheVariants.{Retire}
-use Rattle.ldar_facts.specs.declared.key.Key.{Key}
-use Rattle.ldar_facts.specs.Facts.{Entry, is_earlier, goes_first, entries_of, facts_of}
+use Rattle.fact_kinds.specs.declared.batch.Batch.{Batch}
+use Rattle.fact_kinds.specs.declared.body.FactBody.{FactBody}
+use Rattle.fact_kinds.specs.declared.body.FactBody.TheVariants.{Retire}
+use Rattle.fact_kinds.specs.declared.key.Key.{Key}
+use Rattle.fact_kinds.specs.Facts.{Entry, is_earlier, goes_first, entries_of, facts_of}
 use Rattle.ldar_law.proofs.WeakOrder.{InOrder, each_in_order, put_keeps, put_each_passing, weak_goes_first, weak_earlier}
 use Rattle.ldar_law.proofs.WeakOrder.{last_such-put, given_in_order, given-put_none, given-put_some}
 use Rattle.ldar_law.proofs.ForceLemmas.{class_keyed}

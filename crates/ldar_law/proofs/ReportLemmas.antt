@@ -10,7 +10,7 @@ use Rattle.list_words.proofs.Members.{Among, among_from_Contains, Contains-from_
 use Rattle.list_words.proofs.RangeLemmas.{among_until}
 use Rattle.ldar_days.specs.Calendar.{month_of}
 use Rattle.ldar_days.proofs.Months.{month_of-month}
-use Rattle.ldar_facts.specs.declared.class.Kind.{Kind}
+use Rattle.fact_kinds.specs.declared.class.Kind.{Kind}
 use Rattle.ldar_law.specs.declared.delay.Until.{Until}
 use Rattle.ldar_law.specs.declared.delay.Until.TheVariants.{Date, Shutdown, WhileIsolated, NoDate}
 use Rattle.ldar_law.specs.declared.report.Amended.{Amended}

@@ -10,10 +10,10 @@ use Rattle.std.proofs.lemmas.List.Sums.{sum_by-cons, sum_by-append}
 use Rattle.list_words.specs.Order.{put_in_order, in_order, put_each}
 use Rattle.list_words.specs.Words.{each_from}
 use Rattle.list_words.proofs.WordLemmas.{option_or-None, cons_option_is}
-use Rattle.ldar_facts.specs.declared.body.FactBody.{FactBody}
-use Rattle.ldar_facts.specs.declared.body.FactBody.TheVariants.{Component as ComponentFact}
-use Rattle.ldar_facts.specs.Facts.{Entry, goes_first}
-use Rattle.ldar_facts.specs.Named.{component_of, is_numbered}
+use Rattle.fact_kinds.specs.declared.body.FactBody.{FactBody}
+use Rattle.fact_kinds.specs.declared.body.FactBody.TheVariants.{Component as ComponentFact}
+use Rattle.fact_kinds.specs.Facts.{Entry, goes_first}
+use Rattle.fact_kinds.specs.Named.{component_of, is_numbered}
 use Rattle.ldar_law.specs.declared.equipment.Equipment.{Equipment}
 use Rattle.ldar_law.specs.Equipment.{retires, retired_on, component_entered, class_at, classes_of, member_entered, members_of}
 use Rattle.ldar_law.specs.Judged.{Register, register_with, first_entry, class_held}

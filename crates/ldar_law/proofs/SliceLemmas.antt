@@ -3,11 +3,11 @@ use Rattle.std.specs.Prelude.{nat_lt, option_map}
 use Rattle.std.proofs.lemmas.Bool.{false≢true}
 use Rattle.list_words.specs.Order.{in_order}
 use Rattle.list_words.proofs.Narrowing.{find_narrowed, filter_map_narrowed}
-use Rattle.ldar_facts.specs.declared.body.FactBody.{FactBody}
-use Rattle.ldar_facts.specs.declared.body.FactBody.TheVariants.{Unit as UnitFact, Component as ComponentFact, Class as ClassFact, Retire, Election, Shutdown}
-use Rattle.ldar_facts.specs.declared.key.Key.{Key}
-use Rattle.ldar_facts.specs.Facts.{Entry}
-use Rattle.ldar_facts.specs.Named.{component_of, unit_of, is_numbered}
+use Rattle.fact_kinds.specs.declared.body.FactBody.{FactBody}
+use Rattle.fact_kinds.specs.declared.body.FactBody.TheVariants.{Unit as UnitFact, Component as ComponentFact, Class as ClassFact, Retire, Election, Shutdown}
+use Rattle.fact_kinds.specs.declared.key.Key.{Key}
+use Rattle.fact_kinds.specs.Facts.{Entry}
+use Rattle.fact_kinds.specs.Named.{component_of, unit_of, is_numbered}
 use Rattle.ldar_law.specs.Equipment.{retires, retired_on, component_entered, class_entered, class_at, unit_entered, member_entered, election_entered}
 use Rattle.ldar_law.specs.Equipment.{stop_entered}
 use Rattle.ldar_law.specs.Slices.{is_registered}

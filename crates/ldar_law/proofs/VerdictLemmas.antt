@@ -9,9 +9,9 @@ use Rattle.list_words.specs.Words.{first_given, somewhere, Passes}
 use Rattle.list_words.specs.Order.{Ascends}
 use Rattle.list_words.proofs.Members.{Among, all_at, among_from_Contains, Contains-from_among}
 use Rattle.list_words.proofs.WordLaws.{somewhere_decides, first_given_is_first, first_given_finds}
-use Rattle.ldar_facts.specs.declared.batch.Batch.{Batch}
-use Rattle.ldar_facts.specs.Facts.{Entry, entries_of, facts_of}
-use Rattle.ldar_facts.proofs.OrderFree.{order_free, facts_count}
+use Rattle.fact_kinds.specs.declared.batch.Batch.{Batch}
+use Rattle.fact_kinds.specs.Facts.{Entry, entries_of, facts_of}
+use Rattle.fact_kinds.proofs.OrderFree.{order_free, facts_count}
 use Rattle.ldar_law.specs.declared.verdict.Verdict.{Verdict}
 use Rattle.ldar_law.specs.declared.verdict.Verdict.TheVariants.{Pass, Denied, Full}
 use Rattle.ldar_law.proofs.Gifts.{cases_Option}

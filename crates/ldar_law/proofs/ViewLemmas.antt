@@ -3,10 +3,10 @@ use Rattle.std.specs.Prelude.{filter}
 use Rattle.std.specs.List.{flat_map, AllByRecursion}
 use Rattle.std.proofs.lemmas.Bool.Decides.{nat_tests}
 use Rattle.list_words.specs.Order.{put_in_order, put_each}
-use Rattle.ldar_facts.specs.declared.batch.Batch.{Batch}
-use Rattle.ldar_facts.specs.Facts.{Entry, goes_first, entries_from, entries_of, facts_of}
-use Rattle.ldar_facts.specs.Stated.{Stated}
-use Rattle.ldar_facts.proofs.OrderFree.{order_free, one_more_batch}
+use Rattle.fact_kinds.specs.declared.batch.Batch.{Batch}
+use Rattle.fact_kinds.specs.Facts.{Entry, goes_first, entries_from, entries_of, facts_of}
+use Rattle.fact_kinds.specs.Stated.{Stated}
+use Rattle.fact_kinds.proofs.OrderFree.{order_free, one_more_batch}
 use Rattle.ldar_law.proofs.WeakOrder.{InOrder, each_in_order, put_keeps, put_filter, weak_goes_first}
 use Rattle.ldar_law.specs.Shown.{view_day, view_of, shown}
 use Rattle.ldar_law.specs.ViewLaws.{ViewsForgetOrder, ViewsForgetLaterDays}

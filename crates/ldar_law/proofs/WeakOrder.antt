@@ -12,9 +12,9 @@ use Rattle.list_words.proofs.Ascending.{all_put}
 use Rattle.list_words.proofs.Members.{all_weaker}
 use Rattle.list_words.proofs.Narrowing.{filter_narrowed}
 use Rattle.list_words.proofs.WordLemmas.{last_such-cons, option_or-None}
-use Rattle.ldar_facts.specs.declared.key.Key.{Key}
-use Rattle.ldar_facts.specs.Facts.{Entry, key_cmp, is_earlier, goes_first}
-use Rattle.ldar_facts.proofs.KeyOrder.{key_cmp_total}
+use Rattle.fact_kinds.specs.declared.key.Key.{Key}
+use Rattle.fact_kinds.specs.Facts.{Entry, key_cmp, is_earlier, goes_first}
+use Rattle.fact_kinds.proofs.KeyOrder.{key_cmp_total}
 
 -- ---- a list in which nothing is before what stands before it
 

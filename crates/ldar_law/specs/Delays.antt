@@ -2,7 +2,7 @@
 use Rattle.std.specs.Prelude.{◌≡◌, ◌<◌, slice_get, take, ℕ, ◌+◌, Bool, true, false, ◌&&◌, nat_eq, nat_lt, nat_le, max, Option, Some, None, option_map, if◌then◌else◌, List, [], ◌∷◌, length, reverse, filter}
 use Rattle.std.specs.List.{list_any}
 use Rattle.ldar_days.specs.Calendar.{end_by, later_by}
-use Rattle.ldar_facts.specs.declared.key.Key.{Key}
+use Rattle.fact_kinds.specs.declared.key.Key.{Key}
 use Rattle.ldar_law.specs.declared.delay.DelayEntry.{DelayEntry}
 use Rattle.ldar_law.specs.declared.delay.Stop.{Stop}
 use Rattle.ldar_law.specs.declared.delay.Until.{Until}

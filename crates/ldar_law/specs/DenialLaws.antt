@@ -1,14 +1,14 @@
 -- What the verdict on a batch means, as laws.
 use Rattle.std.specs.Prelude.{◌≡◌, ℕ, ◌≤◌, ◌<◌, ◌↔◌, true, false, IsTrue, Option, Some, None, List, [], ◌∷◌, ◌++◌, length, Contains, IsPermutation}
 use Rattle.list_words.specs.Words.{GivesFirst}
-use Rattle.ldar_facts.specs.declared.batch.Batch.{Batch}
-use Rattle.ldar_facts.specs.declared.class.Class.{Class}
-use Rattle.ldar_facts.specs.declared.key.Key.{Key}
+use Rattle.fact_kinds.specs.declared.batch.Batch.{Batch}
+use Rattle.fact_kinds.specs.declared.class.Class.{Class}
+use Rattle.fact_kinds.specs.declared.key.Key.{Key}
 use Rattle.list_words.specs.Order.{in_order}
-use Rattle.ldar_facts.specs.Facts.{Entry, goes_first, entries_of, facts_of}
-use Rattle.ldar_facts.specs.Identity.{identities_differ}
+use Rattle.fact_kinds.specs.Facts.{Entry, goes_first, entries_of, facts_of}
+use Rattle.fact_kinds.specs.Identity.{identities_differ}
 use Rattle.ldar_law.specs.declared.verdict.Verdict.TheVariants.{Pass, Denied, Full}
-use Rattle.ldar_facts.specs.declared.limits.TheConstants.{MOST_FACTS}
+use Rattle.fact_kinds.specs.declared.limits.TheConstants.{MOST_FACTS}
 use Rattle.ldar_law.specs.Equipment.{class_at, classes_of}
 use Rattle.ldar_law.specs.Force.{class_by}
 use Rattle.ldar_law.specs.Judged.{Case, register_with}

@@ -6,8 +6,8 @@ use Rattle.list_words.specs.Ranges.{from_to}
 use Rattle.list_words.specs.Words.{somewhere, each_where}
 use Rattle.ldar_days.specs.Calendar.{first_day, last_day, month_of, end_by, week_of, week_first, week_last}
 use Rattle.ldar_days.specs.Quarters.{quarter_of}
-use Rattle.ldar_facts.specs.declared.class.Class.{Class}
-use Rattle.ldar_facts.specs.declared.key.Key.{Key}
+use Rattle.fact_kinds.specs.declared.class.Class.{Class}
+use Rattle.fact_kinds.specs.declared.key.Key.{Key}
 use Rattle.ldar_law.specs.declared.duty.Duty.{Duty}
 use Rattle.ldar_law.specs.declared.equipment.Equipment.{Equipment}
 use Rattle.ldar_law.specs.declared.event.Event.{Event}

@@ -3,9 +3,9 @@ use Rattle.std.specs.Prelude.{ℕ, Bool, ◌&&◌, ◌||◌, nat_eq, nat_lt, nat
 use Rattle.list_words.specs.Order.{Ascends}
 use Rattle.list_words.specs.Words.{each_where}
 use Rattle.ldar_days.specs.Calendar.{IsDay}
-use Rattle.ldar_facts.specs.declared.class.Class.{Class}
-use Rattle.ldar_facts.specs.declared.key.Key.{Key}
-use Rattle.ldar_facts.specs.Facts.{is_earlier}
+use Rattle.fact_kinds.specs.declared.class.Class.{Class}
+use Rattle.fact_kinds.specs.declared.key.Key.{Key}
+use Rattle.fact_kinds.specs.Facts.{is_earlier}
 use Rattle.ldar_law.specs.declared.duty.Duty.{Duty}
 use Rattle.ldar_law.specs.declared.equipment.Equipment.{Equipment}
 use Rattle.ldar_law.specs.declared.event.Event.{Event}

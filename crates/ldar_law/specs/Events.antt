@@ -1,17 +1,17 @@
 -- The events of a component: its facts in key order, each judged on its own day (40 CFR 60.482-2a(b), 60.482-3a(f), 60.482-7a(b), 60.482-8a(b)).
 use Rattle.std.specs.Prelude.{ℕ, Bool, true, false, not, ◌&&◌, ◌||◌, nat_lt, nat_le, if◌then◌else◌, Option, Some, None, option_map, List, [], ◌∷◌, drop, filter_map}
 use Rattle.std.specs.List.{cons_option}
-use Rattle.ldar_facts.specs.declared.body.FactBody.{FactBody}
-use Rattle.ldar_facts.specs.declared.body.FactBody.TheVariants.{Unit as UnitFact, Component as ComponentFact, Class as ClassFact, Retire as RetireFact, Election, Shutdown, Calibration, Precision, Drift, Reading, Visual, Attempt as AttemptFact, Delay as DelayFact, Release as ReleaseFact, Indication}
-use Rattle.ldar_facts.specs.declared.body.Purpose.{Purpose}
-use Rattle.ldar_facts.specs.declared.body.Purpose.TheVariants.{Routine, FollowUp}
-use Rattle.ldar_facts.specs.declared.body.Sort.{Sort}
-use Rattle.ldar_facts.specs.declared.body.Sort.TheVariants.{Sensor as SensorSort, Evidence as EvidenceSort}
-use Rattle.ldar_facts.specs.declared.body.VisualState.{VisualState}
-use Rattle.ldar_facts.specs.declared.body.VisualState.TheVariants.{Dry, Drips, Designated}
-use Rattle.ldar_facts.specs.declared.class.Class.{Class}
-use Rattle.ldar_facts.specs.declared.key.Key.{Key}
-use Rattle.ldar_facts.specs.Facts.{Entry}
+use Rattle.fact_kinds.specs.declared.body.FactBody.{FactBody}
+use Rattle.fact_kinds.specs.declared.body.FactBody.TheVariants.{Unit as UnitFact, Component as ComponentFact, Class as ClassFact, Retire as RetireFact, Election, Shutdown, Calibration, Precision, Drift, Reading, Visual, Attempt as AttemptFact, Delay as DelayFact, Release as ReleaseFact, Indication}
+use Rattle.fact_kinds.specs.declared.body.Purpose.{Purpose}
+use Rattle.fact_kinds.specs.declared.body.Purpose.TheVariants.{Routine, FollowUp}
+use Rattle.fact_kinds.specs.declared.body.Sort.{Sort}
+use Rattle.fact_kinds.specs.declared.body.Sort.TheVariants.{Sensor as SensorSort, Evidence as EvidenceSort}
+use Rattle.fact_kinds.specs.declared.body.VisualState.{VisualState}
+use Rattle.fact_kinds.specs.declared.body.VisualState.TheVariants.{Dry, Drips, Designated}
+use Rattle.fact_kinds.specs.declared.class.Class.{Class}
+use Rattle.fact_kinds.specs.declared.key.Key.{Key}
+use Rattle.fact_kinds.specs.Facts.{Entry}
 use Rattle.ldar_law.specs.declared.equipment.Equipment.{Equipment}
 use Rattle.ldar_law.specs.declared.event.Event.{Event}
 use Rattle.ldar_law.specs.declared.event.Happening.{Happening}

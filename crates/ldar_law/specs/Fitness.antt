@@ -2,10 +2,10 @@
 use Rattle.std.specs.Prelude.{ℕ, ◌+◌, ◌-◌, ◌*◌, Bool, true, false, not, ◌&&◌, nat_eq, nat_lt, nat_le, if◌then◌else◌, Option, Some, None, List, find}
 use Rattle.std.specs.List.{list_any}
 use Rattle.ldar_days.specs.Calendar.{later_by}
-use Rattle.ldar_facts.specs.declared.body.FactBody.{FactBody}
-use Rattle.ldar_facts.specs.declared.body.FactBody.TheVariants.{Calibration, Precision, Drift}
-use Rattle.ldar_facts.specs.declared.key.Key.{Key}
-use Rattle.ldar_facts.specs.Facts.{Entry, is_earlier}
+use Rattle.fact_kinds.specs.declared.body.FactBody.{FactBody}
+use Rattle.fact_kinds.specs.declared.body.FactBody.TheVariants.{Calibration, Precision, Drift}
+use Rattle.fact_kinds.specs.declared.key.Key.{Key}
+use Rattle.fact_kinds.specs.Facts.{Entry, is_earlier}
 use Rattle.ldar_law.specs.declared.fitness.Fitness.{Fitness}
 use Rattle.ldar_law.specs.declared.numbers.TheConstants.{GAS_MARGIN}
 use Rattle.ldar_law.specs.declared.fitness.Fitness.TheVariants.{Fit, NoCalibration, GasTooHigh, NoPrecision, Voided}

@@ -1,9 +1,9 @@
 -- What holds of a component on a day, by the classes entered for it in key order: class, service, rules and leak definition.
 use Rattle.std.specs.Prelude.{ℕ, Bool, false, not, ◌&&◌, nat_le, Option, Some, None, List, option_map, unwrap_or}
 use Rattle.list_words.specs.Words.{last_such}
-use Rattle.ldar_facts.specs.declared.class.Class.{Class}
-use Rattle.ldar_facts.specs.declared.key.Key.{Key}
-use Rattle.ldar_facts.specs.Facts.{Entry}
+use Rattle.fact_kinds.specs.declared.class.Class.{Class}
+use Rattle.fact_kinds.specs.declared.key.Key.{Key}
+use Rattle.fact_kinds.specs.Facts.{Entry}
 use Rattle.ldar_law.specs.declared.equipment.Equipment.{Equipment}
 use Rattle.ldar_law.specs.declared.regime.Regime.{Regime}
 use Rattle.ldar_law.specs.Equipment.{equipment_of, classes_of}

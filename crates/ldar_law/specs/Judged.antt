@@ -1,9 +1,9 @@
 -- A fact of a batch as it is judged, and what the register holds where it is.
 use Rattle.std.specs.Prelude.{ℕ, Bool, false, Option, Some, None, List, ◌∷◌, ◌++◌, filter_map, slice_get}
 use Rattle.list_words.specs.Order.{put_each}
-use Rattle.ldar_facts.specs.declared.class.Class.{Class}
-use Rattle.ldar_facts.specs.declared.class.Kind.{Kind}
-use Rattle.ldar_facts.specs.Facts.{Entry, goes_first}
+use Rattle.fact_kinds.specs.declared.class.Class.{Class}
+use Rattle.fact_kinds.specs.declared.class.Kind.{Kind}
+use Rattle.fact_kinds.specs.Facts.{Entry, goes_first}
 use Rattle.ldar_law.specs.declared.equipment.Equipment.{Equipment}
 use Rattle.ldar_law.specs.Equipment.{component_entered, classes_of}
 use Rattle.ldar_law.specs.Force.{class_on}

@@ -1,7 +1,7 @@
 -- What kind a component is.
 use Rattle.std.specs.Prelude.{Bool, true, false}
-use Rattle.ldar_facts.specs.declared.class.Kind.{Kind}
-use Rattle.ldar_facts.specs.declared.class.Kind.TheVariants.{Pump, Compressor}
+use Rattle.fact_kinds.specs.declared.class.Kind.{Kind}
+use Rattle.fact_kinds.specs.declared.class.Kind.TheVariants.{Pump, Compressor}
 pub use Rattle.ldar_law.specs.Spans.{is_valve}
 
 abbrev pub is_pump : Kind → Bool

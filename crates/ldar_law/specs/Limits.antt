@@ -1,10 +1,10 @@
 -- The rules for a kind of component in a service, and its leak definition (40 CFR 60.482-1a to 60.482-8a).
 use Rattle.std.specs.Prelude.{ℕ, Bool, true, false}
-use Rattle.ldar_facts.specs.declared.class.Class.{Class}
-use Rattle.ldar_facts.specs.declared.class.Kind.{Kind}
-use Rattle.ldar_facts.specs.declared.class.Kind.TheVariants.{Valve, Pump, Compressor, Relief}
-use Rattle.ldar_facts.specs.declared.class.Service.{Service}
-use Rattle.ldar_facts.specs.declared.class.Service.TheVariants.{Gas, Light, Heavy}
+use Rattle.fact_kinds.specs.declared.class.Class.{Class}
+use Rattle.fact_kinds.specs.declared.class.Kind.{Kind}
+use Rattle.fact_kinds.specs.declared.class.Kind.TheVariants.{Valve, Pump, Compressor, Relief}
+use Rattle.fact_kinds.specs.declared.class.Service.{Service}
+use Rattle.fact_kinds.specs.declared.class.Service.TheVariants.{Gas, Light, Heavy}
 use Rattle.ldar_law.specs.declared.regime.Regime.{Regime}
 use Rattle.ldar_law.specs.declared.regime.Regime.TheVariants.{ValveRules, PumpRules, CompressorRules, ReliefRules, HeavyLiquidRules, LeftOut}
 

@@ -1,9 +1,9 @@
 -- The office as a machine: what it answers to a request after a history of accepted batches, and what a fault of the disk leaves in doubt.
 use Rattle.std.specs.Prelude.{◌≡◌, ◌≢◌, ℕ, ◌+◌, ◌-◌, ◌<◌, ◌≤◌, ◌^◌, ◌⊎◌, Bool, true, false, ◌&&◌, if◌then◌else◌, Option, Some, None, is_none, List, [], ◌∷◌, ◌++◌, length, slice_get, IsTrue}
 use Rattle.std.specs.List.{AllByRecursion}
-use Rattle.ldar_facts.specs.declared.limits.TheConstants.{FRAME_BATCHES}
-use Rattle.ldar_facts.specs.declared.batch.Batch.{Batch}
-use Rattle.ldar_facts.specs.Identity.{identity_of, position_of}
+use Rattle.fact_kinds.specs.declared.limits.TheConstants.{FRAME_BATCHES}
+use Rattle.fact_kinds.specs.declared.batch.Batch.{Batch}
+use Rattle.fact_kinds.specs.Identity.{identity_of, position_of}
 use Rattle.ldar_law.specs.declared.request.Request.{Request}
 use Rattle.ldar_law.specs.declared.request.Request.TheVariants.{Sync, Due, Tags, Delays, Route, Percent, Report as ReportView}
 use Rattle.ldar_law.specs.declared.reply.Reply.{Reply}

@@ -2,11 +2,11 @@
 use Rattle.std.specs.Prelude.{◌≡◌, ◌↔◌, ℕ, Bool, false, ◌&&◌, nat_eq, nat_le, is_some, if◌then◌else◌, Option, Some, None, List, ◌∷◌, Contains}
 use Rattle.std.specs.List.{list_any}
 use Rattle.list_words.specs.Order.{in_order, later_of, Ascends}
-use Rattle.ldar_facts.specs.declared.body.FactBody.{FactBody}
-use Rattle.ldar_facts.specs.declared.body.FactBody.TheVariants.{Unit as UnitFact, Component as ComponentFact, Class as ClassFact}
-use Rattle.ldar_facts.specs.declared.class.Class.{Class}
-use Rattle.ldar_facts.specs.declared.key.Key.{Key}
-use Rattle.ldar_facts.specs.Facts.{Entry, is_earlier, goes_first}
+use Rattle.fact_kinds.specs.declared.body.FactBody.{FactBody}
+use Rattle.fact_kinds.specs.declared.body.FactBody.TheVariants.{Unit as UnitFact, Component as ComponentFact, Class as ClassFact}
+use Rattle.fact_kinds.specs.declared.class.Class.{Class}
+use Rattle.fact_kinds.specs.declared.key.Key.{Key}
+use Rattle.fact_kinds.specs.Facts.{Entry, is_earlier, goes_first}
 use Rattle.ldar_law.specs.Equipment.{retires, retired_on, equipment_of, class_at, classes_of, unit_entry_of, member_entered, members_of, elections_of, stops_of}
 use Rattle.ldar_law.specs.Force.{class_by, class_in_force, has_come}
 use Rattle.ldar_law.specs.Slices.{facts_of_component, facts_of_unit, register_facts}

@@ -2,9 +2,9 @@
 use Rattle.std.specs.Prelude.{ℕ, Bool, false, Option, Some, None, if◌then◌else◌, List, [], ◌∷◌, ◌++◌, ◌≡◌, ◌↔◌, slice_get, option_and_then, filter_map}
 use Rattle.std.specs.Option.{option_map_or}
 use Rattle.list_words.specs.Order.{Ascends}
-use Rattle.ldar_facts.specs.declared.class.Kind.{Kind}
-use Rattle.ldar_facts.specs.declared.key.Key.{Key}
-use Rattle.ldar_facts.specs.Facts.{is_earlier}
+use Rattle.fact_kinds.specs.declared.class.Kind.{Kind}
+use Rattle.fact_kinds.specs.declared.key.Key.{Key}
+use Rattle.fact_kinds.specs.Facts.{is_earlier}
 use Rattle.ldar_law.specs.declared.delay.DelayEntry.{DelayEntry}
 use Rattle.ldar_law.specs.declared.delay.Stop.{Stop}
 use Rattle.ldar_law.specs.declared.event.Event.{Event}

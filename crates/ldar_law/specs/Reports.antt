@@ -4,7 +4,7 @@ use Rattle.std.specs.List.{list_any, filter_map, flat_map, count_by}
 use Rattle.list_words.specs.Ranges.{until}
 use Rattle.ldar_days.specs.Calendar.{first_day, month_of}
 use Rattle.ldar_days.specs.Quarters.{first_quarter, quarter_first, quarter_last}
-use Rattle.ldar_facts.specs.declared.class.Kind.{Kind}
+use Rattle.fact_kinds.specs.declared.class.Kind.{Kind}
 use Rattle.ldar_law.specs.declared.delay.DelayLine.{DelayLine}
 use Rattle.ldar_law.specs.declared.delay.Stop.{Stop}
 use Rattle.ldar_law.specs.declared.delay.Until.{Until}

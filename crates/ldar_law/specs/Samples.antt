@@ -1,17 +1,17 @@
 -- One of each: events, facts, rules, services, designations and kinds, for worked examples of tests.
 use Rattle.std.specs.Prelude.{ℕ, true, false, None, List, [], ◌∷◌, map}
-use Rattle.ldar_facts.specs.declared.body.FactBody.{FactBody}
-use Rattle.ldar_facts.specs.declared.body.FactBody.TheVariants.{Unit as UnitFact, Component as ComponentFact, Class as ClassFact, Retire as RetireFact, Election, Shutdown, Calibration, Precision, Drift, Reading, Visual, Attempt as AttemptFact, Delay as DelayFact, Release as ReleaseFact, Indication}
-use Rattle.ldar_facts.specs.declared.body.Purpose.TheVariants.{Routine}
-use Rattle.ldar_facts.specs.declared.body.Sort.TheVariants.{Sensor as SensorSort}
-use Rattle.ldar_facts.specs.declared.body.VisualState.TheVariants.{Drips}
-use Rattle.ldar_facts.specs.declared.class.Designation.{Designation}
-use Rattle.ldar_facts.specs.declared.class.Designation.TheVariants.{Plain, Nde, Unsafe, Difficult}
-use Rattle.ldar_facts.specs.declared.class.Kind.{Kind}
-use Rattle.ldar_facts.specs.declared.class.Kind.TheVariants.{Valve, Pump, Compressor, Relief}
-use Rattle.ldar_facts.specs.declared.class.Service.{Service}
-use Rattle.ldar_facts.specs.declared.class.Service.TheVariants.{Gas, Light, Heavy, Vacuum, Under300}
-use Rattle.ldar_facts.specs.Facts.{Entry}
+use Rattle.fact_kinds.specs.declared.body.FactBody.{FactBody}
+use Rattle.fact_kinds.specs.declared.body.FactBody.TheVariants.{Unit as UnitFact, Component as ComponentFact, Class as ClassFact, Retire as RetireFact, Election, Shutdown, Calibration, Precision, Drift, Reading, Visual, Attempt as AttemptFact, Delay as DelayFact, Release as ReleaseFact, Indication}
+use Rattle.fact_kinds.specs.declared.body.Purpose.TheVariants.{Routine}
+use Rattle.fact_kinds.specs.declared.body.Sort.TheVariants.{Sensor as SensorSort}
+use Rattle.fact_kinds.specs.declared.body.VisualState.TheVariants.{Drips}
+use Rattle.fact_kinds.specs.declared.class.Designation.{Designation}
+use Rattle.fact_kinds.specs.declared.class.Designation.TheVariants.{Plain, Nde, Unsafe, Difficult}
+use Rattle.fact_kinds.specs.declared.class.Kind.{Kind}
+use Rattle.fact_kinds.specs.declared.class.Kind.TheVariants.{Valve, Pump, Compressor, Relief}
+use Rattle.fact_kinds.specs.declared.class.Service.{Service}
+use Rattle.fact_kinds.specs.declared.class.Service.TheVariants.{Gas, Light, Heavy, Vacuum, Under300}
+use Rattle.fact_kinds.specs.Facts.{Entry}
 use Rattle.ldar_law.specs.declared.event.Happening.{Happening}
 use Rattle.ldar_law.specs.declared.event.Happening.TheVariants.{Read, Look, Attempt, Delay, Release, Sensor, Evidence, Retire}
 use Rattle.ldar_law.specs.declared.regime.Regime.{Regime}

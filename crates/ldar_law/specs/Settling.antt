@@ -4,8 +4,8 @@ use Rattle.std.specs.Prelude.{◌+◌, Bool, true, false, not, ◌&&◌, ◌||�
 use Rattle.std.specs.List.{list_any}
 use Rattle.list_words.specs.Words.{somewhere}
 use Rattle.ldar_days.specs.Calendar.{month_of}
-use Rattle.ldar_facts.specs.declared.class.Kind.{Kind}
-use Rattle.ldar_facts.specs.declared.class.Kind.TheVariants.{Valve, Pump}
+use Rattle.fact_kinds.specs.declared.class.Kind.{Kind}
+use Rattle.fact_kinds.specs.declared.class.Kind.TheVariants.{Valve, Pump}
 use Rattle.ldar_law.specs.declared.event.Event.{Event}
 use Rattle.ldar_law.specs.declared.numbers.TheConstants.{REPAIR_DAYS}
 use Rattle.ldar_law.specs.Happenings.{is_leak, is_reading_or_drip, is_look, is_sensor, is_below, is_dry, is_attempt, is_complete, delays_with_reading, is_retire}

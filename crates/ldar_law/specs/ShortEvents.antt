@@ -1,6 +1,6 @@
 -- Words for the worked examples: events and the tags that they make, in short.
 use Rattle.std.specs.Prelude.{ℕ, ◌+◌, Bool, true, false, nat_lt, nat_le, Option, Some, None}
-use Rattle.ldar_facts.specs.declared.key.Key.{Key}
+use Rattle.fact_kinds.specs.declared.key.Key.{Key}
 use Rattle.ldar_law.specs.declared.delay.DelayEntry.{DelayEntry}
 use Rattle.ldar_law.specs.declared.delay.DelayLine.{DelayLine}
 use Rattle.ldar_law.specs.declared.delay.Stop.{Stop}

@@ -1,16 +1,16 @@
 -- Words for the worked examples: duties, quarters, routes and histories, in short.
 use Rattle.std.specs.Prelude.{ℕ, Bool, true, false, nat_eq, Some, None, List, [], ◌∷◌, replicate, filter}
-use Rattle.ldar_facts.specs.declared.batch.Batch.{Batch}
-use Rattle.ldar_facts.specs.declared.body.FactBody.{FactBody}
-use Rattle.ldar_facts.specs.declared.body.FactBody.TheVariants.{Unit as UnitFact, Component as ComponentFact, Attempt as AttemptFact, Calibration, Precision, Reading}
-use Rattle.ldar_facts.specs.declared.body.Purpose.TheVariants.{Routine}
-use Rattle.ldar_facts.specs.declared.class.Class.{Class}
-use Rattle.ldar_facts.specs.declared.class.Designation.TheVariants.{Plain}
-use Rattle.ldar_facts.specs.declared.class.Kind.TheVariants.{Valve}
-use Rattle.ldar_facts.specs.declared.class.Service.TheVariants.{Gas}
-use Rattle.ldar_facts.specs.declared.key.Key.{Key}
-use Rattle.ldar_facts.specs.Facts.{facts_to}
-use Rattle.ldar_facts.specs.Stated.{Stated}
+use Rattle.fact_kinds.specs.declared.batch.Batch.{Batch}
+use Rattle.fact_kinds.specs.declared.body.FactBody.{FactBody}
+use Rattle.fact_kinds.specs.declared.body.FactBody.TheVariants.{Unit as UnitFact, Component as ComponentFact, Attempt as AttemptFact, Calibration, Precision, Reading}
+use Rattle.fact_kinds.specs.declared.body.Purpose.TheVariants.{Routine}
+use Rattle.fact_kinds.specs.declared.class.Class.{Class}
+use Rattle.fact_kinds.specs.declared.class.Designation.TheVariants.{Plain}
+use Rattle.fact_kinds.specs.declared.class.Kind.TheVariants.{Valve}
+use Rattle.fact_kinds.specs.declared.class.Service.TheVariants.{Gas}
+use Rattle.fact_kinds.specs.declared.key.Key.{Key}
+use Rattle.fact_kinds.specs.Facts.{facts_to}
+use Rattle.fact_kinds.specs.Stated.{Stated}
 use Rattle.ldar_law.specs.declared.duty.Duty.{Duty}
 use Rattle.ldar_law.specs.declared.election.ElectionEntry.{ElectionEntry}
 use Rattle.ldar_law.specs.declared.equipment.Equipment.{Equipment}

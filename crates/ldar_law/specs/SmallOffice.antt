@@ -1,17 +1,17 @@
 -- A small office, for worked examples: the process unit CRUDE, started up on 2020-01-15, with nine components.
 use Rattle.std.specs.Prelude.{ℕ, Bool, true, false, Some, List, [], ◌∷◌, ◌++◌, zero, suc, codes}
-use Rattle.ldar_facts.specs.declared.batch.Batch.{Batch}
-use Rattle.ldar_facts.specs.declared.class.Class.{Class}
-use Rattle.ldar_facts.specs.declared.class.Kind.{Kind}
-use Rattle.ldar_facts.specs.declared.class.Kind.TheVariants.{Valve, Pump, Compressor, Relief}
-use Rattle.ldar_facts.specs.declared.class.Service.{Service}
-use Rattle.ldar_facts.specs.declared.class.Service.TheVariants.{Gas, Light, Heavy}
-use Rattle.ldar_facts.specs.declared.class.Designation.{Designation}
-use Rattle.ldar_facts.specs.declared.class.Designation.TheVariants.{Plain, Difficult}
-use Rattle.ldar_facts.specs.declared.body.Purpose.TheVariants.{Routine}
-use Rattle.ldar_facts.specs.declared.body.FactBody.{FactBody}
-use Rattle.ldar_facts.specs.declared.body.FactBody.TheVariants.{Unit as UnitFact, Component as ComponentFact, Class as ClassFact, Election, Shutdown, Calibration, Precision, Reading, Attempt, Delay}
-use Rattle.ldar_facts.specs.Stated.{Stated}
+use Rattle.fact_kinds.specs.declared.batch.Batch.{Batch}
+use Rattle.fact_kinds.specs.declared.class.Class.{Class}
+use Rattle.fact_kinds.specs.declared.class.Kind.{Kind}
+use Rattle.fact_kinds.specs.declared.class.Kind.TheVariants.{Valve, Pump, Compressor, Relief}
+use Rattle.fact_kinds.specs.declared.class.Service.{Service}
+use Rattle.fact_kinds.specs.declared.class.Service.TheVariants.{Gas, Light, Heavy}
+use Rattle.fact_kinds.specs.declared.class.Designation.{Designation}
+use Rattle.fact_kinds.specs.declared.class.Designation.TheVariants.{Plain, Difficult}
+use Rattle.fact_kinds.specs.declared.body.Purpose.TheVariants.{Routine}
+use Rattle.fact_kinds.specs.declared.body.FactBody.{FactBody}
+use Rattle.fact_kinds.specs.declared.body.FactBody.TheVariants.{Unit as UnitFact, Component as ComponentFact, Class as ClassFact, Election, Shutdown, Calibration, Precision, Reading, Attempt, Delay}
+use Rattle.fact_kinds.specs.Stated.{Stated}
 use Rattle.ldar_law.specs.Short.{date}
 
 -- what is entered at ten o'clock

@@ -1,16 +1,16 @@
 -- Small registers, for worked examples: process unit 1, which started up on 2020-01-15, and some components.
 use Rattle.std.specs.Prelude.{ℕ, Bool, true, false, nat_le, Option, List, [], ◌∷◌, option_map, codes}
-use Rattle.ldar_facts.specs.declared.batch.Batch.{Batch}
-use Rattle.ldar_facts.specs.declared.body.FactBody.{FactBody}
-use Rattle.ldar_facts.specs.declared.body.FactBody.TheVariants.{Unit as UnitFact, Component as ComponentFact, Class as ClassFact, Retire, Election, Shutdown}
-use Rattle.ldar_facts.specs.declared.class.Class.{Class}
-use Rattle.ldar_facts.specs.declared.class.Designation.TheVariants.{Plain}
-use Rattle.ldar_facts.specs.declared.class.Kind.{Kind}
-use Rattle.ldar_facts.specs.declared.class.Kind.TheVariants.{Valve, Pump, Relief}
-use Rattle.ldar_facts.specs.declared.class.Service.{Service}
-use Rattle.ldar_facts.specs.declared.class.Service.TheVariants.{Gas, Light, Heavy}
-use Rattle.ldar_facts.specs.Facts.{facts_of, facts_to}
-use Rattle.ldar_facts.specs.Stated.{Stated}
+use Rattle.fact_kinds.specs.declared.batch.Batch.{Batch}
+use Rattle.fact_kinds.specs.declared.body.FactBody.{FactBody}
+use Rattle.fact_kinds.specs.declared.body.FactBody.TheVariants.{Unit as UnitFact, Component as ComponentFact, Class as ClassFact, Retire, Election, Shutdown}
+use Rattle.fact_kinds.specs.declared.class.Class.{Class}
+use Rattle.fact_kinds.specs.declared.class.Designation.TheVariants.{Plain}
+use Rattle.fact_kinds.specs.declared.class.Kind.{Kind}
+use Rattle.fact_kinds.specs.declared.class.Kind.TheVariants.{Valve, Pump, Relief}
+use Rattle.fact_kinds.specs.declared.class.Service.{Service}
+use Rattle.fact_kinds.specs.declared.class.Service.TheVariants.{Gas, Light, Heavy}
+use Rattle.fact_kinds.specs.Facts.{facts_of, facts_to}
+use Rattle.fact_kinds.specs.Stated.{Stated}
 use Rattle.ldar_law.specs.Equipment.{equipment_of}
 use Rattle.ldar_law.specs.Force.{class_in_force, is_in_service}
 use Rattle.ldar_law.specs.Limits.{limit_of}

@@ -1,7 +1,7 @@
 -- Tags and sheets of the small office, for worked examples of reports.
 use Rattle.std.specs.Prelude.{ℕ, ◌+◌, ◌*◌, Bool, false, Option, Some, None, List, [], ◌∷◌, ◌++◌, replicate}
-use Rattle.ldar_facts.specs.declared.class.Kind.{Kind}
-use Rattle.ldar_facts.specs.declared.key.Key.{Key}
+use Rattle.fact_kinds.specs.declared.class.Kind.{Kind}
+use Rattle.fact_kinds.specs.declared.key.Key.{Key}
 use Rattle.ldar_law.specs.declared.delay.DelayEntry.{DelayEntry}
 use Rattle.ldar_law.specs.declared.delay.DelayLine.{DelayLine}
 use Rattle.ldar_law.specs.declared.delay.Stop.{Stop}

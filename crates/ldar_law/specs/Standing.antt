@@ -1,9 +1,9 @@
 -- What the rule asks of a component on a day: under which rules it is, and how it is designated.
 use Rattle.std.specs.Prelude.{ℕ, Bool, true, false, List}
-use Rattle.ldar_facts.specs.declared.class.Class.{Class}
-use Rattle.ldar_facts.specs.declared.class.Designation.{Designation}
-use Rattle.ldar_facts.specs.declared.class.Designation.TheVariants.{Plain, Nde, Unsafe, Difficult}
-use Rattle.ldar_facts.specs.declared.key.Key.{Key}
+use Rattle.fact_kinds.specs.declared.class.Class.{Class}
+use Rattle.fact_kinds.specs.declared.class.Designation.{Designation}
+use Rattle.fact_kinds.specs.declared.class.Designation.TheVariants.{Plain, Nde, Unsafe, Difficult}
+use Rattle.fact_kinds.specs.declared.key.Key.{Key}
 use Rattle.ldar_law.specs.declared.equipment.Equipment.{Equipment}
 use Rattle.ldar_law.specs.declared.regime.Regime.{Regime}
 use Rattle.ldar_law.specs.declared.regime.Regime.TheVariants.{ValveRules, PumpRules, CompressorRules, ReliefRules, HeavyLiquidRules, LeftOut}

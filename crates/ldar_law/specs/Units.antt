@@ -3,9 +3,9 @@ use Rattle.std.specs.Prelude.{ℕ, ◌-◌, Bool, option_map, unwrap_or, List, f
 use Rattle.list_words.specs.Ranges.{from_to}
 use Rattle.ldar_days.specs.Calendar.{month_of}
 use Rattle.ldar_days.specs.Quarters.{quarter_of}
-use Rattle.ldar_facts.specs.declared.class.Class.{Class}
-use Rattle.ldar_facts.specs.declared.key.Key.{Key}
-use Rattle.ldar_facts.specs.Facts.{Entry}
+use Rattle.fact_kinds.specs.declared.class.Class.{Class}
+use Rattle.fact_kinds.specs.declared.key.Key.{Key}
+use Rattle.fact_kinds.specs.Facts.{Entry}
 use Rattle.ldar_law.specs.declared.delay.DelayLine.{DelayLine}
 use Rattle.ldar_law.specs.declared.duty.Duty.{Duty}
 use Rattle.ldar_law.specs.declared.election.ElectionEntry.{ElectionEntry}

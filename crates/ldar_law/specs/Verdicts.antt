@@ -2,11 +2,11 @@
 use Rattle.std.specs.Prelude.{ℕ, ◌+◌, Bool, true, false, not, nat_lt, nat_eq, if◌then◌else◌, Option, Some, None, List, [], ◌∷◌, length, find, codes}
 use Rattle.std.specs.Option.{option_map}
 use Rattle.list_words.specs.Words.{first_given, somewhere}
-use Rattle.ldar_facts.specs.declared.batch.Batch.{Batch}
-use Rattle.ldar_facts.specs.Facts.{Entry, entries_of, facts_of}
+use Rattle.fact_kinds.specs.declared.batch.Batch.{Batch}
+use Rattle.fact_kinds.specs.Facts.{Entry, entries_of, facts_of}
 use Rattle.ldar_law.specs.declared.verdict.Verdict.{Verdict}
 use Rattle.ldar_law.specs.declared.verdict.Verdict.TheVariants.{Pass, Denied, Full}
-use Rattle.ldar_facts.specs.declared.limits.TheConstants.{MOST_FACTS}
+use Rattle.fact_kinds.specs.declared.limits.TheConstants.{MOST_FACTS}
 use Rattle.ldar_law.specs.Judged.{Case, case_of}
 use Rattle.ldar_law.specs.Denials as denials
 

@@ -4,7 +4,7 @@ ghost use Rattle.std.specs.Prelude.{◌≡◌};
 ghost use Rattle.ldar_law.specs.Denials as law;
 ghost use Rattle.ldar_law.specs.Slices.{is_registered as says_registered};
 
-use ldar_facts::FactBody;
+use fact_kinds::FactBody;
 
 /// Whether a fact is an entry in the register.
 pub fn is_registered(body: &FactBody) -> bool

@@ -3,8 +3,8 @@ ghost use Rattle.ldar_law.specs.Delays as law;
 ghost use Rattle.ldar_law.specs.Reports as reports;
 
 use crate::numbers::{ATTEMPT_DAYS, REPAIR_DAYS};
+use fact_kinds::Key;
 use ldar_days::Day;
-use ldar_facts::Key;
 
 /// A delay of repair as it was entered (40 CFR 60.482-9a).
 #[derive(Clone, Copy, Debug, PartialEq, Eq)]

@@ -2,8 +2,8 @@ ghost use Rattle.std.specs.Prelude.{◌≡◌};
 ghost use Rattle.ldar_law.specs.Duties.{is_listed as says_listed};
 
 use crate::numbers::LISTED_DAYS;
+use fact_kinds::Key;
 use ldar_days::Day;
-use ldar_facts::Key;
 
 /// Something that has to be done at a component.
 #[derive(Clone, Copy, Debug, PartialEq, Eq)]

@@ -1,5 +1,5 @@
+use fact_kinds::{Class, Kind};
 use ldar_days::Day;
-use ldar_facts::{Class, Kind};
 
 /// A component as the register has it.
 #[derive(Clone, Copy, Debug, PartialEq, Eq)]

@@ -1,5 +1,5 @@
+use fact_kinds::Key;
 use ldar_days::Day;
-use ldar_facts::Key;
 
 /// What happened at a component, and when: a fact of it, judged on its own day.
 #[derive(Clone, Copy, Debug, PartialEq, Eq)]

@@ -1,7 +1,7 @@
 ghost use Rattle.std.specs.Prelude.{◌≡◌};
 ghost use Rattle.ldar_law.specs.Fitness.{is_fit as says_fit};
 
-use ldar_facts::Key;
+use fact_kinds::Key;
 
 /// Whether a reading is fit to be used (40 CFR 60.485a(b); EPA Method 21, sections 8.1.2 and 10.1), and the first
 /// reason why it isn't.

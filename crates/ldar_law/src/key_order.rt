@@ -1,8 +1,8 @@
 ghost use Rattle.std.specs.Prelude.{◌↔◌, IsTrue};
 ghost use Rattle.list_words.specs.Order.{Ascends};
-ghost use Rattle.ldar_facts.specs.Facts.{goes_first};
+ghost use Rattle.fact_kinds.specs.Facts.{goes_first};
 
-use ldar_facts::{Fact, Key, precedes};
+use fact_kinds::{Fact, Key, precedes};
 
 /// Whether facts with their keys stand in key order, each before all that follow it: what `ordered` asks for, where
 /// nobody knows.

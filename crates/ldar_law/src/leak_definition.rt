@@ -2,7 +2,7 @@ ghost use Rattle.std.specs.Prelude.{◌≡◌};
 ghost use Rattle.ldar_law.specs.Limits.{limit_of};
 
 use crate::regime::Regime;
-use ldar_facts::{Class, Kind};
+use fact_kinds::{Class, Kind};
 
 /// The leak definition of a component of this class, in parts per million by volume (40 CFR 60.482-2a(b)(1),
 /// 60.482-7a(b), 60.482-8a(b)); 500 where the rules set none, which is our own rule. A pump that handles

@@ -2,7 +2,7 @@ ghost use Rattle.std.specs.Prelude.{◌≡◌};
 ghost use Rattle.ldar_law.specs.Limits.{regime_of};
 ghost use Rattle.ldar_law.specs.Standing as law;
 
-use ldar_facts::{Kind, Service};
+use fact_kinds::{Kind, Service};
 
 /// The rules that a component is under, by its kind and its service.
 #[derive(Clone, Copy, Debug, PartialEq, Eq)]

@@ -7,7 +7,7 @@ ghost use Rattle.ldar_law.specs.Texts.{end_of_line};
 use crate::paragraphs::paragraph;
 use crate::request::What;
 use crate::text::Text;
-use ldar_facts::Memory;
+use fact_kinds::Memory;
 use std::alloc::Global;
 
 /// What the office answers. Positions in the journal, facts of a batch and rules count from 1.

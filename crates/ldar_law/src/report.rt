@@ -2,8 +2,8 @@ ghost use Rattle.std.specs.Prelude.{◌≡◌, length};
 
 use crate::delay::{DelayLine, Stop};
 use crate::items::Items;
+use fact_kinds::Name;
 use ldar_days::Day;
-use ldar_facts::Name;
 use std::marker::Model;
 
 /// The counts of a report: for each of six months those of valves, pumps and compressors, of each first the

@@ -1,8 +1,8 @@
 ghost use Rattle.std.specs.Prelude.{◌≡◌};
 ghost use Rattle.ldar_law.specs.Replies.{what_text};
 
+use fact_kinds::Batch;
 use ldar_days::Day;
-use ldar_facts::Batch;
 
 /// What is asked of the office: that it keep a batch, or show something as known on a day. Numbers of units,
 /// quarters and halves count from 1, and may name none.

@@ -1,7 +1,7 @@
 use crate::items::Items;
 use crate::tag::Tag;
+use fact_kinds::Kind;
 use ldar_days::Month;
-use ldar_facts::Kind;
 
 /// What a report needs of one component.
 #[derive(Drop)]

@@ -7,7 +7,7 @@ ghost use Rattle.ldar_law.specs.Settling as settling;
 ghost use Rattle.ldar_law.specs.Spans as spans;
 ghost use Rattle.ldar_law.specs.Standing as standing;
 
-use ldar_facts::{Designation, Kind, Service};
+use fact_kinds::{Designation, Kind, Service};
 
 /// Whether the component is a valve.
 pub fn is_valve(kind: Kind) -> bool

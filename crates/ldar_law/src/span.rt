@@ -1,8 +1,8 @@
 ghost use Rattle.std.specs.Prelude.{◌≡◌};
 ghost use Rattle.ldar_law.specs.Tags.{is_within as says_within};
 
+use fact_kinds::{Key, precedes};
 use ldar_days::Day;
-use ldar_facts::{Key, precedes};
 
 /// The time from which a leak is known until nothing is left unsettled.
 #[derive(Clone, Copy, Debug, PartialEq, Eq)]

@@ -3,7 +3,7 @@
 
 ghost use Rattle.std.specs.Prelude.{◌≡◌, option_map};
 ghost use Rattle.list_words.specs.Order.{Ascends};
-ghost use Rattle.ldar_facts.specs.Facts.{is_earlier};
+ghost use Rattle.fact_kinds.specs.Facts.{is_earlier};
 ghost use Rattle.ldar_law.specs.Duties as duties;
 ghost use Rattle.ldar_law.specs.Force as force;
 ghost use Rattle.ldar_law.specs.Standing as law;
@@ -15,8 +15,8 @@ use crate::regime::Regime;
 use crate::sorts::{
     is_difficult_designated, is_nde_designated, is_none_designated, is_unsafe_designated,
 };
+use fact_kinds::{Class, Key};
 use ldar_days::Day;
-use ldar_facts::{Class, Key};
 
 /// The last class entered by a day.
 fn class_by(classes: &[(Key, Class)], day: Day) -> Option<Class>

@@ -2,7 +2,7 @@ ghost use Rattle.std.specs.Prelude.{◌≡◌};
 ghost use Rattle.ldar_law.specs.Denials as law;
 
 use crate::regime::Regime;
-use ldar_facts::{Class, Designation, Kind, Service};
+use fact_kinds::{Class, Designation, Kind, Service};
 
 /// Whether a kind of component can be in the service (our own rule): a compressor has no liquid service, and a pump no
 /// gas service.

@@ -1,5 +1,5 @@
+use fact_kinds::Name;
 use ldar_days::Day;
-use ldar_facts::Name;
 
 /// A process unit as the register has it.
 #[derive(Clone, Copy, PartialEq, Eq)]

@@ -9,7 +9,7 @@ ghost use Rattle.ldar_session.specs.Served.{Served, Stretch, items_of};
 
 use crate::Memory;
 use crate::ended::Ended;
-use ldar_facts::FRAME_BATCHES;
+use fact_kinds::FRAME_BATCHES;
 use ldar_law::{Reply, Request};
 use ldar_ports::{Sink, put_all};
 use office_book::Office;

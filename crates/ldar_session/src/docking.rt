@@ -9,7 +9,7 @@ ghost use Rattle.ldar_session.specs.Served.{Served, Stretch, items_of};
 use crate::asking::serve;
 use crate::ended::{Ended, MOST_ANSWERS};
 use crate::group::{Front, Group, front_of};
-use ldar_facts::FRAME_BATCHES;
+use fact_kinds::FRAME_BATCHES;
 use ldar_ports::{Sink, Source, Window};
 use office_book::Office;
 use std::alloc::Global;

@@ -6,7 +6,8 @@ ghost use Rattle.ldar_session.specs.Batches.{IsGroup, StandInFront, NoneJoins};
 ghost use Rattle.ldar_session.specs.Dock.{IsFront};
 
 use crate::Memory;
-use ldar_facts::{Batch, FRAME_BATCHES, Read, read_batch};
+use fact_kinds::{Batch, FRAME_BATCHES};
+use ldar_facts::{Read, read_batch};
 use ldar_law::Request;
 use std::alloc::Global;
 

@@ -8,8 +8,8 @@ ghost use Rattle.ldar_session.specs.Requests.{AsksAs, CannotJoin, IsAsking, IsGr
 use crate::Memory;
 use crate::asking::is_asked_alone;
 use crate::extent::Extent;
+use fact_kinds::{Batch, FRAME_BATCHES};
 use handheld_http::{Asked, Cut, Refusal, cut, request_of};
-use ldar_facts::{Batch, FRAME_BATCHES};
 use ldar_law::Request;
 use std::alloc::Global;
 

@@ -7,8 +7,8 @@ use Rattle.std.specs.Prelude.{is_some, IfSome}
 use Rattle.std.specs.List.{cons_option}
 use Rattle.list_words.specs.Words.{first_from, each_from}
 use Rattle.list_words.proofs.WordLemmas.{each_more}
-use Rattle.ldar_facts.specs.declared.class.Kind.{Kind}
-use Rattle.ldar_facts.specs.declared.key.Key.{Key}
+use Rattle.fact_kinds.specs.declared.class.Kind.{Kind}
+use Rattle.fact_kinds.specs.declared.key.Key.{Key}
 use Rattle.ldar_law.specs.declared.event.Event.{Event}
 use Rattle.ldar_law.specs.declared.span.Span.{Span}
 use Rattle.ldar_law.specs.Happenings.{is_leak, is_look, is_sensor, is_below, is_attempt, delays_with_reading}

@@ -2,7 +2,7 @@
 use Rattle.std.specs.Prelude.{◌≡◌, ℕ, ◌+◌, ◌<◌, ◌≤◌, Bool, false, not, ◌&&◌, ◌||◌, nat_eq, nat_le, IfSome, List, [], ◌∷◌, take, drop}
 use Rattle.std.specs.List.{AllByRecursion, list_any}
 use Rattle.ldar_days.specs.Calendar.{month_of}
-use Rattle.ldar_facts.specs.declared.class.Kind.{Kind}
+use Rattle.fact_kinds.specs.declared.class.Kind.{Kind}
 use Rattle.ldar_law.specs.declared.event.Event.{Event}
 use Rattle.ldar_law.specs.declared.event.Happening.{Happening}
 use Rattle.ldar_law.specs.declared.numbers.TheConstants.{REPAIR_DAYS}

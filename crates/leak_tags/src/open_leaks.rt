@@ -6,8 +6,8 @@ ghost use Rattle.leak_tags.specs.OpenLeaks as spec;
 
 use crate::below_months::BelowMonths;
 use crate::leaks::Leaks;
+use fact_kinds::Kind;
 use ldar_days::Day;
-use ldar_facts::Kind;
 use ldar_law::{Event, Happening, is_valve_or_pump};
 
 /// The leaks that are not settled yet, by their sort, and what else settles a leak.

@@ -6,8 +6,8 @@ ghost use Rattle.list_words.specs.Words.{first_from};
 ghost use Rattle.ldar_law.specs.Spans as law;
 
 use crate::settling::is_unsettled;
+use fact_kinds::{Key, Kind, Memory};
 use ldar_days::Day;
-use ldar_facts::{Key, Kind, Memory};
 use ldar_law::{Event, Span, is_clean_twice_from, is_valve};
 use std::alloc::Global;
 

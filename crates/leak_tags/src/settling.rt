@@ -3,7 +3,7 @@ ghost use Rattle.ldar_days.specs.Calendar.{month_of};
 ghost use Rattle.ldar_law.specs.Happenings.{is_below as says_below};
 ghost use Rattle.ldar_law.specs.Settling as law;
 
-use ldar_facts::Kind;
+use fact_kinds::Kind;
 use ldar_law::{Event, REPAIR_DAYS, has_leak, is_valve_or_pump};
 
 /// Whether some attempt lies between, and no leak between it and what settles.

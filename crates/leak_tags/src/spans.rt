@@ -6,7 +6,7 @@ ghost use Rattle.leak_tags.specs.Telling.{Rises};
 use crate::rising::are_rising;
 use crate::search::spans_by_search;
 use crate::walk::Walk;
-use ldar_facts::{Kind, Memory};
+use fact_kinds::{Kind, Memory};
 use ldar_law::{Event, Span};
 use std::alloc::Global;
 

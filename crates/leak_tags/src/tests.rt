@@ -1,7 +1,7 @@
 use crate::search::spans_by_search;
 use crate::spans_of;
+use fact_kinds::{Key, Kind};
 use ldar_days::Day;
-use ldar_facts::{Key, Kind};
 use ldar_law::{Event, Happening, Span};
 use std::alloc::Global;
 use std::test::Fail;

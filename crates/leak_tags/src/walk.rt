@@ -10,8 +10,8 @@ ghost use Rattle.leak_tags.specs.Walking.{Walks, closed_tag, rest_of};
 use crate::clean_months::last_clean_pair;
 use crate::next_attempt::NextAttempt;
 use crate::open_leaks::OpenLeaks;
+use fact_kinds::{Key, Kind};
 use ldar_days::Day;
-use ldar_facts::{Key, Kind};
 use ldar_law::{Event, Span, is_valve};
 
 /// A tag that is open.

@@ -10,11 +10,11 @@ use Rattle.list_words.specs.Order.{Ascends}
 use Rattle.list_words.specs.Words.{last_such}
 use Rattle.list_words.proofs.Narrowing.{list_any_narrowed, find_narrowed, find_agree}
 use Rattle.ldar_days.specs.Calendar.{later_by}
-use Rattle.ldar_facts.specs.declared.body.FactBody.{FactBody}
-use Rattle.ldar_facts.specs.declared.body.FactBody.TheVariants.{Calibration, Precision, Drift}
-use Rattle.ldar_facts.specs.declared.key.Key.{Key}
-use Rattle.ldar_facts.specs.Facts.{Entry, is_earlier, goes_first}
-use Rattle.ldar_facts.proofs.Cuts.{earlier_day}
+use Rattle.fact_kinds.specs.declared.body.FactBody.{FactBody}
+use Rattle.fact_kinds.specs.declared.body.FactBody.TheVariants.{Calibration, Precision, Drift}
+use Rattle.fact_kinds.specs.declared.key.Key.{Key}
+use Rattle.fact_kinds.specs.Facts.{Entry, is_earlier, goes_first}
+use Rattle.fact_kinds.proofs.Cuts.{earlier_day}
 use Rattle.ldar_law.specs.Fitness.{is_calibration, is_calibration_within, is_passed_precision, is_drift_past, is_calibrated, is_calibrated_within, is_tested}
 use Rattle.ldar_law.specs.Fitness.{is_calibrated_before, is_voided_by, fitness_of, unless_voided}
 use Rattle.ldar_law.specs.declared.numbers.TheConstants.{GAS_MARGIN}

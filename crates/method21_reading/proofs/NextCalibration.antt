@@ -1,8 +1,8 @@
 use Rattle.std.proofs.Common.{◌≡◌, ℕ, Bool, true, false, ◌&&◌, ◌||◌, Option, Some, None, List, ◌∷◌, find, refl, sym, ap, ◌∙◌, inl, inr}
 use Rattle.std.proofs.lemmas.Bool.{cases_Bool, false≢true}
-use Rattle.ldar_facts.specs.declared.key.Key.{Key}
-use Rattle.ldar_facts.specs.Facts.{Entry, is_earlier}
-use Rattle.ldar_facts.proofs.KeyOrder.{strict_earlier}
+use Rattle.fact_kinds.specs.declared.key.Key.{Key}
+use Rattle.fact_kinds.specs.Facts.{Entry, is_earlier}
+use Rattle.fact_kinds.proofs.KeyOrder.{strict_earlier}
 use Rattle.ldar_law.specs.Fitness.{is_calibration, is_calibrated_before, is_voided_by}
 use Rattle.ldar_law.proofs.WeakOrder.{weak_earlier}
 use Rattle.list_words.proofs.Narrowing.{find_agree}

@@ -1,6 +1,6 @@
 -- The sorts of an instrument's facts that judge its readings.
 use Rattle.std.specs.Prelude.{Bool}
-use Rattle.ldar_facts.specs.declared.body.FactBody.{FactBody}
+use Rattle.fact_kinds.specs.declared.body.FactBody.{FactBody}
 use Rattle.method21_reading.specs.declared.part.Part.{Part}
 use Rattle.method21_reading.specs.declared.part.Part.TheVariants.{Calibrations, PassedTests, FailedDrifts}
 use Rattle.method21_reading.specs.Instruments.{is_calibrating, is_passed_test, is_failed_drift}

@@ -1,10 +1,10 @@
 ghost use Rattle.std.specs.Prelude.{◌≡◌, ◌||◌};
 ghost use Rattle.std.specs.List.{list_any};
-ghost use Rattle.ldar_facts.specs.Facts.{is_earlier};
+ghost use Rattle.fact_kinds.specs.Facts.{is_earlier};
 ghost use Rattle.ldar_law.specs.Fitness as law;
 ghost use Rattle.method21_reading.specs.Readings as readings;
 
-use ldar_facts::{Fact, FactBody, Key, precedes};
+use fact_kinds::{Fact, FactBody, Key, precedes};
 
 /// Whether a fact is a calibration of the instrument.
 fn is_calibration(instrument: u16, body: &FactBody) -> bool

@@ -3,13 +3,13 @@
 ghost use Rattle.std.specs.Prelude.{◌≡◌, ◌≤◌, true, false, nat_le, length, slice_get};
 ghost use Rattle.std.specs.Option.{option_map_or};
 ghost use Rattle.list_words.specs.Order.{Ascends};
-ghost use Rattle.ldar_facts.specs.Facts.{is_earlier};
+ghost use Rattle.fact_kinds.specs.Facts.{is_earlier};
 ghost use Rattle.ldar_law.specs.Force as force;
 ghost use Rattle.ldar_law.specs.Standing as standing;
 ghost use Rattle.method21_reading.specs.Walks.{IsBehind};
 
+use fact_kinds::{Class, Key};
 use ldar_days::Day;
-use ldar_facts::{Class, Key};
 use ldar_law::Equipment;
 
 /// Whether a class stands at a place that was entered by a day.

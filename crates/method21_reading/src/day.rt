@@ -1,10 +1,10 @@
 ghost use Rattle.std.specs.Prelude.{◌≡◌, filter};
 ghost use Rattle.list_words.specs.Order.{Ascends};
-ghost use Rattle.ldar_facts.specs.Facts.{goes_first};
+ghost use Rattle.fact_kinds.specs.Facts.{goes_first};
 ghost use Rattle.method21_reading.specs.Instruments.{is_of_day};
 
+use fact_kinds::{Fact, Key};
 use ldar_days::Day;
-use ldar_facts::{Fact, Key};
 
 /// The facts of a day, found by halving among facts in key order.
 pub fn facts_on(facts: &[(Key, Fact)], day: Day) -> &[(Key, Fact)]

@@ -1,11 +1,11 @@
 ghost use Rattle.std.specs.Prelude.{◌≡◌, ◌≤◌, ◌*◌, not, ◌&&◌, nat_lt, nat_eq, find, option_map};
-ghost use Rattle.ldar_facts.specs.Facts.{is_earlier};
+ghost use Rattle.fact_kinds.specs.Facts.{is_earlier};
 ghost use Rattle.ldar_law.specs.Fitness as law;
 ghost use Rattle.method21_reading.specs.Readings.{is_before, is_voided_until};
 
 use crate::calibration::next_calibration;
 use crate::precision::sum_of;
-use ldar_facts::{Fact, FactBody, Key, precedes};
+use fact_kinds::{Fact, FactBody, Key, precedes};
 
 /// Whether the mean of three readings lies more than 10 percent below the known value (40 CFR 60.485a(b)(2)).
 pub fn has_drifted(value: u32, readings: (u32, u32, u32)) -> bool

@@ -1,14 +1,14 @@
 ghost use Rattle.std.specs.Prelude.{◌≡◌, ◌≤◌, ◌++◌, length, OnOk, IfOk};
 ghost use Rattle.std.specs.Option.{option_to_list};
 ghost use Rattle.list_words.specs.Order.{Ascends};
-ghost use Rattle.ldar_facts.specs.Facts.{is_earlier};
+ghost use Rattle.fact_kinds.specs.Facts.{is_earlier};
 ghost use Rattle.ldar_law.specs.Events as law;
 ghost use Rattle.method21_reading.specs.Readings.{AreEventsAmongAll};
 ghost use Rattle.method21_reading.specs.Walks.{IsBehind};
 
 use crate::class_walk::{place_on, standing_at};
 use crate::happening::happening;
-use ldar_facts::{Class, Fact, FactBody, Key, Memory};
+use fact_kinds::{Class, Fact, FactBody, Key, Memory};
 use ldar_law::{Equipment, Event, Fitness, Happening};
 use std::alloc::Global;
 

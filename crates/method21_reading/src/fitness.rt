@@ -1,6 +1,6 @@
 ghost use Rattle.std.specs.Prelude.{◌≡◌};
 ghost use Rattle.list_words.specs.Order.{Ascends};
-ghost use Rattle.ldar_facts.specs.Facts.{goes_first};
+ghost use Rattle.fact_kinds.specs.Facts.{goes_first};
 ghost use Rattle.ldar_law.specs.Fitness.{fitness_of};
 ghost use Rattle.method21_reading.specs.Instruments.{fitness_apart};
 ghost use Rattle.method21_reading.specs.Readings.{fitness_by, IsFitnessAmongAll};
@@ -9,7 +9,7 @@ use crate::calibration::{is_calibrated, is_calibrated_within};
 use crate::day::facts_on;
 use crate::drift::voiding_drift;
 use crate::precision::is_tested;
-use ldar_facts::{Fact, FactBody, Key};
+use fact_kinds::{Fact, FactBody, Key};
 use ldar_law::{Fitness, GAS_MARGIN};
 
 /// Whether a reading with this key may be used, judged by a leak definition in parts per million by volume, and the

@@ -2,8 +2,8 @@ ghost use Rattle.std.specs.Prelude.{◌≡◌, []};
 ghost use Rattle.ldar_law.specs.Events as law;
 ghost use Rattle.method21_reading.specs.Readings.{reading_can_leak, look_on};
 
+use fact_kinds::{FactBody, Purpose, Sort, VisualState};
 use ldar_days::Day;
-use ldar_facts::{FactBody, Purpose, Sort, VisualState};
 use ldar_law::{Equipment, Fitness, Happening};
 
 /// Whether a reading of the day counts: it is fit, and the component is in service and in no service that is left

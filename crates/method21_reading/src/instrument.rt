@@ -2,7 +2,7 @@
 
 ghost use Rattle.std.specs.Prelude.{◌≡◌, List, filter, IfOk};
 ghost use Rattle.list_words.specs.Order.{Ascends};
-ghost use Rattle.ldar_facts.specs.Facts.{goes_first, Entry};
+ghost use Rattle.fact_kinds.specs.Facts.{goes_first, Entry};
 ghost use Rattle.ldar_law.specs.Fitness.{fitness_of};
 ghost use Rattle.method21_reading.specs.Instruments.{AreThoseOf, is_of_day};
 ghost use Rattle.method21_reading.specs.Readings.{fitness_by, IsFitnessAmongAll};
@@ -10,8 +10,8 @@ ghost use Rattle.method21_reading.specs.Readings.{fitness_by, IsFitnessAmongAll}
 use crate::day::facts_on;
 use crate::fitness::judged_apart;
 use crate::part::{Part, part_of};
+use fact_kinds::{Fact, FactBody, Key, Memory};
 use ldar_days::Day;
-use ldar_facts::{Fact, FactBody, Key, Memory};
 use ldar_law::Fitness;
 use std::alloc::Global;
 use std::marker::Model;
@@ -28,7 +28,7 @@ pub struct Instrument {
 
 impl Model for Instrument {
     ghost use Rattle.list_words.specs.Order.{Ascends};
-    ghost use Rattle.ldar_facts.specs.Facts.{goes_first};
+    ghost use Rattle.fact_kinds.specs.Facts.{goes_first};
     ghost use Rattle.method21_reading.specs.Instruments.{Apart};
 
     ghost Value = { Apart };

@@ -1,12 +1,12 @@
 ghost use Rattle.std.specs.Prelude.{◌≡◌, ◌++◌, ◌∷◌, [], if◌then◌else◌, filter, IfOk, OnOk};
 ghost use Rattle.list_words.specs.Order.{Ascends};
-ghost use Rattle.ldar_facts.specs.Facts.{goes_first};
+ghost use Rattle.fact_kinds.specs.Facts.{goes_first};
 ghost use Rattle.method21_reading.specs.Instruments as instruments;
 ghost use Rattle.method21_reading.specs.Parts as parts;
 
 use crate::drift::has_drifted;
 use crate::precision::is_precise;
-use ldar_facts::{Fact, FactBody, Key, Memory};
+use fact_kinds::{Fact, FactBody, Key, Memory};
 use std::alloc::Global;
 
 /// A sort of an instrument's facts that judges its readings.

@@ -3,11 +3,11 @@ ghost use Rattle.std.specs.Option.{option_map_or};
 ghost use Rattle.list_words.specs.Order.{Ascends};
 ghost use Rattle.list_words.specs.Words.{last_such};
 ghost use Rattle.ldar_days.specs.Calendar.{later_by};
-ghost use Rattle.ldar_facts.specs.Facts.{goes_first, is_earlier};
+ghost use Rattle.fact_kinds.specs.Facts.{goes_first, is_earlier};
 ghost use Rattle.ldar_law.specs.Fitness as law;
 
+use fact_kinds::{Fact, FactBody, Key, precedes};
 use ldar_days::Day;
-use ldar_facts::{Fact, FactBody, Key, precedes};
 
 /// The sum of three readings.
 pub fn sum_of(readings: (u32, u32, u32)) -> u64

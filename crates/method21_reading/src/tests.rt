@@ -1,14 +1,14 @@
 ghost use Rattle.std.specs.Prelude.{◌≡◌, ◌≤◌};
 ghost use Rattle.list_words.specs.Order.{Ascends};
-ghost use Rattle.ldar_facts.specs.Facts.{is_earlier};
-ghost use Rattle.ldar_facts.specs.declared.class.Designation.TheVariants.{Plain};
-ghost use Rattle.ldar_facts.specs.Fields.{IsFact};
+ghost use Rattle.fact_kinds.specs.Facts.{is_earlier};
+ghost use Rattle.fact_kinds.specs.declared.class.Designation.TheVariants.{Plain};
+ghost use Rattle.fact_kinds.specs.Fields.{IsFact};
 
 use crate::{Instrument, events_of, fit, limit};
-use ldar_days::Day;
-use ldar_facts::{
+use fact_kinds::{
     Class, Designation, Fact, FactBody, Key, Kind, Purpose, Service, Sort, VisualState,
 };
+use ldar_days::Day;
 use ldar_law::{Equipment, Event, Fitness, Happening, are_in_key_order};
 use std::alloc::Global;
 use std::test::Fail;

@@ -11,8 +11,8 @@ use Rattle.list_words.specs.Words.{each_from, each_where}
 use Rattle.list_words.proofs.Members.{all_weaker}
 use Rattle.list_words.proofs.WordLemmas.{each_more, each_pushed}
 use Rattle.ldar_days.specs.Calendar.{end_by}
-use Rattle.ldar_facts.specs.Facts.{is_earlier}
-use Rattle.ldar_facts.proofs.Cuts.{earlier_day}
+use Rattle.fact_kinds.specs.Facts.{is_earlier}
+use Rattle.fact_kinds.proofs.Cuts.{earlier_day}
 use Rattle.ldar_law.specs.declared.duty.Duty.{Duty}
 use Rattle.ldar_law.specs.declared.event.Event.{Event}
 use Rattle.ldar_law.specs.declared.event.Happening.TheVariants.{Retire}

@@ -6,8 +6,8 @@ use Rattle.std.proofs.lemmas.Bool.Decides.{nat_tests}
 use Rattle.list_words.specs.Order.{Ascends}
 use Rattle.list_words.proofs.Members.{all_weaker}
 use Rattle.ldar_days.specs.Calendar.{month_of}
-use Rattle.ldar_facts.specs.Facts.{is_earlier}
-use Rattle.ldar_facts.proofs.Cuts.{earlier_day}
+use Rattle.fact_kinds.specs.Facts.{is_earlier}
+use Rattle.fact_kinds.proofs.Cuts.{earlier_day}
 use Rattle.ldar_law.specs.declared.event.Event.{Event}
 
 -- what is before all of some is before each

@@ -1,10 +1,10 @@
 -- Which causes can concern a component at all, by its kind and by its classes.
 use Rattle.std.specs.Prelude.{Bool, true, false, not, ◌||◌, List}
 use Rattle.std.specs.List.{list_any}
-use Rattle.ldar_facts.specs.declared.class.Class.{Class}
-use Rattle.ldar_facts.specs.declared.class.Kind.{Kind}
-use Rattle.ldar_facts.specs.declared.class.Kind.TheVariants.{Relief}
-use Rattle.ldar_facts.specs.declared.key.Key.{Key}
+use Rattle.fact_kinds.specs.declared.class.Class.{Class}
+use Rattle.fact_kinds.specs.declared.class.Kind.{Kind}
+use Rattle.fact_kinds.specs.declared.class.Kind.TheVariants.{Relief}
+use Rattle.fact_kinds.specs.declared.key.Key.{Key}
 use Rattle.ldar_law.specs.declared.equipment.Equipment.{Equipment}
 use Rattle.ldar_law.specs.Kinds.{is_pump, is_compressor}
 use Rattle.ldar_law.specs.Standing.{is_unsafe_designated}

@@ -1,7 +1,7 @@
 -- What is true of the duties of a component among those of its process unit: the statements of `laws`.
 use Rattle.std.specs.Prelude.{◌≡◌, ℕ, Bool, false, nat_eq, List, ◌∷◌, ◌++◌, filter}
 use Rattle.std.specs.List.{AllByRecursion}
-use Rattle.ldar_facts.specs.Facts.{Entry}
+use Rattle.fact_kinds.specs.Facts.{Entry}
 use Rattle.ldar_law.specs.declared.unit_entry.UnitEntry.{UnitEntry}
 use Rattle.ldar_law.specs.declared.duty.Duty.{Duty}
 use Rattle.ldar_law.specs.Duties.{duties_of}

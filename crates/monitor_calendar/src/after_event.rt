@@ -5,7 +5,7 @@ ghost use Rattle.std.specs.Prelude.{◌≡◌, ◌+◌, ◌<◌, ◌≤◌, ◌+
 ghost use Rattle.std.specs.List.Sorted.{IsPartitionPoint};
 ghost use Rattle.list_words.specs.Order.{Ascends};
 ghost use Rattle.list_words.specs.Words.{each_where};
-ghost use Rattle.ldar_facts.specs.Facts.{is_earlier};
+ghost use Rattle.fact_kinds.specs.Facts.{is_earlier};
 ghost use Rattle.monitor_calendar.specs.Concern.{concerns};
 ghost use Rattle.monitor_calendar.specs.Following as following;
 
@@ -13,8 +13,8 @@ use crate::asked::Asked;
 use crate::drips::PastDrips;
 use crate::duty::put;
 use crate::weekly::is_plain_pump;
+use fact_kinds::{Kind, Memory};
 use ldar_days::Day;
-use ldar_facts::{Kind, Memory};
 use ldar_law::{Duty, EVENT_DAYS, Event, Happening, LISTED_DAYS, is_compressor, is_pump};
 
 /// What a duty follows.

@@ -1,13 +1,13 @@
 ghost use Rattle.std.specs.Prelude.{◌≡◌, ◌≤◌, ◌-◌, max, min};
 ghost use Rattle.list_words.specs.Order.{Ascends};
 ghost use Rattle.ldar_days.specs.Calendar.{IsDay};
-ghost use Rattle.ldar_facts.specs.Facts.{is_earlier};
+ghost use Rattle.fact_kinds.specs.Facts.{is_earlier};
 ghost use Rattle.ldar_law.specs.Force as force;
 ghost use Rattle.monitor_calendar.specs.InOrder.{Ascends-prop};
 ghost use Rattle.ldar_law.specs.declared.numbers.TheConstants.{LAST_FACT_DAY, LISTED_DAYS as listed_days};
 
+use fact_kinds::{Class, Key};
 use ldar_days::Day;
-use ldar_facts::{Class, Key};
 use ldar_law::{Equipment, Event, LISTED_DAYS, Regime};
 
 /// What is asked: what has to be done at a component, as the list of a day has it.

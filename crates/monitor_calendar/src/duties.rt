@@ -1,14 +1,14 @@
 ghost use Rattle.std.specs.Prelude.{◌≡◌, ◌≤◌, IfOk};
 ghost use Rattle.list_words.specs.Order.{Ascends};
-ghost use Rattle.ldar_facts.specs.Facts.{is_earlier};
+ghost use Rattle.fact_kinds.specs.Facts.{is_earlier};
 ghost use Rattle.ldar_law.specs.Duties as law;
 ghost use Rattle.ldar_law.specs.declared.numbers.TheConstants.{LAST_FACT_DAY};
 
 use crate::after_event::After;
 use crate::asked::Asked;
 use crate::duty::put;
+use fact_kinds::{Class, Key, Memory};
 use ldar_days::Day;
-use ldar_facts::{Class, Key, Memory};
 use ldar_law::{Duty, Equipment, Event};
 use std::alloc::Global;
 

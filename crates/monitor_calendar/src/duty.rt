@@ -3,8 +3,8 @@ ghost use Rattle.std.specs.Option.{option_to_list};
 ghost use Rattle.monitor_calendar.specs.Causes as causes;
 
 use crate::asked::Asked;
+use fact_kinds::{Key, Memory};
 use ldar_days::Day;
-use ldar_facts::{Key, Memory};
 use ldar_law::{Duty, Event, is_listed};
 
 impl Asked<'_> {

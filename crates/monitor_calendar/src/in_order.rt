@@ -2,9 +2,9 @@
 
 ghost use Rattle.std.specs.Prelude.{◌↔◌, IsTrue};
 ghost use Rattle.list_words.specs.Order.{Ascends};
-ghost use Rattle.ldar_facts.specs.Facts.{is_earlier};
+ghost use Rattle.fact_kinds.specs.Facts.{is_earlier};
 
-use ldar_facts::{Class, Key, precedes};
+use fact_kinds::{Class, Key, precedes};
 use ldar_law::Event;
 
 /// Whether classes stand in the order of the keys of their facts, each before all that follow it.

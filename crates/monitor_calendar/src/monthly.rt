@@ -9,8 +9,8 @@ use crate::asked::{Asked, Judged};
 use crate::duty::put;
 use crate::listed_months::ListedMonths;
 use crate::period::routine_in;
+use fact_kinds::Memory;
 use ldar_days::{Month, quarter_of};
-use ldar_facts::Memory;
 use ldar_law::{Duty, is_none_designated, month_in_quarter};
 
 /// Whether what is so judged is monitored in a month that is a quarterly one or not.

@@ -9,8 +9,8 @@ ghost use Rattle.monitor_calendar.specs.Concern as concern;
 use crate::asked::{Asked, Judged};
 use crate::duty::put;
 use crate::period::routine_in;
+use fact_kinds::{Class, Key, Memory};
 use ldar_days::{Day, Month};
-use ldar_facts::{Class, Key, Memory};
 use ldar_law::{Duty, is_unsafe_designated};
 
 /// December 2099, the last month of the calendar.

@@ -2,7 +2,7 @@
 
 ghost use Rattle.std.specs.Prelude.{◌≡◌, ℕ, ◌+◌, ◌<◌, ◌≤◌, false, slice_index_or};
 ghost use Rattle.list_words.specs.Order.{Ascends};
-ghost use Rattle.ldar_facts.specs.Facts.{is_earlier};
+ghost use Rattle.fact_kinds.specs.Facts.{is_earlier};
 ghost use Rattle.ldar_law.specs.Months.{is_quarterly};
 ghost use Rattle.ldar_law.specs.declared.numbers.TheConstants.{LAST_FACT_DAY};
 ghost use Rattle.monitor_calendar.specs.Walks.{IsAt};

@@ -3,8 +3,8 @@ mod definition;
 mod histories;
 
 use crate::{Duty, are_classes_ordered, are_events_ordered, duties_of};
+use fact_kinds::{Class, Designation, Key, Kind, Service};
 use ldar_days::Day;
-use ldar_facts::{Class, Designation, Key, Kind, Service};
 use ldar_law::{Equipment, Event, Happening};
 use std::alloc::Global;
 use std::process::Abort;

@@ -8,8 +8,8 @@ ghost use Rattle.monitor_calendar.specs.Causes as causes;
 use crate::asked::{Asked, Judged};
 use crate::duty::put;
 use crate::period::look_in;
+use fact_kinds::Memory;
 use ldar_days::Day;
-use ldar_facts::Memory;
 use ldar_law::{Duty, is_none_designated, is_pump};
 
 /// Whether what is so judged is a pump that is no designated one.

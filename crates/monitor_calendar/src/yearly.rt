@@ -8,8 +8,8 @@ ghost use Rattle.monitor_calendar.specs.Causes as causes;
 use crate::asked::{Asked, Judged};
 use crate::duty::put;
 use crate::period::{routine_in, routine_near_background};
+use fact_kinds::Memory;
 use ldar_days::{Day, Month};
-use ldar_facts::Memory;
 use ldar_law::{Duty, Event, is_difficult_designated, is_nde_designated};
 
 /// Whether what is so judged is monitored each year.

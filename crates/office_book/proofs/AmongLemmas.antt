@@ -9,11 +9,11 @@ use Rattle.std.proofs.lemmas.List.{append-nil, length-take}
 use Rattle.std.proofs.lemmas.Option.{slice_get-get_or}
 use Rattle.std.proofs.lemmas.List.Sums.{sum_by-append}
 use Rattle.list_words.proofs.Members.{Among}
-use Rattle.ldar_facts.specs.declared.batch.Batch.{Batch}
-use Rattle.ldar_facts.specs.Facts.{Entry, entries_from, entries_of, facts_of}
-use Rattle.ldar_facts.specs.Identity.{identity_of, is_of}
-use Rattle.ldar_facts.specs.Stated.{Stated}
-use Rattle.ldar_facts.proofs.OrderFree.{facts_count}
+use Rattle.fact_kinds.specs.declared.batch.Batch.{Batch}
+use Rattle.fact_kinds.specs.Facts.{Entry, entries_from, entries_of, facts_of}
+use Rattle.fact_kinds.specs.Identity.{identity_of, is_of}
+use Rattle.fact_kinds.specs.Stated.{Stated}
+use Rattle.fact_kinds.proofs.OrderFree.{facts_count}
 use Rattle.ldar_journal.specs.Image.{IsKept, fact_count}
 use Rattle.ldar_journal.proofs.Histories.{IsKept-front}
 use Rattle.ldar_journal.proofs.KeepingLemmas.{next_one}

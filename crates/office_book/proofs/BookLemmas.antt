@@ -5,7 +5,7 @@ use Rattle.std.specs.Prelude.{IsTrue}
 use Rattle.std.proofs.lemmas.List.{append-nil, take_all}
 use Rattle.disk_model.specs.Keeps.{Keeps}
 use Rattle.disk_model.specs.Told.{Told, BothTold}
-use Rattle.ldar_facts.specs.declared.batch.Batch.{Batch}
+use Rattle.fact_kinds.specs.declared.batch.Batch.{Batch}
 use Rattle.ldar_journal.specs.Crash.{LeavesOnly, OnDisk}
 use Rattle.ldar_journal.specs.Image.{batches_of, IsKept, OpensTo}
 use Rattle.ldar_journal.specs.Shelf.{Shelf, OpensToEither, OpensAs}

@@ -9,10 +9,10 @@ use Rattle.std.proofs.lemmas.List.{length-take, length-drop, get_or-drop, get_or
 use Rattle.std.proofs.lemmas.Bool.{cases_Bool, false≢true}
 use Rattle.std.proofs.lemmas.List.{take-append-drop}
 use Rattle.batch_positions.specs.Positions.{position_in}
-use Rattle.ldar_facts.specs.declared.batch.Batch.{Batch}
-use Rattle.ldar_facts.specs.declared.identity.Identity.{Identity}
-use Rattle.ldar_facts.specs.Identity.{identity_of, position_of}
-use Rattle.ldar_facts.proofs.OrderFree.{facts_count}
+use Rattle.fact_kinds.specs.declared.batch.Batch.{Batch}
+use Rattle.fact_kinds.specs.declared.identity.Identity.{Identity}
+use Rattle.fact_kinds.specs.Identity.{identity_of, position_of}
+use Rattle.fact_kinds.proofs.OrderFree.{facts_count}
 use Rattle.ldar_journal.specs.Image.{IsKept}
 use Rattle.ldar_journal.proofs.Histories.{IsKept-front}
 use Rattle.ldar_journal.proofs.KeepingLemmas.{next_one, position_of-is}

@@ -4,9 +4,9 @@ use Rattle.std.specs.Prelude.{IsTrue}
 use Rattle.std.specs.Option.{option_map}
 use Rattle.std.proofs.lemmas.List.{length-take, drop-drop}
 use Rattle.list_words.proofs.WordLaws.{first_given_is_first}
-use Rattle.ldar_facts.specs.declared.batch.Batch.{Batch}
-use Rattle.ldar_facts.specs.Facts.{Entry, entries_of, facts_of}
-use Rattle.ldar_facts.proofs.OrderFree.{facts_count}
+use Rattle.fact_kinds.specs.declared.batch.Batch.{Batch}
+use Rattle.fact_kinds.specs.Facts.{Entry, entries_of, facts_of}
+use Rattle.fact_kinds.proofs.OrderFree.{facts_count}
 use Rattle.ldar_journal.specs.Image.{IsKept}
 use Rattle.ldar_journal.proofs.KeepingLemmas.{next_one}
 use Rattle.ldar_journal.proofs.Positions.{fact_count-push}

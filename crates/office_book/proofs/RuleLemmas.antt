@@ -6,8 +6,8 @@ use Rattle.std.specs.List.{AllByRecursion}
 use Rattle.std.specs.Option.{option_map}
 use Rattle.std.proofs.lemmas.Bool.Decides.{nat_tests}
 use Rattle.list_words.proofs.Members.{all_at, among_from_Contains}
-use Rattle.ldar_facts.specs.declared.batch.Batch.{Batch}
-use Rattle.ldar_facts.specs.Facts.{Entry, facts_of}
+use Rattle.fact_kinds.specs.declared.batch.Batch.{Batch}
+use Rattle.fact_kinds.specs.Facts.{Entry, facts_of}
 use Rattle.ldar_law.specs.declared.verdict.Verdict.TheVariants.{Denied}
 use Rattle.ldar_law.specs.Judged.{case_of}
 use Rattle.ldar_law.specs.Verdicts.{Rule, rules, least_rule, verdict_on}

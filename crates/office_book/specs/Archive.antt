@@ -1,8 +1,8 @@
 -- The batches that an office keeps: how another stands to them.
 use Rattle.std.specs.Prelude.{◌≡◌, ◌≤◌, true, false, IsTrue, List, ◌++◌, length, map}
 use Rattle.batch_positions.specs.Positions.{PositionsState}
-use Rattle.ldar_facts.specs.declared.batch.Batch.{Batch}
-use Rattle.ldar_facts.specs.Identity.{identity_of}
+use Rattle.fact_kinds.specs.declared.batch.Batch.{Batch}
+use Rattle.fact_kinds.specs.Identity.{identity_of}
 use Rattle.ldar_journal.specs.Image.{IsKept}
 use Rattle.ldar_law.specs.Machine.{StandsAt, IsNew}
 use Rattle.ldar_law.specs.Verdicts.{is_ruly, verdict_on}

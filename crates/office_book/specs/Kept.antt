@@ -1,6 +1,6 @@
 -- What an office keeps of its journal, and what comes of a frame that it writes.
 use Rattle.std.specs.Prelude.{◌≡◌, ◌⊎◌, ℕ, Bool, if◌then◌else◌, Option, List, ◌++◌, length, take}
-use Rattle.ldar_facts.specs.declared.batch.Batch.{Batch}
+use Rattle.fact_kinds.specs.declared.batch.Batch.{Batch}
 use Rattle.ldar_journal.specs.Crash.{OnDisk}
 use Rattle.ldar_journal.specs.Image.{batches_of}
 use Rattle.ldar_journal.specs.Shelf.{Shelf}

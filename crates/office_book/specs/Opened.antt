@@ -1,7 +1,7 @@
 -- What opening an office promises: why a journal is none that an office has.
 use Rattle.std.specs.Prelude.{◌≡◌, ◌≢◌, ℕ, Option, Some, List, take}
 use Rattle.disk_model.specs.Told.{Told, BothTold}
-use Rattle.ldar_facts.specs.declared.batch.Batch.{Batch}
+use Rattle.fact_kinds.specs.declared.batch.Batch.{Batch}
 use Rattle.ldar_journal.specs.Damage.{IsDamagedAt}
 use Rattle.ldar_journal.specs.declared.opening.OpenWhy.{OpenWhy}
 use Rattle.ldar_journal.specs.declared.opening.OpenWhy.TheVariants as journals

@@ -1,7 +1,7 @@
 -- The receipts of a run of calls, and what a crash leaves of them.
 use Rattle.std.specs.Prelude.{◌≡◌, ℕ, Some, List}
 use Rattle.std.specs.List.{AllByRecursion}
-use Rattle.ldar_facts.specs.declared.batch.Batch.{Batch}
+use Rattle.fact_kinds.specs.declared.batch.Batch.{Batch}
 use Rattle.ldar_journal.specs.Image.{Opens}
 use Rattle.ldar_law.specs.declared.reply.Reply.TheVariants.{Receipt}
 use Rattle.ldar_law.specs.declared.request.Request.TheVariants.{Sync}

@@ -1,8 +1,8 @@
 ghost use Rattle.std.specs.Prelude.{◌≡◌, ◌↔◌, ℕ, ◌+◌, ◌<◌, ◌≤◌, List, IsTrue, Some, [], ◌∷◌, ◌++◌, length, take, drop, map, IfOk, OnOk, OnErr, IfSome, IsNone};
-ghost use Rattle.ldar_facts.specs.declared.batch.Batch.{Batch as FactBatch};
-ghost use Rattle.ldar_facts.specs.declared.limits.TheConstants.{MOST_FACTS};
-ghost use Rattle.ldar_facts.specs.Facts.{facts_of, facts_to};
-ghost use Rattle.ldar_facts.specs.Identity.{identity_of};
+ghost use Rattle.fact_kinds.specs.declared.batch.Batch.{Batch as FactBatch};
+ghost use Rattle.fact_kinds.specs.declared.limits.TheConstants.{MOST_FACTS};
+ghost use Rattle.fact_kinds.specs.Facts.{facts_of, facts_to};
+ghost use Rattle.fact_kinds.specs.Identity.{identity_of};
 ghost use Rattle.ldar_journal.specs.Image.{IsKept};
 ghost use Rattle.ldar_law.specs.declared.verdict.Verdict.TheVariants as verdicts;
 ghost use Rattle.ldar_law.specs.Machine.{batch_at};
@@ -15,9 +15,9 @@ ghost use Rattle.office_views.specs.Answers.{report_asked, IsShown, IsView, Tell
 use crate::Memory;
 use batch_positions::Positions;
 use batch_rules::verdict;
+use fact_kinds::Batch;
 use fact_store::Steps;
 use ldar_days::Day;
-use ldar_facts::Batch;
 use ldar_law::{Report, Request, Verdict};
 use office_views::{AskError, Shown, Views};
 use std::alloc::Global;

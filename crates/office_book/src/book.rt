@@ -1,12 +1,12 @@
 ghost use Rattle.std.specs.Prelude.{◌≡◌, length};
-ghost use Rattle.ldar_facts.specs.Facts.{facts_of};
+ghost use Rattle.fact_kinds.specs.Facts.{facts_of};
 ghost use Rattle.ldar_journal.specs.Crash.{OnDisk};
 ghost use Rattle.ldar_journal.specs.Image.{batches_of};
 ghost use Rattle.office_book.specs.Safe.{StandsIn, state_of};
 
 use crate::archive::Archive;
 use disk_model::Disk;
-use ldar_facts::Batch;
+use fact_kinds::Batch;
 use ldar_journal::Journal;
 use std::marker::Model;
 

@@ -1,7 +1,7 @@
 ghost use Rattle.std.specs.Prelude.{◌≡◌, IfOk};
 
 use crate::Memory;
-use ldar_facts::Batch;
+use fact_kinds::Batch;
 use std::alloc::{AllocError, Global};
 
 /// A batch with the same content.

@@ -1,7 +1,7 @@
 ghost use Rattle.std.specs.Prelude.{◌≡◌, ◌≢◌, ℕ, ◌+◌, ◌<◌, ◌≤◌, ◌^◌, List, [], ◌∷◌, ◌++◌, length, take, replicate, vec_len, vec_capacity, IfOk, OnErr};
 ghost use Rattle.std.specs.List.{AllByRecursion};
 ghost use Rattle.disk_model.specs.Faults.{Rose};
-ghost use Rattle.ldar_facts.specs.declared.limits.TheConstants.{FRAME_BATCHES};
+ghost use Rattle.fact_kinds.specs.declared.limits.TheConstants.{FRAME_BATCHES};
 ghost use Rattle.ldar_journal.specs.Crash.{AnswersInRoom};
 ghost use Rattle.ldar_journal.specs.Image.{batches_of};
 ghost use Rattle.ldar_law.specs.declared.reply.Reply.{Reply as LawReply};
@@ -18,7 +18,7 @@ use crate::Memory;
 use crate::book::Book;
 use crate::writing::Written;
 use disk_model::Disk;
-use ldar_facts::Batch;
+use fact_kinds::Batch;
 use ldar_law::{Reply, Request};
 use std::alloc::Global;
 

@@ -20,7 +20,7 @@ use crate::book::Book;
 use crate::copies::copies_of;
 use crate::writing::Written;
 use disk_model::Disk;
-use ldar_facts::Batch;
+use fact_kinds::Batch;
 use ldar_law::{Reply, Verdict};
 use std::alloc::Global;
 use std::slice::from_ref;

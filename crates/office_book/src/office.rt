@@ -1,6 +1,6 @@
 ghost use Rattle.std.specs.Prelude.{◌≡◌, ◌<◌, ◌≤◌, ◌≢◌, [], ◌∷◌, ◌++◌, ℕ, List, length, map, OnOk, OnErr};
 ghost use Rattle.std.specs.List.{AllByRecursion};
-ghost use Rattle.ldar_facts.specs.declared.limits.TheConstants.{FRAME_BATCHES};
+ghost use Rattle.fact_kinds.specs.declared.limits.TheConstants.{FRAME_BATCHES};
 ghost use Rattle.ldar_law.specs.Machine.{Call, Turn, GroupStep};
 ghost use Rattle.office_book.specs.Asking.{requests_of, replies_of, MayShareFrame, HasRule};
 

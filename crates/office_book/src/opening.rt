@@ -3,7 +3,7 @@ ghost use Rattle.disk_model.specs.Faults.{Rose};
 ghost use Rattle.disk_model.specs.Images.{Only};
 ghost use Rattle.disk_model.specs.Keeps.{Keeps};
 ghost use Rattle.disk_model.specs.Told.{Told};
-ghost use Rattle.ldar_facts.specs.declared.limits.TheConstants.{MOST_FACTS};
+ghost use Rattle.fact_kinds.specs.declared.limits.TheConstants.{MOST_FACTS};
 ghost use Rattle.ldar_journal.specs.Crash.{LeavesOnly};
 ghost use Rattle.ldar_journal.specs.Image.{batches_of, IsKept};
 ghost use Rattle.ldar_journal.specs.Opening.{IsOpened};
@@ -13,7 +13,7 @@ ghost use Rattle.office_book.specs.Opened.{IsNoBook, IsNoArchive, why_no_book};
 use crate::archive::Archive;
 use crate::book::Book;
 use disk_model::Disk;
-use ldar_facts::Batch;
+use fact_kinds::Batch;
 use ldar_journal::{Journal, OpenWhy, open_accepted};
 use std::alloc::{AllocError, Global};
 

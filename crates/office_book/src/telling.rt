@@ -1,7 +1,7 @@
 ghost use Rattle.std.specs.Prelude.{◌≡◌, ℕ, ◌+◌, ◌<◌, ◌≤◌, ◌^◌, ◌++◌, None, length, IfOk, IfSome, IsNone};
 ghost use Rattle.std.specs.List.{position_from};
-ghost use Rattle.ldar_facts.specs.declared.limits.TheConstants.{FRAME_BATCHES};
-ghost use Rattle.ldar_facts.specs.Identity.{identity_of, is_of};
+ghost use Rattle.fact_kinds.specs.declared.limits.TheConstants.{FRAME_BATCHES};
+ghost use Rattle.fact_kinds.specs.Identity.{identity_of, is_of};
 ghost use Rattle.ldar_journal.specs.Image.{batches_of, fact_count};
 ghost use Rattle.ldar_law.specs.Machine.{IsNew};
 ghost use Rattle.ldar_law.specs.Verdicts.{verdict_on};
@@ -13,7 +13,7 @@ use crate::book::Book;
 use crate::copies::copy_of;
 use crate::keeping::reply_kept;
 use disk_model::Disk;
-use ldar_facts::{Batch, FRAME_BATCHES};
+use fact_kinds::{Batch, FRAME_BATCHES};
 use ldar_law::{Reply, Verdict};
 use std::alloc::{AllocError, Global};
 

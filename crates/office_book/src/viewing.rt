@@ -1,6 +1,6 @@
 ghost use Rattle.std.specs.Prelude.{◌≡◌, ◌≤◌, [], ◌∷◌};
 ghost use Rattle.disk_model.specs.Faults.{Rose};
-ghost use Rattle.ldar_facts.specs.Facts.{facts_to};
+ghost use Rattle.fact_kinds.specs.Facts.{facts_to};
 ghost use Rattle.ldar_journal.specs.Image.{batches_of};
 ghost use Rattle.ldar_law.specs.Machine.{Call};
 ghost use Rattle.office_book.specs.Asking.{requests_of, replies_of, HasRule};

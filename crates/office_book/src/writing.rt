@@ -1,6 +1,6 @@
 ghost use Rattle.std.specs.Prelude.{◌≡◌, ◌≢◌, ◌<◌, ◌≤◌, [], length, IfOk, OnOk};
 ghost use Rattle.disk_model.specs.Faults.{Rose};
-ghost use Rattle.ldar_facts.specs.declared.limits.TheConstants.{FRAME_BATCHES};
+ghost use Rattle.fact_kinds.specs.declared.limits.TheConstants.{FRAME_BATCHES};
 ghost use Rattle.ldar_journal.specs.Crash.{AnswersInRoom};
 ghost use Rattle.ldar_journal.specs.Image.{batches_of};
 ghost use Rattle.office_book.specs.Archive.{MayCome};
@@ -13,7 +13,7 @@ use crate::Memory;
 use crate::archive::Archive;
 use crate::book::Book;
 use disk_model::Disk;
-use ldar_facts::Batch;
+use fact_kinds::Batch;
 use ldar_journal::{Frame, Torn, prepare};
 use std::alloc::Global;
 

@@ -6,11 +6,11 @@ use Rattle.std.specs.List.{AllByRecursion, flat_map}
 use Rattle.std.proofs.lemmas.List.{drop-drop}
 use Rattle.std.proofs.lemmas.List.Elements.{filter-append}
 use Rattle.list_words.proofs.Members.{all_append}
-use Rattle.ldar_facts.specs.declared.batch.Batch.{Batch}
-use Rattle.ldar_facts.specs.Facts.{entries_of}
-use Rattle.ldar_facts.specs.Fields.{IsFact}
-use Rattle.ldar_facts.proofs.Identities.{history_apart}
-use Rattle.ldar_facts.specs.Stated.{Stated}
+use Rattle.fact_kinds.specs.declared.batch.Batch.{Batch}
+use Rattle.fact_kinds.specs.Facts.{entries_of}
+use Rattle.fact_kinds.specs.Fields.{IsFact}
+use Rattle.fact_kinds.proofs.Identities.{history_apart}
+use Rattle.fact_kinds.specs.Stated.{Stated}
 use Rattle.fact_store.specs.Kept.{Kept}
 use Rattle.ldar_law.specs.declared.verdict.Verdict.TheVariants.{Pass}
 use Rattle.ldar_law.specs.Machine.{IsNew}

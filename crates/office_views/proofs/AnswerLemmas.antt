@@ -1,7 +1,7 @@
 -- What is shown of a process unit that was entered, and of one that was not.
 use Rattle.std.proofs.Common.{◌≡◌, ℕ, Bool, Option, Some, None, Result, Ok, Err, List, refl, ap, ◌∙◌, subst, cond}
 use Rattle.std.specs.declared.alloc.AllocError.{AllocError}
-use Rattle.ldar_facts.specs.Facts.{Entry}
+use Rattle.fact_kinds.specs.Facts.{Entry}
 use Rattle.ldar_law.specs.declared.reply.Reply.{Reply}
 use Rattle.ldar_law.specs.declared.reply.Reply.TheVariants.{NoSuch}
 use Rattle.ldar_law.specs.declared.report.Report.{Report}

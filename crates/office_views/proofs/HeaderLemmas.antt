@@ -4,9 +4,9 @@ use Rattle.std.proofs.Math.Seq.{drop-append_seam, take-append_seam}
 use Rattle.std.specs.List.{flat_map}
 use Rattle.std.proofs.lemmas.List.{append-nil, length-map, map-append, take_more}
 use Rattle.std.proofs.lemmas.List.Concat.{flat_map-append}
-use Rattle.ldar_facts.specs.declared.batch.Batch.{Batch}
-use Rattle.ldar_facts.specs.Facts.{entries_from, entries_of}
-use Rattle.ldar_facts.specs.Stated.{Stated}
+use Rattle.fact_kinds.specs.declared.batch.Batch.{Batch}
+use Rattle.fact_kinds.specs.Facts.{entries_from, entries_of}
+use Rattle.fact_kinds.specs.Stated.{Stated}
 use Rattle.office_views.specs.declared.header.Header.{Header}
 use Rattle.office_views.specs.Headers.{headers_of, batch_by, batches_by}
 use Rattle.office_views.specs.Inside.{facts_stated}

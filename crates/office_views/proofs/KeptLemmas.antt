@@ -2,9 +2,9 @@
 use Rattle.std.proofs.Common.{◌≡◌, ℕ, ◌≤◌, Option, Some, List, take, sym, ap, ◌∙◌, subst}
 use Rattle.std.specs.List.{AllByRecursion}
 use Rattle.list_words.specs.Order.{Ascends}
-use Rattle.ldar_facts.specs.declared.batch.Batch.{Batch}
-use Rattle.ldar_facts.specs.Facts.{Entry, facts_of, facts_to, goes_first}
-use Rattle.ldar_facts.proofs.OrderFree.{facts_ascend}
+use Rattle.fact_kinds.specs.declared.batch.Batch.{Batch}
+use Rattle.fact_kinds.specs.Facts.{Entry, facts_of, facts_to, goes_first}
+use Rattle.fact_kinds.proofs.OrderFree.{facts_ascend}
 use Rattle.fact_store.specs.Kept.{Kept, facts_in}
 use Rattle.history_laws.specs.DayLaws.{up_to}
 use Rattle.history_laws.specs.RangeLaws.{IsInRange}

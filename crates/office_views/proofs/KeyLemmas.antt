@@ -10,12 +10,12 @@ use Rattle.std.proofs.lemmas.List.Concat.{flat_map-append}
 use Rattle.std.proofs.lemmas.List.Folds.{list_any-append}
 use Rattle.list_words.specs.Order.{AllApart}
 use Rattle.list_words.proofs.Members.{Among, all_at, all_from_among}
-use Rattle.ldar_facts.specs.declared.batch.Batch.{Batch}
-use Rattle.ldar_facts.specs.declared.key.Key.{Key}
-use Rattle.ldar_facts.specs.Facts.{Entry, goes_first, entries_of}
-use Rattle.ldar_facts.specs.Identity.{identity_of, is_same_identity, identities_differ, position_of}
-use Rattle.ldar_facts.proofs.Identities.{history_apart}
-use Rattle.ldar_facts.proofs.KeyOrder.{no_tie}
+use Rattle.fact_kinds.specs.declared.batch.Batch.{Batch}
+use Rattle.fact_kinds.specs.declared.key.Key.{Key}
+use Rattle.fact_kinds.specs.Facts.{Entry, goes_first, entries_of}
+use Rattle.fact_kinds.specs.Identity.{identity_of, is_same_identity, identities_differ, position_of}
+use Rattle.fact_kinds.proofs.Identities.{history_apart}
+use Rattle.fact_kinds.proofs.KeyOrder.{no_tie}
 use Rattle.fact_store.specs.Kept.{is_held}
 
 -- what holds of each of two lists behind one another holds of each of the second

@@ -9,10 +9,10 @@ use Rattle.std.proofs.lemmas.List.Sorted.{length_permutation}
 use Rattle.list_words.proofs.Ascending.{in_order_permutes}
 use Rattle.list_words.proofs.Members.{all_append}
 use Rattle.list_words.proofs.PutLemmas.{filter-in_order}
-use Rattle.ldar_facts.specs.declared.batch.Batch.{Batch}
-use Rattle.ldar_facts.specs.Facts.{entries_of, facts_of, goes_first}
-use Rattle.ldar_facts.proofs.Identities.{history_apart}
-use Rattle.ldar_facts.proofs.KeyOrder.{strict_goes_first}
+use Rattle.fact_kinds.specs.declared.batch.Batch.{Batch}
+use Rattle.fact_kinds.specs.Facts.{entries_of, facts_of, goes_first}
+use Rattle.fact_kinds.proofs.Identities.{history_apart}
+use Rattle.fact_kinds.proofs.KeyOrder.{strict_goes_first}
 use Rattle.fact_store.specs.Kept.{Kept, facts_in}
 use Rattle.ldar_law.specs.Slices.{is_registered, register_facts}
 use Rattle.office_views.specs.declared.header.Header.{Header}

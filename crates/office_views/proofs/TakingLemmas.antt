@@ -12,12 +12,12 @@ use Rattle.std.proofs.lemmas.List.Folds.{list_any-append}
 use Rattle.list_words.specs.Order.{AllApart}
 use Rattle.list_words.proofs.Ascending.{among_in_order}
 use Rattle.list_words.proofs.Members.{Among, all_at, all_append, among_from_Contains, Contains-from_among, among_right}
-use Rattle.ldar_facts.specs.declared.batch.Batch.{Batch}
-use Rattle.ldar_facts.specs.declared.body.FactBody.{FactBody}
-use Rattle.ldar_facts.specs.declared.body.FactBody.TheVariants.{Unit as UnitFact, Component as ComponentFact}
-use Rattle.ldar_facts.specs.declared.key.Key.{Key}
-use Rattle.ldar_facts.specs.Facts.{Entry, entries_from, entries_of, goes_first, key_cmp, key_of}
-use Rattle.ldar_facts.specs.Stated.{Stated}
+use Rattle.fact_kinds.specs.declared.batch.Batch.{Batch}
+use Rattle.fact_kinds.specs.declared.body.FactBody.{FactBody}
+use Rattle.fact_kinds.specs.declared.body.FactBody.TheVariants.{Unit as UnitFact, Component as ComponentFact}
+use Rattle.fact_kinds.specs.declared.key.Key.{Key}
+use Rattle.fact_kinds.specs.Facts.{Entry, entries_from, entries_of, goes_first, key_cmp, key_of}
+use Rattle.fact_kinds.specs.Stated.{Stated}
 use Rattle.fact_store.specs.Kept.{Kept, facts_in, is_held}
 use Rattle.ldar_law.specs.RegisterLaws.{enters_unit, enters_component}
 use Rattle.ldar_law.specs.Slices.{is_registered, register_facts}

@@ -8,7 +8,7 @@ use Rattle.std.proofs.lemmas.List.{take_all}
 use Rattle.std.proofs.lemmas.List.Concat.{flat_map-append}
 use Rattle.std.proofs.lemmas.List.Elements.{Contains-get_or, filter-append, filter_map-append}
 use Rattle.list_words.specs.Order.{Ascends}
-use Rattle.ldar_facts.specs.Facts.{Entry, goes_first}
+use Rattle.fact_kinds.specs.Facts.{Entry, goes_first}
 use Rattle.history_laws.specs.DayLaws.{up_to, item_on, if_begun, if_started}
 use Rattle.history_laws.specs.RulyLaws.{IsEachOnce}
 use Rattle.history_laws.specs.RangeLaws.{IsInRange}

@@ -1,7 +1,7 @@
 -- What the views answer: a text or what there is none of, and a report.
 use Rattle.std.specs.Prelude.{◌≡◌, ℕ, if◌then◌else◌, Option, Some, None, Result, Ok, Err, List}
 use Rattle.std.specs.declared.alloc.AllocError.{AllocError}
-use Rattle.ldar_facts.specs.Facts.{Entry}
+use Rattle.fact_kinds.specs.Facts.{Entry}
 use Rattle.ldar_law.specs.declared.reply.Reply.{Reply}
 use Rattle.ldar_law.specs.declared.reply.Reply.TheVariants as replies
 use Rattle.ldar_law.specs.declared.report.Report.{Report}

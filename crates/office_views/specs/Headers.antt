@@ -1,7 +1,7 @@
 -- Batches as the views keep them: a header for each, and the facts of all behind one another.
 use Rattle.std.specs.Prelude.{ℕ, ◌+◌, List, [], ◌∷◌, ◌++◌, length, take, drop, map}
-use Rattle.ldar_facts.specs.declared.batch.Batch.{Batch}
-use Rattle.ldar_facts.specs.Stated.{Stated}
+use Rattle.fact_kinds.specs.declared.batch.Batch.{Batch}
+use Rattle.fact_kinds.specs.Stated.{Stated}
 use Rattle.fact_store.specs.Kept.{Kept}
 use Rattle.office_views.specs.declared.header.Header.{Header}
 

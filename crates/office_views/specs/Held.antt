@@ -1,6 +1,6 @@
 -- What the views hold.
 use Rattle.std.specs.Prelude.{List}
-use Rattle.ldar_facts.specs.declared.batch.Batch.{Batch}
+use Rattle.fact_kinds.specs.declared.batch.Batch.{Batch}
 
 -- the batches that were adopted, in the order in which they came, and those that have room
 pub record Held : Type 0 where

@@ -1,11 +1,11 @@
 -- What is true inside all views.
 use Rattle.std.specs.Prelude.{◌≡◌, ℕ, ◌<◌, ◌≤◌, IsTrue, List, ◌++◌, length, take, drop, filter}
 use Rattle.std.specs.List.{AllByRecursion, flat_map}
-use Rattle.ldar_facts.specs.declared.batch.Batch.{Batch}
-use Rattle.ldar_facts.specs.Facts.{entries_of}
-use Rattle.ldar_facts.specs.Fields.{IsFact}
-use Rattle.ldar_facts.specs.Identity.{identities_differ}
-use Rattle.ldar_facts.specs.Stated.{Stated}
+use Rattle.fact_kinds.specs.declared.batch.Batch.{Batch}
+use Rattle.fact_kinds.specs.Facts.{entries_of}
+use Rattle.fact_kinds.specs.Fields.{IsFact}
+use Rattle.fact_kinds.specs.Identity.{identities_differ}
+use Rattle.fact_kinds.specs.Stated.{Stated}
 use Rattle.fact_store.specs.Kept.{Kept}
 use Rattle.ldar_law.specs.Slices.{is_registered, register_facts}
 use Rattle.ldar_law.specs.Verdicts.{is_ruly}

@@ -1,7 +1,7 @@
 -- What is known of components, as the views keep it.
 use Rattle.std.specs.Prelude.{ℕ, List, filter_map, option_map}
 use Rattle.list_words.specs.Order.{Ascends}
-use Rattle.ldar_facts.specs.Facts.{Entry, is_earlier}
+use Rattle.fact_kinds.specs.Facts.{Entry, is_earlier}
 use Rattle.ldar_law.specs.Equipment.{equipment_of}
 use Rattle.ldar_law.specs.Units.{Known, known_of}
 use Rattle.office_views.specs.declared.known.Known.{Known as Kept}

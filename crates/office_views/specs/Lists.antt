@@ -1,7 +1,7 @@
 -- The facts that a view reads.
 use Rattle.std.specs.Prelude.{◌≡◌, ℕ, ◌≤◌, Option, Some, List}
 use Rattle.std.specs.List.{AllByRecursion}
-use Rattle.ldar_facts.specs.Facts.{Entry}
+use Rattle.fact_kinds.specs.Facts.{Entry}
 use Rattle.fact_store.specs.Kept.{facts_in}
 use Rattle.history_laws.specs.DayLaws.{up_to}
 use Rattle.history_laws.specs.RangeLaws.{IsInRange}

@@ -1,8 +1,8 @@
 -- Batches whose facts the register can take.
 use Rattle.std.specs.Prelude.{◌≡◌, ◌+◌, ◌≤◌, false, List, length}
 use Rattle.std.specs.List.{AllByRecursion, flat_map}
-use Rattle.ldar_facts.specs.declared.batch.Batch.{Batch}
-use Rattle.ldar_facts.specs.Facts.{Entry, entries_of}
+use Rattle.fact_kinds.specs.declared.batch.Batch.{Batch}
+use Rattle.fact_kinds.specs.Facts.{Entry, entries_of}
 use Rattle.fact_store.specs.Kept.{is_held}
 use Rattle.history_laws.specs.RulyLaws.{EntersFirst}
 use Rattle.ldar_law.specs.Slices.{register_facts}

@@ -1,6 +1,6 @@
 ghost use Rattle.std.specs.Prelude.{◌≡◌};
 ghost use Rattle.list_words.specs.Order.{Ascends};
-ghost use Rattle.ldar_facts.specs.Facts.{goes_first};
+ghost use Rattle.fact_kinds.specs.Facts.{goes_first};
 ghost use Rattle.fact_store.specs.Kept.{facts_in};
 ghost use Rattle.history_laws.specs.DayLaws.{up_to};
 ghost use Rattle.ldar_law.specs.Shown as law;
@@ -14,9 +14,9 @@ use crate::routes::route_view;
 use crate::shares::percent_view;
 use crate::shown::Shown;
 use component_register::Register;
+use fact_kinds::Memory;
 use fact_store::{FactStore, Steps};
 use ldar_days::Day;
-use ldar_facts::Memory;
 use ldar_law::Request;
 use std::alloc::Global;
 use std::sync::ledger::Ledger;

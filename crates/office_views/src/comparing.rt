@@ -2,8 +2,8 @@ ghost use Rattle.std.specs.Prelude.{◌≡◌, ◌+◌, ◌≤◌, ◌↔◌, Is
 ghost use Rattle.office_views.specs.Headers.{batch_by, facts_kept};
 
 use crate::header::Header;
+use fact_kinds::{Batch, Fact};
 use fact_store::{FactStore, Place, Steps};
-use ldar_facts::{Batch, Fact};
 use std::sync::ledger::Ledger;
 
 /// Whether two facts are the same.

@@ -2,11 +2,11 @@ ghost use Rattle.std.specs.Prelude.{◌≡◌, ◌+◌, ◌-◌, ◌≤◌, ◌+
 ghost use Rattle.std.specs.Option.{option_to_list};
 ghost use Rattle.list_words.specs.Order.{Ascends};
 ghost use Rattle.ldar_days.specs.Calendar.{end_by};
-ghost use Rattle.ldar_facts.specs.Facts.{goes_first, is_earlier};
+ghost use Rattle.fact_kinds.specs.Facts.{goes_first, is_earlier};
 ghost use Rattle.ldar_law.specs.Equipment as law;
 
+use fact_kinds::{Class, Fact, FactBody, Key, Memory};
 use ldar_days::Day;
-use ldar_facts::{Class, Fact, FactBody, Key, Memory};
 use ldar_law::{ElectionEntry, Stop};
 use std::alloc::Global;
 

@@ -3,7 +3,7 @@ ghost use Rattle.std.specs.List.{AllByRecursion};
 ghost use Rattle.office_views.specs.Headers.{headers_of};
 ghost use Rattle.office_views.specs.Inside.{facts_stated};
 
-use ldar_facts::{Batch, Fact, Memory};
+use fact_kinds::{Batch, Fact, Memory};
 use std::alloc::Global;
 
 /// Who sent a batch, and where its facts stand among those of all batches.

@@ -1,14 +1,14 @@
 ghost use Rattle.std.specs.Prelude.{◌≡◌, List, Some, IfOk, OnOk};
 ghost use Rattle.std.specs.BTreeMap.{get};
 ghost use Rattle.std.specs.Ordering.{nat_cmp};
-ghost use Rattle.ldar_facts.specs.Facts.{Entry};
-ghost use Rattle.ldar_facts.specs.Named as named;
+ghost use Rattle.fact_kinds.specs.Facts.{Entry};
+ghost use Rattle.fact_kinds.specs.Named as named;
 ghost use Rattle.method21_reading.specs.Readings.{fitness_by};
 ghost use Rattle.office_views.specs.Lists.{AreReady, facts_by};
 
 use crate::lists::Lists;
+use fact_kinds::{Fact, Key, Memory};
 use fact_store::Steps;
-use ldar_facts::{Fact, Key, Memory};
 use ldar_law::Fitness;
 use method21_reading::Instrument;
 use std::alloc::Global;

@@ -11,8 +11,8 @@ use crate::instruments::Instruments;
 use crate::judged::judged;
 use crate::lists::Lists;
 use crate::tags::tags_of;
+use fact_kinds::{Class, Key, Memory};
 use fact_store::Steps;
-use ldar_facts::{Class, Key, Memory};
 use ldar_law::{Equipment, Event, Items, Stop, Tag};
 use std::sync::ledger::Ledger;
 

@@ -1,5 +1,5 @@
 ghost use Rattle.list_words.specs.Order.{Ascends};
-ghost use Rattle.ldar_facts.specs.Facts.{goes_first};
+ghost use Rattle.fact_kinds.specs.Facts.{goes_first};
 ghost use Rattle.fact_store.specs.Kept.{facts_in};
 ghost use Rattle.monitor_calendar.specs.InOrder.{Ascends-prop};
 

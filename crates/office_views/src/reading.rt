@@ -1,6 +1,6 @@
 ghost use Rattle.std.specs.Prelude.{◌≡◌, ◌<◌, nat_le, if◌then◌else◌, Some, None, length, All, IfOk};
 ghost use Rattle.list_words.specs.Order.{Ascends};
-ghost use Rattle.ldar_facts.specs.Facts.{goes_first};
+ghost use Rattle.fact_kinds.specs.Facts.{goes_first};
 ghost use Rattle.fact_store.specs.Kept.{entries_at, facts_in};
 ghost use Rattle.history_laws.specs.DayLaws.{up_to};
 ghost use Rattle.ldar_law.specs.Slices as law;
@@ -8,9 +8,9 @@ ghost use Rattle.office_views.specs.Lists.{facts_by};
 
 use crate::entered::add;
 use crate::lists::Lists;
+use fact_kinds::{Fact, Key, Memory};
 use fact_store::{FactStore, Place, Steps};
 use ldar_days::Day;
-use ldar_facts::{Fact, Key, Memory};
 use std::alloc::Global;
 use std::sync::ledger::Ledger;
 

@@ -1,4 +1,4 @@
-use ldar_facts::Memory;
+use fact_kinds::Memory;
 use ldar_law::{Text, What};
 
 /// What a view shows: its text, or what there is none of.

@@ -4,8 +4,8 @@ ghost use Rattle.ldar_law.specs.Tags as law;
 
 use crate::entered::add;
 use delay_of_repair::repair_of;
+use fact_kinds::{Kind, Memory};
 use ldar_days::Day;
-use ldar_facts::{Kind, Memory};
 use ldar_law::{DelayEntry, Event, Span, Stop, Tag, attempt_by};
 use leak_tags::spans_of;
 use std::alloc::Global;

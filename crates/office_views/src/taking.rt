@@ -1,13 +1,13 @@
 ghost use Rattle.std.specs.Prelude.{◌≡◌, ◌<◌, ◌++◌, length, take, drop, filter};
 ghost use Rattle.std.specs.List.{AllByRecursion};
-ghost use Rattle.ldar_facts.specs.Facts.{entries_of, key_of};
-ghost use Rattle.ldar_facts.specs.Fields.{IsFact};
+ghost use Rattle.fact_kinds.specs.Facts.{entries_of, key_of};
+ghost use Rattle.fact_kinds.specs.Fields.{IsFact};
 ghost use Rattle.ldar_law.specs.Slices.{is_registered as says_registered, register_facts};
 ghost use Rattle.office_views.specs.Taking.{CanEnter, HasOwnKeys};
 
 use component_register::Register;
+use fact_kinds::{Batch, Fact, Key};
 use fact_store::FactStore;
-use ldar_facts::{Batch, Fact, Key};
 use ldar_law::is_registered;
 
 /// The key of the fact at a place of a batch.

@@ -1,5 +1,5 @@
 ghost use Rattle.std.specs.Prelude.{◌≡◌, ℕ, ◌+◌, ◌≤◌, ◌↔◌, Some, None, IsTrue, [], ◌∷◌, ◌++◌, length, drop, slice_get, OnOk, OnErr};
-ghost use Rattle.ldar_facts.specs.Facts.{facts_of, facts_to};
+ghost use Rattle.fact_kinds.specs.Facts.{facts_of, facts_to};
 ghost use Rattle.fact_store.specs.Kept.{facts_in};
 ghost use Rattle.ldar_law.specs.declared.verdict.Verdict.TheVariants.{Pass};
 ghost use Rattle.ldar_law.specs.Machine.{batch_at, IsNew};
@@ -17,9 +17,9 @@ use crate::reporting::report_asked;
 use crate::shown::{AskError, Shown};
 use crate::taking::{put_entries, put_facts};
 use component_register::Register;
+use fact_kinds::{Batch, Memory};
 use fact_store::{FactStore, Steps};
 use ldar_days::Day;
-use ldar_facts::{Batch, Memory};
 use ldar_law::{Report, Request};
 use std::alloc::Global;
 use std::marker::Model;

@@ -1,6 +1,6 @@
 -- Rows, and what stands behind one another of them.
 use Rattle.std.proofs.Common.{◌≡◌, ℕ, ◌+◌, List, [], ◌∷◌, ◌++◌, refl, sym, ap, ◌∙◌, append_assoc, Ok, Err}
-use Rattle.ldar_facts.specs.Stated.{Stated}
+use Rattle.fact_kinds.specs.Stated.{Stated}
 use Rattle.register_import.specs.Rows.{Rows, behind}
 
 -- nothing in front of rows

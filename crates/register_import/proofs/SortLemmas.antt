@@ -2,7 +2,7 @@
 use Rattle.std.proofs.Common.{◌≡◌, ℕ, ◌+◌, ◌<◌, Bool, true, false, not, cond, List, [], ◌∷◌, ◌++◌, length, filter, Option, Some, None, refl, sym, ap, ap₂, ◌∙◌, append_assoc, arith, Ok, Err}
 use Rattle.std.proofs.lemmas.List.{length-append}
 use Rattle.std.proofs.lemmas.List.Elements.{filter-append}
-use Rattle.ldar_facts.specs.Stated.{Stated}
+use Rattle.fact_kinds.specs.Stated.{Stated}
 use Rattle.register_import.specs.declared.error.ImportError.{ImportError}
 use Rattle.register_import.specs.declared.error.ImportError.TheVariants.{Row, Memory}
 use Rattle.register_import.specs.ComponentRows.{component_of, is_difficult}

@@ -1,8 +1,8 @@
 -- The batches of an import.
 use Rattle.std.specs.Prelude.{ℕ, ◌+◌, List, [], ◌∷◌, Result, Ok, Err}
 use Rattle.list_words.specs.Parts.{cut}
-use Rattle.ldar_facts.specs.declared.batch.Batch.{Batch}
-use Rattle.ldar_facts.specs.Stated.{Stated}
+use Rattle.fact_kinds.specs.declared.batch.Batch.{Batch}
+use Rattle.fact_kinds.specs.Stated.{Stated}
 use Rattle.register_import.specs.Rows.{Rows}
 
 -- a batch of each part, of handheld 0, the first of them with this number

@@ -2,11 +2,11 @@
 use Rattle.std.specs.Prelude.{ℕ, Bool, true, false, ◌==◌, ◌&&◌, List, codes, length, Option, Some, None, if◌then◌else◌}
 use Rattle.std.specs.Str.{bytes_eq}
 use Rattle.csv.specs.Records.{field_at}
-use Rattle.ldar_facts.specs.declared.class.Designation.{Designation}
-use Rattle.ldar_facts.specs.declared.class.Designation.TheVariants.{Plain, Nde, Unsafe, Difficult}
-use Rattle.ldar_facts.specs.declared.body.FactBody.{FactBody}
-use Rattle.ldar_facts.specs.declared.body.FactBody.TheVariants.{Component as ComponentFact}
-use Rattle.ldar_facts.specs.Stated.{Stated}
+use Rattle.fact_kinds.specs.declared.class.Designation.{Designation}
+use Rattle.fact_kinds.specs.declared.class.Designation.TheVariants.{Plain, Nde, Unsafe, Difficult}
+use Rattle.fact_kinds.specs.declared.body.FactBody.{FactBody}
+use Rattle.fact_kinds.specs.declared.body.FactBody.TheVariants.{Component as ComponentFact}
+use Rattle.fact_kinds.specs.Stated.{Stated}
 use Rattle.register_import.specs.Fields.{◌>>=◌, number, flag, kind, class, day}
 
 -- the field is this word

@@ -1,7 +1,7 @@
 -- What a file of components says.
 use Rattle.std.specs.Prelude.{ℕ, ◌+◌, not, List, [], ◌∷◌, ◌++◌, filter, Result, Ok, Err, if◌then◌else◌}
-use Rattle.ldar_facts.specs.declared.batch.Batch.{Batch}
-use Rattle.ldar_facts.specs.Stated.{Stated}
+use Rattle.fact_kinds.specs.declared.batch.Batch.{Batch}
+use Rattle.fact_kinds.specs.Stated.{Stated}
 use Rattle.register_import.specs.Batches.{batches_said}
 use Rattle.register_import.specs.ComponentRows.{component_of, is_difficult, is_header}
 use Rattle.register_import.specs.Records.{records_of}

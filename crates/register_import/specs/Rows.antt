@@ -1,6 +1,6 @@
 -- What the rows of a file say: their facts, or the number of the first bad row.
 use Rattle.std.specs.Prelude.{◌≡◌, ℕ, ⊤, List, [], ◌∷◌, ◌++◌, Option, Some, None, Result, Ok, Err}
-use Rattle.ldar_facts.specs.Stated.{Stated}
+use Rattle.fact_kinds.specs.Stated.{Stated}
 use Rattle.register_import.specs.declared.error.ImportError.{ImportError}
 use Rattle.register_import.specs.declared.error.ImportError.TheVariants.{Row, Memory}
 

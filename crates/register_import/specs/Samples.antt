@@ -1,13 +1,13 @@
 -- Words for the worked examples: a component's record, and a process unit's table.
 use Rattle.std.specs.Prelude.{ℕ, ◌+◌, Bool, true, false, pos, List, [], ◌∷◌, ◌++◌, codes, take, drop}
 use Rattle.toml.specs.Data.{Data, string, integer, boolean, table, Members, no_members, member}
-use Rattle.ldar_facts.specs.declared.class.Class.{Class}
-use Rattle.ldar_facts.specs.declared.class.Designation.{Designation}
-use Rattle.ldar_facts.specs.declared.class.Designation.TheVariants.{Plain}
-use Rattle.ldar_facts.specs.declared.class.Kind.TheVariants.{Valve}
-use Rattle.ldar_facts.specs.declared.class.Service.TheVariants.{Gas}
-use Rattle.ldar_facts.specs.declared.body.FactBody.TheVariants.{Unit as UnitFact, Component as ComponentFact}
-use Rattle.ldar_facts.specs.Stated.{Stated}
+use Rattle.fact_kinds.specs.declared.class.Class.{Class}
+use Rattle.fact_kinds.specs.declared.class.Designation.{Designation}
+use Rattle.fact_kinds.specs.declared.class.Designation.TheVariants.{Plain}
+use Rattle.fact_kinds.specs.declared.class.Kind.TheVariants.{Valve}
+use Rattle.fact_kinds.specs.declared.class.Service.TheVariants.{Gas}
+use Rattle.fact_kinds.specs.declared.body.FactBody.TheVariants.{Unit as UnitFact, Component as ComponentFact}
+use Rattle.fact_kinds.specs.Stated.{Stated}
 
 -- ---- components
 

@@ -1,8 +1,8 @@
 -- What an element of a file of process units says.
 use Rattle.std.specs.Prelude.{ℕ, Bool, false, List, [], ◌∷◌, codes, Option, Some, None, if◌then◌else◌}
 use Rattle.toml.specs.Data.{Data, Members, as_table, get}
-use Rattle.ldar_facts.specs.declared.body.FactBody.TheVariants.{Unit as UnitFact}
-use Rattle.ldar_facts.specs.Stated.{Stated}
+use Rattle.fact_kinds.specs.declared.body.FactBody.TheVariants.{Unit as UnitFact}
+use Rattle.fact_kinds.specs.Stated.{Stated}
 use Rattle.register_import.specs.Fields.{◌>>=◌}
 use Rattle.register_import.specs.Members.{has_only, unit_number, name, day, flag}
 

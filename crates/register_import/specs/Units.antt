@@ -3,7 +3,7 @@ use Rattle.std.specs.Prelude.{ℕ, ◌+◌, Bool, true, false, ◌&&◌, is_some
 use Rattle.std.specs.Str.{is_utf8}
 use Rattle.toml.specs.Data.{Data, Items, no_items, item, Members, as_array, as_table, get_member}
 use Rattle.toml.specs.Parse.{parse_document}
-use Rattle.ldar_facts.specs.declared.batch.Batch.{Batch}
+use Rattle.fact_kinds.specs.declared.batch.Batch.{Batch}
 use Rattle.register_import.specs.Batches.{batches_said}
 use Rattle.register_import.specs.Fields.{◌>>=◌}
 use Rattle.register_import.specs.Members.{has_only}

@@ -1,7 +1,7 @@
 ghost use Rattle.std.specs.Prelude.{◌≡◌, ◌+◌, ◌<◌, ◌≤◌, IfOk, length};
 ghost use Rattle.register_import.specs.Batches as spec;
 
-use ldar_facts::{Batch, Fact, Memory};
+use fact_kinds::{Batch, Fact, Memory};
 use std::alloc::Global;
 
 // The most facts of a batch.

@@ -4,7 +4,7 @@ ghost use Rattle.register_import.specs.ComponentRows as spec;
 
 use crate::fields::{class, day, flag, kind, number};
 use csv::ByteRecord;
-use ldar_facts::{Designation, Fact, FactBody};
+use fact_kinds::{Designation, Fact, FactBody};
 
 /// The fact that a record says.
 #[tactic(auto, unfolding(crate::specs::ComponentRows::component_of))]

@@ -10,7 +10,7 @@ use crate::batches::batches_of;
 use crate::component_row::{component_of, is_difficult, is_header};
 use crate::error::ImportError;
 use csv::{ByteRecord, Reader, ReaderBuilder};
-use ldar_facts::{Batch, Fact, Memory};
+use fact_kinds::{Batch, Fact, Memory};
 use std::alloc::Global;
 
 /// The batches of a file of components: CSV, with a first record that names the ten columns. They are of handheld 0,

@@ -1,4 +1,4 @@
-use ldar_facts::Memory;
+use fact_kinds::Memory;
 
 /// Why a file gave no batches.
 #[derive(Clone, Copy, Debug, PartialEq, Eq)]

@@ -3,7 +3,7 @@
 
 ghost use Rattle.std.specs.Prelude.{◌≡◌, ◌++◌, ◌∷◌, [], Err, None, Ok, Some, codes, false, length, map, negsuc, pos, replicate, take, true};
 ghost use Rattle.toml.specs.Data.{array, boolean, integer, item, member, no_items, no_members, string, table};
-ghost use Rattle.ldar_facts.specs.declared.class.Designation.TheVariants.{Difficult, Nde, Plain, Unsafe};
+ghost use Rattle.fact_kinds.specs.declared.class.Designation.TheVariants.{Difficult, Nde, Plain, Unsafe};
 ghost use Rattle.register_import.specs.Batches.{batches_of};
 ghost use Rattle.register_import.specs.ComponentRows.{component_of};
 ghost use Rattle.register_import.specs.Components.{difficult_last, rows_of_records};

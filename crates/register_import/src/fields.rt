@@ -1,10 +1,10 @@
 ghost use Rattle.std.specs.Prelude.{◌≡◌, ◌≤◌, ◌<◌, IfSome, option_map};
 ghost use Rattle.std.specs.List.{AllByRecursion};
-ghost use Rattle.ldar_facts.specs.Fields.{IsAmong, IsFilled, class_fields, plans};
+ghost use Rattle.fact_kinds.specs.Fields.{IsAmong, IsFilled, class_fields, plans};
 ghost use Rattle.ldar_days.specs.Calendar.{IsDay};
 ghost use Rattle.register_import.specs.Fields as spec;
 
-use ldar_facts::{Class, Day, Designation, Kind, Service};
+use fact_kinds::{Class, Day, Designation, Kind, Service};
 
 // The number of decimal digits without a leading zero, if it is not above the bound.
 fn decimal(text: &[u8], high: u32) -> Option<u32>

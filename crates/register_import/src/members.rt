@@ -3,10 +3,10 @@ ghost use Rattle.std.specs.List.{list_all, list_any};
 ghost use Rattle.std.specs.Cmp.Lexicographic.{pointwise};
 ghost use Rattle.toml.specs.View.{view, table_view};
 ghost use Rattle.ldar_days.specs.Calendar.{IsDay};
-ghost use Rattle.ldar_facts.specs.Name.{IsName};
+ghost use Rattle.fact_kinds.specs.Name.{IsName};
 ghost use Rattle.register_import.specs.Members as spec;
 
-use ldar_facts::{Day, Name};
+use fact_kinds::{Day, Name};
 use toml::{Table, Value};
 
 /// Whether a table has no other keys than these.

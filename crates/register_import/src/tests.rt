@@ -1,5 +1,6 @@
 use crate::{ImportError, components_of, units_of};
-use ldar_facts::{Batch, write_batch};
+use fact_kinds::Batch;
+use ldar_facts::write_batch;
 use std::alloc::Global;
 use std::test::Fail;
 

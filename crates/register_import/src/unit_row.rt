@@ -4,7 +4,7 @@ ghost use Rattle.toml.specs.View.{view};
 ghost use Rattle.register_import.specs.UnitRows as spec;
 
 use crate::members::{day, flag, has_only, name, unit_number};
-use ldar_facts::{Fact, FactBody};
+use fact_kinds::{Fact, FactBody};
 use toml::Value;
 
 /// The fact that an element says.

@@ -10,7 +10,7 @@ use crate::batches::batches_of;
 use crate::error::ImportError;
 use crate::members::has_only;
 use crate::unit_row::unit_of;
-use ldar_facts::{Batch, Fact};
+use fact_kinds::{Batch, Fact};
 use std::alloc::Global;
 use toml::{Table, Value};
 

@@ -1,4 +1,4 @@
-use ldar_facts::Memory;
+use fact_kinds::Memory;
 
 /// Why no routes were made.
 #[derive(Clone, Copy, Debug, PartialEq, Eq)]

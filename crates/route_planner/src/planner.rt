@@ -6,7 +6,7 @@ ghost use Rattle.route_planner.specs.declared.error.RouteError.{RouteError};
 
 use crate::error::RouteError;
 use crate::visits::stops_in_order;
-use ldar_facts::Memory;
+use fact_kinds::Memory;
 use ldar_law::{Duty, Items, Route};
 use std::alloc::Global;
 

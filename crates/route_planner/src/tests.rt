@@ -1,6 +1,6 @@
 use crate::{RouteError, routes};
+use fact_kinds::Key;
 use ldar_days::Day;
-use ldar_facts::Key;
 use ldar_law::{Duty, Route};
 use std::alloc::Global;
 use std::test::Fail;

@@ -6,8 +6,8 @@ ghost use Rattle.ldar_law.specs.Routes as law;
 ghost use Rattle.route_planner.specs.Visits.{goes_first, visits_asked, visits_from, earlier_of, TellsLeast};
 ghost use Rattle.route_planner.specs.declared.visits.TheConstants.{NUMBERS};
 
+use fact_kinds::Memory;
 use ldar_days::Day;
-use ldar_facts::Memory;
 use ldar_law::Duty;
 use std::alloc::Global;
 

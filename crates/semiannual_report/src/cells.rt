@@ -5,8 +5,8 @@ ghost use Rattle.ldar_law.specs.Reports as law;
 ghost use Rattle.ldar_law.specs.Tags.{is_late};
 ghost use Rattle.semiannual_report.specs.Columns.{is_counted_as};
 
+use fact_kinds::Kind;
 use ldar_days::Day;
-use ldar_facts::Kind;
 use ldar_law::{MonthCells, Sheet, is_compressor, is_pump, is_valve};
 
 /// Whether a component of this kind is counted in the columns of that kind.

@@ -1,5 +1,5 @@
+use fact_kinds::Memory;
 use ldar_days::Day;
-use ldar_facts::Memory;
 
 /// Why no report was made.
 #[derive(Clone, Copy, Debug, PartialEq, Eq)]

@@ -2,8 +2,8 @@ ghost use Rattle.std.specs.Prelude.{◌≡◌, ◌++◌, filter, option_to_list,
 ghost use Rattle.std.specs.List.{filter_map, flat_map};
 ghost use Rattle.ldar_law.specs.Reports as law;
 
+use fact_kinds::Memory;
 use ldar_days::Day;
-use ldar_facts::Memory;
 use ldar_law::{DelayLine, Sheet, Stop, Tag};
 use std::alloc::Global;
 

@@ -2,8 +2,8 @@ ghost use Rattle.std.specs.Prelude.{◌≤◌, IfOk};
 ghost use Rattle.ldar_law.specs.declared.numbers.TheConstants.{LAST_FACT_DAY};
 
 use crate::{ReportError, has_half_begun, report_of};
+use fact_kinds::{Key, Kind, Name};
 use ldar_days::Day;
-use ldar_facts::{Key, Kind, Name};
 use ldar_law::{DelayEntry, Items, Report, Sheet, Stop, Tag, UnitEntry, Until, repair_by};
 use std::test::Fail;
 

@@ -1,15 +1,15 @@
 ghost use Rattle.std.specs.Prelude.{◌≡◌, ◌≤◌, ◌-◌, false, map, slice_index_or, IfOk};
 ghost use Rattle.list_words.specs.Order.{Ascends};
 ghost use Rattle.list_words.specs.Ranges.{from_to};
-ghost use Rattle.ldar_facts.specs.Facts.{is_earlier};
-ghost use Rattle.ldar_facts.specs.Named.{is_numbered as says_numbered};
+ghost use Rattle.fact_kinds.specs.Facts.{is_earlier};
+ghost use Rattle.fact_kinds.specs.Named.{is_numbered as says_numbered};
 ghost use Rattle.ldar_law.specs.declared.numbers.TheConstants.{LAST_FACT_DAY};
 ghost use Rattle.skip_periods.specs.Seen.{mark_for};
 
 use crate::percent::{mark_seen, missed_quarter};
 use crate::seen::seen_to;
+use fact_kinds::{Class, Key, Memory};
 use ldar_days::Day;
-use ldar_facts::{Class, Key, Memory};
 use ldar_law::{Equipment, Event, Mark};
 use std::alloc::Global;
 

@@ -1,14 +1,14 @@
 ghost use Rattle.std.specs.Prelude.{◌≡◌, ◌≤◌, ◌&&◌, ◌||◌, false, [], ℕ, nat_lt, min, is_none};
 ghost use Rattle.list_words.specs.Order.{Ascends};
-ghost use Rattle.ldar_facts.specs.Facts.{is_earlier};
-ghost use Rattle.ldar_facts.specs.Named.{is_numbered as says_numbered};
+ghost use Rattle.fact_kinds.specs.Facts.{is_earlier};
+ghost use Rattle.fact_kinds.specs.Named.{is_numbered as says_numbered};
 ghost use Rattle.ldar_law.specs.Duties as duties;
 ghost use Rattle.ldar_law.specs.Percent as law;
 ghost use Rattle.ldar_law.specs.declared.numbers.TheConstants.{LAST_FACT_DAY};
 
 use crate::readings::{has_routine_in, is_found_leaking, is_read};
+use fact_kinds::{Class, Key};
 use ldar_days::{Day, quarter_of};
-use ldar_facts::{Class, Key};
 use ldar_law::{Equipment, Event, Mark, Regime, is_in_quarter, is_nde_designated, judging_day};
 
 /// Whether the component is a valve that is counted in the quarter, as a view of the day has it.

@@ -3,15 +3,15 @@ ghost use Rattle.std.specs.Option.{option_map_or};
 ghost use Rattle.list_words.specs.Order.{Ascends};
 ghost use Rattle.list_words.specs.Words.{last_such};
 ghost use Rattle.ldar_days.specs.Quarters.{quarter_first};
-ghost use Rattle.ldar_facts.specs.Facts.{is_earlier};
+ghost use Rattle.fact_kinds.specs.Facts.{is_earlier};
 ghost use Rattle.ldar_law.specs.Percent.{is_good};
 ghost use Rattle.ldar_law.specs.Skips as law;
 ghost use Rattle.ldar_law.specs.declared.numbers.TheConstants.{LAST_FACT_DAY};
 ghost use Rattle.skip_periods.specs.Streaks.{Tells};
 
 use crate::streak::{Streak, longer};
+use fact_kinds::Memory;
 use ldar_days::{Day, quarter_first};
-use ldar_facts::Memory;
 use ldar_law::{ElectionEntry, Tally};
 use std::alloc::Global;
 

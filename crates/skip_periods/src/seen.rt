@@ -5,8 +5,8 @@ ghost use Rattle.ldar_law.specs.Happenings as happenings;
 ghost use Rattle.ldar_law.specs.declared.numbers.TheConstants.{LAST_FACT_DAY};
 ghost use Rattle.skip_periods.specs.Seen.{AreSeen, LooksAt};
 
+use fact_kinds::Memory;
 use ldar_days::{Day, quarter_of};
-use ldar_facts::Memory;
 use ldar_law::{Event, Mark};
 use std::alloc::Global;
 

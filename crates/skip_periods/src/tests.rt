@@ -2,8 +2,8 @@ ghost use Rattle.std.specs.Prelude.{◌≡◌, ◌≤◌};
 ghost use Rattle.ldar_law.specs.declared.numbers.TheConstants.{LAST_FACT_DAY};
 
 use crate::{Mark, Tally, all_skipped, mark, marks_to, skipped};
+use fact_kinds::{Class, Designation, Key, Kind, Service};
 use ldar_days::Day;
-use ldar_facts::{Class, Designation, Key, Kind, Service};
 use ldar_law::{ElectionEntry, Equipment, Event, Happening};
 use std::alloc::Global;
 use std::test::Fail;

@@ -5,7 +5,7 @@ use Rattle.std.specs.Str.{IsUtf8, IsAscii}
 use Rattle.std.proofs.lemmas.Bool.Decides.{nat_tests}
 use Rattle.std.proofs.lemmas.Str.{IsUtf8-from_ascii}
 use Rattle.std.proofs.lemmas.Str.Ascii.{IsAscii-cons, IsAscii-nil}
-use Rattle.ldar_facts.specs.Name.{IsName, is_name_byte}
+use Rattle.fact_kinds.specs.Name.{IsName, is_name_byte}
 
 -- letters, digits and hyphens are all below 128
 letters_are_ascii : (bytes : List ℕ) → list_all is_name_byte bytes ≡ true → IsAscii bytes

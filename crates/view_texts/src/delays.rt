@@ -4,8 +4,8 @@ ghost use Rattle.ldar_law.specs.Texts as law;
 
 use crate::lines::{begun, put_end, shown};
 use crate::words::{DayOrHyphen, Ground, UntilWhen};
+use fact_kinds::Memory;
 use ldar_days::Day;
-use ldar_facts::Memory;
 use ldar_law::{DelayLine, Text};
 use std::alloc::Global;
 

@@ -5,8 +5,8 @@ ghost use Rattle.std.specs.Fmt.{decimal};
 ghost use Rattle.ldar_days.specs.Texts.{day_text};
 ghost use Rattle.ldar_law.specs.Texts.{end_line, end_of_line};
 
+use fact_kinds::Memory;
 use ldar_days::Day;
-use ldar_facts::Memory;
 use ldar_law::Text;
 use std::alloc::Global;
 

@@ -2,7 +2,7 @@ ghost use Rattle.std.specs.Prelude.{◌≡◌, ◌++◌, IfOk, OnOk, OnErr, stri
 ghost use Rattle.ldar_law.specs.Texts as law;
 
 use crate::lines::shown;
-use ldar_facts::Memory;
+use fact_kinds::Memory;
 use ldar_law::{Tally, Text};
 use std::alloc::Global;
 use std::fmt;

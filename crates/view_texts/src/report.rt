@@ -8,8 +8,8 @@ ghost use Rattle.ldar_law.specs.Texts as law;
 use crate::delays::put_delay_words;
 use crate::lines::{put_end, shown};
 use crate::words::{DayOrHyphen, name_word};
+use fact_kinds::Memory;
 use ldar_days::{Month, MonthText};
-use ldar_facts::Memory;
 use ldar_law::{DelayLine, Report, Stop, Text};
 use std::alloc::Global;
 

@@ -5,8 +5,8 @@ ghost use Rattle.ldar_days.specs.Texts.{day_text};
 ghost use Rattle.ldar_law.specs.Texts as law;
 
 use crate::lines::{put_end, shown};
+use fact_kinds::Memory;
 use ldar_days::Day;
-use ldar_facts::Memory;
 use ldar_law::{Route, Text};
 use std::alloc::Global;
 

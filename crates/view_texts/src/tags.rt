@@ -4,8 +4,8 @@ ghost use Rattle.ldar_law.specs.Texts as law;
 
 use crate::lines::{begun, put_end, shown};
 use crate::words::{DayOrHyphen, UntilWhen};
+use fact_kinds::Memory;
 use ldar_days::Day;
-use ldar_facts::Memory;
 use ldar_law::{Tag, Text};
 use std::alloc::Global;
 use std::fmt;

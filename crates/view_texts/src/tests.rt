@@ -2,8 +2,8 @@ use crate::{
     delays_text, due_text, percent_text, put_delays, put_due, put_percent, put_report, put_routes,
     put_tags, report_text, routes_text, tags_text,
 };
+use fact_kinds::{Key, Name};
 use ldar_days::{Day, Month};
-use ldar_facts::{Key, Name};
 use ldar_law::{
     Cells, DelayEntry, DelayLine, Duty, Items, MonthCells, Report, Route, Stop, Tag, Tally, Until,
 };

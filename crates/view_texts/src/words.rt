@@ -3,8 +3,8 @@
 ghost use Rattle.std.specs.Prelude.{◌≡◌};
 ghost use Rattle.ldar_law.specs.Texts as law;
 
+use fact_kinds::Name;
 use ldar_days::Day;
-use ldar_facts::Name;
 use ldar_law::{DelayEntry, Until};
 use std::fmt;
 

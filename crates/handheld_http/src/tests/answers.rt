@@ -1,7 +1,7 @@
 ghost use Rattle.handheld_http.specs.Answers.{IsSent};
 
 use crate::{Answer, Refusal, reply_bytes};
-use ldar_facts::Memory;
+use fact_kinds::Memory;
 use ldar_law::{Reply, Text, What};
 use std::alloc::Global;
 use std::test::Fail;

@@ -1,5 +1,6 @@
 use crate::batch_json::batch_in;
-use ldar_facts::{Batch, Read};
+use fact_kinds::Batch;
+use ldar_facts::Read;
 use std::alloc::Global;
 use std::process::Abort;
 use std::test::Fail;

@@ -2,14 +2,14 @@
 #![tactic(auto, unfolding(ldar_days::specs::Calendar::first_day, ldar_days::specs::Calendar::month_of, ldar_days::specs::Calendar::month_length, ldar_days::specs::Quarters::first_quarter, ldar_days::specs::Quarters::last_whole, crate::specs::Judged::register_with))]
 
 ghost use Rattle.std.specs.Prelude.{◌≡◌, ℕ, true, false, Some, None, [], ◌∷◌, ◌++◌, codes};
-ghost use Rattle.ldar_facts.specs.declared.batch.Batch.{Batch};
-ghost use Rattle.ldar_facts.specs.declared.class.Kind.TheVariants.{Valve, Pump};
-ghost use Rattle.ldar_facts.specs.declared.class.Service.TheVariants.{Gas, Light, Heavy, Vacuum, Under300};
-ghost use Rattle.ldar_facts.specs.declared.class.Designation.TheVariants.{Nde, Difficult};
-ghost use Rattle.ldar_facts.specs.declared.body.Purpose.TheVariants.{Routine};
-ghost use Rattle.ldar_facts.specs.declared.body.VisualState.TheVariants.{Drips};
-ghost use Rattle.ldar_facts.specs.declared.body.Sort.TheVariants.{Sensor, Evidence};
-ghost use Rattle.ldar_facts.specs.declared.body.FactBody.TheVariants.{Component as ComponentFact, Class as ClassFact, Retire, Election, Shutdown, Reading, Visual, Delay, Release, Indication};
+ghost use Rattle.fact_kinds.specs.declared.batch.Batch.{Batch};
+ghost use Rattle.fact_kinds.specs.declared.class.Kind.TheVariants.{Valve, Pump};
+ghost use Rattle.fact_kinds.specs.declared.class.Service.TheVariants.{Gas, Light, Heavy, Vacuum, Under300};
+ghost use Rattle.fact_kinds.specs.declared.class.Designation.TheVariants.{Nde, Difficult};
+ghost use Rattle.fact_kinds.specs.declared.body.Purpose.TheVariants.{Routine};
+ghost use Rattle.fact_kinds.specs.declared.body.VisualState.TheVariants.{Drips};
+ghost use Rattle.fact_kinds.specs.declared.body.Sort.TheVariants.{Sensor, Evidence};
+ghost use Rattle.fact_kinds.specs.declared.body.FactBody.TheVariants.{Component as ComponentFact, Class as ClassFact, Retire, Election, Shutdown, Reading, Visual, Delay, Release, Indication};
 ghost use Rattle.ldar_law.specs.declared.verdict.Verdict.TheVariants.{Pass, Denied};
 ghost use Rattle.ldar_law.specs.Short.{date};
 ghost use Rattle.ldar_law.specs.SmallOffice.{on, enters, sends, in_service, designated, component, crude, register, base, reads, hundred_valves, makes_difficult};

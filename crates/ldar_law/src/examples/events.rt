@@ -3,13 +3,13 @@
 
 ghost use Rattle.std.specs.Prelude.{◌≡◌, None, [], false, map, true, ◌∷◌};
 ghost use Rattle.std.specs.List.{filter_map};
-ghost use Rattle.ldar_facts.specs.declared.body.FactBody.TheVariants.{Attempt as AttemptFact, Class as ClassFact, Delay as DelayFact, Indication, Reading, Release as ReleaseFact, Retire as RetireFact, Visual};
-ghost use Rattle.ldar_facts.specs.declared.body.Purpose.TheVariants.{FollowUp, Routine};
-ghost use Rattle.ldar_facts.specs.declared.body.Sort.TheVariants.{Evidence as EvidenceSort, Sensor as SensorSort};
-ghost use Rattle.ldar_facts.specs.declared.body.VisualState.TheVariants.{Designated, Drips, Dry};
-ghost use Rattle.ldar_facts.specs.declared.class.Designation.TheVariants.{Nde, Plain};
-ghost use Rattle.ldar_facts.specs.declared.class.Kind.TheVariants.{Compressor, Pump, Valve};
-ghost use Rattle.ldar_facts.specs.declared.class.Service.TheVariants.{Gas, Heavy, Light, Vacuum};
+ghost use Rattle.fact_kinds.specs.declared.body.FactBody.TheVariants.{Attempt as AttemptFact, Class as ClassFact, Delay as DelayFact, Indication, Reading, Release as ReleaseFact, Retire as RetireFact, Visual};
+ghost use Rattle.fact_kinds.specs.declared.body.Purpose.TheVariants.{FollowUp, Routine};
+ghost use Rattle.fact_kinds.specs.declared.body.Sort.TheVariants.{Evidence as EvidenceSort, Sensor as SensorSort};
+ghost use Rattle.fact_kinds.specs.declared.body.VisualState.TheVariants.{Designated, Drips, Dry};
+ghost use Rattle.fact_kinds.specs.declared.class.Designation.TheVariants.{Nde, Plain};
+ghost use Rattle.fact_kinds.specs.declared.class.Kind.TheVariants.{Compressor, Pump, Valve};
+ghost use Rattle.fact_kinds.specs.declared.class.Service.TheVariants.{Gas, Heavy, Light, Vacuum};
 ghost use Rattle.ldar_law.specs.declared.event.Happening.TheVariants.{Attempt, Delay, Evidence, Look, Read, Release, Retire, Sensor};
 ghost use Rattle.ldar_law.specs.declared.fitness.Fitness.TheVariants.{Fit, NoCalibration, NoPrecision};
 ghost use Rattle.ldar_law.specs.Events.{events_with, fitness_in};

@@ -2,8 +2,8 @@
 #![tactic(auto, unfolding(ldar_days::specs::Calendar::first_day, ldar_days::specs::Calendar::month_of, ldar_days::specs::Calendar::month_length, ldar_days::specs::Quarters::last_whole, ldar_days::specs::Quarters::first_quarter, list_words::specs::Ranges::until, crate::specs::Events::events_in, crate::specs::Spans::spans_of, crate::specs::Tags::tag_of, crate::specs::Months::is_clean, crate::specs::Months::has_leak_in, crate::specs::Months::is_quarterly, crate::specs::Months::is_clean_twice_from, crate::specs::Percent::mark_of, crate::specs::Skips::good_streak, crate::specs::Skips::skips_run, crate::specs::Skips::quarters, crate::specs::Skips::is_skipped, crate::specs::Routes::routes_of, crate::specs::Duties::duties_of, crate::specs::Duties::first_monitoring, crate::specs::Duties::monthly, crate::specs::Duties::quarterly, crate::specs::Duties::yearly, crate::specs::Duties::planned, crate::specs::Duties::weekly, crate::specs::Duties::drip, crate::specs::Duties::release, crate::specs::Duties::evidence))]
 
 ghost use Rattle.std.specs.Prelude.{◌≡◌, None, Some, [], false, true, ◌∷◌};
-ghost use Rattle.ldar_facts.specs.Facts.{facts_to};
-ghost use Rattle.ldar_facts.specs.declared.class.Kind.TheVariants.{Valve};
+ghost use Rattle.fact_kinds.specs.Facts.{facts_to};
+ghost use Rattle.fact_kinds.specs.declared.class.Kind.TheVariants.{Valve};
 ghost use Rattle.ldar_law.specs.declared.delay.Until.TheVariants.{Date};
 ghost use Rattle.ldar_law.specs.Short.{date, month, valve};
 ghost use Rattle.ldar_law.specs.ShortEvents.{reads, retires, tag};

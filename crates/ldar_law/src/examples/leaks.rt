@@ -2,9 +2,9 @@
 #![tactic(auto, unfolding(ldar_days::specs::Calendar::first_day, ldar_days::specs::Calendar::month_of, ldar_days::specs::Calendar::month_length, crate::specs::Events::events_in, crate::specs::Spans::spans_of, crate::specs::Months::is_clean, crate::specs::Months::has_leak_in, crate::specs::Months::is_clean_twice_from))]
 
 ghost use Rattle.std.specs.Prelude.{◌≡◌, [], ◌∷◌, Some, None, true, false};
-ghost use Rattle.ldar_facts.specs.declared.class.Designation.TheVariants.{Plain, Nde};
-ghost use Rattle.ldar_facts.specs.declared.class.Kind.TheVariants.{Valve, Pump, Compressor, Relief};
-ghost use Rattle.ldar_facts.specs.declared.class.Service.TheVariants.{Gas, Heavy, Vacuum};
+ghost use Rattle.fact_kinds.specs.declared.class.Designation.TheVariants.{Plain, Nde};
+ghost use Rattle.fact_kinds.specs.declared.class.Kind.TheVariants.{Valve, Pump, Compressor, Relief};
+ghost use Rattle.fact_kinds.specs.declared.class.Service.TheVariants.{Gas, Heavy, Vacuum};
 ghost use Rattle.ldar_law.specs.Short.{date, key, class, gear, valve, pump, compressor, monomer_pump, found_at, sensed, designated_at};
 ghost use Rattle.ldar_law.specs.ShortEvents.{reads, reads_by, dry, designates, attempts, completes, delays, sensor_leak, retires, span};
 ghost use Rattle.ldar_law.specs.Spans.{spans_of};

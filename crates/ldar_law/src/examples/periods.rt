@@ -2,9 +2,9 @@
 #![tactic(auto, unfolding(ldar_days::specs::Calendar::first_day, ldar_days::specs::Calendar::month_of, ldar_days::specs::Calendar::month_length, ldar_days::specs::Quarters::last_whole, ldar_days::specs::Quarters::first_quarter, list_words::specs::Ranges::until, crate::specs::Months::is_clean, crate::specs::Months::has_leak_in, crate::specs::Months::is_quarterly, crate::specs::Duties::duties_of, crate::specs::Duties::first_monitoring, crate::specs::Duties::monthly, crate::specs::Duties::quarterly, crate::specs::Duties::yearly, crate::specs::Duties::planned, crate::specs::Duties::weekly, crate::specs::Duties::drip, crate::specs::Duties::release, crate::specs::Duties::evidence))]
 
 ghost use Rattle.std.specs.Prelude.{◌≡◌, [], map, true, ◌∷◌};
-ghost use Rattle.ldar_facts.specs.declared.class.Designation.TheVariants.{Difficult, Nde, Plain};
-ghost use Rattle.ldar_facts.specs.declared.class.Kind.TheVariants.{Compressor, Pump, Relief, Valve};
-ghost use Rattle.ldar_facts.specs.declared.class.Service.TheVariants.{Gas, Light};
+ghost use Rattle.fact_kinds.specs.declared.class.Designation.TheVariants.{Difficult, Nde, Plain};
+ghost use Rattle.fact_kinds.specs.declared.class.Kind.TheVariants.{Compressor, Pump, Relief, Valve};
+ghost use Rattle.fact_kinds.specs.declared.class.Service.TheVariants.{Gas, Light};
 ghost use Rattle.ldar_law.specs.Duties.{duties_of};
 ghost use Rattle.ldar_law.specs.Months.{is_quarterly, month_in_quarter};
 ghost use Rattle.ldar_law.specs.Short.{class, date, entered_on, gear, key, month, planned_difficult, pump, relief, retired_gear, retired_valve, second_months, unsafe_by, valve};

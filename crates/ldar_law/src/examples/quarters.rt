@@ -2,9 +2,9 @@
 #![tactic(auto, unfolding(ldar_days::specs::Calendar::first_day, ldar_days::specs::Calendar::month_of, ldar_days::specs::Calendar::month_length, ldar_days::specs::Quarters::last_whole, ldar_days::specs::Quarters::first_quarter, list_words::specs::Ranges::until, crate::specs::Spans::spans_of, crate::specs::Tags::tag_of, crate::specs::Months::is_clean, crate::specs::Months::has_leak_in, crate::specs::Months::is_clean_twice_from, crate::specs::Percent::mark_of, crate::specs::Skips::good_streak, crate::specs::Skips::skips_run, crate::specs::Skips::quarters, crate::specs::Skips::is_skipped, crate::specs::Routes::routes_of))]
 
 ghost use Rattle.std.specs.Prelude.{◌≡◌, [], false, replicate, true, ◌++◌, ◌∷◌};
-ghost use Rattle.ldar_facts.specs.declared.class.Designation.TheVariants.{Nde, Plain};
-ghost use Rattle.ldar_facts.specs.declared.class.Kind.TheVariants.{Valve};
-ghost use Rattle.ldar_facts.specs.declared.class.Service.TheVariants.{Gas, Heavy};
+ghost use Rattle.fact_kinds.specs.declared.class.Designation.TheVariants.{Nde, Plain};
+ghost use Rattle.fact_kinds.specs.declared.class.Kind.TheVariants.{Valve};
+ghost use Rattle.fact_kinds.specs.declared.class.Service.TheVariants.{Gas, Heavy};
 ghost use Rattle.ldar_law.specs.Percent.{is_good, tally_of};
 ghost use Rattle.ldar_law.specs.Routes.{routes_of};
 ghost use Rattle.ldar_law.specs.Short.{class, date, entered_on, gear, pump, replacing_valve, retired_valve, valve};

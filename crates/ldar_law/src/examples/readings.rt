@@ -2,7 +2,7 @@
 #![tactic(auto, unfolding(ldar_days::specs::Calendar::first_day, ldar_days::specs::Calendar::month_of, ldar_days::specs::Calendar::month_length))]
 
 ghost use Rattle.std.specs.Prelude.{◌≡◌, [], false, true, ◌∷◌};
-ghost use Rattle.ldar_facts.specs.declared.body.FactBody.TheVariants.{Calibration, Drift, Precision};
+ghost use Rattle.fact_kinds.specs.declared.body.FactBody.TheVariants.{Calibration, Drift, Precision};
 ghost use Rattle.ldar_law.specs.declared.fitness.Fitness.TheVariants.{Fit, GasTooHigh, NoCalibration, NoPrecision, Voided};
 ghost use Rattle.ldar_law.specs.Fitness.{fitness_of, has_drifted, is_above_drifted, is_precise};
 ghost use Rattle.ldar_law.specs.Short.{busy_day, calibrated, date, drifted, drifted_to, fact, judged_at, key, precise};

@@ -2,9 +2,9 @@
 #![tactic(auto, unfolding(ldar_days::specs::Calendar::first_day, ldar_days::specs::Calendar::month_of, ldar_days::specs::Calendar::month_length))]
 
 ghost use Rattle.std.specs.Prelude.{◌≡◌, None, Some, [], codes, false, map, true, ◌∷◌};
-ghost use Rattle.ldar_facts.specs.Facts.{facts_of, facts_to};
-ghost use Rattle.ldar_facts.specs.declared.class.Kind.TheVariants.{Compressor, Pump, Relief, Valve};
-ghost use Rattle.ldar_facts.specs.declared.class.Service.TheVariants.{Gas, Heavy, Light, Under300, Vacuum};
+ghost use Rattle.fact_kinds.specs.Facts.{facts_of, facts_to};
+ghost use Rattle.fact_kinds.specs.declared.class.Kind.TheVariants.{Compressor, Pump, Relief, Valve};
+ghost use Rattle.fact_kinds.specs.declared.class.Service.TheVariants.{Gas, Heavy, Light, Under300, Vacuum};
 ghost use Rattle.ldar_law.specs.declared.regime.Regime.TheVariants.{CompressorRules, HeavyLiquidRules, LeftOut, PumpRules, ReliefRules, ValveRules};
 ghost use Rattle.ldar_law.specs.Equipment.{elections_of, equipment_of, members_of, stops_of, unit_entry_of};
 ghost use Rattle.ldar_law.specs.Force.{class_in_force};

@@ -2,7 +2,7 @@
 #![tactic(auto, unfolding(ldar_days::specs::Calendar::first_day, ldar_days::specs::Calendar::month_of, ldar_days::specs::Calendar::month_length, crate::specs::Spans::spans_of, crate::specs::Tags::tag_of, crate::specs::Months::is_clean, crate::specs::Months::has_leak_in, crate::specs::Months::is_clean_twice_from))]
 
 ghost use Rattle.std.specs.Prelude.{◌≡◌, None, Some, [], false, map, true, ◌∷◌};
-ghost use Rattle.ldar_facts.specs.declared.class.Kind.TheVariants.{Valve};
+ghost use Rattle.fact_kinds.specs.declared.class.Kind.TheVariants.{Valve};
 ghost use Rattle.ldar_law.specs.declared.delay.Until.TheVariants.{Date, NoDate, Shutdown, WhileIsolated};
 ghost use Rattle.ldar_law.specs.Delays.{attempt_by, counted_place, repair_due};
 ghost use Rattle.ldar_law.specs.Short.{date};

@@ -2,7 +2,7 @@
 #![tactic(auto, unfolding(ldar_days::specs::Calendar::first_day, ldar_days::specs::Calendar::month_of, ldar_days::specs::Calendar::month_length, crate::specs::Spans::spans_of, crate::specs::Months::is_clean, crate::specs::Months::has_leak_in, crate::specs::Months::is_clean_twice_from))]
 
 ghost use Rattle.std.specs.Prelude.{◌≡◌, None, Some, [], false, true, ◌∷◌};
-ghost use Rattle.ldar_facts.specs.declared.class.Kind.TheVariants.{Compressor, Pump, Relief, Valve};
+ghost use Rattle.fact_kinds.specs.declared.class.Kind.TheVariants.{Compressor, Pump, Relief, Valve};
 ghost use Rattle.ldar_law.specs.declared.event.Happening.TheVariants.{Look};
 ghost use Rattle.ldar_law.specs.Months.{is_clean, is_clean_twice};
 ghost use Rattle.ldar_law.specs.Settling.{is_settled};

@@ -2,13 +2,13 @@
 #![tactic(auto)]
 
 ghost use Rattle.std.specs.Prelude.{◌≡◌, None, [], false, filter, is_some, length, map, true, ◌∷◌};
-ghost use Rattle.ldar_facts.specs.declared.body.FactBody.TheVariants.{Attempt as AttemptFact, Calibration, Class as ClassFact, Component as ComponentFact, Delay as DelayFact, Drift, Election, Indication, Precision, Reading, Release as ReleaseFact, Retire as RetireFact, Shutdown, Unit as UnitFact, Visual};
-ghost use Rattle.ldar_facts.specs.declared.body.Purpose.TheVariants.{Routine};
-ghost use Rattle.ldar_facts.specs.declared.body.Sort.TheVariants.{Sensor as SensorSort};
-ghost use Rattle.ldar_facts.specs.declared.body.VisualState.TheVariants.{Drips};
-ghost use Rattle.ldar_facts.specs.declared.class.Designation.TheVariants.{Difficult, Nde, Plain, Unsafe};
-ghost use Rattle.ldar_facts.specs.declared.class.Kind.TheVariants.{Compressor, Pump, Relief, Valve};
-ghost use Rattle.ldar_facts.specs.declared.class.Service.TheVariants.{Gas, Heavy, Light, Under300, Vacuum};
+ghost use Rattle.fact_kinds.specs.declared.body.FactBody.TheVariants.{Attempt as AttemptFact, Calibration, Class as ClassFact, Component as ComponentFact, Delay as DelayFact, Drift, Election, Indication, Precision, Reading, Release as ReleaseFact, Retire as RetireFact, Shutdown, Unit as UnitFact, Visual};
+ghost use Rattle.fact_kinds.specs.declared.body.Purpose.TheVariants.{Routine};
+ghost use Rattle.fact_kinds.specs.declared.body.Sort.TheVariants.{Sensor as SensorSort};
+ghost use Rattle.fact_kinds.specs.declared.body.VisualState.TheVariants.{Drips};
+ghost use Rattle.fact_kinds.specs.declared.class.Designation.TheVariants.{Difficult, Nde, Plain, Unsafe};
+ghost use Rattle.fact_kinds.specs.declared.class.Kind.TheVariants.{Compressor, Pump, Relief, Valve};
+ghost use Rattle.fact_kinds.specs.declared.class.Service.TheVariants.{Gas, Heavy, Light, Under300, Vacuum};
 ghost use Rattle.ldar_law.specs.declared.delay.Until.TheVariants.{Date, NoDate, Shutdown as UntilShutdown, WhileIsolated};
 ghost use Rattle.ldar_law.specs.declared.event.Happening.TheVariants.{Attempt, Evidence, Look, Read, Release, Retire, Sensor};
 ghost use Rattle.ldar_law.specs.declared.fitness.Fitness.TheVariants.{Fit, GasTooHigh, NoCalibration, NoPrecision, Voided};

@@ -2,10 +2,10 @@
 #![tactic(auto)]
 
 ghost use Rattle.std.specs.Prelude.{◌≡◌, Some, [], codes, false, true, ◌++◌, ◌∷◌};
-ghost use Rattle.ldar_facts.specs.declared.body.FactBody.TheVariants.{Attempt, Class as ClassFact, Delay, Election, Indication, Precision};
-ghost use Rattle.ldar_facts.specs.declared.body.Sort.TheVariants.{Sensor};
-ghost use Rattle.ldar_facts.specs.declared.class.Designation.TheVariants.{Nde};
-ghost use Rattle.ldar_facts.specs.declared.class.Service.TheVariants.{Gas, Heavy};
+ghost use Rattle.fact_kinds.specs.declared.body.FactBody.TheVariants.{Attempt, Class as ClassFact, Delay, Election, Indication, Precision};
+ghost use Rattle.fact_kinds.specs.declared.body.Sort.TheVariants.{Sensor};
+ghost use Rattle.fact_kinds.specs.declared.class.Designation.TheVariants.{Nde};
+ghost use Rattle.fact_kinds.specs.declared.class.Service.TheVariants.{Gas, Heavy};
 ghost use Rattle.ldar_law.specs.declared.reply.Reply.TheVariants.{NoSuch, Shown};
 ghost use Rattle.ldar_law.specs.declared.request.Request.TheVariants.{Delays, Due, Percent, Report, Route, Tags};
 ghost use Rattle.ldar_law.specs.declared.request.What.TheVariants.{Half as NoHalf, Quarter as NoQuarter, Stops as NoStops, Unit as NoUnit};

@@ -1,7 +1,7 @@
 //! Rows on what no other test asks: yearly monitoring by the background, evidence, and the order of the list.
 
 use crate::tests::{ALL, Case, class, event, expect, item, look, pump, reading};
-use ldar_facts::{Designation, Kind, Service};
+use fact_kinds::{Designation, Kind, Service};
 use ldar_law::Happening;
 use std::test::Fail;
 

@@ -4,8 +4,8 @@
 ghost use Rattle.std.specs.Prelude.{◌≤◌};
 
 use crate::asked::Asked;
+use fact_kinds::{Class, Designation, Key, Memory};
 use ldar_days::{Day, Month, first_quarter, quarter_of};
-use ldar_facts::{Class, Designation, Key, Memory};
 use ldar_law::{Duty, Event, Regime};
 use std::alloc::Global;
 

@@ -1,6 +1,6 @@
 use Rattle.std.proofs.Common.{◌≡◌, ℕ, ◌+◌, ◌<◌, ◌≤◌, cond, None, Some, List, length, get_or, sym, ap, ◌∙◌, subst, arith}
-use Rattle.ldar_facts.specs.declared.batch.Batch.{Batch}
-use Rattle.ldar_facts.specs.Stated.{Stated}
+use Rattle.fact_kinds.specs.declared.batch.Batch.{Batch}
+use Rattle.fact_kinds.specs.Stated.{Stated}
 use Rattle.fact_store.specs.Kept.{facts_in}
 use Rattle.ldar_law.specs.Slices.{is_registered}
 use Rattle.ldar_law.specs.Verdicts.{least_rule}

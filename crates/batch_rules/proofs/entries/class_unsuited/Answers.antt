@@ -1,5 +1,5 @@
 use Rattle.std.proofs.Common.{◌≡◌, true, not, refl, sym, ap, ◌∙◌}
-use Rattle.ldar_facts.specs.declared.body.FactBody.TheVariants.{Class as ClassFact}
+use Rattle.fact_kinds.specs.declared.body.FactBody.TheVariants.{Class as ClassFact}
 use Rattle.ldar_law.specs.Denials as law
 use Rattle.ldar_law.specs.Kinds as kinds
 use Rattle.ldar_law.specs.Standing as standing

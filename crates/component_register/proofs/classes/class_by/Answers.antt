@@ -4,9 +4,9 @@ use Rattle.std.proofs.lemmas.Bool.{leb-true, le-leb}
 use Rattle.std.proofs.lemmas.List.Sorted.{IsPartitionPoint-from_clause}
 use Rattle.list_words.specs.Order.{Ascends}
 use Rattle.list_words.proofs.WordLemmas.{last_such_at, last_such_nowhere}
-use Rattle.ldar_facts.proofs.Cuts.{earlier_day}
-use Rattle.ldar_facts.specs.declared.class.Class.{Class}
-use Rattle.ldar_facts.specs.declared.key.Key.{Key}
+use Rattle.fact_kinds.proofs.Cuts.{earlier_day}
+use Rattle.fact_kinds.specs.declared.class.Class.{Class}
+use Rattle.fact_kinds.specs.declared.key.Key.{Key}
 use Rattle.ldar_law.specs.RegisterLaws.{class_first}
 use Rattle.fact_store.proofs.OrderLemmas.{front_passes}
 use Rattle.component_register.proofs.classes.class_by.Goals as goal

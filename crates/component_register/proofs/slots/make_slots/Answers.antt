@@ -1,5 +1,5 @@
 use Rattle.std.proofs.Common.{ap, ◌∙◌, subst, arith}
-use Rattle.ldar_facts.specs.Named as named
+use Rattle.fact_kinds.specs.Named as named
 use Rattle.component_register.specs.Slots.{HasRow, no_slot}
 use Rattle.component_register.proofs.HoldLemmas.{have_rows_more}
 use Rattle.component_register.proofs.RowLemmas.{adds_on}

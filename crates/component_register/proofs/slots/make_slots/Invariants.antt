@@ -1,5 +1,5 @@
 use Rattle.std.proofs.Common.{take}
-use Rattle.ldar_facts.specs.Named as named
+use Rattle.fact_kinds.specs.Named as named
 use Rattle.component_register.specs.Slots.{HaveRows, OnlyAdds, no_slot}
 use Rattle.component_register.proofs.slots.make_slots.Given as goal
 

@@ -1,5 +1,5 @@
 use Rattle.std.proofs.Common.{None, take}
-use Rattle.ldar_facts.specs.Named as named
+use Rattle.fact_kinds.specs.Named as named
 use Rattle.component_register.specs.Slots.{HaveRows, OnlyAdds}
 use Rattle.component_register.proofs.units.make_units.Given as goal
 

@@ -1,7 +1,7 @@
 use Rattle.std.proofs.Common.{Result, Err, ◌≡◌, ◌+◌, ◌≤◌, ◌<◌, List, [], ◌∷◌, ◌++◌, length, is_some, Bool, true, false, ◌⊎◌, inl, inr, refl, sym, ap, subst}
 use Rattle.std.proofs.Common.{◌∙◌, arith}
 use Rattle.std.specs.String.{string_bytes}
-use Rattle.ldar_facts.specs.declared.batch.Batch.{Batch}
+use Rattle.fact_kinds.specs.declared.batch.Batch.{Batch}
 use Rattle.ldar_journal.specs.Image.{batches_of, fact_count, IsKept}
 use Rattle.ldar_journal.proofs.Histories.{batches_of-push}
 use Rattle.ldar_journal.proofs.Positions.{IsKept-push}

@@ -1,7 +1,7 @@
 use Rattle.std.proofs.Common.{◌≡◌, refl, arith}
 use Rattle.std.specs.String.{string_bytes}
 use Rattle.std.proofs.lemmas.Result.{IfOk-weaker}
-use Rattle.ldar_facts.specs.Identity.{identity_of, is_of}
+use Rattle.fact_kinds.specs.Identity.{identity_of, is_of}
 use Rattle.ldar_cli.specs.Dock.{line_of, Docks}
 use Rattle.ldar_cli.specs.declared.reply.Reply.{Reply}
 use Rattle.ldar_cli.specs.declared.reply.Reply.TheVariants.{Receipt, Conflict}

@@ -4,7 +4,7 @@ use Rattle.std.proofs.lemmas.List.{append-nil}
 use Rattle.std.specs.String.{string_bytes}
 use Rattle.std.specs.Option.{MatchOption}
 use Rattle.ldar_ports.specs.Sink.{bytes_of}
-use Rattle.ldar_facts.specs.declared.batch.Batch.{Batch}
+use Rattle.fact_kinds.specs.declared.batch.Batch.{Batch}
 use Rattle.ldar_facts.specs.Grammar.{Spells}
 use Rattle.ldar_cli.specs.Dock.{IsBadInput}
 use Rattle.ldar_cli.proofs.DockLemmas.{Puts-none, ends_early, ends_empty, ends_bad, ends_after_fault, ends_done, ends_unsaid, HasEnded-batch}

@@ -1,8 +1,8 @@
 use Rattle.std.proofs.Common.{◌≡◌, drop, Ok, subst, ◌∙◌}
-use Rattle.ldar_facts.specs.Fields.{IsFact}
+use Rattle.fact_kinds.specs.Fields.{IsFact}
 use Rattle.ldar_facts.specs.Form.{Takes}
 use Rattle.ldar_facts.specs.FactForms as forms
-use Rattle.ldar_facts.specs.Stated.{Stated}
+use Rattle.fact_kinds.specs.Stated.{Stated}
 use Rattle.ldar_facts.proofs.FactTies as tie
 use Rattle.ldar_facts.proofs.add_fact.push.Goals as goal
 

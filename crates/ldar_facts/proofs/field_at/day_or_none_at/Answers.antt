@@ -1,5 +1,5 @@
 use Rattle.std.proofs.Common.{sym, subst, drop, arith}
-use Rattle.ldar_facts.specs.Fields.{IsAmong, days_or_none}
+use Rattle.fact_kinds.specs.Fields.{IsAmong, days_or_none}
 use Rattle.ldar_facts.specs.FieldForms.{day_or_none}
 use Rattle.ldar_facts.specs.Number.{read_among}
 use Rattle.ldar_facts.proofs.Days.{expected}

@@ -1,4 +1,4 @@
-use Rattle.ldar_facts.specs.Fields.{modes}
+use Rattle.fact_kinds.specs.Fields.{modes}
 use Rattle.ldar_facts.specs.FieldForms.{mode}
 use Rattle.ldar_facts.proofs.Places.{number_to}
 use Rattle.ldar_facts.proofs.field_at.mode_at.Goals as goal

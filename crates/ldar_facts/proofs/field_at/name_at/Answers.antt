@@ -1,7 +1,7 @@
 use Rattle.std.proofs.Common.{◌≡◌, ℕ, ◌+◌, ◌-◌, ap, drop, take, subst, sym, ◌∙◌, arith}
 use Rattle.std.proofs.lemmas.List.{drop-drop}
 use Rattle.ldar_facts.specs.Form.{Takes}
-use Rattle.ldar_facts.specs.Name.{spelled_name}
+use Rattle.fact_kinds.specs.Name.{spelled_name}
 use Rattle.ldar_facts.specs.Letters.{name_form}
 use Rattle.ldar_facts.proofs.PaddedName.{name_stands}
 use Rattle.ldar_facts.proofs.field_at.name_at.Goals as goal

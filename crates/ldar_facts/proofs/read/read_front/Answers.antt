@@ -1,6 +1,6 @@
 use Rattle.std.proofs.Common.{◌≡◌, Err, Ok, subst, arith}
-use Rattle.ldar_facts.specs.declared.batch.Batch.{Batch}
-use Rattle.ldar_facts.specs.Fields.{IsAmong, counts}
+use Rattle.fact_kinds.specs.declared.batch.Batch.{Batch}
+use Rattle.fact_kinds.specs.Fields.{IsAmong, counts}
 use Rattle.ldar_facts.specs.Form.{IsBytes}
 use Rattle.ldar_facts.specs.FactForms as forms
 use Rattle.ldar_facts.proofs.Batches.{rest_within, stop_within}

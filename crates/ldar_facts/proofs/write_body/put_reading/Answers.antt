@@ -1,6 +1,6 @@
 use Rattle.std.proofs.Common.{◌≡◌}
 use Rattle.std.proofs.Common.{ℕ, List, ◌++◌}
-use Rattle.ldar_facts.specs.Fields.{big_endian, purpose_number}
+use Rattle.fact_kinds.specs.Fields.{big_endian, purpose_number}
 use Rattle.ldar_facts.proofs.Spelling.{more, last}
 use Rattle.ldar_facts.proofs.write_body.put_reading.Goals as goal
 

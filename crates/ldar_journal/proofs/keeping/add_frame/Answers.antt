@@ -1,5 +1,5 @@
 use Rattle.std.proofs.Common.{◌≡◌, ◌<◌, ◌++◌, ◌∷◌, [], List, length, take, refl, sym, ap, subst, append_assoc, arith}
-use Rattle.ldar_facts.specs.declared.batch.Batch.{Batch}
+use Rattle.fact_kinds.specs.declared.batch.Batch.{Batch}
 use Rattle.ldar_journal.specs.Image.{batches_of}
 use Rattle.ldar_journal.specs.Known.{IsKnown}
 use Rattle.ldar_journal.proofs.KeepingLemmas.{known_more, refused, next_one, not_all, back_again}

@@ -1,5 +1,5 @@
 use Rattle.std.proofs.Common.{map, sym, ◌∙◌, ap, subst}
-use Rattle.ldar_facts.specs.Identity.{identity_of}
+use Rattle.fact_kinds.specs.Identity.{identity_of}
 use Rattle.ldar_journal.specs.Image.{fact_count, IsKept}
 use Rattle.ldar_journal.proofs.opening.open_accepted.Goals as goal
 

@@ -1,6 +1,6 @@
 use Rattle.std.proofs.Common.{◌≡◌, ℕ, ◌+◌, List, [], ◌∷◌, ◌++◌, take, sym, ◌∙◌, ap, arith}
 use Rattle.std.proofs.lemmas.List.{take_more}
-use Rattle.ldar_facts.specs.declared.batch.Batch.{Batch}
+use Rattle.fact_kinds.specs.declared.batch.Batch.{Batch}
 use Rattle.ldar_journal.specs.Image.{IsBatch, spelling}
 use Rattle.ldar_journal.proofs.FrameLemmas.{payload-push, AllByRecursion-push}
 use Rattle.ldar_journal.proofs.prepared.payload_of.Goals as goal

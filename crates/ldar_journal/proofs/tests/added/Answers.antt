@@ -1,7 +1,7 @@
 use Rattle.std.proofs.Common.{◌≡◌, ◌+◌, ◌≤◌, ℕ, List, ◌∷◌, [], ◌++◌, length, is_some, false, sym, ap, subst, ◌∙◌, arith}
-use Rattle.ldar_facts.specs.declared.batch.Batch.{Batch}
-use Rattle.ldar_facts.specs.declared.identity.Identity.{Identity}
-use Rattle.ldar_facts.specs.Identity.{identity_of, position_of}
+use Rattle.fact_kinds.specs.declared.batch.Batch.{Batch}
+use Rattle.fact_kinds.specs.declared.identity.Identity.{Identity}
+use Rattle.fact_kinds.specs.Identity.{identity_of, position_of}
 use Rattle.ldar_journal.specs.Image.{fact_count, IsKept}
 use Rattle.ldar_journal.proofs.Positions.{IsKept-push}
 use Rattle.ldar_journal.proofs.tests.added.Goals as goal

@@ -1,8 +1,8 @@
 use Rattle.std.proofs.Common.{◌≡◌, ◌-◌, drop, length, refl, sym, subst, ◌∙◌, arith}
 use Rattle.std.proofs.lemmas.Bool.{false≢true}
 use Rattle.list_words.specs.Order.{Ascends}
-use Rattle.ldar_facts.specs.Facts.{goes_first}
-use Rattle.ldar_facts.proofs.KeyOrder.{strict_goes_first}
+use Rattle.fact_kinds.specs.Facts.{goes_first}
+use Rattle.fact_kinds.proofs.KeyOrder.{strict_goes_first}
 use Rattle.ldar_law.proofs.Adjacent.{alone, one_in_front, out_of_order}
 use Rattle.ldar_law.proofs.key_order.are_in_key_order.Goals as goal
 

@@ -1,5 +1,5 @@
 use Rattle.std.proofs.Common.{◌≡◌, ◌||◌, drop}
-use Rattle.ldar_facts.specs.declared.key.Key.{Key}
+use Rattle.fact_kinds.specs.declared.key.Key.{Key}
 use Rattle.ldar_law.specs.Fitness as law
 use Rattle.method21_reading.specs.Readings as readings
 use Rattle.method21_reading.proofs.calibration.next_calibration.Given as goal

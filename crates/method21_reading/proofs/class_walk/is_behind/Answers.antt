@@ -1,8 +1,8 @@
 use Rattle.std.proofs.Common.{◌≡◌, Bool, false, nat_le, slice_get, sym, subst, ◌∙◌, arith}
 use Rattle.std.specs.Option.{option_map_or}
 use Rattle.ldar_law.proofs.ClassLemmas.{entered_in_front}
-use Rattle.ldar_facts.specs.declared.class.Class.{Class}
-use Rattle.ldar_facts.specs.declared.key.Key.{Key}
+use Rattle.fact_kinds.specs.declared.class.Class.{Class}
+use Rattle.fact_kinds.specs.declared.key.Key.{Key}
 use Rattle.method21_reading.specs.Walks.{IsBehind}
 use Rattle.method21_reading.proofs.WalkLemmas.{at_front, behind_front}
 use Rattle.method21_reading.proofs.class_walk.is_behind.Goals as goal

@@ -4,8 +4,8 @@ use Rattle.std.proofs.lemmas.Bool.{leb-true, le-leb, ltb-true, lt-ltb}
 use Rattle.std.proofs.lemmas.List.{take_all, length-drop}
 use Rattle.std.proofs.lemmas.List.Sorted.{IsPartitionPoint-from_clause}
 use Rattle.list_words.specs.Order.{Ascends}
-use Rattle.ldar_facts.specs.Facts.{goes_first}
-use Rattle.ldar_facts.proofs.Cuts.{earlier_day}
+use Rattle.fact_kinds.specs.Facts.{goes_first}
+use Rattle.fact_kinds.proofs.Cuts.{earlier_day}
 use Rattle.method21_reading.proofs.ApartLemmas.{day_part}
 use Rattle.method21_reading.proofs.FrontLemmas.{stands_in_front, ascends_drop}
 use Rattle.method21_reading.proofs.day.facts_on.Goals as goal

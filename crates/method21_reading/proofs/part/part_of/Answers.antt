@@ -1,7 +1,7 @@
 use Rattle.std.proofs.Common.{filter, sym, ap, subst, ◌∙◌, arith}
 use Rattle.std.proofs.lemmas.List.{take_all}
 use Rattle.list_words.specs.Order.{Ascends}
-use Rattle.ldar_facts.specs.Facts.{Entry, goes_first}
+use Rattle.fact_kinds.specs.Facts.{Entry, goes_first}
 use Rattle.method21_reading.specs.Parts as parts
 use Rattle.method21_reading.proofs.FrontLemmas.{ascends_filter}
 use Rattle.method21_reading.proofs.part.part_of.Goals as goal

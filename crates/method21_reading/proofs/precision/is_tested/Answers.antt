@@ -3,8 +3,8 @@ use Rattle.std.specs.List.Sorted.{IsPartitionPoint}
 use Rattle.std.specs.Option.{option_map_or}
 use Rattle.std.proofs.lemmas.List.Sorted.{IsPartitionPoint-from_clause}
 use Rattle.ldar_days.specs.Calendar.{later_by}
-use Rattle.ldar_facts.specs.Facts.{is_earlier, goes_first}
-use Rattle.ldar_facts.proofs.KeyOrder.{strict_earlier}
+use Rattle.fact_kinds.specs.Facts.{is_earlier, goes_first}
+use Rattle.fact_kinds.proofs.KeyOrder.{strict_earlier}
 use Rattle.method21_reading.proofs.ApartLemmas.{tested_by_last}
 use Rattle.method21_reading.proofs.FrontLemmas.{stands_in_front}
 use Rattle.method21_reading.proofs.precision.is_tested.Goals as goal

@@ -1,10 +1,10 @@
 use Rattle.std.proofs.Common.{◌≡◌, ◌-◌, Bool, drop, length, refl, sym, subst, ◌∙◌, arith}
 use Rattle.std.proofs.lemmas.Bool.{false≢true}
 use Rattle.list_words.specs.Order.{Ascends}
-use Rattle.ldar_facts.specs.declared.class.Class.{Class}
-use Rattle.ldar_facts.specs.declared.key.Key.{Key}
-use Rattle.ldar_facts.specs.Facts.{is_earlier}
-use Rattle.ldar_facts.proofs.KeyOrder.{strict_earlier}
+use Rattle.fact_kinds.specs.declared.class.Class.{Class}
+use Rattle.fact_kinds.specs.declared.key.Key.{Key}
+use Rattle.fact_kinds.specs.Facts.{is_earlier}
+use Rattle.fact_kinds.proofs.KeyOrder.{strict_earlier}
 use Rattle.ldar_law.proofs.Adjacent.{alone, one_in_front, out_of_order}
 use Rattle.monitor_calendar.proofs.in_order.are_classes_ordered.Goals as goal
 

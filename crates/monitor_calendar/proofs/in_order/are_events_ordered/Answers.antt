@@ -2,8 +2,8 @@ use Rattle.std.proofs.Common.{◌≡◌, ◌-◌, Bool, drop, length, refl, sym,
 use Rattle.std.proofs.lemmas.Bool.{false≢true}
 use Rattle.list_words.specs.Order.{Ascends}
 use Rattle.ldar_law.specs.declared.event.Event.{Event}
-use Rattle.ldar_facts.specs.Facts.{is_earlier}
-use Rattle.ldar_facts.proofs.KeyOrder.{strict_earlier}
+use Rattle.fact_kinds.specs.Facts.{is_earlier}
+use Rattle.fact_kinds.proofs.KeyOrder.{strict_earlier}
 use Rattle.ldar_law.proofs.Adjacent.{alone, one_in_front, out_of_order}
 use Rattle.monitor_calendar.proofs.in_order.are_events_ordered.Goals as goal
 

@@ -1,6 +1,6 @@
 use Rattle.std.proofs.Common.{◌-◌, drop}
 use Rattle.list_words.specs.Order.{Ascends}
-use Rattle.ldar_facts.specs.Facts.{is_earlier}
+use Rattle.fact_kinds.specs.Facts.{is_earlier}
 use Rattle.monitor_calendar.proofs.in_order.are_events_ordered.Given as goal
 
 abbrev pub invariant-loop-place : goal.invariant-loop-place

@@ -2,7 +2,7 @@ use Rattle.std.proofs.Common.{◌≡◌, nat_lt, true, false, rules, sym, subst,
 use Rattle.std.specs.List.Sorted.{IsPartitionPoint}
 use Rattle.std.proofs.lemmas.List.Sorted.{IsPartitionPoint-from_clause, IsPartitionedBy-ltb}
 use Rattle.list_words.specs.Order.{Ascends}
-use Rattle.ldar_facts.specs.Facts.{is_earlier}
+use Rattle.fact_kinds.specs.Facts.{is_earlier}
 use Rattle.ldar_law.specs.declared.event.Event.{Event}
 use Rattle.monitor_calendar.proofs.PeriodLemmas.{from_day, to_end}
 use Rattle.monitor_calendar.proofs.Rising.{days_rise, ascends_drop}

@@ -1,5 +1,5 @@
 use Rattle.std.proofs.Common.{List, sym, subst}
-use Rattle.ldar_facts.specs.declared.batch.Batch.{Batch}
+use Rattle.fact_kinds.specs.declared.batch.Batch.{Batch}
 use Rattle.ldar_law.specs.Machine.{IsNew}
 use Rattle.office_book.proofs.HistoryLemmas.{passes_at, new_at, next_spare, new_identity}
 use Rattle.office_book.proofs.archive.adopt_all.Goals as goal

@@ -1,5 +1,5 @@
 use Rattle.std.proofs.Common.{◌≡◌, ◌+◌, ◌++◌, take, drop, map}
-use Rattle.ldar_facts.specs.Identity.{identity_of}
+use Rattle.fact_kinds.specs.Identity.{identity_of}
 use Rattle.office_book.proofs.archive.adopt_all.Given as goal
 
 abbrev pub invariant-loop-batch : goal.invariant-loop-batch

@@ -1,6 +1,6 @@
 use Rattle.std.proofs.Common.{◌≡◌, ◌+◌, take, None}
 use Rattle.std.specs.List.{position_from}
-use Rattle.ldar_facts.specs.Identity.{identity_of, is_of}
+use Rattle.fact_kinds.specs.Identity.{identity_of, is_of}
 use Rattle.office_book.proofs.telling.among.Given as goal
 
 abbrev pub invariant-loop-other : goal.invariant-loop-other

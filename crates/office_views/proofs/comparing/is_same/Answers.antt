@@ -1,5 +1,5 @@
 use Rattle.std.proofs.Common.{◌≡◌, Bool, true, false, ◌&&◌, [], ◌∷◌, refl, ap, ◌∙◌}
-use Rattle.ldar_facts.proofs.Equality.{facts_agree}
+use Rattle.fact_kinds.proofs.Equality.{facts_agree}
 use Rattle.office_views.proofs.comparing.is_same.Goals as goal
 
 and_true : (b : Bool) → b ≡ (b && true)

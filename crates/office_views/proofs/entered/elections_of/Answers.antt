@@ -1,6 +1,6 @@
 use Rattle.std.proofs.Common.{sym, subst, arith}
 use Rattle.list_words.specs.Order.{Ascends}
-use Rattle.ldar_facts.specs.Facts.{is_earlier}
+use Rattle.fact_kinds.specs.Facts.{is_earlier}
 use Rattle.ldar_law.specs.Equipment.{election_entered, elections_of}
 use Rattle.office_views.proofs.ListLemmas.{given_done}
 use Rattle.office_views.proofs.ReadLemmas.{elections_in_order}

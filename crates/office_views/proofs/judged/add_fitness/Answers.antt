@@ -1,6 +1,6 @@
 use Rattle.std.proofs.Common.{◌≡◌, ◌++◌, Some, sym, ap, ◌∙◌, rules}
-use Rattle.ldar_facts.specs.Facts.{Entry}
-use Rattle.ldar_facts.specs.Named.{reading_instrument}
+use Rattle.fact_kinds.specs.Facts.{Entry}
+use Rattle.fact_kinds.specs.Named.{reading_instrument}
 use Rattle.ldar_law.specs.Force.{limit_on}
 use Rattle.office_views.specs.Lists.{facts_by}
 use Rattle.office_views.proofs.ReadyLemmas.{fitness_listed}

@@ -1,6 +1,6 @@
 use Rattle.std.proofs.Common.{sym, ap, ◌∙◌, subst}
 use Rattle.list_words.specs.Order.{Ascends}
-use Rattle.ldar_facts.specs.Facts.{is_earlier}
+use Rattle.fact_kinds.specs.Facts.{is_earlier}
 use Rattle.fact_store.specs.Kept.{facts_in}
 use Rattle.ldar_law.specs.declared.event.Event.{Event}
 use Rattle.ldar_law.specs.Equipment.{classes_of}

@@ -1,5 +1,5 @@
 use Rattle.std.proofs.Common.{◌≡◌, ◌++◌, length, take, drop, filter}
-use Rattle.ldar_facts.specs.Facts.{entries_of}
+use Rattle.fact_kinds.specs.Facts.{entries_of}
 use Rattle.ldar_law.specs.Slices.{is_registered, register_facts}
 use Rattle.office_views.proofs.taking.put_entries.Given as goal
 

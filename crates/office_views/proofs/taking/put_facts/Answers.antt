@@ -1,7 +1,7 @@
 use Rattle.std.proofs.Common.{◌≡◌, Some, length, slice_get, refl, ap, ◌∙◌, subst, arith}
 use Rattle.std.proofs.lemmas.Option.{slice_get_read}
-use Rattle.ldar_facts.specs.Facts.{key_of}
-use Rattle.ldar_facts.specs.Fields.{IsFact}
+use Rattle.fact_kinds.specs.Facts.{key_of}
+use Rattle.fact_kinds.specs.Fields.{IsFact}
 use Rattle.fact_store.specs.Kept.{is_held}
 use Rattle.office_views.proofs.TakingLemmas.{new_key, stored_more, stored_all, all_next}
 use Rattle.office_views.proofs.taking.put_facts.Goals as goal

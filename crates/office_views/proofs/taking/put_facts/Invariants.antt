@@ -1,7 +1,7 @@
 use Rattle.std.proofs.Common.{◌≡◌, ◌++◌, take, drop}
 use Rattle.std.specs.List.{AllByRecursion}
-use Rattle.ldar_facts.specs.Facts.{entries_of}
-use Rattle.ldar_facts.specs.Fields.{IsFact}
+use Rattle.fact_kinds.specs.Facts.{entries_of}
+use Rattle.fact_kinds.specs.Fields.{IsFact}
 use Rattle.office_views.proofs.taking.put_facts.Given as goal
 
 abbrev pub invariant-loop-index : goal.invariant-loop-index

@@ -1,5 +1,5 @@
 use Rattle.std.proofs.Common.{◌≡◌, drop}
-use Rattle.ldar_facts.specs.Facts.{entries_from}
+use Rattle.fact_kinds.specs.Facts.{entries_from}
 use Rattle.ldar_law.specs.DenialLaws.{later_class}
 use Rattle.batch_rules.specs.Known.{batch_of, front_of}
 use Rattle.batch_rules.proofs.known.Known.class_by.Given as goal

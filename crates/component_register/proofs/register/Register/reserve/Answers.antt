@@ -1,6 +1,6 @@
 use Rattle.std.proofs.Common.{ap, ◌∙◌, subst}
 use Rattle.std.specs.List.{filter_map}
-use Rattle.ldar_facts.specs.Named.{component_of, unit_of}
+use Rattle.fact_kinds.specs.Named.{component_of, unit_of}
 use Rattle.fact_store.proofs.CountLemmas.{room_for_named}
 use Rattle.component_register.specs.Classes.{class_named}
 use Rattle.component_register.specs.Members.{unit_joined}

@@ -1,5 +1,5 @@
 use Rattle.std.proofs.Common.{◌≡◌, ◌+◌, ◌<◌, ◌≤◌, List, [], ◌∷◌, ◌++◌, length, refl, sym, ◌∙◌, ap, subst, arith}
-use Rattle.ldar_facts.specs.declared.batch.Batch.{Batch}
+use Rattle.fact_kinds.specs.declared.batch.Batch.{Batch}
 use Rattle.std.proofs.lemmas.Bool.{false≢true}
 use Rattle.ldar_journal.specs.Window.{WindowState}
 use Rattle.ldar_journal.proofs.ShelfLemmas.{IsCounted-fits}

@@ -1,6 +1,6 @@
 use Rattle.std.proofs.Common.{◌≡◌, ℕ, ◌+◌, ◌≤◌, List, ◌++◌, length, sym, ◌∙◌, ap, subst}
-use Rattle.ldar_facts.specs.declared.batch.Batch.{Batch}
-use Rattle.ldar_facts.specs.Facts.{facts_of}
+use Rattle.fact_kinds.specs.declared.batch.Batch.{Batch}
+use Rattle.fact_kinds.specs.Facts.{facts_of}
 use Rattle.ldar_journal.specs.Image.{batches_of}
 use Rattle.ldar_law.specs.Slices.{register_facts}
 use Rattle.office_book.proofs.AmongLemmas.{register_stays, facts_behind, facts_fit}

@@ -10,7 +10,7 @@ use Rattle.office_book.proofs.MoveLemmas.{moves_nothing}
 use Rattle.office_book.proofs.RoomLemmas.{room_stays, faultless}
 use Rattle.office_book.specs.Room.{HasRoom, PutsNoFault}
 use Rattle.office_book.specs.Serving.{certain}
-use Rattle.ldar_facts.specs.declared.batch.Batch.{Batch}
+use Rattle.fact_kinds.specs.declared.batch.Batch.{Batch}
 use Rattle.ldar_journal.proofs.CrashLemmas.{AnswersInRoom-weaker}
 use Rattle.office_book.proofs.book.Book.keep_group.Goals as goal
 

@@ -1,6 +1,6 @@
 use Rattle.std.proofs.Common.{◌≡◌, ◌≢◌, [], ◌∷◌, ◌++◌, List, length, refl, sym, ◌∙◌, ap, subst, arith}
 use Rattle.std.proofs.lemmas.List.{append-nil}
-use Rattle.ldar_facts.specs.declared.batch.Batch.{Batch}
+use Rattle.fact_kinds.specs.declared.batch.Batch.{Batch}
 use Rattle.ldar_journal.specs.Image.{batches_of}
 use Rattle.office_book.specs.Archive.{MayCome}
 use Rattle.office_book.specs.Grouped.{IsSorted}

@@ -1,7 +1,7 @@
 use Rattle.std.proofs.Common.{◌≡◌, ℕ, ◌+◌, None, List, ◌++◌, ap, subst, rules}
 use Rattle.std.specs.List.{position_from}
-use Rattle.ldar_facts.specs.declared.batch.Batch.{Batch}
-use Rattle.ldar_facts.specs.Identity.{identity_of, is_of}
+use Rattle.fact_kinds.specs.declared.batch.Batch.{Batch}
+use Rattle.fact_kinds.specs.Identity.{identity_of, is_of}
 use Rattle.ldar_journal.specs.Image.{batches_of}
 use Rattle.office_book.specs.Grouped.{IsAmong}
 use Rattle.office_book.proofs.AmongLemmas.{standing_among, new_behind}

@@ -2,7 +2,7 @@ use Rattle.std.proofs.Common.{◌≡◌, inl, inr, [], ◌∷◌, ◌++◌, ◌+
 use Rattle.std.proofs.lemmas.Bool.{false≢true}
 use Rattle.std.proofs.lemmas.List.{take_all}
 use Rattle.disk_model.specs.Faults.{Rose}
-use Rattle.ldar_facts.specs.declared.batch.Batch.{Batch}
+use Rattle.fact_kinds.specs.declared.batch.Batch.{Batch}
 use Rattle.ldar_journal.specs.Crash.{AnswersInRoom}
 use Rattle.ldar_journal.specs.Image.{batches_of, end_of, IsKept}
 use Rattle.ldar_journal.proofs.CrashLemmas.{AnswersInRoom-weaker}

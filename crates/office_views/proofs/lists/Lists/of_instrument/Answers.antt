@@ -1,8 +1,8 @@
 use Rattle.std.proofs.Common.{◌≡◌, sym, ◌∙◌, subst}
 use Rattle.std.proofs.lemmas.Result.{IfOk-weaker}
 use Rattle.list_words.specs.Order.{Ascends}
-use Rattle.ldar_facts.specs.Facts.{goes_first}
-use Rattle.ldar_facts.specs.Named.{tested_instrument, is_numbered}
+use Rattle.fact_kinds.specs.Facts.{goes_first}
+use Rattle.fact_kinds.specs.Named.{tested_instrument, is_numbered}
 use Rattle.fact_store.specs.Kept.{entries_at, facts_in}
 use Rattle.history_laws.specs.DayLaws.{up_to}
 use Rattle.ldar_law.specs.Slices.{facts_of_instrument}

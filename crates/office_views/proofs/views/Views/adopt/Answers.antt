@@ -1,5 +1,5 @@
 use Rattle.std.proofs.Common.{◌≡◌, ◌+◌, Some, None, [], ◌∷◌, ◌++◌, drop, slice_get, sym, ap, ◌∙◌, subst}
-use Rattle.ldar_facts.specs.Identity.{identity_of, position_of}
+use Rattle.fact_kinds.specs.Identity.{identity_of, position_of}
 use Rattle.ldar_law.specs.declared.verdict.Verdict.TheVariants.{Pass}
 use Rattle.ldar_law.specs.Verdicts.{verdict_on}
 use Rattle.office_views.proofs.AdoptLemmas.{store_room, register_room, own_keys, enters, adopted, adopted_held, stored_count}

@@ -1,5 +1,5 @@
 use Rattle.std.proofs.Common.{length, ap, sym, ◌∙◌, arith}
-use Rattle.ldar_facts.specs.Facts.{facts_of}
+use Rattle.fact_kinds.specs.Facts.{facts_of}
 use Rattle.office_views.proofs.SoundLemmas.{few_adopted, facts_count, count_is, adopted_is}
 use Rattle.office_views.proofs.views.Views.counts.Goals as goal
 

@@ -1,5 +1,5 @@
 use Rattle.std.proofs.Common.{ap, sym, ◌∙◌}
-use Rattle.ldar_facts.specs.Facts.{facts_of}
+use Rattle.fact_kinds.specs.Facts.{facts_of}
 use Rattle.ldar_law.specs.Slices.{register_facts}
 use Rattle.office_views.proofs.SoundLemmas.{register_is, adopted_is}
 use Rattle.office_views.proofs.views.Views.register.Goals as goal

@@ -1,0 +1,6 @@
+pub mod Facts
+pub mod Fields
+pub mod Identity
+pub mod Name
+pub mod Named
+pub mod Stated

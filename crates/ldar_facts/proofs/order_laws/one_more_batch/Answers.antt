@@ -1,5 +1,0 @@
-use Rattle.ldar_facts.proofs.OrderFree.{one_more_batch}
-use Rattle.ldar_facts.proofs.order_laws.one_more_batch.Goals as goal
-
-pub returns : goal.returns
-returns c = record { law = one_more_batch }
