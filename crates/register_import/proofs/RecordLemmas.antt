@@ -1,5 +1,5 @@
 -- The records that a reader has yet to give.
-use Rattle.std.proofs.Common.{◌≡◌, ℕ, zero, suc, true, false, List, [], ◌∷◌, length, Option, Some, None, refl, sym, ap, ◌∙◌, inr, Bor}
+use Rattle.std.proofs.Common.{◌≡◌, ℕ, zero, suc, Bool, true, false, List, [], ◌∷◌, length, Option, Some, None, refl, sym, ap, ◌∙◌, inr, Bor}
 use Rattle.csv.specs.Reading.{Reached, ReadRecord, ReadsOn, Ready, default_config, names_headers, reader_config, reader_headers, reader_state, reader_trim, records_from, records_next, source_of, strip_bom}
 use Rattle.csv.specs.declared.parser.State.{State}
 use Rattle.csv.specs.declared.parser.State.TheVariants as st
@@ -41,6 +41,13 @@ next_is old new fields reading read on =
       (λ n. rw left (one_record s (reader_state new) bytes rest fields n reached)),
     )
 
+-- .. where it is said that one was read
+pub found_is : (old new : TextReader) (fields : List (List ℕ)) (found : Bool) → found ≡ true → IsReading old → ReadRecord known old new found fields
+    → (found ≡ true → ReadsOn old new)
+    → IsReading new × ((n : ℕ) → records_left (suc n) old ≡ fields ∷ records_left n new)
+found_is old new fields true is reading read on = next_is old new fields reading read (on refl)
+found_is old new fields false is reading read on = absurd cc
+
 -- where no record was read, none is left
 pub none_left : (old new : TextReader) (fields : List (List ℕ)) (n : ℕ) → IsReading old → ReadRecord known old new false fields → records_left n old ≡ []
 unfolding records_from
@@ -58,3 +65,14 @@ all_left reader text plain unnamed headless config start source =
       record { trim = plain; ready = inr (inr (unnamed, headless)); config = config; source = source ∙ ap Some (sym bytes) },
       rw (start, bytes) refl,
     )
+
+-- .. where it is said that none was read
+pub none_found : (old new : TextReader) (fields : List (List ℕ)) (found : Bool) → found ≡ false → (n : ℕ) → IsReading old
+    → ReadRecord known old new found fields → records_left n old ≡ []
+none_found old new fields true is n reading read = absurd cc
+none_found old new fields false is n reading read = none_left old new fields n reading read
+
+-- of no more records none is left
+pub none_more : (n : ℕ) (reader : TextReader) → n ≡ 0 → records_left n reader ≡ []
+unfolding records_from
+none_more n reader no_more = rw no_more refl

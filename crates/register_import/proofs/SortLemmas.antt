@@ -1,6 +1,6 @@
 -- Rows in turn: those that are difficult to monitor behind all others.
 use Rattle.std.proofs.Common.{◌≡◌, ℕ, ◌+◌, ◌<◌, Bool, true, false, not, cond, List, [], ◌∷◌, ◌++◌, length, filter, Option, Some, None, refl, sym, ap, ap₂, ◌∙◌, append_assoc, arith, Ok, Err}
-use Rattle.std.proofs.lemmas.List.{length-append}
+use Rattle.std.proofs.lemmas.List.{append-nil, length-append}
 use Rattle.std.proofs.lemmas.List.Elements.{filter-append}
 use Rattle.fact_kinds.specs.Stated.{Stated}
 use Rattle.register_import.specs.declared.error.ImportError.{ImportError}
@@ -38,6 +38,42 @@ sorted_behind-push others difficult more_others more_difficult fact (Err at) to_
 sorted_behind-push others difficult more_others more_difficult fact (Ok facts) to_others to_difficult =
     rw (to_others, to_difficult)
     (ap₂ (λ (a b : List Stated). Ok (a ++ b)) (filter-behind is_other others fact facts) (filter-behind is_difficult difficult fact facts))
+
+-- nothing came before the rows from row 2 on
+pub first_rows : (at : ℕ) (rows all : List (List (List ℕ))) → at ≡ 2 → rows ≡ all → sorted_behind [] [] (rows_from at rows) ≡ in_turn (rows_from 2 all)
+first_rows at rows all second same = rw (second, same) (sorted_behind-none (rows_from 2 all))
+
+-- a row that says a fact
+pub row_more : (others difficult more_others more_difficult : List Stated) (fact : Stated) (at next : ℕ) (row : List (List ℕ))
+    (rows rest : List (List (List ℕ)))
+    → rows ≡ row ∷ rest → component_of row ≡ Some fact → next ≡ at + 1
+    → more_others ≡ others ++ filter is_other (fact ∷ []) → more_difficult ≡ difficult ++ filter is_difficult (fact ∷ [])
+    → sorted_behind others difficult (rows_from at rows) ≡ sorted_behind more_others more_difficult (rows_from next rest)
+row_more others difficult more_others more_difficult fact at next row rows rest rows_are said later to_others to_difficult =
+    rw (rows_are, said, later) (sorted_behind-push others difficult more_others more_difficult fact (rows_from (at + 1) rest) to_others to_difficult)
+
+-- a row that says none
+pub row_bad : (others difficult : List Stated) (at : ℕ) (row : List (List ℕ)) (rows rest : List (List (List ℕ)))
+    → rows ≡ row ∷ rest → component_of row ≡ None → sorted_behind others difficult (rows_from at rows) ≡ Err at
+row_bad others difficult at row rows rest rows_are said = rw (rows_are, said) refl
+
+-- no row
+pub rows_end : (others difficult : List Stated) (at : ℕ) (rows : List (List (List ℕ))) → rows ≡ []
+    → sorted_behind others difficult (rows_from at rows) ≡ Ok (others ++ difficult)
+rows_end others difficult at rows rows_are = rw (rows_are, append-nil others, append-nil difficult) refl
+
+-- a fact goes to the ones or to the others
+is_one_more : (difficult : Bool) (fact : Stated) (others later : List Stated)
+    → length (others ++ cond (not difficult) (fact ∷ []) []) + length (later ++ cond difficult (fact ∷ []) []) ≡ length others + length later + 1
+is_one_more true fact others later = omega (arith, length-append others [], length-append later (fact ∷ []))
+is_one_more false fact others later = omega (arith, length-append others (fact ∷ []), length-append later [])
+
+-- .. so that there is one more of them together
+pub one_more : (others difficult more_others more_difficult : List Stated) (fact : Stated)
+    → more_others ≡ others ++ filter is_other (fact ∷ []) → more_difficult ≡ difficult ++ filter is_difficult (fact ∷ [])
+    → length more_others + length more_difficult ≡ length others + length difficult + 1
+one_more others difficult more_others more_difficult fact to_others to_difficult =
+    rw (to_others, to_difficult) (is_one_more (is_difficult fact) fact others difficult)
 
 -- a fact stands in turn, difficult to monitor or not
 is_counted : (difficult : Bool) (fact : Stated) (others later : List Stated)

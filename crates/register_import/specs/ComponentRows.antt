@@ -14,14 +14,21 @@ abbrev pub holds : Option (List ℕ) → List ℕ → Bool
 holds None word = false
 holds (Some field) word = bytes_eq field word
 
+-- the first five fields name their columns
+abbrev pub begins_header : List (List ℕ) → Bool
+begins_header fields =
+    holds (field_at fields 0) (codes "component") && holds (field_at fields 1) (codes "unit") && holds (field_at fields 2) (codes "kind")
+    && holds (field_at fields 3) (codes "service") && holds (field_at fields 4) (codes "designation")
+
+-- the last five fields name their columns
+abbrev pub ends_header : List (List ℕ) → Bool
+ends_header fields =
+    holds (field_at fields 5) (codes "plan") && holds (field_at fields 6) (codes "month") && holds (field_at fields 7) (codes "monomer")
+    && holds (field_at fields 8) (codes "replaces") && holds (field_at fields 9) (codes "begin")
+
 -- the ten fields of the first record, which name the columns
 abbrev pub is_header : List (List ℕ) → Bool
-is_header fields =
-    length fields == 10 && holds (field_at fields 0) (codes "component") && holds (field_at fields 1) (codes "unit")
-    && holds (field_at fields 2) (codes "kind") && holds (field_at fields 3) (codes "service")
-    && holds (field_at fields 4) (codes "designation") && holds (field_at fields 5) (codes "plan")
-    && holds (field_at fields 6) (codes "month") && holds (field_at fields 7) (codes "monomer")
-    && holds (field_at fields 8) (codes "replaces") && holds (field_at fields 9) (codes "begin")
+is_header fields = length fields == 10 && begins_header fields && ends_header fields
 
 -- the fact that ten fields say
 unfoldable pub component_of : List (List ℕ) → Option Stated

@@ -46,13 +46,25 @@ pub(crate) fn is_difficult(fact: &Fact) -> bool
 pub(crate) fn is_header(row: &ByteRecord) -> bool
     ensures value { result ≡ spec.is_header (fields_of row.now) }
 {
-    row.len() == 10
-        && holds(row.get(0), "component")
+    row.len() == 10 && begins_header(row) && ends_header(row)
+}
+
+// Whether the first five fields name their columns.
+fn begins_header(row: &ByteRecord) -> bool
+    ensures value { result ≡ spec.begins_header (fields_of row.now) }
+{
+    holds(row.get(0), "component")
         && holds(row.get(1), "unit")
         && holds(row.get(2), "kind")
         && holds(row.get(3), "service")
         && holds(row.get(4), "designation")
-        && holds(row.get(5), "plan")
+}
+
+// Whether the last five fields name their columns.
+fn ends_header(row: &ByteRecord) -> bool
+    ensures value { result ≡ spec.ends_header (fields_of row.now) }
+{
+    holds(row.get(5), "plan")
         && holds(row.get(6), "month")
         && holds(row.get(7), "monomer")
         && holds(row.get(8), "replaces")
