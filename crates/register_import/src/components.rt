@@ -76,7 +76,8 @@ fn facts_behind(alloc: Global, reader: &mut Reader<&[u8]>, first: ByteRecord, mo
     ensures bad { IfErr result (TellsRow (files.in_turn (files.some_rows (records_left most reader.old)))) }
     ensures count { IfOk result (λ facts. vec_len facts ≤ most) }
 {
-    let facts = rows_of(alloc, reader, first, most)?.joined()?;
+    let rows = rows_of(alloc, reader, first, most)?;
+    let facts = rows.joined()?;
     if facts.is_empty() {
         return Err(ImportError::Row { at: 2 });
     }
