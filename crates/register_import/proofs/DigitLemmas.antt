@@ -1,5 +1,5 @@
 -- The number that digits spell, digit by digit.
-use Rattle.std.proofs.Common.{◌≡◌, ℕ, ◌+◌, ◌*◌, ◌-◌, ◌<◌, ◌≤◌, Bool, true, false, cond, ◌&&◌, nat_le, List, [], ◌∷◌, Option, Some, None, refl, sym, ap, ◌∙◌, arith, suc, drop, length, get_or}
+use Rattle.std.proofs.Common.{◌≡◌, ℕ, ◌+◌, ◌*◌, ◌-◌, ◌<◌, ◌≤◌, Bool, true, false, cond, ◌&&◌, nat_le, List, [], ◌∷◌, Some, None, refl, sym, ap, ◌∙◌, arith, suc, drop, length, get_or}
 use Rattle.std.proofs.Math.Seq.{drop-cons}
 use Rattle.std.proofs.lemmas.Bool.Decides.{nat_tests}
 use Rattle.std.specs.Char.{is_ascii_digit}
@@ -24,6 +24,6 @@ too_great_at text index number high more within so_far is above =
     let value = fold (λ n digit. 10 * n + (digit - 48)) 0 text in
     let rest = drop (suc index) text in
     let next : fold (λ n digit. 10 * n + (digit - 48)) (10 * number + (get_or text index 0 - 48)) rest ≡ value =
-      sym (ap (λ (l : List ℕ). fold (λ n digit. 10 * n + (digit - 48)) number l) (drop-cons text index 0 within)) ∙ so_far in
+    sym (ap (λ (l : List ℕ). fold (λ n digit. 10 * n + (digit - 48)) number l) (drop-cons text index 0 within)) ∙ so_far in
     let grown : more ≤ value = omega (arith, grows (10 * number + (get_or text index 0 - 48)) rest, next, is) in
     too_great (list_all is_ascii_digit text) high more value above grown

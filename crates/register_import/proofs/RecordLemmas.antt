@@ -1,6 +1,6 @@
 -- The records that a reader has yet to give.
 use Rattle.std.proofs.Common.{◌≡◌, ℕ, zero, suc, Bool, true, false, List, [], ◌∷◌, length, Option, Some, None, refl, sym, ap, ◌∙◌, inr, Bor}
-use Rattle.csv.specs.Reading.{Reached, ReadRecord, ReadsOn, Ready, default_config, names_headers, reader_config, reader_headers, reader_state, reader_trim, records_from, records_next, source_of, strip_bom}
+use Rattle.csv.specs.Reading.{Reached, ReadRecord, ReadsOn, default_config, names_headers, reader_config, reader_headers, reader_state, reader_trim, records_from, records_next, strip_bom}
 use Rattle.csv.specs.declared.parser.State.{State}
 use Rattle.csv.specs.declared.parser.State.TheVariants as st
 use Rattle.csv.specs.declared.reader.Trim.TheVariants as trim
@@ -36,7 +36,7 @@ next_is old new fields reading read on =
         trim = on.1 ∙ reading.trim;
         ready = (on.4 reading.ready).0;
         config = on.0 ∙ reading.config;
-        source = source ∙ ap Some (sym left)
+        source = source ∙ ap Some (sym left);
       },
       (λ n. rw left (one_record s (reader_state new) bytes rest fields n reached)),
     )

@@ -1,5 +1,5 @@
 -- Rows, and what stands behind one another of them.
-use Rattle.std.proofs.Common.{◌≡◌, ℕ, ◌+◌, List, [], ◌∷◌, ◌++◌, refl, sym, ap, ◌∙◌, append_assoc, Ok, Err}
+use Rattle.std.proofs.Common.{◌≡◌, List, [], ◌∷◌, ◌++◌, refl, sym, ap, append_assoc, Ok, Err}
 use Rattle.fact_kinds.specs.Stated.{Stated}
 use Rattle.register_import.specs.Rows.{Rows, behind}
 

@@ -1,5 +1,5 @@
 -- How the fields of a record of components are read: each gives a value, or nothing where it has another form.
-use Rattle.std.specs.Prelude.{ℕ, Bool, true, false, ◌&&◌, ◌==◌, not, nat_le, List, [], ◌∷◌, codes, Option, Some, None, option_and_then, if◌then◌else◌}
+use Rattle.std.specs.Prelude.{ℕ, Bool, true, false, ◌&&◌, ◌==◌, nat_le, List, [], ◌∷◌, codes, Option, Some, None, option_and_then, if◌then◌else◌}
 use Rattle.std.specs.List.{list_all}
 use Rattle.std.specs.Char.{is_ascii_digit}
 use Rattle.std.specs.Str.{bytes_eq}
@@ -52,26 +52,26 @@ unfoldable pub kind : Option (List ℕ) → Option Kind
 kind field = do
   text ← field
   if bytes_eq text (codes "valve") then Some Valve else (
-    if bytes_eq text (codes "pump") then Some Pump else (
+      if bytes_eq text (codes "pump") then Some Pump else (
       if bytes_eq text (codes "compressor") then Some Compressor else (
-        if bytes_eq text (codes "relief") then Some Relief else None)))
+      if bytes_eq text (codes "relief") then Some Relief else None)))
 
 unfoldable pub service : Option (List ℕ) → Option Service
 service field = do
   text ← field
   if bytes_eq text (codes "gas") then Some Gas else (
-    if bytes_eq text (codes "light") then Some Light else (
+      if bytes_eq text (codes "light") then Some Light else (
       if bytes_eq text (codes "heavy") then Some Heavy else (
-        if bytes_eq text (codes "vacuum") then Some Vacuum else (
-          if bytes_eq text (codes "under300") then Some Under300 else None))))
+      if bytes_eq text (codes "vacuum") then Some Vacuum else (
+      if bytes_eq text (codes "under300") then Some Under300 else None))))
 
 unfoldable pub designation : Option (List ℕ) → Option Designation
 designation field = do
   text ← field
   if bytes_eq text (codes "none") then Some Plain else (
-    if bytes_eq text (codes "nde") then Some Nde else (
+      if bytes_eq text (codes "nde") then Some Nde else (
       if bytes_eq text (codes "unsafe") then Some Unsafe else (
-        if bytes_eq text (codes "difficult") then Some Difficult else None)))
+      if bytes_eq text (codes "difficult") then Some Difficult else None)))
 
 -- ---- the class
 

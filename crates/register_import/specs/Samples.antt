@@ -1,9 +1,7 @@
 -- Words for the worked examples: a component's record, and a process unit's table.
-use Rattle.std.specs.Prelude.{ℕ, ◌+◌, Bool, true, false, pos, List, [], ◌∷◌, ◌++◌, codes, take, drop}
+use Rattle.std.specs.Prelude.{ℕ, ◌+◌, false, pos, List, [], ◌∷◌, ◌++◌, codes, take, drop}
 use Rattle.toml.specs.Data.{Data, string, integer, boolean, table, Members, no_members, member}
-use Rattle.fact_kinds.specs.declared.class.Class.{Class}
 use Rattle.fact_kinds.specs.declared.class.Designation.{Designation}
-use Rattle.fact_kinds.specs.declared.class.Designation.TheVariants.{Plain}
 use Rattle.fact_kinds.specs.declared.class.Kind.TheVariants.{Valve}
 use Rattle.fact_kinds.specs.declared.class.Service.TheVariants.{Gas}
 use Rattle.fact_kinds.specs.declared.body.FactBody.TheVariants.{Unit as UnitFact, Component as ComponentFact}
@@ -34,7 +32,7 @@ valve n designation plan =
     record {
       day = january_15;
       minute = 0;
-      body = ComponentFact n 1 Valve false false (record { service = Gas; designation = designation; plan = plan; month = 1 })
+      body = ComponentFact n 1 Valve false false (record { service = Gas; designation = designation; plan = plan; month = 1 });
     }
 
 -- ---- process units

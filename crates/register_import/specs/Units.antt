@@ -1,7 +1,7 @@
 -- What a file of process units says, as the crate `toml` reads it.
 use Rattle.std.specs.Prelude.{ℕ, ◌+◌, Bool, true, false, ◌&&◌, is_some, List, [], ◌∷◌, codes, Option, Some, None, Result, Ok, Err, if◌then◌else◌}
 use Rattle.std.specs.Str.{is_utf8}
-use Rattle.toml.specs.Data.{Data, Items, no_items, item, Members, as_array, as_table, get_member}
+use Rattle.toml.specs.Data.{Items, no_items, item, Members, as_array, as_table, get_member}
 use Rattle.toml.specs.Parse.{parse_document}
 use Rattle.fact_kinds.specs.declared.batch.Batch.{Batch}
 use Rattle.register_import.specs.Batches.{batches_said}

@@ -69,7 +69,12 @@ fn next(reader: &mut Reader<&[u8]>, row: &mut ByteRecord) -> Result<bool, Memory
 }
 
 // The facts of the records behind the first, so many at most, those that are difficult to monitor last.
-fn facts_behind(alloc: Global, reader: &mut Reader<&[u8]>, first: ByteRecord, most: usize) -> Result<Vec<Fact>, ImportError>
+fn facts_behind(
+    alloc: Global,
+    reader: &mut Reader<&[u8]>,
+    first: ByteRecord,
+    most: usize,
+) -> Result<Vec<Fact>, ImportError>
     requires reading { IsReading reader.old }
     requires in_range { most ≤ LONGEST_TEXT }
     ensures value { IfOk result (λ facts. files.in_turn (files.some_rows (records_left most reader.old)) ≡ Ok facts.items) }
@@ -85,7 +90,12 @@ fn facts_behind(alloc: Global, reader: &mut Reader<&[u8]>, first: ByteRecord, mo
 }
 
 // The facts of the rows from row 2 on, so many at most.
-fn rows_of(alloc: Global, reader: &mut Reader<&[u8]>, first: ByteRecord, most: usize) -> Result<Sorted, ImportError>
+fn rows_of(
+    alloc: Global,
+    reader: &mut Reader<&[u8]>,
+    first: ByteRecord,
+    most: usize,
+) -> Result<Sorted, ImportError>
     requires reading { IsReading reader.old }
     requires in_range { most ≤ LONGEST_TEXT }
     ensures value { IfOk result (λ rows. files.in_turn (files.rows_from 2 (records_left most reader.old)) ≡ Ok (rows.others.items ++ rows.difficult.items)) }

@@ -4,9 +4,7 @@ use fact_kinds::Memory;
 #[derive(Clone, Copy, Debug, PartialEq, Eq)]
 pub enum ImportError {
     /// The first bad row, from 1. Row 0 is a text that is no document of the form.
-    Row {
-        at: u32,
-    },
+    Row { at: u32 },
     Memory,
 }
 

@@ -1,4 +1,4 @@
-use Rattle.std.proofs.Common.{◌≡◌, ◌≤◌, ◌<◌, ◌+◌, ◌++◌, length}
+use Rattle.std.proofs.Common.{◌≡◌, ◌<◌, ◌+◌, ◌++◌, length}
 use Rattle.register_import.specs.Batches as spec
 use Rattle.register_import.proofs.batches.batches_of.Given as goal
 

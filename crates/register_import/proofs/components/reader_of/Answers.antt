@@ -7,15 +7,15 @@ use Rattle.register_import.proofs.components.reader_of.Goals as goal
 pub returns-clause-value : goal.returns-clause-value
 returns-clause-value c =
     let made : c.flexible.result.now ≡ with_flexible (with_names_headers c.new.result false) true =
-      c.flexible.ensures ∙ ap (λ (b : ReaderBuilder). with_flexible b true) c.has_headers.ensures in
+    c.flexible.ensures ∙ ap (λ (b : ReaderBuilder). with_flexible b true) c.has_headers.ensures in
     (
-      all_left
-      c.from_reader.result
-      c.args.text.now
-      (c.from_reader.ensures.trim ∙ ap builder_trim made ∙ c.new.ensures.trim)
-      (c.from_reader.ensures.has_headers ∙ ap builder_names_headers made)
-      c.from_reader.ensures.headers
-      (c.from_reader.ensures.config ∙ ap builder_config made ∙ c.new.ensures.config)
-      c.from_reader.ensures.state
-      c.from_reader.ensures.source
+    all_left
+    c.from_reader.result
+    c.args.text.now
+    (c.from_reader.ensures.trim ∙ ap builder_trim made ∙ c.new.ensures.trim)
+    (c.from_reader.ensures.has_headers ∙ ap builder_names_headers made)
+    c.from_reader.ensures.headers
+    (c.from_reader.ensures.config ∙ ap builder_config made ∙ c.new.ensures.config)
+    c.from_reader.ensures.state
+    c.from_reader.ensures.source
     ).1

@@ -31,10 +31,10 @@ returns-in_default-clause-bad c =
     let found = c.in_ok-next.ensures.found (cc) in
     let one_later : left ≡ suc later = omega arith in
     let rows : records_left left c.loop-turn.reader ≡ fields_of c.next.new.row ∷ records_left later c.next.new.reader =
-      ap (λ (n : ℕ). records_left n c.loop-turn.reader) one_later ∙ found.1 later in
+    ap (λ (n : ℕ). records_left n c.loop-turn.reader) one_later ∙ found.1 later in
     sym c.loop-turn.invariant.1
     ∙ row_bad others difficult (c.loop-turn.turn + 2) (fields_of c.next.new.row) (records_left left c.loop-turn.reader) (records_left later c.next.new.reader)
-      rows (sym c.in_default.ensures.value)
+    rows (sym c.in_default.ensures.value)
 
 pub loop-turn-preserved : goal.loop-turn-preserved
 loop-turn-preserved c =
@@ -47,10 +47,10 @@ loop-turn-preserved c =
     let found = c.in_ok-next.ensures.found (cc) in
     let one_later : left ≡ suc later = omega arith in
     let rows : records_left left c.loop-turn.reader ≡ fields_of c.next.new.row ∷ records_left later c.next.new.reader =
-      ap (λ (n : ℕ). records_left n c.loop-turn.reader) one_later ∙ found.1 later in
+    ap (λ (n : ℕ). records_left n c.loop-turn.reader) one_later ∙ found.1 later in
     let step = row_more others difficult more_others more_difficult c.in-Some.fact (c.loop-turn.turn + 2) (c.loop-turn.turn + 1 + 2)
-      (fields_of c.next.new.row) (records_left left c.loop-turn.reader) (records_left later c.next.new.reader)
-      rows (sym c.in-Some.ensures.value) (omega arith) c.in_ok-push.ensures.others c.in_ok-push.ensures.difficult in
+    (fields_of c.next.new.row) (records_left left c.loop-turn.reader) (records_left later c.next.new.reader)
+    rows (sym c.in-Some.ensures.value) (omega arith) c.in_ok-push.ensures.others c.in_ok-push.ensures.difficult in
     let one = one_more others difficult more_others more_difficult c.in-Some.fact c.in_ok-push.ensures.others c.in_ok-push.ensures.difficult in
     (found.0, sym step ∙ c.loop-turn.invariant.1, omega (arith, one, c.loop-turn.invariant.2))
 
@@ -59,4 +59,4 @@ returns-clause-value c =
     let left = c.args.most - c.loop-turn.turn in
     sym c.loop-turn.invariant.1
     ∙ rows_end c.loop-turn.rows.others.items c.loop-turn.rows.difficult.items (c.loop-turn.turn + 2) (records_left left c.loop-turn.reader)
-      (none_more left c.loop-turn.reader (omega arith))
+    (none_more left c.loop-turn.reader (omega arith))

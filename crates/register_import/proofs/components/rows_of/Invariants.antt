@@ -8,5 +8,5 @@ abbrev pub invariant-loop-turn : goal.invariant-loop-turn
 invariant-loop-turn l =
     IsReading l.reader
     × (sorted_behind l.rows.others.items l.rows.difficult.items (files.rows_from (l.turn + 2) (records_left (l.fn.most - l.turn) l.reader))
-      ≡ files.in_turn (files.rows_from 2 (records_left l.fn.most l.fn.reader)))
+    ≡ files.in_turn (files.rows_from 2 (records_left l.fn.most l.fn.reader)))
     × (length l.rows.others.items + length l.rows.difficult.items ≡ l.turn)

@@ -8,5 +8,5 @@ pub returns-then-not-is_empty : goal.returns-then-not-is_empty
 returns-then-not-is_empty c =
     let elements = c.args.elements.now in
     let some : has_element (items_view elements.items) ≡ true =
-      has_element-items_view elements.items ∙ ap (λ (n : ℕ). not (n == 0)) (sym elements.ok.0) ∙ ap not (sym c.is_empty.ensures ∙ c.if-not-is_empty.true) in
+    has_element-items_view elements.items ∙ ap (λ (n : ℕ). not (n == 0)) (sym elements.ok.0) ∙ ap not (sym c.is_empty.ensures ∙ c.if-not-is_empty.true) in
     rw (some, are_tables-items_view elements.items) c.all_tables.ensures

@@ -16,13 +16,13 @@ returns-in_default-clause-bad c =
 pub returns-clause-value : goal.returns-clause-value
 returns-clause-value c =
     let said : unit_rows c.args.text.now ≡ rows_from 1 (items_view c.in-Some.elements.now.items) =
-      of_document c.args.text.now (table_view c.in-Ok.document) c.in-Ok.ensures.ok.0 c.in-Ok.ensures.ok.1
-      ∙ ap rows_of_elements (sym c.in-Some.ensures.value) in
+    of_document c.args.text.now (table_view c.in-Ok.document) c.in-Ok.ensures.ok.0 c.in-Ok.ensures.ok.1
+    ∙ ap rows_of_elements (sym c.in-Some.ensures.value) in
     rw said c.rows_of.ensures.value
 
 pub returns-clause-bad : goal.returns-clause-bad
 returns-clause-bad c =
     let said : unit_rows c.args.text.now ≡ rows_from 1 (items_view c.in-Some.elements.now.items) =
-      of_document c.args.text.now (table_view c.in-Ok.document) c.in-Ok.ensures.ok.0 c.in-Ok.ensures.ok.1
-      ∙ ap rows_of_elements (sym c.in-Some.ensures.value) in
+    of_document c.args.text.now (table_view c.in-Ok.document) c.in-Ok.ensures.ok.0 c.in-Ok.ensures.ok.1
+    ∙ ap rows_of_elements (sym c.in-Some.ensures.value) in
     rw said c.rows_of.ensures.bad
