@@ -1,25 +1,68 @@
+ghost use Rattle.std.specs.Prelude.{◌≡◌, ◌≢◌, ◌≤◌};
+
 use crate::{ImportError, components_of, units_of};
-use fact_kinds::Batch;
-use ldar_facts::write_batch;
+use fact_kinds::{Batch, Class, Day, Designation, Fact, FactBody, Kind, Name, Service};
 use std::alloc::Global;
 use std::test::Fail;
 
-/// What an import gave: the bytes of its batches one behind the other, or the bad row.
+/// What an import gave: the facts of its batches one behind the other, or the bad row.
 fn said(
     alloc: Global,
     import: Result<Vec<Batch>, ImportError>,
-) -> Result<Result<Vec<u8>, u32>, Fail> {
+) -> Result<Result<Vec<Fact>, u32>, Fail> {
     match import {
         Ok(batches) => {
-            let mut bytes = Vec::new(alloc);
+            let mut facts = Vec::new(alloc);
             for batch in &batches {
-                write_batch(alloc, batch, &mut bytes).map_err(|_| "memory")?;
+                facts.extend_from_slice(batch.facts.as_slice())?;
             }
-            Ok(Ok(bytes))
+            Ok(Ok(facts))
         }
         Err(ImportError::Row { at }) => Ok(Err(at)),
         Err(ImportError::Memory) => Err("memory".into()),
     }
+}
+
+/// The facts of a file that has no bad row.
+fn facts_of(alloc: Global, import: Result<Vec<Batch>, ImportError>) -> Result<Vec<Fact>, Fail> {
+    match said(alloc, import)? {
+        Ok(facts) => Ok(facts),
+        Err(_) => Err("a bad row".into()),
+    }
+}
+
+/// The bad row of a file, or 1,000,000 if it has none.
+fn bad_row(alloc: Global, import: Result<Vec<Batch>, ImportError>) -> Result<u32, Fail> {
+    match said(alloc, import)? {
+        Ok(_) => Ok(1_000_000),
+        Err(at) => Ok(at),
+    }
+}
+
+/// A valve of process unit 1 in gas service from 2020-01-15 on, without a plan.
+fn valve(component: u16, designation: Designation) -> Result<Fact, Fail>
+    requires number { (1 ≤ component) × (component ≤ 60_000) }
+    requires no_plan { designation ≢ Designation.Unsafe }
+{
+    let day = Day::read(b"2020-01-15").ok_or("a day")?;
+    let class = Class {
+        service: Service::Gas,
+        designation,
+        plan: 0,
+        month: 1,
+    };
+    Ok(Fact {
+        day,
+        minute: 0,
+        body: FactBody::Component {
+            component,
+            unit: 1,
+            kind: Kind::Valve,
+            monomer: false,
+            replaces: false,
+            class,
+        },
+    })
 }
 
 const HEADER: &str = "component,unit,kind,service,designation,plan,month,monomer,replaces,begin";
@@ -28,91 +71,90 @@ const CRUDE: &str =
     "[[unit]]\nnumber = 1\nname = \"CRUDE\"\nstartup = \"2020-01-15\"\nolder = false\n";
 
 #[test]
-fn a_unit_is_a_batch(rt: HostRuntime) -> Result<(), Fail> {
+fn a_unit_is_a_fact(rt: HostRuntime) -> Result<(), Fail> {
     let alloc = rt.alloc();
-    let Ok(bytes) = said(alloc, units_of(alloc, CRUDE.as_bytes(), 1))? else {
-        return Err("a bad row".into());
+    let day = Day::read(b"2020-01-15").ok_or("a day")?;
+    let name = Name::new(b"CRUDE").ok_or("a name")?;
+    let want = Fact {
+        day,
+        minute: 0,
+        body: FactBody::Unit {
+            unit: 1,
+            older: false,
+            name,
+        },
     };
-    let want =
-        b"\x42\x00\x00\x00\x00\x00\x01\x00\x01\x01\x47\x64\x00\x00\x01\x00CRUDE\x00\x00\x00\x00\x00\x00\x00".as_slice();
-    assert_eq!(rt; bytes.as_slice(), want);
+    let texts = [
+        format!(in alloc; "{CRUDE}")?,
+        format!(in alloc;
+            "\u{feff}# Process units\r\n[[unit]]\r\nolder = false\r\nstartup = '2020-01-15'\r\nnumber = 0x1\r\nname = \"CRUDE\""
+        )?,
+        format!(in alloc;
+            "unit = [{{ name = \"CRUDE\", number = +1, startup = \"2020-01-15\", older = false }}]"
+        )?,
+    ];
+    for text in &texts {
+        let facts = facts_of(alloc, units_of(alloc, text.as_bytes(), 1))?;
+        assert!(rt; facts.as_slice() == [want].as_slice(), "{text}");
+    }
+    Ok(())
+}
+
+#[test]
+fn what_is_no_array_of_units_is_row_0(rt: HostRuntime) -> Result<(), Fail> {
+    let alloc = rt.alloc();
+    let texts = [
+        "",
+        "unit = ",
+        "unit = []",
+        "unit = [1]",
+        "unit = [{}, 1]",
+        "units = [{}]",
+        "[unit]\nnumber = 1\n",
+        "site = 1\n[[unit]]\n",
+        "[[unit]]\n[[site]]\n",
+        "[[unit]]\nnumber = 1\nnumber = 1\n",
+    ];
+    for text in texts {
+        assert_eq!(rt;
+            bad_row(alloc, units_of(alloc, text.as_bytes(), 1))?,
+            0,
+            "{text}"
+        );
+    }
+    assert_eq!(rt; bad_row(alloc, units_of(alloc, b"# \xff", 1))?, 0);
     Ok(())
 }
 
 #[test]
 fn the_first_bad_unit_is_told(rt: HostRuntime) -> Result<(), Fail> {
     let alloc = rt.alloc();
-    let good = "number = 2\nname = \"A-1\"\nstartup = \"2008-01-01\"\nolder = true\n";
-    let cases = [
-        ("", 0),
-        ("unit = ", 0),
-        ("unit = []", 0),
-        ("unit = [1]", 0),
-        ("[unit]\nnumber = 1\n", 0),
-        ("site = 1\n[[unit]]\n", 0),
-        ("units = [{}]", 0),
-        ("unit = [{}, 1]", 0),
-        ("unit = [{}]", 1),
-        (
-            "[[unit]]\nnumber = 0\nname = \"A\"\nstartup = \"2008-01-01\"\nolder = true\n",
-            1,
-        ),
-        (
-            "[[unit]]\nnumber = 65\nname = \"A\"\nstartup = \"2008-01-01\"\nolder = true\n",
-            1,
-        ),
-        (
-            "[[unit]]\nnumber = -1\nname = \"A\"\nstartup = \"2008-01-01\"\nolder = true\n",
-            1,
-        ),
-        (
-            "[[unit]]\nnumber = 1.0\nname = \"A\"\nstartup = \"2008-01-01\"\nolder = true\n",
-            1,
-        ),
-        (
-            "[[unit]]\nnumber = 1\nname = \"a\"\nstartup = \"2008-01-01\"\nolder = true\n",
-            1,
-        ),
-        (
-            "[[unit]]\nnumber = 1\nname = \"\"\nstartup = \"2008-01-01\"\nolder = true\n",
-            1,
-        ),
-        (
-            "[[unit]]\nnumber = 1\nname = \"ABCDEFGHIJKLM\"\nstartup = \"2008-01-01\"\nolder = true\n",
-            1,
-        ),
-        (
-            "[[unit]]\nnumber = 1\nname = \"A\"\nstartup = 2008-01-01\nolder = true\n",
-            1,
-        ),
-        (
-            "[[unit]]\nnumber = 1\nname = \"A\"\nstartup = \"2007-12-31\"\nolder = true\n",
-            1,
-        ),
-        (
-            "[[unit]]\nnumber = 1\nname = \"A\"\nstartup = \"2008-01-01\"\nolder = 1\n",
-            1,
-        ),
-        (
-            "[[unit]]\nnumber = 1\nname = \"A\"\nstartup = \"2008-01-01\"\n",
-            1,
-        ),
+    let rows = [
+        "",
+        "number = 2, name = \"A\", startup = \"2008-01-01\"",
+        "number = 2, name = \"A\", startup = \"2008-01-01\", older = true, site = 1",
+        "number = 0, name = \"A\", startup = \"2008-01-01\", older = true",
+        "number = 65, name = \"A\", startup = \"2008-01-01\", older = true",
+        "number = -1, name = \"A\", startup = \"2008-01-01\", older = true",
+        "number = 2.0, name = \"A\", startup = \"2008-01-01\", older = true",
+        "number = \"2\", name = \"A\", startup = \"2008-01-01\", older = true",
+        "number = 2, name = \"a\", startup = \"2008-01-01\", older = true",
+        "number = 2, name = \"\", startup = \"2008-01-01\", older = true",
+        "number = 2, name = \"ABCDEFGHIJKLM\", startup = \"2008-01-01\", older = true",
+        "number = 2, name = \"A\", startup = 2008-01-01, older = true",
+        "number = 2, name = \"A\", startup = \"2007-12-31\", older = true",
+        "number = 2, name = \"A\", startup = \"2008-1-1\", older = true",
+        "number = 2, name = \"A\", startup = \"2008-01-01\", older = 1",
     ];
-    for (text, row) in cases {
-        let got = said(alloc, units_of(alloc, text.as_bytes(), 1))?;
-        assert_eq!(rt; got.err(), Some(row), "{text}");
+    let good = "{ number = 1, name = \"A-1\", startup = \"2008-01-01\", older = true }";
+    for row in rows {
+        let text = format!(in alloc; "unit = [{good}, {{ {row} }}, {{}}]\n")?;
+        assert_eq!(rt;
+            bad_row(alloc, units_of(alloc, text.as_bytes(), 1))?,
+            2,
+            "{row}"
+        );
     }
-    let further = format!(in alloc; "{CRUDE}site = 1\n")?;
-    assert_eq!(rt;
-        said(alloc, units_of(alloc, further.as_bytes(), 1))?.err(),
-        Some(1)
-    );
-    let second = format!(in alloc; "[[unit]]\n{good}[[unit]]\n{good}site = 1\n[[unit]]\n")?;
-    assert_eq!(rt;
-        said(alloc, units_of(alloc, second.as_bytes(), 1))?.err(),
-        Some(2)
-    );
-    assert_eq!(rt; said(alloc, units_of(alloc, b"# \xff", 1))?.err(), Some(0));
     Ok(())
 }
 
@@ -120,46 +162,61 @@ fn the_first_bad_unit_is_told(rt: HostRuntime) -> Result<(), Fail> {
 fn difficult_components_come_last(rt: HostRuntime) -> Result<(), Fail> {
     let alloc = rt.alloc();
     let text = format!(in alloc;
-        "{HEADER}\n1,1,valve,light,difficult,0,2,0,0,2020-01-15\n60000,64,pump,heavy,unsafe,60,3,1,1,2020-01-16\n"
+        "{HEADER}\n1,1,valve,gas,difficult,0,1,0,0,2020-01-15\n60000,1,valve,gas,none,0,1,0,0,2020-01-15\n3,1,valve,gas,difficult,0,1,0,0,2020-01-15\n4,1,valve,gas,nde,0,1,0,0,2020-01-15\n"
     )?;
-    let Ok(bytes) = said(alloc, components_of(alloc, text.as_bytes(), 2))? else {
-        return Err("a bad row".into());
-    };
-    let want =
-        b"\x42\x00\x00\x00\x00\x00\x02\x00\x02\x02\x47\x65\x00\x00\xea\x60\x40\x02\x01\x01\x03\x02\x3c\x03\x02\x47\x64\x00\x00\x00\x01\x01\x01\x00\x00\x02\x03\x00\x02".as_slice();
-    assert_eq!(rt; bytes.as_slice(), want);
+    let facts = facts_of(alloc, components_of(alloc, text.as_bytes(), 2))?;
+    let want = [
+        valve(60_000, Designation::Plain)?,
+        valve(4, Designation::Nde)?,
+        valve(1, Designation::Difficult)?,
+        valve(3, Designation::Difficult)?,
+    ];
+    assert!(rt; facts.as_slice() == want.as_slice());
     Ok(())
 }
 
+/// The ways in which spreadsheets write a file, all of one valve.
 #[test]
 fn spreadsheets_write_it_in_their_ways(rt: HostRuntime) -> Result<(), Fail> {
     let alloc = rt.alloc();
-    let plain = format!(in alloc; "{HEADER}\n1,1,valve,gas,none,0,1,0,0,2020-01-15\n")?;
-    let Ok(want) = said(alloc, components_of(alloc, plain.as_bytes(), 1))? else {
-        return Err("a bad row".into());
-    };
-    let same = [
+    let want = valve(1, Designation::Plain)?;
+    let texts = [
+        // A byte order mark and lines that end with CRLF.
         format!(in alloc; "\u{feff}{HEADER}\r\n1,1,valve,gas,none,0,1,0,0,2020-01-15\r\n")?,
+        // Lines that end with CR, the last of them with nothing.
         format!(in alloc; "{HEADER}\r1,1,valve,gas,none,0,1,0,0,2020-01-15")?,
+        // Each text in quotes.
         format!(in alloc;
-            "{HEADER}\n\n1,1,\"valve\",\"gas\",none,0,\"1\",0,0,\"2020-01-15\"\n\n\n"
+            "\"component\",\"unit\",\"kind\",\"service\",\"designation\",\"plan\",\"month\",\"monomer\",\"replaces\",\"begin\"\n1,1,\"valve\",\"gas\",\"none\",0,1,0,0,\"2020-01-15\"\n"
+        )?,
+        // A mark, each field in quotes, and lines with nothing in them.
+        format!(in alloc;
+            "\u{feff}\"component\",unit,kind,service,designation,plan,month,monomer,replaces,begin\r\n\r\n\"1\",\"1\",\"valve\",\"gas\",\"none\",\"0\",\"1\",\"0\",\"0\",\"2020-01-15\"\r\n\r\n\r\n"
         )?,
     ];
-    for text in &same {
-        let got = said(alloc, components_of(alloc, text.as_bytes(), 1))?;
-        assert!(rt; got == Ok(want.clone()?), "{text}");
+    for text in &texts {
+        let facts = facts_of(alloc, components_of(alloc, text.as_bytes(), 1))?;
+        assert!(rt; facts.as_slice() == [want].as_slice(), "{text}");
     }
     Ok(())
 }
 
 #[test]
-fn the_first_bad_component_is_told(rt: HostRuntime) -> Result<(), Fail> {
+fn a_file_without_its_header_or_rows_is_told(rt: HostRuntime) -> Result<(), Fail> {
     let alloc = rt.alloc();
     let heads = [
         ("", 1),
         ("\n\n", 1),
         (
             "component;unit;kind;service;designation;plan;month;monomer;replaces;begin\n",
+            1,
+        ),
+        (
+            "sep=,\ncomponent,unit,kind,service,designation,plan,month,monomer,replaces,begin\n",
+            1,
+        ),
+        (
+            "unit,component,kind,service,designation,plan,month,monomer,replaces,begin\n",
             1,
         ),
         (
@@ -184,9 +241,20 @@ fn the_first_bad_component_is_told(rt: HostRuntime) -> Result<(), Fail> {
         ),
     ];
     for (text, row) in heads {
-        let got = said(alloc, components_of(alloc, text.as_bytes(), 1))?;
-        assert_eq!(rt; got.err(), Some(row), "{text}");
+        assert_eq!(rt;
+            bad_row(alloc, components_of(alloc, text.as_bytes(), 1))?,
+            row,
+            "{text}"
+        );
     }
+    // A file in UTF-16.
+    assert_eq!(rt; bad_row(alloc, components_of(alloc, b"\xff\xfec\x00o\x00m\x00", 1))?, 1);
+    Ok(())
+}
+
+#[test]
+fn the_first_bad_component_is_told(rt: HostRuntime) -> Result<(), Fail> {
+    let alloc = rt.alloc();
     let rows = [
         "01,1,valve,gas,none,0,1,0,0,2020-01-15",
         "0,1,valve,gas,none,0,1,0,0,2020-01-15",
@@ -207,18 +275,28 @@ fn the_first_bad_component_is_told(rt: HostRuntime) -> Result<(), Fail> {
         "1,1,valve,gas,none,0,0,0,0,2020-01-15",
         "1,1,valve,gas,none,0,4,0,0,2020-01-15",
         "1,1,valve,gas,none,0,1,2,0,2020-01-15",
-        "1,1,valve,gas,none,0,1,0,true,2020-01-15",
+        "1,1,valve,gas,none,0,1,0,TRUE,2020-01-15",
         "1,1,valve,gas,none,0,1,0,0,15.01.2020",
+        "1,1,valve,gas,none,0,1,0,0,1/15/2020",
         "1,1,valve,gas,none,0,1,0,0,2020-1-15",
+        "1,1,valve,gas,none,0,1,0,0,2007-12-31",
         "1,1,valve,gas,none,0,1,0,0,2020-01-15,",
         "1,1,valve,gas,none,0,1,0,0",
+        "1;1;valve;gas;none;0;1;0;0;2020-01-15",
+        "1,1,\"valve \",gas,none,0,1,0,0,2020-01-15",
+        "1,1,\"val\nve\",gas,none,0,1,0,0,2020-01-15",
+        "1,1,\"valve,gas,none,0,1,0,0,2020-01-15",
+        ",,,,,,,,,",
     ];
     for row in rows {
         let text = format!(in alloc;
             "{HEADER}\n2,1,valve,gas,none,0,1,0,0,2020-01-15\n{row}\n{row}\n"
         )?;
-        let got = said(alloc, components_of(alloc, text.as_bytes(), 1))?;
-        assert_eq!(rt; got.err(), Some(3), "{row}");
+        assert_eq!(rt;
+            bad_row(alloc, components_of(alloc, text.as_bytes(), 1))?,
+            3,
+            "{row}"
+        );
     }
     Ok(())
 }
@@ -226,18 +304,13 @@ fn the_first_bad_component_is_told(rt: HostRuntime) -> Result<(), Fail> {
 #[test]
 fn batches_have_512_facts(rt: HostRuntime) -> Result<(), Fail> {
     let alloc = rt.alloc();
-    // How many rows there are, and the batches with the facts of the last.
-    let cases = [
-        (1, 1, 1),
-        (512, 1, 512),
-        (513, 2, 1),
-        (1024, 2, 512),
-        (1025, 3, 1),
-    ];
+    // How many rows there are, how many batches, and how many facts the last one has.
+    let cases = [(1, 1, 1), (512, 1, 512), (513, 2, 1), (1025, 3, 1)];
     for (rows, count, last) in cases {
         let mut text = format!(in alloc; "{HEADER}\n")?;
         for row in 1..=rows {
-            text = format!(in alloc; "{text}{row},1,valve,gas,none,0,1,0,0,2020-01-15\n")?;
+            let line = format!(in alloc; "{row},1,valve,gas,none,0,1,0,0,2020-01-15\n")?;
+            text.push_str(line.as_str())?;
         }
         let Ok(batches) = components_of(alloc, text.as_bytes(), 4_000_000_000) else {
             return Err("no batches".into());
@@ -246,8 +319,8 @@ fn batches_have_512_facts(rt: HostRuntime) -> Result<(), Fail> {
         let batch = batches.last().ok_or("a batch")?;
         assert_eq!(rt; batch.facts.as_slice().len(), last, "{rows} rows");
         assert_eq!(rt;
-            batch.number,
-            4_000_000_000 + count as u32 - 1,
+            (batch.handheld, batch.number),
+            (0, 3_999_999_999 + count as u32),
             "{rows} rows"
         );
     }
