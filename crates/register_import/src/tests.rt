@@ -1,6 +1,6 @@
 ghost use Rattle.std.specs.Prelude.{◌≡◌, ◌≢◌, ◌≤◌};
 
-use crate::{ImportError, components_of, units_of};
+use crate::{ImportError, LONGEST_TEXT, components_of, units_of};
 use fact_kinds::{Batch, Class, Day, Designation, Fact, FactBody, Kind, Name, Service};
 use std::alloc::Global;
 use std::test::Fail;
@@ -23,20 +23,20 @@ fn said(
     }
 }
 
-/// The facts of a file that has no bad row.
-fn facts_of(alloc: Global, import: Result<Vec<Batch>, ImportError>) -> Result<Vec<Fact>, Fail> {
-    match said(alloc, import)? {
-        Ok(facts) => Ok(facts),
-        Err(_) => Err("a bad row".into()),
+/// What a file of process units says.
+fn units_in(alloc: Global, text: &[u8]) -> Result<Result<Vec<Fact>, u32>, Fail> {
+    if text.len() > LONGEST_TEXT {
+        return Err("too long".into());
     }
+    said(alloc, units_of(alloc, text, 1))
 }
 
-/// The bad row of a file, or 1,000,000 if it has none.
-fn bad_row(alloc: Global, import: Result<Vec<Batch>, ImportError>) -> Result<u32, Fail> {
-    match said(alloc, import)? {
-        Ok(_) => Ok(1_000_000),
-        Err(at) => Ok(at),
+/// What a file of components says.
+fn components_in(alloc: Global, text: &[u8]) -> Result<Result<Vec<Fact>, u32>, Fail> {
+    if text.len() > LONGEST_TEXT {
+        return Err("too long".into());
     }
+    said(alloc, components_of(alloc, text, 1))
 }
 
 /// A valve of process unit 1 in gas service from 2020-01-15 on, without a plan.
@@ -94,7 +94,9 @@ fn a_unit_is_a_fact(rt: HostRuntime) -> Result<(), Fail> {
         )?,
     ];
     for text in &texts {
-        let facts = facts_of(alloc, units_of(alloc, text.as_bytes(), 1))?;
+        let Ok(facts) = units_in(alloc, text.as_bytes())? else {
+            return Err("a bad row".into());
+        };
         assert!(rt; facts.as_slice() == [want].as_slice(), "{text}");
     }
     Ok(())
@@ -116,13 +118,9 @@ fn what_is_no_array_of_units_is_row_0(rt: HostRuntime) -> Result<(), Fail> {
         "[[unit]]\nnumber = 1\nnumber = 1\n",
     ];
     for text in texts {
-        assert_eq!(rt;
-            bad_row(alloc, units_of(alloc, text.as_bytes(), 1))?,
-            0,
-            "{text}"
-        );
+        assert_eq!(rt; units_in(alloc, text.as_bytes())?.err(), Some(0), "{text}");
     }
-    assert_eq!(rt; bad_row(alloc, units_of(alloc, b"# \xff", 1))?, 0);
+    assert_eq!(rt; units_in(alloc, b"# \xff")?.err(), Some(0));
     Ok(())
 }
 
@@ -149,11 +147,7 @@ fn the_first_bad_unit_is_told(rt: HostRuntime) -> Result<(), Fail> {
     let good = "{ number = 1, name = \"A-1\", startup = \"2008-01-01\", older = true }";
     for row in rows {
         let text = format!(in alloc; "unit = [{good}, {{ {row} }}, {{}}]\n")?;
-        assert_eq!(rt;
-            bad_row(alloc, units_of(alloc, text.as_bytes(), 1))?,
-            2,
-            "{row}"
-        );
+        assert_eq!(rt; units_in(alloc, text.as_bytes())?.err(), Some(2), "{row}");
     }
     Ok(())
 }
@@ -164,7 +158,9 @@ fn difficult_components_come_last(rt: HostRuntime) -> Result<(), Fail> {
     let text = format!(in alloc;
         "{HEADER}\n1,1,valve,gas,difficult,0,1,0,0,2020-01-15\n60000,1,valve,gas,none,0,1,0,0,2020-01-15\n3,1,valve,gas,difficult,0,1,0,0,2020-01-15\n4,1,valve,gas,nde,0,1,0,0,2020-01-15\n"
     )?;
-    let facts = facts_of(alloc, components_of(alloc, text.as_bytes(), 2))?;
+    let Ok(facts) = components_in(alloc, text.as_bytes())? else {
+        return Err("a bad row".into());
+    };
     let want = [
         valve(60_000, Designation::Plain)?,
         valve(4, Designation::Nde)?,
@@ -195,7 +191,9 @@ fn spreadsheets_write_it_in_their_ways(rt: HostRuntime) -> Result<(), Fail> {
         )?,
     ];
     for text in &texts {
-        let facts = facts_of(alloc, components_of(alloc, text.as_bytes(), 1))?;
+        let Ok(facts) = components_in(alloc, text.as_bytes())? else {
+            return Err("a bad row".into());
+        };
         assert!(rt; facts.as_slice() == [want].as_slice(), "{text}");
     }
     Ok(())
@@ -242,13 +240,16 @@ fn a_file_without_its_header_or_rows_is_told(rt: HostRuntime) -> Result<(), Fail
     ];
     for (text, row) in heads {
         assert_eq!(rt;
-            bad_row(alloc, components_of(alloc, text.as_bytes(), 1))?,
-            row,
+            components_in(alloc, text.as_bytes())?.err(),
+            Some(row),
             "{text}"
         );
     }
     // A file in UTF-16.
-    assert_eq!(rt; bad_row(alloc, components_of(alloc, b"\xff\xfec\x00o\x00m\x00", 1))?, 1);
+    assert_eq!(rt;
+        components_in(alloc, b"\xff\xfec\x00o\x00m\x00")?.err(),
+        Some(1)
+    );
     Ok(())
 }
 
@@ -293,8 +294,8 @@ fn the_first_bad_component_is_told(rt: HostRuntime) -> Result<(), Fail> {
             "{HEADER}\n2,1,valve,gas,none,0,1,0,0,2020-01-15\n{row}\n{row}\n"
         )?;
         assert_eq!(rt;
-            bad_row(alloc, components_of(alloc, text.as_bytes(), 1))?,
-            3,
+            components_in(alloc, text.as_bytes())?.err(),
+            Some(3),
             "{row}"
         );
     }
@@ -311,6 +312,9 @@ fn batches_have_512_facts(rt: HostRuntime) -> Result<(), Fail> {
         for row in 1..=rows {
             let line = format!(in alloc; "{row},1,valve,gas,none,0,1,0,0,2020-01-15\n")?;
             text.push_str(line.as_str())?;
+        }
+        if text.as_bytes().len() > LONGEST_TEXT {
+            return Err("too long".into());
         }
         let Ok(batches) = components_of(alloc, text.as_bytes(), 4_000_000_000) else {
             return Err("no batches".into());
