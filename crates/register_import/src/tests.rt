@@ -302,12 +302,66 @@ fn the_first_bad_component_is_told(rt: HostRuntime) -> Result<(), Fail> {
     Ok(())
 }
 
+/// The text of `docs/units.toml`.
+const UNITS: &str = "# The process units of an office. Each has these four keys and no others:
+#   number    1 to 64
+#   name      1 to 12 capital letters, digits and hyphens
+#   startup   the day of its initial startup in quotes, from 2008-01-01 to 2099-12-31
+#   older     true where the share of its valves that are difficult to monitor has no bound (40 CFR 60.482-7a(h)(2))
+
+[[unit]]
+number = 1
+name = \"CRUDE\"
+startup = \"2020-01-15\"
+older = false
+
+[[unit]]
+number = 2
+name = \"COKER-2\"
+startup = \"2016-06-01\"
+older = true
+";
+
+/// The text of `docs/components.csv`.
+const COMPONENTS: &str = "component,unit,kind,service,designation,plan,month,monomer,replaces,begin
+1,1,valve,gas,none,0,1,0,0,2020-01-15
+2,1,valve,light,none,0,2,0,0,2020-01-15
+3,1,valve,gas,unsafe,12,3,0,0,2020-01-15
+4,1,pump,light,none,0,1,0,0,2020-01-15
+5,1,pump,light,none,0,1,1,0,2020-01-15
+6,1,pump,heavy,none,0,1,0,0,2020-01-15
+7,1,compressor,gas,nde,0,1,0,0,2020-01-15
+8,1,relief,gas,none,0,1,0,0,2020-01-15
+9,2,valve,gas,difficult,0,1,0,0,2016-06-01
+10,2,valve,vacuum,none,0,1,0,0,2016-06-01
+11,2,valve,under300,none,0,1,0,0,2016-06-01
+12,2,valve,gas,nde,0,2,0,1,2024-02-20
+";
+
+#[test]
+fn the_templates_are_read_as_they_are(rt: HostRuntime) -> Result<(), Fail> {
+    let alloc = rt.alloc();
+    let Ok(units) = units_in(alloc, UNITS.as_bytes())? else {
+        return Err("a bad row".into());
+    };
+    let Ok(components) = components_in(alloc, COMPONENTS.as_bytes())? else {
+        return Err("a bad row".into());
+    };
+    assert_eq!(rt; (units.len(), components.len()), (2, 12));
+    Ok(())
+}
+
 #[test]
 fn batches_have_512_facts(rt: HostRuntime) -> Result<(), Fail> {
     let alloc = rt.alloc();
-    // How many rows there are, how many batches, and how many facts the last one has.
-    let cases = [(1, 1, 1), (512, 1, 512), (513, 2, 1), (1025, 3, 1)];
-    for (rows, count, last) in cases {
+    // How many rows there are; how many batches, and how many facts and which number the last one has.
+    let cases = [
+        (1, 1, 1, 4_000_000_000),
+        (512, 1, 512, 4_000_000_000),
+        (513, 2, 1, 4_000_000_001),
+        (1025, 3, 1, 4_000_000_002),
+    ];
+    for (rows, count, last, number) in cases {
         let mut text = format!(in alloc; "{HEADER}\n")?;
         for row in 1..=rows {
             let line = format!(in alloc; "{row},1,valve,gas,none,0,1,0,0,2020-01-15\n")?;
@@ -322,11 +376,7 @@ fn batches_have_512_facts(rt: HostRuntime) -> Result<(), Fail> {
         assert_eq!(rt; batches.len(), count, "{rows} rows");
         let batch = batches.last().ok_or("a batch")?;
         assert_eq!(rt; batch.facts.as_slice().len(), last, "{rows} rows");
-        assert_eq!(rt;
-            (batch.handheld, batch.number),
-            (0, 3_999_999_999 + count as u32),
-            "{rows} rows"
-        );
+        assert_eq!(rt; (batch.handheld, batch.number), (0, number), "{rows} rows");
     }
     Ok(())
 }
