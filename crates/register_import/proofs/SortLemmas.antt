@@ -1,0 +1,114 @@
+-- Rows in turn: those that are difficult to monitor behind all others.
+use Rattle.std.proofs.Common.{◌≡◌, ℕ, ◌+◌, ◌<◌, Bool, true, false, not, cond, List, [], ◌∷◌, ◌++◌, length, filter, Option, Some, None, refl, sym, ap, ap₂, ◌∙◌, append_assoc, arith, Ok, Err}
+use Rattle.std.proofs.lemmas.List.{append-nil, length-append}
+use Rattle.std.proofs.lemmas.List.Elements.{filter-append}
+use Rattle.fact_kinds.specs.Stated.{Stated}
+use Rattle.register_import.specs.declared.error.ImportError.{ImportError}
+use Rattle.register_import.specs.declared.error.ImportError.TheVariants.{Row, Memory}
+use Rattle.register_import.specs.ComponentRows.{component_of, is_difficult}
+use Rattle.register_import.specs.Components.{difficult_last, in_turn, rows_from, some_rows}
+use Rattle.register_import.specs.Rows.{Rows, TellsRow, behind, row_then}
+
+-- not difficult to monitor
+abbrev pub is_other : Stated → Bool
+is_other fact = not (is_difficult fact)
+
+-- what rows say behind others and difficult ones that came before
+abbrev pub sorted_behind : List Stated → List Stated → Rows → Rows
+sorted_behind others difficult (Ok facts) = Ok ((others ++ filter is_other facts) ++ (difficult ++ filter is_difficult facts))
+sorted_behind others difficult (Err at) = Err at
+
+-- nothing came before
+pub sorted_behind-none : (rows : Rows) → sorted_behind [] [] rows ≡ in_turn rows
+sorted_behind-none (Ok facts) = refl
+sorted_behind-none (Err at) = refl
+
+-- a fact that passes goes to the end of those before it
+filter-behind : (p : Stated → Bool) (front : List Stated) (fact : Stated) (facts : List Stated)
+    → front ++ filter p (fact ∷ facts) ≡ (front ++ filter p (fact ∷ [])) ++ filter p facts
+filter-behind p front fact facts =
+    ap (λ (l : List Stated). front ++ l) (filter-append p (fact ∷ []) facts)
+    ∙ sym (append_assoc front (filter p (fact ∷ [])) (filter p facts))
+
+-- one fact more came before
+pub sorted_behind-push : (others difficult more_others more_difficult : List Stated) (fact : Stated) (rows : Rows)
+    → more_others ≡ others ++ filter is_other (fact ∷ []) → more_difficult ≡ difficult ++ filter is_difficult (fact ∷ [])
+    → sorted_behind others difficult (behind (fact ∷ []) rows) ≡ sorted_behind more_others more_difficult rows
+sorted_behind-push others difficult more_others more_difficult fact (Err at) to_others to_difficult = refl
+sorted_behind-push others difficult more_others more_difficult fact (Ok facts) to_others to_difficult =
+    rw (to_others, to_difficult)
+    (ap₂ (λ (a b : List Stated). Ok (a ++ b)) (filter-behind is_other others fact facts) (filter-behind is_difficult difficult fact facts))
+
+-- nothing came before the rows from row 2 on
+pub first_rows : (at : ℕ) (rows all : List (List (List ℕ))) → at ≡ 2 → rows ≡ all → sorted_behind [] [] (rows_from at rows) ≡ in_turn (rows_from 2 all)
+first_rows at rows all second same = rw (second, same) (sorted_behind-none (rows_from 2 all))
+
+-- a row that says a fact
+pub row_more : (others difficult more_others more_difficult : List Stated) (fact : Stated) (at next : ℕ) (row : List (List ℕ))
+    (rows rest : List (List (List ℕ)))
+    → rows ≡ row ∷ rest → component_of row ≡ Some fact → next ≡ at + 1
+    → more_others ≡ others ++ filter is_other (fact ∷ []) → more_difficult ≡ difficult ++ filter is_difficult (fact ∷ [])
+    → sorted_behind others difficult (rows_from at rows) ≡ sorted_behind more_others more_difficult (rows_from next rest)
+row_more others difficult more_others more_difficult fact at next row rows rest rows_are said later to_others to_difficult =
+    rw (rows_are, said, later) (sorted_behind-push others difficult more_others more_difficult fact (rows_from (at + 1) rest) to_others to_difficult)
+
+-- a row that says none
+pub row_bad : (others difficult : List Stated) (at : ℕ) (row : List (List ℕ)) (rows rest : List (List (List ℕ)))
+    → rows ≡ row ∷ rest → component_of row ≡ None → sorted_behind others difficult (rows_from at rows) ≡ Err at
+row_bad others difficult at row rows rest rows_are said = rw (rows_are, said) refl
+
+-- no row
+pub rows_end : (others difficult : List Stated) (at : ℕ) (rows : List (List (List ℕ))) → rows ≡ []
+    → sorted_behind others difficult (rows_from at rows) ≡ Ok (others ++ difficult)
+rows_end others difficult at rows rows_are = rw (rows_are, append-nil others, append-nil difficult) refl
+
+-- a fact goes to the ones or to the others
+is_one_more : (difficult : Bool) (fact : Stated) (others later : List Stated)
+    → length (others ++ cond (not difficult) (fact ∷ []) []) + length (later ++ cond difficult (fact ∷ []) []) ≡ length others + length later + 1
+is_one_more true fact others later = omega (arith, length-append others [], length-append later (fact ∷ []))
+is_one_more false fact others later = omega (arith, length-append others (fact ∷ []), length-append later [])
+
+-- .. so that there is one more of them together
+pub one_more : (others difficult more_others more_difficult : List Stated) (fact : Stated)
+    → more_others ≡ others ++ filter is_other (fact ∷ []) → more_difficult ≡ difficult ++ filter is_difficult (fact ∷ [])
+    → length more_others + length more_difficult ≡ length others + length difficult + 1
+one_more others difficult more_others more_difficult fact to_others to_difficult =
+    rw (to_others, to_difficult) (is_one_more (is_difficult fact) fact others difficult)
+
+-- a fact stands in turn, difficult to monitor or not
+is_counted : (difficult : Bool) (fact : Stated) (others later : List Stated)
+    → 0 < length (cond (not difficult) (fact ∷ others) others ++ cond difficult (fact ∷ later) later)
+is_counted true fact others later = omega (arith, length-append others (fact ∷ later))
+is_counted false fact others later = omega arith
+
+-- the facts of rows that are not bad
+abbrev facts_or_none : Rows → List Stated
+facts_or_none (Ok facts) = facts
+facts_or_none (Err at) = []
+
+-- where a row stands, not nothing is said
+says_some : (fact : Option Stated) (rest : Rows) (facts : List Stated) → in_turn (row_then 2 fact rest) ≡ Ok facts → length facts ≡ 0 → ⊥
+says_some None rest facts said none = absurd cc
+says_some (Some fact) (Err at) facts said none = absurd cc
+says_some (Some fact) (Ok more) facts said none =
+    let same : difficult_last (fact ∷ more) ≡ facts = ap facts_or_none said in
+    let counted = is_counted (is_difficult fact) fact (filter is_other more) (filter is_difficult more) in
+    omega (arith, counted, ap length same)
+
+-- rows that say facts, with one row at least
+pub some_said : (rows : List (List (List ℕ))) (facts : List Stated) → in_turn (rows_from 2 rows) ≡ Ok facts → 0 < length facts
+    → in_turn (some_rows rows) ≡ Ok facts
+some_said [] facts said some = let same : [] ≡ facts = ap facts_or_none said in absurd (omega (arith, some, ap length same))
+some_said (row ∷ rows) facts said some = said
+
+-- .. and where none is said there is no row
+pub none_said : (rows : List (List (List ℕ))) (facts : List Stated) → in_turn (rows_from 2 rows) ≡ Ok facts → length facts ≡ 0
+    → in_turn (some_rows rows) ≡ Err 2
+none_said [] facts said none = refl
+none_said (row ∷ rows) facts said none = absurd (says_some (component_of row) (rows_from 3 rows) facts said none)
+
+-- a bad row stands where a row stands
+pub bad_said : (rows : List (List (List ℕ))) (error : ImportError) → TellsRow (in_turn (rows_from 2 rows)) error → TellsRow (in_turn (some_rows rows)) error
+bad_said [] (Row at) said = absurd cc
+bad_said (row ∷ rows) (Row at) said = said
+bad_said rows Memory said = tt

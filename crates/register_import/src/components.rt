@@ -1,0 +1,153 @@
+ghost use Rattle.std.specs.Prelude.{◌≡◌, ◌≤◌, ◌+◌, ◌++◌, ◌∷◌, [], ℕ, IfOk, IfErr, OnOk, Ok, true, false, not, suc, length, vec_len, filter};
+ghost use Rattle.csv.specs.Records.{fields_of};
+ghost use Rattle.register_import.specs.Rows.{TellsRow};
+ghost use Rattle.register_import.specs.Records.{IsReading, records_left, records_of};
+ghost use Rattle.register_import.specs.ComponentRows as spec;
+ghost use Rattle.register_import.specs.Components as files;
+ghost use Rattle.register_import.specs.declared.limits.TheConstants.{LAST_NUMBER, LONGEST_TEXT};
+
+use crate::batches::batches_of;
+use crate::component_row::{component_of, is_difficult, is_header};
+use crate::error::ImportError;
+use csv::{ByteRecord, Reader, ReaderBuilder};
+use fact_kinds::{Batch, Fact, Memory};
+use std::alloc::Global;
+
+/// The batches of a file of components: CSV, with a first record that names the ten columns. They are of handheld 0,
+/// numbered from `number`, with up to 512 facts. Components that are difficult to monitor stand behind all others, so
+/// that their share of a unit's valves (40 CFR 60.482-7a(h)(2)(ii)) is judged when these are known. The first bad row
+/// is told, where the first record is row 1.
+pub fn components_of(alloc: Global, text: &[u8], number: u32) -> Result<Vec<Batch>, ImportError>
+    requires in_range { number ≤ LAST_NUMBER }
+    requires fits { length text.now ≤ LONGEST_TEXT }
+    ensures value { IfOk result (λ batches. files.components_import number text.now ≡ Ok batches.items) }
+    ensures bad { IfErr result (TellsRow (files.components_import number text.now)) }
+{
+    let facts = component_facts(alloc, text)?;
+    Ok(batches_of(alloc, number, &facts)?)
+}
+
+// The facts of a file of components, those that are difficult to monitor last.
+fn component_facts(alloc: Global, text: &[u8]) -> Result<Vec<Fact>, ImportError>
+    requires { length text.now ≤ LONGEST_TEXT }
+    ensures value { IfOk result (λ facts. files.in_turn (files.component_rows text.now) ≡ Ok facts.items) }
+    ensures bad { IfErr result (TellsRow (files.in_turn (files.component_rows text.now))) }
+    ensures in_range { IfOk result (λ facts. vec_len facts ≤ length text.now) }
+{
+    let mut reader = reader_of(alloc, text);
+    let mut row = ByteRecord::new(alloc);
+    if !next(&mut reader, &mut row)? {
+        return Err(ImportError::Row { at: 1 });
+    }
+    if !is_header(&row) {
+        return Err(ImportError::Row { at: 1 });
+    }
+    facts_behind(alloc, &mut reader, row, text.len())
+}
+
+// A reader of the text. Records may have any length; that of a component is judged with its fields.
+fn reader_of(alloc: Global, text: &[u8]) -> Reader<&[u8]>
+    ensures reading { IsReading result }
+    ensures value { records_of text.now ≡ records_left (suc (length text.now)) result }
+{
+    ReaderBuilder::new()
+        .has_headers(false)
+        .flexible(true)
+        .from_reader(alloc, text)
+}
+
+// Reads the next record, and tells whether there was one.
+fn next(reader: &mut Reader<&[u8]>, row: &mut ByteRecord) -> Result<bool, Memory>
+    requires { IsReading reader.old }
+    ensures found { result ≡ Ok true → IsReading reader.new × ((n : ℕ) → records_left (suc n) reader.old ≡ fields_of row.new ∷ records_left n reader.new) }
+    ensures none { result ≡ Ok false → (n : ℕ) → records_left n reader.old ≡ [] }
+{
+    let Ok(found) = reader.read_byte_record(row) else {
+        return Err(Memory);
+    };
+    Ok(found)
+}
+
+// The facts of the records behind the first, so many at most, those that are difficult to monitor last.
+fn facts_behind(
+    alloc: Global,
+    reader: &mut Reader<&[u8]>,
+    first: ByteRecord,
+    most: usize,
+) -> Result<Vec<Fact>, ImportError>
+    requires reading { IsReading reader.old }
+    requires in_range { most ≤ LONGEST_TEXT }
+    ensures value { IfOk result (λ facts. files.in_turn (files.some_rows (records_left most reader.old)) ≡ Ok facts.items) }
+    ensures bad { IfErr result (TellsRow (files.in_turn (files.some_rows (records_left most reader.old)))) }
+    ensures count { IfOk result (λ facts. vec_len facts ≤ most) }
+{
+    let rows = rows_of(alloc, reader, first, most)?;
+    let facts = rows.joined()?;
+    if facts.is_empty() {
+        return Err(ImportError::Row { at: 2 });
+    }
+    Ok(facts)
+}
+
+// The facts of the rows from row 2 on, so many at most.
+fn rows_of(
+    alloc: Global,
+    reader: &mut Reader<&[u8]>,
+    first: ByteRecord,
+    most: usize,
+) -> Result<Sorted, ImportError>
+    requires reading { IsReading reader.old }
+    requires in_range { most ≤ LONGEST_TEXT }
+    ensures value { IfOk result (λ rows. files.in_turn (files.rows_from 2 (records_left most reader.old)) ≡ Ok (rows.others.items ++ rows.difficult.items)) }
+    ensures bad { IfErr result (TellsRow (files.in_turn (files.rows_from 2 (records_left most reader.old)))) }
+    ensures count { IfOk result (λ rows. vec_len rows.others + vec_len rows.difficult ≤ most) }
+{
+    let mut row = first;
+    let mut rows = Sorted {
+        others: Vec::new(alloc),
+        difficult: Vec::new(alloc),
+    };
+    for turn in 0..most {
+        if !next(reader, &mut row)? {
+            return Ok(rows);
+        }
+        let Some(fact) = component_of(&row) else {
+            return Err(ImportError::Row {
+                at: turn as u32 + 2,
+            });
+        };
+        rows.push(fact)?;
+    }
+    Ok(rows)
+}
+
+// The facts of rows, in the order of the file.
+#[derive(Drop)]
+struct Sorted {
+    others: Vec<Fact>,
+    difficult: Vec<Fact>,
+}
+
+impl Sorted {
+    // One more.
+    fn push(&mut self, fact: Fact) -> Result<(), Memory>
+        ensures others { OnOk result (self.new.others.items ≡ self.old.others.items ++ filter (λ f. not (spec.is_difficult f)) (fact ∷ [])) }
+        ensures difficult { OnOk result (self.new.difficult.items ≡ self.old.difficult.items ++ filter spec.is_difficult (fact ∷ [])) }
+    {
+        if is_difficult(&fact) {
+            self.difficult.push(fact)?;
+        } else {
+            self.others.push(fact)?;
+        }
+        Ok(())
+    }
+
+    // All of them, those that are difficult to monitor last.
+    fn joined(self) -> Result<Vec<Fact>, Memory>
+        ensures value { IfOk result (λ facts. facts.items ≡ self.others.items ++ self.difficult.items) }
+    {
+        let mut facts = self.others;
+        facts.extend_from_slice(&self.difficult)?;
+        Ok(facts)
+    }
+}

@@ -1,0 +1,20 @@
+use fact_kinds::Memory;
+
+/// Why a file gave no batches.
+#[derive(Clone, Copy, Debug, PartialEq, Eq)]
+pub enum ImportError {
+    /// The first bad row, from 1. Row 0 is a text that is no document of the form.
+    Row { at: u32 },
+    Memory,
+}
+
+impl From<Memory> for ImportError {
+    ghost use Rattle.std.specs.Prelude.{◌≡◌};
+    ghost use Rattle.register_import.specs.declared.error.ImportError.TheVariants.{Memory};
+
+    ghost from_gives = { λ _ e. e ≡ Memory };
+
+    fn from(_e: Memory) -> ImportError {
+        ImportError::Memory
+    }
+}

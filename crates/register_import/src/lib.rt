@@ -1,0 +1,21 @@
+//! The register from files: process units from TOML, components from CSV, as batches that an office is sent.
+#![tactic(auto)]
+
+mod batches;
+mod component_row;
+mod components;
+mod error;
+pub mod examples;
+mod fields;
+mod limits;
+mod members;
+mod unit_row;
+mod units;
+
+pub use components::components_of;
+pub use error::ImportError;
+pub use limits::{LAST_NUMBER, LONGEST_TEXT};
+pub use units::units_of;
+
+#[cfg(test)]
+mod tests;
