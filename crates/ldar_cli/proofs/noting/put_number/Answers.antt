@@ -1,0 +1,13 @@
+use Rattle.std.proofs.Common.{◌++◌, List, ℕ, subst}
+use Rattle.ldar_cli.specs.Statuses.{IsPut}
+use Rattle.ldar_cli.proofs.NoteLemmas.{put_more, put_part}
+use Rattle.ldar_cli.proofs.noting.put_number.Goals as goal
+
+pub returns-in_err-put_text-clause-said : goal.returns-in_err-put_text-clause-said
+returns-in_err-put_text-clause-said g c =
+    put_part c.args.before.now _ _ _ _ c.from_residual.result c.in_err-put_text.ensures.said c.from_residual.ensures.1
+
+pub returns-clause-said : goal.returns-clause-said
+returns-clause-said g c =
+    put_more c.args.before.now _ _ _ _ _ _ c.in_ok-put_text.ensures.said
+    (subst (λ (digits : List ℕ). IsPut (digits ++ c.args.behind.now) _ _ c.put_both.result) c.format.ensures.text c.put_both.ensures.said)
