@@ -10,6 +10,9 @@ use Rattle.ldar_journal.specs.Shelf.{Shelf}
 use Rattle.ldar_journal.proofs.CrashLemmas.{OnDisk-weaker}
 use Rattle.ldar_journal.proofs.CreationLemmas.{empty_opens}
 use Rattle.ldar_law.specs.declared.reply.Reply.{Reply}
+use Rattle.ldar_law.specs.declared.reply.Reply.TheVariants.{Receipt, Conflict, Denied, Full, Shown, NoSuch, Fault, Memory}
+use Rattle.ldar_law.specs.declared.request.Request.{Request}
+use Rattle.ldar_law.specs.Shown.{shown}
 use Rattle.ldar_law.specs.Verdicts.{is_ruly}
 use Rattle.ldar_ports.specs.Sink.{Piece}
 use Rattle.office_book.specs.declared.opening.BookWhy.{BookWhy}
@@ -20,9 +23,11 @@ use Rattle.ldar_session.specs.declared.ended.Ended.TheVariants as ends
 use Rattle.ldar_cli.specs.declared.command.Command.{Command}
 use Rattle.ldar_cli.specs.declared.status.Status.{Status}
 use Rattle.ldar_cli.specs.declared.status.Status.TheVariants.{ReadFault, WriteFault, DiskFault}
-use Rattle.ldar_cli.specs.Run.{LeavesAlone, IsNotOpened, IsOpened, IsShown, ReplyEnds, shown_by}
+use Rattle.ldar_cli.specs.Run.{LeavesAlone, IsNotOpened, IsOpened, IsShown, TextEnds, ReplyEnds, PutEnds, shown_by}
 use Rattle.ldar_cli.specs.Statuses.{refusal_of, status_of}
 use Rattle.ldar_cli.proofs.HeadlineLemmas.{opens_history, opened_stays}
+use Rattle.ldar_cli.proofs.KindLemmas.{shown_kind}
+use Rattle.ldar_cli.proofs.ViewLemmas.{IsViewed}
 
 -- ---- which statuses tell which faults
 
@@ -122,3 +127,17 @@ pub laid_down : (old new : Option (List ℕ)) → BothTold old new (λ old new. 
 laid_down old new both =
     BothTold-weaker (λ old new. (old ≡ []) × (new ≡ header ++ 0 ∷ [])) (λ old new. (old ≡ []) × Opens new [])
     (λ old new both. (both.0, subst (λ (l : List ℕ). Opens l []) (sym both.1) ([], refl, empty_opens))) old new both
+
+-- what is put of the reply to a view is what is shown
+pub viewed_ends : (history : List Batch) (request : Request) (reply : Reply) (status : Status) (old new : Option (List Piece))
+    → IsViewed history request reply → PutEnds reply status old new
+    → (told : Reply) × (shown history request ≡ Some told) × ReplyEnds told status old new
+viewed_ends history request (Receipt handheld number position) status old new viewed ends = absurd (shown_kind history request (Receipt handheld number position) viewed)
+viewed_ends history request (Conflict position) status old new viewed ends = absurd (shown_kind history request (Conflict position) viewed)
+viewed_ends history request (Denied fact rule) status old new viewed ends = absurd (shown_kind history request (Denied fact rule) viewed)
+viewed_ends history request (Full facts) status old new viewed ends = absurd (shown_kind history request (Full facts) viewed)
+viewed_ends history request (Shown text) status old new viewed ends = (Shown text, viewed, ends)
+viewed_ends history request (NoSuch what) status old new viewed ends = (NoSuch what, viewed, ends)
+viewed_ends history request Fault status old new viewed ends = absurd (shown_kind history request Fault viewed)
+viewed_ends history request Memory status old new viewed ends =
+    (Shown viewed.0, viewed.1, subst (λ (s : Status). TextEnds viewed.0 s old new) (sym ends.0) ends.1)

@@ -20,13 +20,11 @@ use Rattle.office_book.specs.Receipts.{AreReceiptsKept, IsReceiptKept}
 use Rattle.office_book.specs.Safe.{StandsIn, StandsInRun, IsSafe, Leads, state_of, moment_of}
 use Rattle.office_book.specs.Serving.{certain}
 use Rattle.office_book.proofs.ReceiptLemmas.{receipts_are_behind}
-use Rattle.ldar_session.specs.Batches.{IsBatch}
-use Rattle.ldar_session.specs.Dock.{Ends}
 use Rattle.ldar_session.specs.Served.{Served, Stretch, HasItsClock, Stamped, items_of, turns_in, turns_of}
 use Rattle.ldar_session.specs.declared.ended.Ended.{Ended}
 use Rattle.ldar_session.proofs.RunLemmas.{runs_have_clocks}
 use Rattle.ldar_session.proofs.StampLemmas.{all_parts}
-use Rattle.ldar_cli.specs.Headline.{OpensRuly, AreLinesKept, IsCrashSafe, IsDocked}
+use Rattle.ldar_cli.specs.Headline.{OpensRuly, AreLinesKept, IsCrashSafe, IsConnection}
 use Rattle.ldar_cli.proofs.RulyLemmas.{run_ruly, is_ruly_state}
 
 -- ---- receipts, and the lines that say them
@@ -170,18 +168,18 @@ module _ {D : Type 0} (content_of : D → Option (List ℕ)) (images_of : D → 
       crash_safe old start end calls served put (opened_stands start x y opened.0 opened.1 only) entry later runs safe receipts settled ruly turns stamped
       stands.1
 
-  -- the docking of an input over an opened disk
-  docked_over : (old : D) (start end : Shelf D) (ended : Ended) (left left' : Option (List ℕ)) (pieces pieces' : Option (List Piece))
+  -- a connection over an opened disk
+  served_over : (IsItem : Served → Type 0) (Closes : Ended → List Served → List ℕ → Option (List ℕ) → List ℕ → Type 0) (old : D) (start end : Shelf D) (ended : Ended) (left left' : Option (List ℕ)) (pieces pieces' : Option (List Piece))
       (served : List Served) (rest unsaid : List ℕ)
       → IsOpened (content_of old) (content_of start.disk) start.frames → start.doubt ≡ [] → IsTrue (is_ruly (batches_of start.frames))
       → LeavesOnly clock_of left_of old start.disk (images_of old) → Told (content_of start.disk) (λ bytes. Only bytes (images_of start.disk))
       → Keeps clock_of name_of faults_of old start.disk
       → Takes left (items_of served ++ rest) left'
-      → Stretch IsBatch (Leads content_of left_of clock_of name_of faults_of) start end pieces pieces' served unsaid
-      → Ends ended served rest left' unsaid
+      → Stretch IsItem (Leads content_of left_of clock_of name_of faults_of) start end pieces pieces' served unsaid
+      → Closes ended served rest left' unsaid
       → OnDisk (content_of end.disk) (images_of end.disk) (StandsIn (state_of end))
-      → IsDocked content_of images_of left_of clock_of faults_of ended left left' pieces pieces' old end.disk
-  docked_over old start end ended left left' pieces pieces' served rest unsaid opened settled ruly entry only keeps takes stretch ends stands =
+      → IsConnection IsItem Closes content_of images_of left_of clock_of faults_of ended left left' pieces pieces' old end.disk
+  served_over IsItem Closes old start end ended left left' pieces pieces' served rest unsaid opened settled ruly entry only keeps takes stretch ends stands =
       let leads = stretch.run in
       let runs = leads.runs in
       let own = runs_have_clocks (moment_of clock_of faults_of start) (moment_of clock_of faults_of end) stretch.calls runs in
@@ -214,25 +212,26 @@ module _ {D : Type 0} (content_of : D → Option (List ℕ)) (images_of : D → 
       }
 
   -- .. which is handed back
-  pub docked : (old new : D) (start end : Shelf D) (ended : Ended) (left left' : Option (List ℕ)) (pieces pieces' : Option (List Piece))
+  pub served_by : (IsItem : Served → Type 0) (Closes : Ended → List Served → List ℕ → Option (List ℕ) → List ℕ → Type 0)
+      (old new : D) (start end : Shelf D) (ended : Ended) (left left' : Option (List ℕ)) (pieces pieces' : Option (List Piece))
       (served : List Served) (rest unsaid : List ℕ)
       → IsOpened (content_of old) (content_of start.disk) start.frames → start.doubt ≡ [] → IsTrue (is_ruly (batches_of start.frames))
       → LeavesOnly clock_of left_of old start.disk (images_of old) → Told (content_of start.disk) (λ bytes. Only bytes (images_of start.disk))
       → Keeps clock_of name_of faults_of old start.disk
       → Takes left (items_of served ++ rest) left'
-      → Stretch IsBatch (Leads content_of left_of clock_of name_of faults_of) start end pieces pieces' served unsaid
-      → Ends ended served rest left' unsaid → new ≡ end.disk
+      → Stretch IsItem (Leads content_of left_of clock_of name_of faults_of) start end pieces pieces' served unsaid
+      → Closes ended served rest left' unsaid → new ≡ end.disk
       → OnDisk (content_of new) (images_of new) (StandsIn (state_of end))
-      → IsDocked content_of images_of left_of clock_of faults_of ended left left' pieces pieces' old new
-  docked old new start end ended left left' pieces pieces' served rest unsaid opened settled ruly entry only keeps takes stretch ends same stands =
-      subst (λ (d : D). IsDocked content_of images_of left_of clock_of faults_of ended left left' pieces pieces' old d) (sym same)
-      (docked_over old start end ended left left' pieces pieces' served rest unsaid opened settled ruly entry only keeps takes stretch ends
+      → IsConnection IsItem Closes content_of images_of left_of clock_of faults_of ended left left' pieces pieces' old new
+  served_by IsItem Closes old new start end ended left left' pieces pieces' served rest unsaid opened settled ruly entry only keeps takes stretch ends same stands =
+      subst (λ (d : D). IsConnection IsItem Closes content_of images_of left_of clock_of faults_of ended left left' pieces pieces' old d) (sym same)
+      (served_over IsItem Closes old start end ended left left' pieces pieces' served rest unsaid opened settled ruly entry only keeps takes stretch ends
       (subst (λ (d : D). OnDisk (content_of d) (images_of d) (StandsIn (state_of end))) same stands))
 
   -- .. the disk keeps what each call keeps
-  pub docked_keeps : (old new : D) (start end : Shelf D) (calls : List Call) → Keeps clock_of name_of faults_of old start.disk
+  pub served_keeps : (old new : D) (start end : Shelf D) (calls : List Call) → Keeps clock_of name_of faults_of old start.disk
       → Leads content_of left_of clock_of name_of faults_of start calls end → new ≡ end.disk → Keeps clock_of name_of faults_of old new
-  docked_keeps old new start end calls keeps leads same =
+  served_keeps old new start end calls keeps leads same =
       let run = run_keeps calls (moment_of clock_of faults_of start) (moment_of clock_of faults_of end) leads.runs in
       subst (λ (d : D). Keeps clock_of name_of faults_of old d) (sym same) (record {
         time = omega (arith, keeps.time, run.1);

@@ -1,3 +1,4 @@
+pub mod CommandLemmas
 pub mod EndLemmas
 pub mod HeadlineLemmas
 pub mod KindLemmas

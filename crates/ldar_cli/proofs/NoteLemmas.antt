@@ -1,7 +1,5 @@
 -- Texts that are put one behind the other.
-use Rattle.std.proofs.Common.{◌≡◌, ℕ, List, [], ◌++◌, Option, Result, Ok, refl, sym, ap, ◌∙◌, append_assoc}
-use Rattle.std.specs.Result.{IsErrAnd}
-use Rattle.std.proofs.lemmas.Result.{err_from_is_err_and}
+use Rattle.std.proofs.Common.{◌≡◌, ℕ, List, [], ◌++◌, Option, Result, Err, refl, sym, ap, ◌∙◌, append_assoc}
 use Rattle.std.proofs.lemmas.List.{append-nil}
 use Rattle.std.proofs.lemmas.Grind.{flat_map-append}
 use Rattle.ldar_ports.specs.Sink.{Piece, Puts, bytes_of}
@@ -30,14 +28,26 @@ said_part first second old new unsaid one = record {
   says = ap (λ (l : List ℕ). l ++ second) one.says ∙ append_assoc (bytes_of one.put) unsaid second;
 }
 
--- a text that was put whole, and one behind it
-pub put_more : {T E : Type 0} (first second : List ℕ) (old middle new : Option (List Piece)) (x : T) (r : Result T E)
-    → IsPut first old middle (Ok {E = E} x) → IsPut second middle new r → IsPut (first ++ second) old new r
-put_more first second old middle new x r one two = (two.0, said_more first second old middle new one.0 two.0 one.2 one.1 two.1, two.2)
+-- a text of which all is said, and one put behind it
+pub put_more : {T E : Type 0} (first second : List ℕ) (old middle new : Option (List Piece)) (none : List ℕ) (r : Result T E) → none ≡ []
+    → Said first old middle none → IsPut second middle new r → IsPut (first ++ second) old new r
+put_more first second old middle new none r all one two = (two.0, said_more first second old middle new none two.0 all one two.1, two.2)
 
--- a text that was put in part, of a longer one
-pub put_part : {T F E : Type 0} {Q : E → Type 0} (first second : List ℕ) (old new : Option (List Piece)) (one : Result T F) (r : Result T E)
-    → IsPut first old new one → IsErrAnd r Q → IsPut (first ++ second) old new r
-put_part first second old new one r put failed =
-    let e = err_from_is_err_and r failed in
-    (put.0 ++ second, said_part first second old new put.0 put.1, rw e.1 tt)
+-- a text of which a front is said, of a longer one
+pub put_part : {T E : Type 0} (first second : List ℕ) (old new : Option (List Piece)) (unsaid : List ℕ) (r : Result T E) (e : E) → r ≡ Err e
+    → Said first old new unsaid → IsPut (first ++ second) old new r
+put_part first second old new unsaid r e failed one = (unsaid ++ second, said_part first second old new unsaid one, rw failed tt)
+
+-- a text of which nothing is unsaid
+pub said_whole : (text : List ℕ) (old new : Option (List Piece)) (put : List Piece) (unsaid : List ℕ) → Puts old put new
+    → text ≡ bytes_of put ++ unsaid → unsaid ≡ [] → Said text old new []
+said_whole text old new put unsaid puts says none = record {
+  put = put;
+  puts = puts;
+  says = says ∙ ap (λ (l : List ℕ). bytes_of put ++ l) none;
+}
+
+-- .. of which something may be
+pub said_front : (text : List ℕ) (old new : Option (List Piece)) (put : List Piece) (unsaid : List ℕ) → Puts old put new
+    → text ≡ bytes_of put ++ unsaid → (rest : List ℕ) × Said text old new rest
+said_front text old new put unsaid puts says = (unsaid, record { put = put; puts = puts; says = says })

@@ -7,12 +7,13 @@ use Rattle.ldar_law.specs.declared.request.Request.TheVariants.{Due, Tags, Delay
 use Rattle.handheld_http.specs.Requests.{decimal_in}
 use Rattle.office_views.specs.Answers.{IsView}
 use Rattle.ldar_cli.specs.declared.command.Command.{Command}
-use Rattle.ldar_cli.specs.declared.command.Command.TheVariants.{Init, Dock, Show, Check}
+use Rattle.ldar_cli.specs.declared.command.Command.TheVariants.{Init, Dock, Drain, Show, Check}
 
 -- a command that shows something shows a view
 abbrev pub ShowsView : Command → Type 0
 ShowsView Init = Unit {0}
 ShowsView Dock = Unit {0}
+ShowsView Drain = Unit {0}
 ShowsView (Show request) = IsView request
 ShowsView Check = Unit {0}
 
@@ -25,6 +26,7 @@ abbrev pub alone : List ℕ → Option Command
 alone word =
     if is_word word (codes "init") then Some Init
     else if is_word word (codes "dock") then Some Dock
+    else if is_word word (codes "drain") then Some Drain
     else if is_word word (codes "check") then Some Check
     else None
 

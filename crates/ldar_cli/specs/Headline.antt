@@ -13,7 +13,9 @@ use Rattle.office_book.specs.Receipts.{AreReceiptsKept, IsReceiptKept}
 use Rattle.office_book.specs.Safe.{StandsIn, StandsInRun, AreBehind}
 use Rattle.office_book.specs.Serving.{certain}
 use Rattle.ldar_session.specs.Batches.{IsBatch}
-use Rattle.ldar_session.specs.Dock.{Ends}
+use Rattle.ldar_session.specs.Dock.{Ends as EndsBatches}
+use Rattle.ldar_session.specs.Requests.{HasItsAnswer}
+use Rattle.ldar_session.specs.Session.{Ends as EndsRequests}
 use Rattle.ldar_session.specs.Served.{Served, Stamped, items_of, texts_of, turns_in, turns_of}
 use Rattle.ldar_session.specs.declared.ended.Ended.{Ended}
 
@@ -51,9 +53,10 @@ pub record IsCrashSafe {D : Type 0} (images_of : D → List ℕ → Type 0) (lef
   pub at_end : (image : List ℕ) → images_of new image → StandsIn last.state image
   pub ruly : ((image : List ℕ) → images_of old image → OpensRuly image) → (image : List ℕ) → left_of new (clock_of old) image → OpensRuly image
 
--- The bytes read are the batches of a run of the machine, from the history that the journal opened to, and the bytes written are the lines of its replies,
+-- The bytes read are the items of a run of the machine, from the history that the journal opened to, and the bytes written are what is said to them,
 -- up to what is unsaid; the content at the end opens to the last state; and the run is safe at every crash.
-pub record IsDocked {D : Type 0} (content_of : D → Option (List ℕ)) (images_of : D → List ℕ → Type 0) (left_of : D → ℕ → List ℕ → Type 0)
+pub record IsConnection {D : Type 0} (IsItem : Served → Type 0) (Closes : Ended → List Served → List ℕ → Option (List ℕ) → List ℕ → Type 0)
+    (content_of : D → Option (List ℕ)) (images_of : D → List ℕ → Type 0) (left_of : D → ℕ → List ℕ → Type 0)
     (clock_of faults_of : D → ℕ) (ended : Ended) (left left' : Option (List ℕ)) (pieces pieces' : Option (List Piece)) (old new : D) : Type 0 where
   -- the history that the journal opened to
   pub history : List Batch
@@ -74,11 +77,23 @@ pub record IsDocked {D : Type 0} (content_of : D → Option (List ℕ)) (images_
   pub unsaid : List ℕ
   pub put : List Piece
   pub turns : turns_in calls ≡ turns_of served
-  pub each : AllByRecursion IsBatch served
+  pub each : AllByRecursion IsItem served
   pub takes : Takes left (items_of served ++ rest) left'
   pub puts : Puts pieces put pieces'
   pub said : texts_of served ≡ bytes_of put ++ unsaid
   pub stamped : Stamped served (stamps_of put)
-  pub ends : Ends ended served rest left' unsaid
+  pub ends : Closes ended served rest left' unsaid
   -- what a crash leaves
   pub safe : Told (content_of old) (λ _. IsCrashSafe images_of left_of clock_of old new opening calls last served put)
+
+-- the items are batches, and what is said to each is the line of its reply
+abbrev pub IsDocked : {D : Type 0} (content_of : D → Option (List ℕ)) (images_of : D → List ℕ → Type 0) (left_of : D → ℕ → List ℕ → Type 0)
+    (clock_of faults_of : D → ℕ) (ended : Ended) (left left' : Option (List ℕ)) (pieces pieces' : Option (List Piece)) (old new : D) → Type 0
+IsDocked content_of images_of left_of clock_of faults_of ended left left' pieces pieces' old new =
+    IsConnection IsBatch EndsBatches content_of images_of left_of clock_of faults_of ended left left' pieces pieces' old new
+
+-- the items are HTTP requests, each with its answer, the last of them maybe bytes that are refused
+abbrev pub IsDrained : {D : Type 0} (content_of : D → Option (List ℕ)) (images_of : D → List ℕ → Type 0) (left_of : D → ℕ → List ℕ → Type 0)
+    (clock_of faults_of : D → ℕ) (ended : Ended) (left left' : Option (List ℕ)) (pieces pieces' : Option (List Piece)) (old new : D) → Type 0
+IsDrained content_of images_of left_of clock_of faults_of ended left left' pieces pieces' old new =
+    IsConnection HasItsAnswer EndsRequests content_of images_of left_of clock_of faults_of ended left left' pieces pieces' old new

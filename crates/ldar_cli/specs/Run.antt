@@ -17,10 +17,10 @@ use Rattle.office_book.specs.declared.opening.BookWhy.{BookWhy}
 use Rattle.office_book.specs.Opened.{IsReason}
 use Rattle.ldar_session.specs.declared.ended.Ended.{Ended}
 use Rattle.ldar_cli.specs.declared.command.Command.{Command}
-use Rattle.ldar_cli.specs.declared.command.Command.TheVariants.{Init, Dock, Show, Check}
+use Rattle.ldar_cli.specs.declared.command.Command.TheVariants.{Init, Dock, Drain, Show, Check}
 use Rattle.ldar_cli.specs.declared.status.Status.{Status}
 use Rattle.ldar_cli.specs.declared.status.Status.TheVariants.{Done, Usage, ReadFault, WriteFault, DiskFault, Memory, NotAJournal, Damaged, Unruly, CutShort, BadInput, NotEmpty, NoSuch as HasNoSuch}
-use Rattle.ldar_cli.specs.Headline.{IsDocked}
+use Rattle.ldar_cli.specs.Headline.{IsDocked, IsDrained}
 use Rattle.ldar_cli.specs.Statuses.{Said, refusal_of, status_of}
 
 -- ---- the journal
@@ -75,6 +75,7 @@ check_text history = counts_text (length history) (length (facts_of history))
 abbrev pub shown_by : Command → List Batch → Option Reply
 shown_by Init history = None
 shown_by Dock history = None
+shown_by Drain history = None
 shown_by (Show request) history = shown history request
 shown_by Check history = Some (Shown (check_text history))
 
@@ -87,9 +88,25 @@ TextEnds text _ old new = ⊥
 
 -- .. or there is none of what was asked for, and nothing is said
 abbrev pub ReplyEnds : Reply → Status → Option (List Piece) → Option (List Piece) → Type 0
+ReplyEnds (Receipt handheld number position) status old new = ⊥
+ReplyEnds (Conflict position) status old new = ⊥
+ReplyEnds (Denied fact rule) status old new = ⊥
+ReplyEnds (Full facts) status old new = ⊥
 ReplyEnds (Shown text) status old new = TextEnds text status old new
 ReplyEnds (NoSuch what) status old new = (status ≡ HasNoSuch what) × (new ≡ old)
-ReplyEnds _ status old new = ⊥
+ReplyEnds Fault status old new = ⊥
+ReplyEnds WantsMemory status old new = ⊥
+
+-- how the writing of any reply ends: that memory was wanted is told where it shows nothing
+abbrev pub PutEnds : Reply → Status → Option (List Piece) → Option (List Piece) → Type 0
+PutEnds (Receipt handheld number position) status old new = (status ≡ Memory) × (new ≡ old)
+PutEnds (Conflict position) status old new = (status ≡ Memory) × (new ≡ old)
+PutEnds (Denied fact rule) status old new = (status ≡ Memory) × (new ≡ old)
+PutEnds (Full facts) status old new = (status ≡ Memory) × (new ≡ old)
+PutEnds (Shown text) status old new = TextEnds text status old new
+PutEnds (NoSuch what) status old new = (status ≡ HasNoSuch what) × (new ≡ old)
+PutEnds Fault status old new = (status ≡ Memory) × (new ≡ old)
+PutEnds WantsMemory status old new = (status ≡ Memory) × (new ≡ old)
 
 -- the text of a history was written, and the journal left alone
 pub record IsShown {D : Type 0} (content_of : D → Option (List ℕ)) (images_of : D → List ℕ → Type 0) (left_of : D → ℕ → List ℕ → Type 0)
@@ -118,6 +135,10 @@ Ends content_of images_of left_of clock_of faults_of (Some Dock) status left lef
     (Silent left left' pieces pieces' × IsNotOpened content_of images_of left_of clock_of status old new)
     ⊎ ((ended : Ended) × (status ≡ status_of ended)
     × IsDocked content_of images_of left_of clock_of faults_of ended left left' pieces pieces' old new)
+Ends content_of images_of left_of clock_of faults_of (Some Drain) status left left' pieces pieces' old new =
+    (Silent left left' pieces pieces' × IsNotOpened content_of images_of left_of clock_of status old new)
+    ⊎ ((ended : Ended) × (status ≡ status_of ended)
+    × IsDrained content_of images_of left_of clock_of faults_of ended left left' pieces pieces' old new)
 Ends content_of images_of left_of clock_of faults_of (Some (Show request)) status left left' pieces pieces' old new =
     (Silent left left' pieces pieces' × IsNotOpened content_of images_of left_of clock_of status old new)
     ⊎ ((left' ≡ left) × IsShown content_of images_of left_of clock_of (Show request) status pieces pieces' old new)

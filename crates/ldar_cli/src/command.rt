@@ -14,6 +14,8 @@ pub enum Command {
     Init,
     /// Take batches.
     Dock,
+    /// Answer HTTP requests.
+    Drain,
     /// Show a view.
     Show(Request),
     /// Tell how many batches and facts the journal has.
@@ -54,6 +56,7 @@ fn alone(word: &str) -> Option<Command>
     match word {
         "init" => Some(Command::Init),
         "dock" => Some(Command::Dock),
+        "drain" => Some(Command::Drain),
         "check" => Some(Command::Check),
         _ => None,
     }

@@ -31,6 +31,7 @@ const HELP: &str = "usage: ldar JOURNAL COMMAND
 JOURNAL  the path of a journal, or :memory: for one that is gone with the run
 COMMAND  init                           makes an empty journal
          dock                           reads batches from standard input, and prints the reply to each
+         drain                          reads HTTP requests from standard input, and prints the response to each
          show due|tags|delays UNIT DAY  shows what is due, the leak tags, or the delays of repair
          show route UNIT DAY STOPS      shows routes with at most so many stops
          show percent UNIT QUARTER DAY  shows the percent leaking in a quarter

@@ -8,7 +8,7 @@ ghost use Rattle.ldar_cli.specs.Run.{Ends};
 ghost use Rattle.ldar_cli.specs.Statuses.{IsNoted};
 
 use crate::command::{Command, command_of};
-use crate::docking::dock;
+use crate::docking::{dock, drain};
 use crate::init::init;
 use crate::noting::note;
 use crate::showing::{check, show};
@@ -27,7 +27,7 @@ pub fn run<S: Source, D: Disk, K: Sink, E: Sink>(
     notes: &mut E,
     disk: &mut D,
 ) -> u8
-    // What the command takes, puts and leaves, by its status, which is noted. For `dock` it is the headline (IsDocked).
+    // What the command takes, puts and leaves, by its status, which is noted. For `dock` and `drain` it is the headline (`IsDocked`, `IsDrained`).
     ensures ends { (status : Status) × IsNoted status (E.pieces notes.old) (E.pieces notes.new) result
         × Ends D.content D.images D.left D.clock D.faults (command_in (map string_bytes words.now)) status
         (S.left input.old) (S.left input.new) (K.pieces output.old) (K.pieces output.new) disk.old disk.new }
@@ -77,6 +77,7 @@ fn run_over<S: Source, D: Disk, K: Sink>(
             (status, disk)
         }
         Some(Command::Dock) => dock(alloc, input, output, disk),
+        Some(Command::Drain) => drain(alloc, input, output, disk),
         Some(Command::Show(request)) => show(alloc, output, disk, &request),
         Some(Command::Check) => check(alloc, output, disk),
     }

@@ -8,7 +8,7 @@ ghost use Rattle.ldar_law.specs.declared.reply.Reply.{Reply};
 ghost use Rattle.ldar_law.specs.Shown.{shown};
 ghost use Rattle.office_views.specs.Answers.{IsView};
 ghost use Rattle.ldar_cli.specs.declared.command.Command.TheVariants as commands;
-ghost use Rattle.ldar_cli.specs.Run.{IsNotOpened, IsShown, TextEnds, ReplyEnds, check_text, counts_text};
+ghost use Rattle.ldar_cli.specs.Run.{IsNotOpened, IsShown, TextEnds, ReplyEnds, PutEnds, check_text, counts_text};
 
 use crate::status::{Status, refusal};
 use disk_model::Disk;
@@ -55,8 +55,19 @@ fn show_of<D: Disk, K: Sink>(output: &mut K, book: &mut Book<D>, request: &Reque
     ensures cause { result ≡ Status.WriteFault → Rose (K.faults output.old) (K.faults output.new) }
     ensures count { K.faults output.old ≤ K.faults output.new }
 {
-    match book.view(request) {
-        Reply::Shown(text) => put_text(output, book.disk(), text.as_bytes()),
+    let reply = book.view(request);
+    put_reply(output, book.disk(), reply)
+}
+
+/// Puts what a reply to a view shows. Where it shows nothing, and tells of nothing that there is none of, memory was wanted.
+fn put_reply<D: Disk, K: Sink>(output: &mut K, beside: &D, reply: Reply) -> Status
+    ensures ends { PutEnds reply result (K.pieces output.old) (K.pieces output.new) }
+    ensures no_fault { (result ≢ Status.ReadFault) × (result ≢ Status.DiskFault) }
+    ensures cause { result ≡ Status.WriteFault → Rose (K.faults output.old) (K.faults output.new) }
+    ensures count { K.faults output.old ≤ K.faults output.new }
+{
+    match reply {
+        Reply::Shown(text) => put_text(output, beside, text.as_bytes()),
         Reply::NoSuch(what) => Status::NoSuch(what),
         Reply::Memory
         | Reply::Fault

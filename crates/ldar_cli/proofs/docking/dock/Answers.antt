@@ -1,6 +1,8 @@
 use Rattle.std.proofs.Common.{refl, inl, inr}
+use Rattle.ldar_session.specs.Batches.{IsBatch}
+use Rattle.ldar_session.specs.Dock.{Ends}
 use Rattle.ldar_cli.proofs.EndLemmas.{not_opened, refused_fault, refused_no_read, refused_no_write, ended_read, ended_write, ended_no_disk}
-use Rattle.ldar_cli.proofs.HeadlineLemmas.{docked, docked_keeps}
+use Rattle.ldar_cli.proofs.HeadlineLemmas.{served_by, served_keeps}
 use Rattle.ldar_cli.proofs.docking.dock.Goals as goal
 
 -- the journal was opened, and the input docked
@@ -11,7 +13,7 @@ returns-in-Ok-clause-ends g c =
     inr (
       c.dock-ended.result,
       c.status_of.ensures.value,
-      docked d.content d.images d.left d.clock d.name d.faults g.met.D.Disk.only_now g.met.D.Disk.since_earlier c.args.disk c.into_disk.result c.in-Ok.book
+      served_by d.content d.images d.left d.clock d.name d.faults g.met.D.Disk.only_now g.met.D.Disk.since_earlier IsBatch Ends c.args.disk c.into_disk.result c.in-Ok.book
           c.dock-ended.new.book c.dock-ended.result (g.S.Source.left c.args.input.now) (g.S.Source.left c.dock-ended.new.input)
           (g.K.Sink.pieces c.args.output.now) (g.K.Sink.pieces c.dock-ended.new.output) talk.0 talk.1 talk.2
           c.in-Ok.ensures.opens c.in-Ok.ensures.settled c.in-Ok.ensures.ruly c.in-Ok.ensures.any_moment c.in-Ok.ensures.durable c.in-Ok.ensures.keeps
@@ -31,7 +33,7 @@ pub returns-in-Ok-clause-keeps : goal.returns-in-Ok-clause-keeps
 returns-in-Ok-clause-keeps g c =
     let d = g.D.Disk in
     let talk = c.dock-ended.ensures.talk in
-    docked_keeps d.content d.images d.left d.clock d.name d.faults g.met.D.Disk.only_now g.met.D.Disk.since_earlier c.args.disk c.into_disk.result c.in-Ok.book
+    served_keeps d.content d.images d.left d.clock d.name d.faults g.met.D.Disk.only_now g.met.D.Disk.since_earlier c.args.disk c.into_disk.result c.in-Ok.book
     c.dock-ended.new.book talk.4.calls c.in-Ok.ensures.keeps talk.4.run c.into_disk.ensures.value
 
 -- the journal was not opened
