@@ -118,8 +118,24 @@ fn tell_counts<D: Disk, K: Sink>(alloc: Global, output: &mut K, book: &Book<D>) 
     ensures count { K.faults output.old ≤ K.faults output.new }
 {
     let (batches, facts) = book.counts();
+    put_counts(alloc, output, book.disk(), batches, facts)
+}
+
+/// Puts the line of so many batches and facts.
+fn put_counts<D: Disk, K: Sink>(
+    alloc: Global,
+    output: &mut K,
+    beside: &D,
+    batches: u32,
+    facts: u64,
+) -> Status
+    ensures ends { TextEnds (counts_text batches facts) result (K.pieces output.old) (K.pieces output.new) }
+    ensures no_fault { (result ≢ Status.ReadFault) × (result ≢ Status.DiskFault) }
+    ensures cause { result ≡ Status.WriteFault → Rose (K.faults output.old) (K.faults output.new) }
+    ensures count { K.faults output.old ≤ K.faults output.new }
+{
     match counts_line(alloc, batches, facts) {
-        Ok(line) => put_text(output, book.disk(), line.as_bytes()),
+        Ok(line) => put_text(output, beside, line.as_bytes()),
         Err(_) => Status::Memory,
     }
 }
