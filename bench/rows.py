@@ -206,6 +206,25 @@ def case_of_view(case):
 '''
 
 
+REQUESTS = """// A batch over HTTP, and a view behind it.
+const REQUESTS: &str = "POST /sync HTTP/1.1\\r\\nHost: office\\r\\nContent-Length: 116\\r\\n\\r\\n\\
+    {\\"handheld\\":7,\\"number\\":12,\\"facts\\":[{\\"kind\\":\\"calibration\\",\\"day\\":\\"2024-02-20\\",\\
+    \\"minute\\":600,\\"instrument\\":1,\\"gas\\":500}]}GET /percent/1/16/2024-03-31 HTTP/1.1\\r\\nHost: office\\r\\n\\r\\n";
+
+const ANSWERS: &str = "HTTP/1.1 200 OK\\r\\nContent-Type: text/plain\\r\\nContent-Length: 15\\r\\n\\r\\nreceipt 7 12 3\\n\\
+    HTTP/1.1 200 OK\\r\\nContent-Type: text/plain\\r\\nContent-Length: 56\\r\\n\\r\\n\\
+    percent 1 16 leaking 0 monitored 0 not good not skipped\\n";
+
+#[test]
+fn requests_are_answered_in_order(rt: HostRuntime) -> Result<(), Fail> {
+    let (mut disk, _) = docked(rt.alloc(), &[])?;
+    let got = ran(rt.alloc(), &mut disk, &untroubled(&["drain"], REQUESTS.as_bytes()))?;
+    assert_eq!(rt; (got.status, got.output.as_slice()), (0, ANSWERS.as_bytes()));
+    Ok(())
+}
+"""
+
+
 def main():
     print("""// bench/rows.py writes this file.
 use crate::tests::{empty, ran, untroubled};
@@ -238,6 +257,7 @@ fn docked(alloc: Global, input: &[u8]) -> Result<(MemoryDisk, Vec<u8>), Fail> {
     Ok(())
 }
 """)
+    print(REQUESTS)
     print("#[test]\nfn a_denied_batch_is_told_its_rule(rt: HostRuntime) -> Result<(), Fail> {\n    let cases = [")
     for name, batches, said in DENIED:
         place, rule = rule_model.denial(BASE, batches[0])

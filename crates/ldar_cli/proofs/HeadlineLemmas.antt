@@ -92,7 +92,7 @@ stands_first state (call ∷ calls) image stands = inl stands
 
 -- a run ends with no fewer faults, and no earlier
 pub run_keeps : (calls : List Call) (start end : Moment) → Runs start calls end → (start.faults ≤ end.faults) × (start.clock ≤ end.clock)
-run_keeps [] start end run = run.1
+run_keeps [] start end run = (run.1, run.2)
 run_keeps (call ∷ calls) start end run =
     let count = run.0.count in
     let time = run.0.time in

@@ -1,5 +1,5 @@
 -- A run of the machine keeps its history ruly, and the batches in doubt behind it.
-use Rattle.std.proofs.Common.{◌≡◌, inl, inr, ℕ, Bool, true, false, IsTrue, Option, Some, None, List, [], ◌∷◌, ◌++◌, refl, sym, ◌∙◌, ap, subst, append_assoc}
+use Rattle.std.proofs.Common.{◌≡◌, inl, inr, ℕ, Bool, true, false, if◌then◌else◌, IsTrue, Option, Some, None, List, [], ◌∷◌, ◌++◌, refl, sym, ◌∙◌, ap, subst, append_assoc}
 use Rattle.std.proofs.lemmas.Bool.{and_parts, and_from}
 use Rattle.std.proofs.lemmas.List.{append-nil}
 use Rattle.std.specs.Option.{is_none}
@@ -50,20 +50,23 @@ added_ruly history (Route unit day stops) batch ruly is = absurd cc
 added_ruly history (Percent unit quarter day) batch ruly is = absurd cc
 added_ruly history (ReportView unit half day) batch ruly is = absurd cc
 
+-- what a turn adds, and what those behind it do, goes behind a ruly history
+turn_added_ruly : (history : List Batch) (request : Request) (turns : List Turn) (found : Option Batch) → batch_added history request ≡ found
+    → ((longer : List Batch) → IsTrue (is_ruly longer) → IsTrue (is_ruly (longer ++ batches_added longer turns))) → IsTrue (is_ruly history)
+    → IsTrue (is_ruly (history ++ (elim found [
+      | None ↦ batches_added history turns
+      | Some batch ↦ batch ∷ batches_added (history ++ batch ∷ []) turns
+    ])))
+turn_added_ruly history request turns None is others ruly = others history ruly
+turn_added_ruly history request turns (Some batch) is others ruly =
+    subst (λ (l : List Batch). IsTrue (is_ruly l)) (append_assoc history (batch ∷ []) (batches_added (history ++ batch ∷ []) turns))
+    (others (history ++ batch ∷ []) (added_ruly history request batch ruly is))
+
 -- what turns add goes behind a ruly history
 all_added_ruly : (turns : List Turn) (history : List Batch) → IsTrue (is_ruly history) → IsTrue (is_ruly (history ++ batches_added history turns))
 all_added_ruly [] history ruly = subst (λ (l : List Batch). IsTrue (is_ruly l)) (sym (append-nil history)) ruly
-all_added_ruly (turn ∷ turns) history ruly = by (batch_added history turn.request) refl
-  where
-    by : (found : Option Batch) → batch_added history turn.request ≡ found
-        → IsTrue (is_ruly (history ++ (elim found [
-          | None ↦ batches_added history turns
-          | Some batch ↦ batch ∷ batches_added (history ++ batch ∷ []) turns
-        ])))
-    by None is = all_added_ruly turns history ruly
-    by (Some batch) is =
-        subst (λ (l : List Batch). IsTrue (is_ruly l)) (append_assoc history (batch ∷ []) (batches_added (history ++ batch ∷ []) turns))
-        (all_added_ruly turns (history ++ batch ∷ []) (added_ruly history turn.request batch ruly is))
+all_added_ruly (turn ∷ turns) history ruly =
+    turn_added_ruly history turn.request turns (batch_added history turn.request) refl (λ longer holds. all_added_ruly turns longer holds) ruly
 
 -- ---- steps of the machine
 

@@ -12,6 +12,8 @@ mod journal_file;
 mod noting;
 mod number;
 mod program;
+#[cfg(test)]
+mod row_tests;
 mod showing;
 mod status;
 mod streams;

@@ -35,7 +35,7 @@ const EMPTY: [u8; 17] = *b"LDARJNL1\0\0\0\0\0\0\0\0\0";
 
 // What a run is given beside its disk. The calls of its input and output with some numbers fail.
 #[derive(Drop)]
-struct Trial<'a> {
+pub struct Trial<'a> {
     words: &'a [&'a str],
     input: &'a [u8],
     takes_that_fail: &'a [u64],
@@ -44,7 +44,7 @@ struct Trial<'a> {
 }
 
 // A run that is to go well but for its disk.
-fn untroubled<'a>(words: &'a [&'a str], input: &'a [u8]) -> Trial<'a> {
+pub fn untroubled<'a>(words: &'a [&'a str], input: &'a [u8]) -> Trial<'a> {
     Trial {
         words,
         input,
@@ -56,14 +56,14 @@ fn untroubled<'a>(words: &'a [&'a str], input: &'a [u8]) -> Trial<'a> {
 
 // How a run ended: its status, what it wrote and noted, and how often it asked for input.
 #[derive(Drop)]
-struct Outcome {
-    status: u8,
-    output: Vec<u8>,
+pub struct Outcome {
+    pub status: u8,
+    pub output: Vec<u8>,
     noted: Vec<u8>,
     takes: u64,
 }
 
-fn ran(alloc: Global, disk: &mut MemoryDisk, trial: &Trial<'_>) -> Result<Outcome, Fail> {
+pub fn ran(alloc: Global, disk: &mut MemoryDisk, trial: &Trial<'_>) -> Result<Outcome, Fail> {
     let mut words = Vec::new(alloc);
     for word in trial.words {
         words.push(String::from_str(alloc, word)?)?;
@@ -82,7 +82,7 @@ fn ran(alloc: Global, disk: &mut MemoryDisk, trial: &Trial<'_>) -> Result<Outcom
 }
 
 // A disk with an empty journal.
-fn empty(alloc: Global) -> Result<MemoryDisk, Fail> {
+pub fn empty(alloc: Global) -> Result<MemoryDisk, Fail> {
     Ok(MemoryDisk::new(alloc, &EMPTY, &[])?)
 }
 
