@@ -3,7 +3,6 @@ use Rattle.std.proofs.Common.{◌≡◌, ◌≢◌, ◌⊎◌, inl, inr, ℕ, �
 use Rattle.disk_model.specs.Told.{Told, BothTold}
 use Rattle.disk_model.proofs.ToldLemmas.{BothTold-weaker}
 use Rattle.fact_kinds.specs.declared.batch.Batch.{Batch}
-use Rattle.fact_kinds.specs.Facts.{facts_of}
 use Rattle.ldar_journal.specs.Crash.{LeavesOnly, OnDisk}
 use Rattle.ldar_journal.specs.Image.{header, batches_of, Opens, OpensTo}
 use Rattle.ldar_journal.specs.Opening.{IsOpened as HasFrames}
@@ -24,7 +23,7 @@ use Rattle.ldar_session.specs.declared.ended.Ended.TheVariants as ends
 use Rattle.ldar_cli.specs.declared.command.Command.{Command}
 use Rattle.ldar_cli.specs.declared.status.Status.{Status}
 use Rattle.ldar_cli.specs.declared.status.Status.TheVariants.{ReadFault, WriteFault, DiskFault}
-use Rattle.ldar_cli.specs.Run.{LeavesAlone, IsNotOpened, IsOpened, IsShown, TextEnds, ReplyEnds, PutEnds, shown_by, counts_text, check_text}
+use Rattle.ldar_cli.specs.Run.{LeavesAlone, IsNotOpened, IsOpened, IsShown, TextEnds, ReplyEnds, PutEnds, shown_by}
 use Rattle.ldar_cli.specs.Statuses.{refusal_of, status_of}
 use Rattle.ldar_cli.proofs.HeadlineLemmas.{opens_history, opened_stays}
 use Rattle.ldar_cli.proofs.KindLemmas.{shown_kind}
@@ -142,14 +141,3 @@ viewed_ends history request (NoSuch what) status old new viewed ends = (NoSuch w
 viewed_ends history request Fault status old new viewed ends = absurd (shown_kind history request Fault viewed)
 viewed_ends history request Memory status old new viewed ends =
     (Shown viewed.0, viewed.1, subst (λ (s : Status). TextEnds viewed.0 s old new) (sym ends.0) ends.1)
-
--- the line of a history's counts
-pub counts_end : (batches facts : ℕ) (history : List Batch) (status : Status) (old new : Option (List Piece)) → batches ≡ length history
-    → facts ≡ length (facts_of history) → TextEnds (counts_text batches facts) status old new → TextEnds (check_text history) status old new
-counts_end batches facts history status old new b f ends =
-    subst (λ (n : ℕ). TextEnds (counts_text (length history) n) status old new) f (subst (λ (n : ℕ). TextEnds (counts_text n facts) status old new) b ends)
-
--- a text that is another
-pub text_ends : (text other : List ℕ) (status : Status) (old new : Option (List Piece)) → text ≡ other → TextEnds text status old new
-    → TextEnds other status old new
-text_ends text other status old new same ends = subst (λ (t : List ℕ). TextEnds t status old new) same ends

@@ -11,7 +11,6 @@ use Rattle.ldar_law.specs.declared.reply.Reply.{Reply}
 use Rattle.ldar_law.specs.declared.reply.Reply.TheVariants.{Receipt, Conflict, Denied, Full, Shown, NoSuch, Fault, Memory as WantsMemory}
 use Rattle.ldar_law.specs.declared.request.Request.{Request}
 use Rattle.ldar_law.specs.Shown.{shown}
-use Rattle.ldar_law.specs.Texts.{end_of_line}
 use Rattle.ldar_law.specs.Verdicts.{is_ruly}
 use Rattle.office_book.specs.declared.opening.BookWhy.{BookWhy}
 use Rattle.office_book.specs.Opened.{IsReason}
@@ -66,7 +65,7 @@ pub record IsMade {D : Type 0} (content_of : D → Option (List ℕ)) (images_of
 
 -- journal B batches F facts
 abbrev pub counts_text : ℕ → ℕ → List ℕ
-counts_text batches facts = codes "journal " ++ decimal batches ++ codes " batches " ++ decimal facts ++ codes " facts" ++ end_of_line
+counts_text batches facts = codes "journal " ++ decimal batches ++ codes " batches " ++ decimal facts ++ codes " facts\n"
 
 abbrev pub check_text : List Batch → List ℕ
 check_text history = counts_text (length history) (length (facts_of history))
