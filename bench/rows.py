@@ -2,7 +2,7 @@
 """Writes crates/ldar_cli/src/row_tests.rt: batches that are docked one after the other, and the view that is shown then.
 
 What is shown was worked out by hand from the rule, and stands below; bench/rule_model.py has to say the same.
-usage: bench/rows.py >crates/ldar_cli/src/row_tests.rt
+usage: bench/rows.py >crates/ldar_cli/src/row_tests.rt, and then rt fmt in that crate
 """
 import datetime
 import struct

@@ -5,48 +5,59 @@ use std::alloc::Global;
 use std::test::Fail;
 
 // Process unit 1 with valves 1 to 4, pumps 5 to 7, relief device 8 and compressor 9, and a precision test of instrument 1.
-const BASE: [u8; 195] = *b"B\0\0\0\0\0\x01\0\x0a\x01Gd\0\0\x01\0CRUDE\0\0\0\0\0\0\0\x02Gd\0\0\0\x01\x01\x01\0\0\x01\
+const BASE: [u8; 195] =
+    *b"B\0\0\0\0\0\x01\0\x0a\x01Gd\0\0\x01\0CRUDE\0\0\0\0\0\0\0\x02Gd\0\0\0\x01\x01\x01\0\0\x01\
     \0\0\x01\x02Gd\0\0\0\x02\x01\x01\0\0\x01\0\0\x01\x02Gd\0\0\0\x03\x01\x01\0\0\x01\0\0\x01\
     \x02Gd\0\0\0\x04\x01\x01\0\0\x01\0\0\x01\x02Gd\0\0\0\x05\x01\x02\0\0\x02\0\0\x01\x02Gd\0\
     \0\0\x06\x01\x02\x01\0\x02\0\0\x01\x02Gd\0\0\0\x07\x01\x02\0\0\x03\0\0\x01\x02Gd\0\0\0\
     \x08\x01\x04\0\0\x01\0\0\x01\x02Gd\0\0\0\x09\x01\x03\0\0\x01\0\0\x01B\0\x01\0\0\0\x01\0\
     \x01\x08M\x0c\0<\0\x01\0\0\x01\xf4\0\0\x01\xf4\0\0\x01\xf4\0\0\x01\xf4";
 
-const BELOW: [u8; 120] = *b"B\0\x02\0\0\0\x01\0\x06\x07M=\x01,\0\x01\0\0\x01\xf4\x0aM=\x02X\0\x01\0\x01\0\x01\x01\0\
+const BELOW: [u8; 120] =
+    *b"B\0\x02\0\0\0\x01\0\x06\x07M=\x01,\0\x01\0\0\x01\xf4\x0aM=\x02X\0\x01\0\x01\0\x01\x01\0\
     \0\x01\xf3\0\0\0\0\x0aM=\x02X\0\x05\0\x01\0\x01\x01\0\0\x07\xcf\0\0\0\0\x0aM=\x02X\0\x06\
     \0\x01\0\x01\x01\0\0\x13\x87\0\0\0\0\x0aM=\x02X\0\x07\0\x01\0\x01\x01\0\0'\x0f\0\0\0\0\
     \x0aM=\x02X\0\x09\0\x01\0\x01\x01\0\0\x02\xbc\0\0\0\0";
 
-const AT: [u8; 100] = *b"B\0\x02\0\0\0\x01\0\x05\x07M=\x01,\0\x01\0\0\x01\xf4\x0aM=\x02X\0\x01\0\x01\0\x01\x01\0\
+const AT: [u8; 100] =
+    *b"B\0\x02\0\0\0\x01\0\x05\x07M=\x01,\0\x01\0\0\x01\xf4\x0aM=\x02X\0\x01\0\x01\0\x01\x01\0\
     \0\x01\xf4\0\0\0\0\x0aM=\x02X\0\x05\0\x01\0\x01\x01\0\0\x07\xd0\0\0\0\0\x0aM=\x02X\0\x06\
     \0\x01\0\x01\x01\0\0\x13\x88\0\0\0\0\x0aM=\x02X\0\x07\0\x01\0\x01\x01\0\0'\x10\0\0\0\0";
 
-const UNFIT: [u8; 29] = *b"B\0\x02\0\0\0\x01\0\x01\x0aM=\x02g\0\x01\0\x01\0\x01\x01\0\0\x02l\0\0\0\0";
+const UNFIT: [u8; 29] =
+    *b"B\0\x02\0\0\0\x01\0\x01\x0aM=\x02g\0\x01\0\x01\0\x01\x01\0\0\x02l\0\0\0\0";
 
-const FIT_LATER: [u8; 78] = *b"B\0\x02\0\0\0\x01\0\x01\x0aM=\x02g\0\x01\0\x01\0\x01\x01\0\0\x02l\0\0\0\0B\0\x02\0\0\0\
+const FIT_LATER: [u8; 78] =
+    *b"B\0\x02\0\0\0\x01\0\x01\x0aM=\x02g\0\x01\0\x01\0\x01\x01\0\0\x02l\0\0\0\0B\0\x02\0\0\0\
     \x02\0\x01\x0aM>\x02X\0\x02\0\x01\0\x01\x01\0\0\0\x14\0\0\0\0B\0\x02\0\0\0\x03\0\x01\x07\
     M=\x01,\0\x01\0\0\x01\xf4";
 
-const CLEAN_TWICE: [u8; 110] = *b"B\0\x02\0\0\0\x01\0\x07\x07M=\x01,\0\x01\0\0\x01\xf4\x0aM=\x02g\0\x01\0\x01\0\x01\x01\0\
+const CLEAN_TWICE: [u8; 110] =
+    *b"B\0\x02\0\0\0\x01\0\x07\x07M=\x01,\0\x01\0\0\x01\xf4\x0aM=\x02g\0\x01\0\x01\0\x01\x01\0\
     \0\x02l\0\0\0\0\x0cM?\x02X\0\x01\x01\x07ML\x01,\0\x01\0\0\x01\xf4\x0aML\x02X\0\x01\0\x01\
     \0\x01\x01\0\0\0\x14\0\0\0\0\x07Mg\x01,\0\x01\0\0\x01\xf4\x0aMg\x02X\0\x01\0\x01\0\x01\
     \x01\0\0\0\x14\0\0\0\0";
 
-const NO_SHUTDOWN: [u8; 52] = *b"B\0\x02\0\0\0\x01\0\x03\x07M=\x01,\0\x01\0\0\x01\xf4\x0aM=\x02g\0\x01\0\x01\0\x01\x01\0\
+const NO_SHUTDOWN: [u8; 52] =
+    *b"B\0\x02\0\0\0\x01\0\x03\x07M=\x01,\0\x01\0\0\x01\xf4\x0aM=\x02g\0\x01\0\x01\0\x01\x01\0\
     \0\x02l\0\0\0\0\x0dMG\x02X\0\x01\x01\0\x09M\xac";
 
-const SHUTDOWN: [u8; 69] = *b"B\0\x02\0\0\0\x01\0\x03\x07M=\x01,\0\x01\0\0\x01\xf4\x0aM=\x02g\0\x01\0\x01\0\x01\x01\0\
+const SHUTDOWN: [u8; 69] =
+    *b"B\0\x02\0\0\0\x01\0\x03\x07M=\x01,\0\x01\0\0\x01\xf4\x0aM=\x02g\0\x01\0\x01\0\x01\x01\0\
     \0\x02l\0\0\0\0\x0dMG\x02X\0\x01\x01\0\x09M\xacB\0\0\0\0\0\x02\0\x01\x06M\xa3\0\0\x01\0\
     \x0e";
 
-const PUMP_DELAYED: [u8; 75] = *b"B\0\x02\0\0\0\x01\0\x04\x08L\x90\0<\0\x01\0\0\x01\xf4\0\0\x01\xf4\0\0\x01\xf4\0\0\x01\
+const PUMP_DELAYED: [u8; 75] =
+    *b"B\0\x02\0\0\0\x01\0\x04\x08L\x90\0<\0\x01\0\0\x01\xf4\0\0\x01\xf4\0\0\x01\xf4\0\0\x01\
     \xf4\x07L\x90\x01,\0\x01\0\0\x01\xf4\x0aL\x90\x02X\0\x05\0\x01\0\x01\x01\0\0\x07\xd0\0\0\
     \0\0\x0dL\x95\x02X\0\x05\x04\0\0M=";
 
-const NO_READING: [u8; 43] = *b"B\0\0\0\0\0\x02\0\x02\x01M\x19\0\0\x02\0COKER\0\0\0\0\0\0\0\x02M\x19\0\0\0\x1e\x02\x01\0\
+const NO_READING: [u8; 43] =
+    *b"B\0\0\0\0\0\x02\0\x02\x01M\x19\0\0\x02\0COKER\0\0\0\0\0\0\0\x02M\x19\0\0\0\x1e\x02\x01\0\
     \0\x01\0\0\x01";
 
-const QUARTERLY: [u8; 268] = *b"B\0\0\0\0\0\x02\0\x02\x01M\x19\0\0\x02\0COKER\0\0\0\0\0\0\0\x02M\x19\0\0\0\x1e\x02\x01\0\
+const QUARTERLY: [u8; 268] =
+    *b"B\0\0\0\0\0\x02\0\x02\x01M\x19\0\0\x02\0COKER\0\0\0\0\0\0\0\x02M\x19\0\0\0\x1e\x02\x01\0\
     \0\x01\0\0\x01B\0\x02\0\0\0\x01\0\x0c\x08M3\0<\0\x01\0\0\x01\xf4\0\0\x01\xf4\0\0\x01\xf4\
     \0\0\x01\xf4\x07M3\x01,\0\x01\0\0\x01\xf4\x0aM3\x02X\0\x1e\0\x01\0\x01\x01\0\0\0\x0a\0\0\
     \0\0\x08MP\0<\0\x01\0\0\x01\xf4\0\0\x01\xf4\0\0\x01\xf4\0\0\x01\xf4\x07MP\x01,\0\x01\0\0\
@@ -56,7 +67,8 @@ const QUARTERLY: [u8; 268] = *b"B\0\0\0\0\0\x02\0\x02\x01M\x19\0\0\x02\0COKER\0\
     \xf4\x07M\xca\x01,\0\x01\0\0\x01\xf4\x0aM\xca\x02X\0\x1e\0\x01\0\x01\x01\0\0\0\x0a\0\0\0\
     \0";
 
-const LATE_LEAK: [u8; 331] = *b"B\0\0\0\0\0\x02\0\x02\x01M\x19\0\0\x02\0COKER\0\0\0\0\0\0\0\x02M\x19\0\0\0\x1e\x02\x01\0\
+const LATE_LEAK: [u8; 331] =
+    *b"B\0\0\0\0\0\x02\0\x02\x01M\x19\0\0\x02\0COKER\0\0\0\0\0\0\0\x02M\x19\0\0\0\x1e\x02\x01\0\
     \0\x01\0\0\x01B\0\x02\0\0\0\x01\0\x0c\x08M3\0<\0\x01\0\0\x01\xf4\0\0\x01\xf4\0\0\x01\xf4\
     \0\0\x01\xf4\x07M3\x01,\0\x01\0\0\x01\xf4\x0aM3\x02X\0\x1e\0\x01\0\x01\x01\0\0\0\x0a\0\0\
     \0\0\x08MP\0<\0\x01\0\0\x01\xf4\0\0\x01\xf4\0\0\x01\xf4\0\0\x01\xf4\x07MP\x01,\0\x01\0\0\
@@ -67,27 +79,32 @@ const LATE_LEAK: [u8; 331] = *b"B\0\0\0\0\0\x02\0\x02\x01M\x19\0\0\x02\0COKER\0\
     \0B\0\x02\0\0\0\x02\0\x03\x08My\0<\0\x01\0\0\x01\xf4\0\0\x01\xf4\0\0\x01\xf4\0\0\x01\xf4\
     \x07My\x01,\0\x01\0\0\x01\xf4\x0aMy\x02X\0\x1e\0\x01\0\x01\x01\0\0\x02\xbc\0\0\0\0";
 
-const RELEASED: [u8; 90] = *b"B\0\0\0\0\0\x02\0\x02\x01Gd\0\0\x03\0FLARE\0\0\0\0\0\0\0\x02Gd\0\0\0(\x03\x04\0\0\x01\0\
+const RELEASED: [u8; 90] =
+    *b"B\0\0\0\0\0\x02\0\x02\x01Gd\0\0\x03\0FLARE\0\0\0\0\0\0\0\x02Gd\0\0\0(\x03\x04\0\0\x01\0\
     \0\x01B\0\x02\0\0\0\x01\0\x03\x0eM=\x02X\0(\x07MA\x01,\0\x01\0\0\x01\xf4\x0aMA\x02X\0(\0\
     \x01\0\x01\x01\0\0\x02W\0\0\0d";
 
-const RELEASING: [u8; 90] = *b"B\0\0\0\0\0\x02\0\x02\x01Gd\0\0\x03\0FLARE\0\0\0\0\0\0\0\x02Gd\0\0\0(\x03\x04\0\0\x01\0\
+const RELEASING: [u8; 90] =
+    *b"B\0\0\0\0\0\x02\0\x02\x01Gd\0\0\x03\0FLARE\0\0\0\0\0\0\0\x02Gd\0\0\0(\x03\x04\0\0\x01\0\
     \0\x01B\0\x02\0\0\0\x01\0\x03\x0eM=\x02X\0(\x07MA\x01,\0\x01\0\0\x01\xf4\x0aMA\x02X\0(\0\
     \x01\0\x01\x01\0\0\x02X\0\0\0d";
 
-const SKIPPED: [u8; 135] = *b"B\0\0\0\0\0\x02\0\x01\x05M\xc1\0\0\x01\x01MgB\0\x02\0\0\0\x01\0\x06\x08M=\0<\0\x01\0\0\
+const SKIPPED: [u8; 135] =
+    *b"B\0\0\0\0\0\x02\0\x01\x05M\xc1\0\0\x01\x01MgB\0\x02\0\0\0\x01\0\x06\x08M=\0<\0\x01\0\0\
     \x01\xf4\0\0\x01\xf4\0\0\x01\xf4\0\0\x01\xf4\x07M=\x01,\0\x01\0\0\x01\xf4\x0aM=\x02X\0\
     \x01\0\x01\0\x01\x01\0\0\0\x14\0\0\0\0\x08M\x97\0<\0\x01\0\0\x01\xf4\0\0\x01\xf4\0\0\x01\
     \xf4\0\0\x01\xf4\x07M\x97\x01,\0\x01\0\0\x01\xf4\x0aM\x97\x02X\0\x01\0\x01\0\x01\x01\0\0\
     \0\x14\0\0\0\0";
 
-const NOT_SKIPPED: [u8; 135] = *b"B\0\0\0\0\0\x02\0\x01\x05M\xc1\0\0\x01\x01MgB\0\x02\0\0\0\x01\0\x06\x08M=\0<\0\x01\0\0\
+const NOT_SKIPPED: [u8; 135] =
+    *b"B\0\0\0\0\0\x02\0\x01\x05M\xc1\0\0\x01\x01MgB\0\x02\0\0\0\x01\0\x06\x08M=\0<\0\x01\0\0\
     \x01\xf4\0\0\x01\xf4\0\0\x01\xf4\0\0\x01\xf4\x07M=\x01,\0\x01\0\0\x01\xf4\x0aM=\x02X\0\
     \x01\0\x01\0\x01\x01\0\0\0\x14\0\0\0\0\x08M\x97\0<\0\x01\0\0\x01\xf4\0\0\x01\xf4\0\0\x01\
     \xf4\0\0\x01\xf4\x07M\x97\x01,\0\x01\0\0\x01\xf4\x0aM\x97\x02X\0\x01\0\x01\0\x01\x01\0\0\
     \0\x14\0\0\0\0";
 
-const LATE_REPAIR: [u8; 79] = *b"B\0\x02\0\0\0\x01\0\x05\x07M=\x01,\0\x01\0\0\x01\xf4\x0aM=\x02g\0\x01\0\x01\0\x01\x01\0\
+const LATE_REPAIR: [u8; 79] =
+    *b"B\0\x02\0\0\0\x01\0\x05\x07M=\x01,\0\x01\0\0\x01\xf4\x0aM=\x02g\0\x01\0\x01\0\x01\x01\0\
     \0\x02l\0\0\0\0\x0cM?\x02X\0\x01\x01\x07MM\x01,\0\x01\0\0\x01\xf4\x0aMM\x02X\0\x01\0\x01\
     \0\x01\x01\0\0\0\x14\0\0\0\0";
 
@@ -234,15 +251,23 @@ const REQUESTS: &str = "POST /sync HTTP/1.1\r\nHost: office\r\nContent-Length: 1
     {\"handheld\":7,\"number\":12,\"facts\":[{\"kind\":\"calibration\",\"day\":\"2024-02-20\",\
     \"minute\":600,\"instrument\":1,\"gas\":500}]}GET /percent/1/16/2024-03-31 HTTP/1.1\r\nHost: office\r\n\r\n";
 
-const ANSWERS: &str = "HTTP/1.1 200 OK\r\nContent-Type: text/plain\r\nContent-Length: 15\r\n\r\nreceipt 7 12 3\n\
+const ANSWERS: &str =
+    "HTTP/1.1 200 OK\r\nContent-Type: text/plain\r\nContent-Length: 15\r\n\r\nreceipt 7 12 3\n\
     HTTP/1.1 200 OK\r\nContent-Type: text/plain\r\nContent-Length: 56\r\n\r\n\
     percent 1 16 leaking 0 monitored 0 not good not skipped\n";
 
 #[test]
 fn requests_are_answered_in_order(rt: HostRuntime) -> Result<(), Fail> {
     let (mut disk, _) = docked(rt.alloc(), &[])?;
-    let got = ran(rt.alloc(), &mut disk, &untroubled(&["drain"], REQUESTS.as_bytes()))?;
-    assert_eq!(rt; (got.status, got.output.as_slice()), (0, ANSWERS.as_bytes()));
+    let got = ran(
+        rt.alloc(),
+        &mut disk,
+        &untroubled(&["drain"], REQUESTS.as_bytes()),
+    )?;
+    assert_eq!(rt;
+        (got.status, got.output.as_slice()),
+        (0, ANSWERS.as_bytes())
+    );
     Ok(())
 }
 
