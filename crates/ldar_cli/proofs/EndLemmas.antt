@@ -132,7 +132,8 @@ laid_down old new both =
 pub viewed_ends : (history : List Batch) (request : Request) (reply : Reply) (status : Status) (old new : Option (List Piece))
     → IsViewed history request reply → PutEnds reply status old new
     → (told : Reply) × (shown history request ≡ Some told) × ReplyEnds told status old new
-viewed_ends history request (Receipt handheld number position) status old new viewed ends = absurd (shown_kind history request (Receipt handheld number position) viewed)
+viewed_ends history request (Receipt handheld number position) status old new viewed ends =
+    absurd (shown_kind history request (Receipt handheld number position) viewed)
 viewed_ends history request (Conflict position) status old new viewed ends = absurd (shown_kind history request (Conflict position) viewed)
 viewed_ends history request (Denied fact rule) status old new viewed ends = absurd (shown_kind history request (Denied fact rule) viewed)
 viewed_ends history request (Full facts) status old new viewed ends = absurd (shown_kind history request (Full facts) viewed)

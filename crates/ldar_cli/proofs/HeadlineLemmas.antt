@@ -1,5 +1,6 @@
 -- Docking over an opened journal: the run from the history that was opened, and what a crash at any moment leaves of it.
-use Rattle.std.proofs.Common.{◌≡◌, ◌≢◌, ◌⊎◌, inl, inr, ℕ, ◌≤◌, ◌<◌, Option, Some, None, List, [], ◌∷◌, ◌++◌, length, take, drop, IsTrue, MatchOption, refl, sym, ◌∙◌, ap, subst, arith}
+use Rattle.std.proofs.Common.{◌≡◌, ◌≢◌, ◌⊎◌, inl, inr, ℕ, ◌≤◌, ◌<◌, Option, Some, None, List, []}
+use Rattle.std.proofs.Common.{◌∷◌, ◌++◌, length, take, drop, IsTrue, MatchOption, refl, sym, ◌∙◌, ap, subst, arith}
 use Rattle.std.specs.List.{AllByRecursion}
 use Rattle.std.specs.Option.{option_to_list}
 use Rattle.list_words.proofs.Members.{all_append}
@@ -169,7 +170,8 @@ module _ {D : Type 0} (content_of : D → Option (List ℕ)) (images_of : D → 
       stands.1
 
   -- a connection over an opened disk
-  served_over : (IsItem : Served → Type 0) (Closes : Ended → List Served → List ℕ → Option (List ℕ) → List ℕ → Type 0) (old : D) (start end : Shelf D) (ended : Ended) (left left' : Option (List ℕ)) (pieces pieces' : Option (List Piece))
+  served_over : (IsItem : Served → Type 0) (Closes : Ended → List Served → List ℕ → Option (List ℕ) → List ℕ → Type 0)
+      (old : D) (start end : Shelf D) (ended : Ended) (left left' : Option (List ℕ)) (pieces pieces' : Option (List Piece))
       (served : List Served) (rest unsaid : List ℕ)
       → IsOpened (content_of old) (content_of start.disk) start.frames → start.doubt ≡ [] → IsTrue (is_ruly (batches_of start.frames))
       → LeavesOnly clock_of left_of old start.disk (images_of old) → Told (content_of start.disk) (λ bytes. Only bytes (images_of start.disk))
@@ -223,7 +225,8 @@ module _ {D : Type 0} (content_of : D → Option (List ℕ)) (images_of : D → 
       → Closes ended served rest left' unsaid → new ≡ end.disk
       → OnDisk (content_of new) (images_of new) (StandsIn (state_of end))
       → IsConnection IsItem Closes content_of images_of left_of clock_of faults_of ended left left' pieces pieces' old new
-  served_by IsItem Closes old new start end ended left left' pieces pieces' served rest unsaid opened settled ruly entry only keeps takes stretch ends same stands =
+  served_by IsItem Closes old new start end ended left left' pieces pieces' served rest unsaid opened settled ruly entry only keeps takes stretch ends
+      same stands =
       subst (λ (d : D). IsConnection IsItem Closes content_of images_of left_of clock_of faults_of ended left left' pieces pieces' old d) (sym same)
       (served_over IsItem Closes old start end ended left left' pieces pieces' served rest unsaid opened settled ruly entry only keeps takes stretch ends
       (subst (λ (d : D). OnDisk (content_of d) (images_of d) (StandsIn (state_of end))) same stands))

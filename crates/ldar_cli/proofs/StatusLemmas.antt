@@ -2,7 +2,8 @@
 use Rattle.std.proofs.Common.{◌≡◌, inl, inr, ℕ, Option, List, refl, sym, ◌∙◌, arith}
 use Rattle.ldar_ports.specs.Sink.{Piece}
 use Rattle.ldar_cli.specs.declared.status.Status.{Status}
-use Rattle.ldar_cli.specs.declared.status.Status.TheVariants.{Done, Usage, ReadFault, WriteFault, DiskFault, Memory, NotAJournal, Damaged, Unruly, CutShort, BadInput, NotEmpty, NoSuch}
+use Rattle.ldar_cli.specs.declared.status.Status.TheVariants.{Done, Usage, ReadFault, WriteFault, DiskFault, Memory}
+use Rattle.ldar_cli.specs.declared.status.Status.TheVariants.{NotAJournal, Damaged, Unruly, CutShort, BadInput, NotEmpty, NoSuch}
 use Rattle.ldar_cli.specs.Statuses.{status_number, number_unnoted, IsNoted}
 
 -- 3 is the number of a fault of reading alone

@@ -18,7 +18,8 @@ use Rattle.ldar_session.specs.declared.ended.Ended.{Ended}
 use Rattle.ldar_cli.specs.declared.command.Command.{Command}
 use Rattle.ldar_cli.specs.declared.command.Command.TheVariants.{Init, Dock, Drain, Show, Check}
 use Rattle.ldar_cli.specs.declared.status.Status.{Status}
-use Rattle.ldar_cli.specs.declared.status.Status.TheVariants.{Done, Usage, ReadFault, WriteFault, DiskFault, Memory, NotAJournal, Damaged, Unruly, CutShort, BadInput, NotEmpty, NoSuch as HasNoSuch}
+use Rattle.ldar_cli.specs.declared.status.Status.TheVariants.{Done, Usage, ReadFault, WriteFault, DiskFault, Memory}
+use Rattle.ldar_cli.specs.declared.status.Status.TheVariants.{NotAJournal, Damaged, Unruly, CutShort, BadInput, NotEmpty, NoSuch as HasNoSuch}
 use Rattle.ldar_cli.specs.Headline.{IsDocked, IsDrained}
 use Rattle.ldar_cli.specs.Statuses.{Said, refusal_of, status_of}
 

@@ -10,7 +10,8 @@ use Rattle.office_book.specs.declared.opening.BookWhy.TheVariants as reasons
 use Rattle.ldar_session.specs.declared.ended.Ended.{Ended}
 use Rattle.ldar_session.specs.declared.ended.Ended.TheVariants as ends
 use Rattle.ldar_cli.specs.declared.status.Status.{Status}
-use Rattle.ldar_cli.specs.declared.status.Status.TheVariants.{Done, Usage, ReadFault, WriteFault, DiskFault, Memory, NotAJournal, Damaged, Unruly, CutShort, BadInput, NotEmpty, NoSuch}
+use Rattle.ldar_cli.specs.declared.status.Status.TheVariants.{Done, Usage, ReadFault, WriteFault, DiskFault, Memory}
+use Rattle.ldar_cli.specs.declared.status.Status.TheVariants.{NotAJournal, Damaged, Unruly, CutShort, BadInput, NotEmpty, NoSuch}
 
 -- the number of a status
 abbrev pub status_number : Status → ℕ
