@@ -1,5 +1,5 @@
 -- How a command ends, carried over: to the words that are the command, and from a reference to a disk to the disk.
-use Rattle.std.proofs.Common.{◌≡◌, ◌⊎◌, inl, inr, ℕ, ◌<◌, Option, Some, None, List, length, ap, subst}
+use Rattle.std.proofs.Common.{◌≡◌, ◌⊎◌, inl, inr, ℕ, ◌<◌, Option, Some, None, List, length, ap, sym, subst}
 use Rattle.disk_model.proofs.ToldLemmas.{Told-weaker}
 use Rattle.ldar_ports.specs.Sink.{Piece}
 use Rattle.ldar_journal.specs.Crash.{LeavesOnly}
@@ -121,7 +121,7 @@ module _ {A D : Type 0} (f : A → D) (content_of : D → Option (List ℕ)) (im
   }
 
   -- each command
-  pub ends_along : (command : Option Command) (status : Status) (left left' : Option (List ℕ)) (pieces pieces' : Option (List Piece)) (old new : A)
+  ends_along : (command : Option Command) (status : Status) (left left' : Option (List ℕ)) (pieces pieces' : Option (List Piece)) (old new : A)
       → Ends (λ (a : A). content_of (f a)) (λ (a : A). images_of (f a)) (λ (a : A). left_of (f a)) (λ (a : A). clock_of (f a)) (λ (a : A). faults_of (f a))
       command status left left' pieces pieces' old new
       → Ends content_of images_of left_of clock_of faults_of command status left left' pieces pieces' (f old) (f new)
@@ -143,3 +143,13 @@ module _ {A D : Type 0} (f : A → D) (content_of : D → Option (List ℕ)) (im
     | inl shut ↦ inl (shut.0, shut_along status old new shut.1)
     | inr shown ↦ inr (shown.0, shown_along Check status pieces pieces' old new shown.1)
   ]
+
+  -- .. for a disk that is what the reference then refers to
+  pub ends_at : (command : Option Command) (status : Status) (left left' : Option (List ℕ)) (pieces pieces' : Option (List Piece)) (old new : A) (now : D)
+      → now ≡ f new
+      → Ends (λ (a : A). content_of (f a)) (λ (a : A). images_of (f a)) (λ (a : A). left_of (f a)) (λ (a : A). clock_of (f a)) (λ (a : A). faults_of (f a))
+      command status left left' pieces pieces' old new
+      → Ends content_of images_of left_of clock_of faults_of command status left left' pieces pieces' (f old) now
+  ends_at command status left left' pieces pieces' old new now same ends =
+      subst (λ (d : D). Ends content_of images_of left_of clock_of faults_of command status left left' pieces pieces' (f old) d) (sym same)
+      (ends_along command status left left' pieces pieces' old new ends)

@@ -44,7 +44,8 @@ pub fn run<S: Source, D: Disk, K: Sink, E: Sink>(
     ensures read_count { S.faults input.old ≤ S.faults input.new }
     ensures write_count { K.faults output.old ≤ K.faults output.new }
     ensures note_count { E.faults notes.old ≤ E.faults notes.new }
-    ensures keeps { Keeps D.clock D.name D.faults disk.old disk.new }
+    ensures disk_count { D.faults disk.old ≤ D.faults disk.new }
+    ensures time { D.clock disk.old ≤ D.clock disk.new }
 {
     let (status, beside) = run_over(alloc, words, input, output, disk);
     note(notes, &beside, status)
