@@ -1,6 +1,6 @@
 -- How commands end: what was not opened, what was shown, and which statuses tell which faults.
-use Rattle.std.proofs.Common.{◌≡◌, ◌≢◌, ◌⊎◌, inl, inr, ℕ, ◌<◌, Option, Some, None, List, [], ◌∷◌, ◌++◌, length, IsTrue, refl, sym, ◌∙◌, ap, subst}
-use Rattle.disk_model.specs.Told.{Told, BothTold}
+use Rattle.std.proofs.Common.{◌≡◌, ◌≢◌, ℕ, Option, Some, List, [], ◌∷◌, ◌++◌, IsTrue, refl, sym, ◌∙◌, subst}
+use Rattle.disk_model.specs.Told.{BothTold}
 use Rattle.disk_model.proofs.ToldLemmas.{BothTold-weaker}
 use Rattle.fact_kinds.specs.declared.batch.Batch.{Batch}
 use Rattle.ldar_journal.specs.Crash.{LeavesOnly, OnDisk}
@@ -23,7 +23,7 @@ use Rattle.ldar_session.specs.declared.ended.Ended.TheVariants as ends
 use Rattle.ldar_cli.specs.declared.command.Command.{Command}
 use Rattle.ldar_cli.specs.declared.status.Status.{Status}
 use Rattle.ldar_cli.specs.declared.status.Status.TheVariants.{ReadFault, WriteFault, DiskFault}
-use Rattle.ldar_cli.specs.Run.{LeavesAlone, IsNotOpened, IsOpened, IsShown, TextEnds, ReplyEnds, PutEnds, shown_by}
+use Rattle.ldar_cli.specs.Run.{LeavesAlone, IsNotOpened, IsShown, TextEnds, ReplyEnds, PutEnds, shown_by}
 use Rattle.ldar_cli.specs.Statuses.{refusal_of, status_of}
 use Rattle.ldar_cli.proofs.HeadlineLemmas.{opens_history, opened_stays}
 use Rattle.ldar_cli.proofs.KindLemmas.{shown_kind}

@@ -1,5 +1,5 @@
 -- Docking over an opened journal: the run from the history that was opened, and what a crash at any moment leaves of it.
-use Rattle.std.proofs.Common.{◌≡◌, ◌≢◌, ◌⊎◌, inl, inr, ℕ, ◌≤◌, ◌<◌, Option, Some, None, List, []}
+use Rattle.std.proofs.Common.{◌≡◌, ◌⊎◌, inl, inr, ℕ, ◌≤◌, Option, Some, None, List, []}
 use Rattle.std.proofs.Common.{◌∷◌, ◌++◌, length, take, drop, IsTrue, MatchOption, refl, sym, ◌∙◌, ap, subst, arith}
 use Rattle.std.specs.List.{AllByRecursion}
 use Rattle.std.specs.Option.{option_to_list}
@@ -19,13 +19,12 @@ use Rattle.ldar_law.specs.Machine.{State, Moment, Call, Turn, Runs}
 use Rattle.ldar_law.specs.Verdicts.{is_ruly}
 use Rattle.office_book.specs.Receipts.{AreReceiptsKept, IsReceiptKept}
 use Rattle.office_book.specs.Safe.{StandsIn, StandsInRun, IsSafe, Leads, state_of, moment_of}
-use Rattle.office_book.specs.Serving.{certain}
 use Rattle.office_book.proofs.ReceiptLemmas.{receipts_are_behind}
 use Rattle.ldar_session.specs.Served.{Served, Stretch, HasItsClock, Stamped, items_of, turns_in, turns_of}
 use Rattle.ldar_session.specs.declared.ended.Ended.{Ended}
 use Rattle.ldar_session.proofs.RunLemmas.{runs_have_clocks}
 use Rattle.ldar_session.proofs.StampLemmas.{all_parts}
-use Rattle.ldar_cli.specs.Headline.{OpensRuly, AreLinesKept, IsCrashSafe, IsConnection}
+use Rattle.ldar_cli.specs.Headline.{AreLinesKept, IsCrashSafe, IsConnection}
 use Rattle.ldar_cli.proofs.RulyLemmas.{run_ruly, is_ruly_state}
 
 -- ---- receipts, and the lines that say them

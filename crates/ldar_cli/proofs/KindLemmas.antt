@@ -1,5 +1,5 @@
 -- What is shown of a history is a text, or what there is none of.
-use Rattle.std.proofs.Common.{◌≡◌, ℕ, Bool, true, false, nat_eq, if◌then◌else◌, Option, Some, None, List, refl, subst}
+use Rattle.std.proofs.Common.{◌≡◌, Bool, true, false, nat_eq, if◌then◌else◌, Option, Some, None, List, subst}
 use Rattle.fact_kinds.specs.declared.batch.Batch.{Batch}
 use Rattle.fact_kinds.specs.Facts.{Entry, facts_to}
 use Rattle.ldar_law.specs.declared.reply.Reply.{Reply}
@@ -10,7 +10,7 @@ use Rattle.ldar_law.specs.declared.request.What.TheVariants.{Unit as NoUnit}
 use Rattle.ldar_law.specs.declared.unit_entry.UnitEntry.{UnitEntry}
 use Rattle.ldar_law.specs.Equipment.{unit_entry_of}
 use Rattle.ldar_law.specs.Reports.{has_quarter_begun, has_half_begun}
-use Rattle.ldar_law.specs.Shown.{shown, view_of, view_day, of_unit, due_view, tags_view, delays_view, route_view, percent_view, report_view}
+use Rattle.ldar_law.specs.Shown.{shown, view_of, view_day, due_view, tags_view, delays_view, route_view, percent_view, report_view}
 
 -- the reply shows a text, or tells what there is none of
 abbrev pub IsKind : Reply → Type 0

@@ -1,12 +1,12 @@
 -- A view asked of an office with nothing in doubt is answered as its history has it, or memory was wanting for a text.
-use Rattle.std.proofs.Common.{◌≡◌, ◌≢◌, ◌⊎◌, inl, inr, ℕ, Option, Some, None, List, [], ◌∷◌, map, refl, sym, ◌∙◌, ap, subst}
+use Rattle.std.proofs.Common.{◌≡◌, inl, inr, ℕ, Some, None, List, [], ◌∷◌, map, refl, sym, ◌∙◌, ap, subst}
 use Rattle.fact_kinds.specs.declared.batch.Batch.{Batch}
 use Rattle.ldar_law.specs.declared.reply.Reply.{Reply}
 use Rattle.ldar_law.specs.declared.reply.Reply.TheVariants.{Receipt, Conflict, Denied, Full, Shown, NoSuch, Fault, Memory}
 use Rattle.ldar_law.specs.declared.request.Request.{Request}
 use Rattle.ldar_law.specs.declared.request.Request.TheVariants.{Sync, Due, Tags, Delays, Route, Percent, Report as ReportView}
 use Rattle.ldar_law.specs.Machine.{State, Moment, Call, Turn, Finding, not_asked, they_stand, they_are_gone, Answers, settled, CanBeFound}
-use Rattle.ldar_law.specs.Machine.{batch_added, TakesMemory, IsAnswered, IsWanting, BreaksOff, Step, Steps, Runs, GroupStep}
+use Rattle.ldar_law.specs.Machine.{batch_added, TakesMemory, IsAnswered, IsWanting, BreaksOff, Step, Steps, Runs}
 use Rattle.ldar_law.specs.Shown.{shown}
 use Rattle.office_book.specs.Asking.{requests_of, replies_of}
 use Rattle.office_views.specs.Answers.{IsView}

@@ -9,7 +9,6 @@ use Rattle.ldar_journal.specs.Crash.{LeavesOnly, OnDisk}
 use Rattle.ldar_journal.specs.Image.{Opens}
 use Rattle.ldar_law.specs.declared.reply.Reply.{Reply}
 use Rattle.ldar_law.specs.declared.reply.Reply.TheVariants.{Receipt, Conflict, Denied, Full, Shown, NoSuch, Fault, Memory as WantsMemory}
-use Rattle.ldar_law.specs.declared.request.Request.{Request}
 use Rattle.ldar_law.specs.Shown.{shown}
 use Rattle.ldar_law.specs.Verdicts.{is_ruly}
 use Rattle.office_book.specs.declared.opening.BookWhy.{BookWhy}
@@ -18,8 +17,8 @@ use Rattle.ldar_session.specs.declared.ended.Ended.{Ended}
 use Rattle.ldar_cli.specs.declared.command.Command.{Command}
 use Rattle.ldar_cli.specs.declared.command.Command.TheVariants.{Init, Dock, Drain, Show, Check}
 use Rattle.ldar_cli.specs.declared.status.Status.{Status}
-use Rattle.ldar_cli.specs.declared.status.Status.TheVariants.{Done, Usage, ReadFault, WriteFault, DiskFault, Memory}
-use Rattle.ldar_cli.specs.declared.status.Status.TheVariants.{NotAJournal, Damaged, Unruly, CutShort, BadInput, NotEmpty, NoSuch as HasNoSuch}
+use Rattle.ldar_cli.specs.declared.status.Status.TheVariants.{Done, Usage, WriteFault, DiskFault, Memory}
+use Rattle.ldar_cli.specs.declared.status.Status.TheVariants.{NotEmpty, NoSuch as HasNoSuch}
 use Rattle.ldar_cli.specs.Headline.{IsDocked, IsDrained}
 use Rattle.ldar_cli.specs.Statuses.{Said, refusal_of, status_of}
 

@@ -2,7 +2,6 @@
 use Rattle.std.specs.Prelude.{◌≡◌, ◌⊎◌, ℕ, List, [], ◌++◌, Option, Result, OnOk, codes}
 use Rattle.std.specs.Fmt.{decimal}
 use Rattle.ldar_ports.specs.Sink.{Piece, Puts, bytes_of}
-use Rattle.ldar_law.specs.declared.request.What.{What}
 use Rattle.ldar_law.specs.Replies.{what_text}
 use Rattle.ldar_law.specs.Texts.{end_of_line}
 use Rattle.office_book.specs.declared.opening.BookWhy.{BookWhy}

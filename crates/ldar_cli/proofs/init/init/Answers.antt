@@ -1,4 +1,3 @@
-use Rattle.std.proofs.Common.{refl, inl, inr}
 use Rattle.ldar_cli.proofs.EndLemmas.{images_none, laid_down}
 use Rattle.ldar_cli.proofs.init.init.Goals as goal
 

@@ -1,4 +1,4 @@
-use Rattle.std.proofs.Common.{refl, inl, inr, ap, ◌∙◌, subst, sym}
+use Rattle.std.proofs.Common.{refl, inl, inr, ap, ◌∙◌}
 use Rattle.ldar_cli.specs.declared.command.Command.TheVariants.{Show}
 use Rattle.ldar_cli.proofs.EndLemmas.{not_opened, is_shown, refused_fault, refused_no_read, refused_no_write}
 use Rattle.ldar_cli.proofs.showing.show.Goals as goal
