@@ -66,15 +66,17 @@ def order_of_calls():
 
 
 def calls_of(words, given):
-    """Each system call of a run behind the program's start: its name, which of that name it is, and the status that its failing
-    is to have, if it is one of the program's own on the journal, its folder, or a stream."""
-    counts, found = {}, []
+    """Each system call of a run behind the program's start: its name, which of that name it is, and how the run may end where it
+    fails, if it is one of the program's own on the journal, its folder, or a stream. What fails once the input was read is answered."""
+    is_docking, counts, found = False, {}, []
     for name, file, path in re.findall(r"(?m)^\d+ +(\w+)\((?:(\d+)<([^>]*)>)?", traced([PROGRAM, *words], given, "all")):
         counts[name] = counts.get(name, 0) + 1
         is_disk = name in ("flock", "pread64", "pwrite64", "fsync") and ".so" not in path
-        status = 5 if is_disk else 3 if (name, file) == ("read", "0") else 4 if (name, file) == ("write", "1") else None
+        is_docking = is_docking or (name, file) == ("read", "0")
+        of_disk = (0, b"disk fault\n") if is_docking else (5, b"")
+        wanted = of_disk if is_disk else (3, b"") if (name, file) == ("read", "0") else (4, b"") if (name, file) == ("write", "1") else None
         if name not in ("execve", "exit_group"):
-            found.append((name, counts[name], status))
+            found.append((name, counts[name], wanted))
     return found
 
 
@@ -92,11 +94,11 @@ def each_call(run_name, words, given, wrong_with):
     for what in FAULTS:
         wrong = []
         for name, number, wanted in calls:
-            status, why = wrong_with(name, number, what)
+            got, why = wrong_with(name, number, what)
             if why:
                 wrong.append(f"{name} {number}: {why}")
-            elif wanted is not None and what != "signal=KILL" and status != wanted:
-                wrong.append(f"{name} {number}: status {status}, not {wanted}")
+            elif wanted is not None and what != "signal=KILL" and got != wanted:
+                wrong.append(f"{name} {number}: {got}, not {wanted}")
         case(f"{run_name} with {what} at each of {len(calls)} calls", wrong, [])
 
 
@@ -107,17 +109,17 @@ def each_call_of_init():
 
 
 def wrong_init(name, number, what):
-    """The status of an init with this fault, and what is wrong behind it, if something is."""
+    """How an init ended with this fault, and what is wrong behind it, if something is."""
     if os.path.exists("unit.journal"):
         os.remove("unit.journal")
     status, text = with_fault(name, number, what, ["unit.journal", "init"], b"")
     left = held("unit.journal") if os.path.exists("unit.journal") else b""
     if status == 0 and left != EMPTY or text or left not in (b"", EMPTY):
-        return status, f"status {status} left {left!r}"
+        return (status, text), f"status {status} left {left!r}"
     again = ldar("unit.journal", "init")[0]
     if again != (9 if left else 0):
-        return status, f"init again answers {again}"
-    return status, None if docked("unit.journal", 1) == (0, receipted(1)) else "no batch is docked"
+        return (status, text), f"init again answers {again}"
+    return (status, text), None if docked("unit.journal", 1) == (0, receipted(1)) else "no batch is docked"
 
 
 def each_call_of_a_dock():
@@ -130,22 +132,23 @@ def each_call_of_a_dock():
 
 
 def wrong_dock(docks, name, number, what):
-    """The status of the dock of a batch with this fault, and what is wrong behind it, if something is."""
+    """How the dock of a batch ended with this fault, and what is wrong behind it, if something is."""
     shutil.copy("base.journal", "unit.journal")
     status, text = with_fault(name, number, what, ["unit.journal", "dock"], batch(docks))
-    return status, wrong_behind(status, text, docks)
+    return (status, text), wrong_behind(status, text, docks)
 
 
 def wrong_behind(status, text, docks=2):
     """What is wrong behind a dock into a journal with batch 1, if something is."""
-    if status == 0 and text != receipted(docks) or text not in (b"", receipted(docks)):
+    told = [receipted(docks), b"disk fault\n"]
+    if status == 0 and text not in told or text not in [b"", *told]:
         return f"status {status} with {text!r}"
     size = os.path.getsize("unit.journal")
     if docked("unit.journal", 1) != (0, receipted(1)):
         return "batch 1 is lost"
     if docked("unit.journal", 2) != (0, receipted(2)):
         return "batch 2 is not docked"
-    if text and docks == 2 and os.path.getsize("unit.journal") != size:
+    if text == receipted(2) and docks == 2 and os.path.getsize("unit.journal") != size:
         return "batch 2 was receipted and lost"
     return None
 
@@ -186,7 +189,8 @@ def one_byte_at_a_time():
 
 
 def each_piece_of_memory():
-    """Each piece of memory that a run asks for is refused in turn: the status is 6, and nothing receipted is lost."""
+    """Each piece of memory that a run asks for is refused in turn: the status is 6, or that is answered to the batch, and nothing
+    receipted is lost."""
     library = shim()
     if not library:
         return
@@ -204,7 +208,7 @@ def each_piece_of_memory():
             shutil.copy("base.journal", "unit.journal")
             got, _ = refusing(library, number, words, given)
             ends.add(got[0])
-            if got[0] != 6 and got != plain or got[0] == 6 and got[1]:
+            if got not in (plain, (6, b""), (0, b"memory\n")):
                 wrong.append((number, got))
             if docked("unit.journal", 1) != (0, receipted(1)) or docked("unit.journal", 2)[0] != 0:
                 wrong.append((number, "the journal does not open"))

@@ -25,6 +25,9 @@ at one file, a sync behind another, a file that may not be written). These are s
 - each system call of an init and of a dock failing, and the program killed at each
 - signals, transfers of one byte, each piece of memory refused, and the bytes that are written again behind a failed sync"""
 
+# Process unit 2 from 2024-01-15, with valve 30 in gas service.
+VALVE = bytes.fromhex("42 0000 00000002 0002 01 4d19 0000 02 00 434f4b4552 00000000000000 02 4d19 0000 001e 02 01 00 00 01 00 00 01")
+
 AS_NOBODY = {"user": NOBODY, "group": NOBODY, "extra_groups": []} if IS_ROOT else {}
 
 
@@ -33,7 +36,8 @@ def streams():
     case("standard output closed", run('"$LDAR" unit.journal dock >&-', batch(1))[0], 4)
     case("its batch stands", docked("unit.journal", 1), (0, receipted(1)))
     case("standard input closed", run('"$LDAR" unit.journal dock <&-')[0], 3)
-    case("all streams closed", run('"$LDAR" unit.journal dock <&- >&- 2>&-')[0], 3)
+    case("standard input and output closed", run('"$LDAR" unit.journal dock <&- >&-')[0], 3)
+    case("all streams closed, so that nothing can be noted", run('"$LDAR" unit.journal dock <&- >&- 2>&-')[0], 4)
     case("standard error closed", run('"$LDAR" unit.journal dock 2>&-', batch(1)), (0, receipted(1)))
     case("a folder as standard input", run('"$LDAR" unit.journal dock </')[0], 3)
     case("a full standard output", run('"$LDAR" unit.journal dock >/dev/full', batch(2))[0], 4)
@@ -169,7 +173,7 @@ def read_only(what, path, kept, **who):
     case(f"a journal {what}, opened", ldar(path, "dock", **who), (0, b""))
     case("a batch that is kept", docked(path, 1, **who), (0, receipted(1)))
     case("another batch with its number", ldar(path, "dock", given=batch(1, limit=501), **who), (0, b"conflict 1\n"))
-    case("a new batch", docked(path, 2, **who), (5, b""))
+    case("a new batch", docked(path, 2, **who), (0, b"disk fault\n"))
     case("init", ldar(path, "init", **who), (9, b""))
     case("no byte has changed", held(path) == kept, True)
 
@@ -180,6 +184,47 @@ def mounted(*words):
         return True
     pass_over("nothing can be mounted here: a file system that is full, or that may not be written, was not tried")
     return False
+
+
+def views():
+    """What is shown of a journal, and what there is none of; nothing of it changes."""
+    made("unit.journal", 1)
+    kept = held("unit.journal")
+    case("the counts", ldar("unit.journal", "check"), (0, b"journal 1 batches 1 facts\n"))
+    case("a unit that was not entered", noted("unit.journal", "show", "due", "2", "2024-02-20"), (11, b"", b"no such unit\n"))
+    case("no byte has changed", held("unit.journal") == kept, True)
+    case("a unit with a valve", ldar("unit.journal", "dock", given=VALVE), (0, b"receipt 0 2 2\n"))
+    due = b"due 2 2024-02-20\n30 monthly 2024-02-29 open\nend 1\n"
+    case("what is due", ldar("unit.journal", "show", "due", "2", "2024-02-20"), (0, due))
+    case("the same over HTTP", ldar("unit.journal", "drain", given=b"GET /due/2/2024-02-20 HTTP/1.1\r\nHost: office\r\n\r\n"), (0, answered(due)))
+    case("a full output", run('"$LDAR" unit.journal show due 2 2024-02-20 >/dev/full')[0], 4)
+    case("a day that is none", noted("unit.journal", "show", "due", "2", "2024-02-30"), (2, b"", b"usage: ldar JOURNAL COMMAND\n"))
+
+
+def answered(body):
+    """The response with this text."""
+    return b"HTTP/1.1 200 OK\r\nContent-Type: text/plain\r\nContent-Length: %d\r\n\r\n" % len(body) + body
+
+
+def notes():
+    """What is noted on the standard error."""
+    made("unit.journal", 1)
+    case("a cut input", noted("unit.journal", "dock", given=batch(2)[:19]), (8, b"", b"input cut: 19 bytes left\n"))
+    case("a wrong byte behind a batch", noted("unit.journal", "dock", given=batch(1) + b"C"), (8, receipted(1), b"bad input at 20\n"))
+    case("a journal that stands", noted("unit.journal", "init"), (9, b"", b"not empty\n"))
+    with open("short", "wb") as file:
+        file.write(b"LDARJ")
+    case("what is no journal", noted("short", "check"), (7, b"", b"not a journal\n"))
+    with open("damaged.journal", "wb") as file:
+        file.write(held("unit.journal").replace(b"B", b"C"))
+    case("a damaged journal", noted("damaged.journal", "check"), (7, b"", b"damaged journal at 16\n"))
+    case("no journal", noted("missing/unit.journal", "init"), (5, b"", b"disk fault\n"))
+
+
+def noted(*words, given=b""):
+    """The status of a run, what it printed and what it noted."""
+    done = subprocess.run([PROGRAM, *words], input=given, capture_output=True)
+    return done.returncode, done.stdout, done.stderr
 
 
 def words():
@@ -200,10 +245,10 @@ def full_disk():
     kept = 0
     while True:
         status, line = run('ulimit -f 1; "$LDAR" small.journal dock', batch(kept + 1))
-        if status != 0:
+        if line != receipted(kept + 1):
             break
         kept += 1
-    case("a file at its size limit", (status, line), (5, b""))
+    case("a file at its size limit", (status, line), (0, b"disk fault\n"))
     case("what was receipted stands", docked("small.journal", kept), (0, receipted(kept)))
     case("with room again", docked("small.journal", kept + 1), (0, receipted(kept + 1)))
     os.mkdir("small")
@@ -211,9 +256,10 @@ def full_disk():
         return
     try:
         made("small/unit.journal")
-        ends = [docked("small/unit.journal", number)[0] for number in range(1, 400)]
-        kept = ends.index(5)
-        case("a full file system", sorted(set(ends)), [0, 5])
+        ends = [docked("small/unit.journal", number) for number in range(1, 400)]
+        kept = ends.index((0, b"disk fault\n"))
+        case("a full file system", sorted(set(ends[kept:])), [(0, b"disk fault\n")])
+        case("before it was full", ends[:kept], [(0, receipted(number)) for number in range(1, kept + 1)])
         case("what was receipted stands", docked("small/unit.journal", kept), (0, receipted(kept)))
     finally:
         subprocess.run(["umount", "small"])
@@ -285,7 +331,7 @@ def bare_root():
 
 def with_closed(name):
     made("bare/unit.journal")
-    for number, (closed, wanted) in enumerate([([1], 4), ([1, 2], 4), ([0, 1], 3), ([0, 1, 2], 3), ([0], 3), ([2], 0), ([], 0)], 1):
+    for number, (closed, wanted) in enumerate([([1], 4), ([1, 2], 4), ([0, 1], 3), ([0, 1, 2], 4), ([0], 3), ([2], 0), ([], 0)], 1):
         status, text = in_bare(closed, "unit.journal", "dock", given=batch(number))
         case(f"{name}, {closed} closed", (status, text), (wanted, b"" if wanted else receipted(number, os.path.getsize("bare/unit.journal") // 25)))
         case("the journal opens", (held("bare/unit.journal")[:16] == HEADER, ldar("bare/unit.journal", "dock")), (True, (0, b"")))
@@ -316,7 +362,7 @@ def main():
     print(ONLY_HERE)
     with tempfile.TemporaryDirectory() as folder:
         os.chmod(folder, 0o755)
-        parts = [streams, not_blocking, two_programs, paths, reading_alone, words, full_disk, full_journal, bare_root]
+        parts = [streams, not_blocking, two_programs, paths, reading_alone, views, notes, words, full_disk, full_journal, bare_root]
         for part in [*parts, *fault_cases.PARTS]:
             os.chdir(tempfile.mkdtemp(dir=folder))
             os.chmod(".", 0o755)

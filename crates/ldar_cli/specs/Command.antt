@@ -1,10 +1,89 @@
 -- The words that are commands.
-use Rattle.std.specs.Prelude.{ℕ, nat_eq, Option, Some, None, List, [], ◌∷◌, codes, if◌then◌else◌}
+use Rattle.std.specs.Prelude.{ℕ, nat_eq, Bool, Option, Some, None, List, [], ◌∷◌, codes, option_map, if◌then◌else◌}
 use Rattle.std.specs.Cmp.Lexicographic.{pointwise}
+use Rattle.ldar_days.specs.Texts.{day_of}
+use Rattle.ldar_law.specs.declared.request.Request.{Request}
+use Rattle.ldar_law.specs.declared.request.Request.TheVariants.{Due, Tags, Delays, Route, Percent, Report}
+use Rattle.handheld_http.specs.Requests.{decimal_in}
+use Rattle.office_views.specs.Answers.{IsView}
 use Rattle.ldar_cli.specs.declared.command.Command.{Command}
-use Rattle.ldar_cli.specs.declared.command.Command.TheVariants.{Init, Dock}
+use Rattle.ldar_cli.specs.declared.command.Command.TheVariants.{Init, Dock, Drain, Show, Check}
+
+-- a command that shows something shows a view
+abbrev pub ShowsView : Command → Type 0
+ShowsView Init = Unit {0}
+ShowsView Dock = Unit {0}
+ShowsView Drain = Unit {0}
+ShowsView (Show request) = IsView request
+ShowsView Check = Unit {0}
+
+-- a word is just this text
+abbrev pub is_word : List ℕ → List ℕ → Bool
+is_word word text = pointwise nat_eq word text
+
+-- the command of one word
+abbrev pub alone : List ℕ → Option Command
+alone word =
+    if is_word word (codes "init") then Some Init
+    else if is_word word (codes "dock") then Some Dock
+    else if is_word word (codes "drain") then Some Drain
+    else if is_word word (codes "check") then Some Check
+    else None
+
+-- a view of a process unit on a day, by its name
+abbrev pub view_named : List ℕ → ℕ → ℕ → Option Request
+view_named name unit day =
+    if is_word name (codes "due") then Some (Due unit day)
+    else if is_word name (codes "tags") then Some (Tags unit day)
+    else if is_word name (codes "delays") then Some (Delays unit day)
+    else None
+
+-- the view that a name, UNIT and DAY are
+unfoldable pub view_on : List ℕ → List ℕ → List ℕ → Option Request
+view_on name unit day = elim (decimal_in 255 unit) [
+  | None ↦ None
+  | Some unit ↦ elim (day_of day) [ None ↦ None | Some day ↦ view_named name unit day ]
+]
+
+-- the route that UNIT, DAY and STOPS are
+unfoldable pub route_on : List ℕ → List ℕ → List ℕ → Option Request
+route_on unit day stops = elim (decimal_in 255 unit) [
+  | None ↦ None
+  | Some unit ↦ elim (day_of day) [
+    | None ↦ None
+    | Some day ↦ elim (decimal_in 65_535 stops) [ None ↦ None | Some stops ↦ Some (Route unit day stops) ]
+  ]
+]
+
+-- a view of a quarter or a half, by its name
+abbrev pub numbered_view : List ℕ → ℕ → ℕ → ℕ → Option Request
+numbered_view name unit number day =
+    if is_word name (codes "percent") then Some (Percent unit number day)
+    else if is_word name (codes "report") then Some (Report unit number day)
+    else None
+
+-- the view that a name, UNIT, QUARTER or HALF, and DAY are
+unfoldable pub view_of_number : List ℕ → List ℕ → List ℕ → List ℕ → Option Request
+view_of_number name unit number day = elim (decimal_in 255 unit) [
+  | None ↦ None
+  | Some unit ↦ elim (decimal_in 65_535 number) [
+    | None ↦ None
+    | Some number ↦ elim (day_of day) [ None ↦ None | Some day ↦ numbered_view name unit number day ]
+  ]
+]
+
+-- the view that four words behind `show` are
+abbrev pub view_of_four : List ℕ → List ℕ → List ℕ → List ℕ → Option Request
+view_of_four name unit second third =
+    if is_word name (codes "route") then route_on unit second third else view_of_number name unit second third
+
+-- the command that shows a view
+abbrev pub showing : List ℕ → Option Request → Option Command
+showing word view = if is_word word (codes "show") then option_map Show view else None
 
 -- the command that words are, if they are in the command set
 abbrev pub command_in : List (List ℕ) → Option Command
-command_in (word ∷ []) = if pointwise nat_eq word (codes "init") then Some Init else (if pointwise nat_eq word (codes "dock") then Some Dock else None)
+command_in (word ∷ []) = alone word
+command_in (word ∷ name ∷ unit ∷ day ∷ []) = showing word (view_on name unit day)
+command_in (word ∷ name ∷ unit ∷ second ∷ third ∷ []) = showing word (view_of_four name unit second third)
 command_in _ = None

@@ -1,4 +1,4 @@
-pub mod Carried
 pub mod Command
-pub mod Dock
+pub mod Headline
 pub mod Run
+pub mod Statuses

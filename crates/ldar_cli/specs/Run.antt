@@ -1,33 +1,49 @@
--- What a run of the program does to its source, its sink and its disk.
-use Rattle.std.specs.Prelude.{◌≡◌, ℕ, ◌<◌, ◌≤◌, ◌⊎◌, Option, Some, None, List, [], ◌∷◌, ◌++◌, length}
-use Rattle.ldar_facts.specs.declared.laws.TheConstants.{LONGEST_BATCH}
-use Rattle.disk_model.specs.Told.{BothTold}
-use Rattle.ldar_ports.specs.Source.{HasEnded}
+-- What a run of the program does to its source, its sink and its disk, for each command.
+use Rattle.std.specs.Prelude.{◌≡◌, ◌<◌, ◌≤◌, ◌⊎◌, ℕ, Option, Some, None, List, [], ◌++◌, length, codes, IsTrue}
+use Rattle.std.specs.Fmt.{decimal}
+use Rattle.disk_model.specs.Told.{Told, BothTold}
 use Rattle.fact_kinds.specs.declared.batch.Batch.{Batch}
-use Rattle.ldar_facts.specs.Grammar.{Spells}
+use Rattle.fact_kinds.specs.Facts.{facts_of}
+use Rattle.ldar_ports.specs.Sink.{Piece}
+use Rattle.ldar_journal.specs.Crash.{LeavesOnly, OnDisk}
 use Rattle.ldar_journal.specs.Image.{Opens}
-use Rattle.ldar_journal.specs.Shelf.{OpensEither}
+use Rattle.ldar_law.specs.declared.reply.Reply.{Reply}
+use Rattle.ldar_law.specs.declared.reply.Reply.TheVariants.{Receipt, Conflict, Denied, Full, Shown, NoSuch, Fault, Memory as WantsMemory}
+use Rattle.ldar_law.specs.Shown.{shown}
+use Rattle.ldar_law.specs.Verdicts.{is_ruly}
+use Rattle.office_book.specs.declared.opening.BookWhy.{BookWhy}
+use Rattle.office_book.specs.Opened.{IsReason}
+use Rattle.ldar_session.specs.declared.ended.Ended.{Ended}
 use Rattle.ldar_cli.specs.declared.command.Command.{Command}
-use Rattle.ldar_cli.specs.declared.command.Command.TheVariants.{Init, Dock}
+use Rattle.ldar_cli.specs.declared.command.Command.TheVariants.{Init, Dock, Drain, Show, Check}
 use Rattle.ldar_cli.specs.declared.status.Status.{Status}
-use Rattle.ldar_cli.specs.declared.status.Status.TheVariants.{Done, Usage, ReadFault, WriteFault, DiskFault, Memory, NoJournal, BadInput, NotEmpty}
-use Rattle.ldar_cli.specs.Dock.{IsDue, Answered, IsBadInput}
+use Rattle.ldar_cli.specs.declared.status.Status.TheVariants.{Done, Usage, WriteFault, DiskFault, Memory}
+use Rattle.ldar_cli.specs.declared.status.Status.TheVariants.{NotEmpty, NoSuch as HasNoSuch}
+use Rattle.ldar_cli.specs.Headline.{IsDocked, IsDrained}
+use Rattle.ldar_cli.specs.Statuses.{Said, refusal_of, status_of}
 
--- the number of a status
-abbrev pub status_number : Status → ℕ
-status_number Done = 0
-status_number Usage = 2
-status_number ReadFault = 3
-status_number WriteFault = 4
-status_number DiskFault = 5
-status_number Memory = 6
-status_number NoJournal = 7
-status_number BadInput = 8
-status_number NotEmpty = 9
+-- ---- the journal
 
--- the content of a disk is as it was
-abbrev pub Same : Option (List ℕ) → Option (List ℕ) → Type 0
-Same old new = BothTold old new (λ old new. new ≡ old)
+-- the content is as it was, and each image left is one that a crash could have left at entry
+pub record LeavesAlone {D : Type 0} (content_of : D → Option (List ℕ)) (images_of : D → List ℕ → Type 0) (left_of : D → ℕ → List ℕ → Type 0)
+    (clock_of : D → ℕ) (old new : D) : Type 0 where
+  pub unchanged : BothTold (content_of old) (content_of new) (λ old new. new ≡ old)
+  pub leaves : LeavesOnly clock_of left_of old new (images_of old)
+
+-- the journal was not opened, for a reason that its bytes give where they are told, and was left alone
+pub record IsNotOpened {D : Type 0} (content_of : D → Option (List ℕ)) (images_of : D → List ℕ → Type 0) (left_of : D → ℕ → List ℕ → Type 0)
+    (clock_of : D → ℕ) (status : Status) (old new : D) : Type 0 where
+  pub why : BookWhy
+  pub tells : status ≡ refusal_of why
+  pub reason : IsReason (content_of old) why
+  pub alone : LeavesAlone content_of images_of left_of clock_of old new
+
+-- the bytes opened to this history, which is ruly
+pub record IsOpened (content : Option (List ℕ)) (history : List Batch) : Type 0 where
+  pub opens : Told content (λ bytes. Opens bytes history)
+  pub ruly : IsTrue (is_ruly history)
+
+-- ---- init
 
 -- how the making of a journal ends: made where the disk was empty, refused exactly where it was not; after a fault of the disk it is as
 -- it was, or it was empty and holds no more than the bytes of the empty journal
@@ -37,32 +53,94 @@ InitEnds DiskFault old new = BothTold old new (λ old new. (new ≡ old) ⊎ ((o
 InitEnds NotEmpty old new = BothTold old new (λ old new. (0 < length old) × (new ≡ old))
 InitEnds _ old new = ⊥
 
--- How the docking of some input ends, by what was taken and put.
--- Done: the input was taken to its end, and the line of the reply was written whole.
--- A read fault, want of memory, no journal, bad input: nothing was written, and the content stays; it opens to no history exactly
--- where there is no journal, and the input is neither empty nor one batch exactly where it is bad.
--- A write fault: the line was written in part.
--- A disk fault: nothing was written. It came before the input was touched, and the content stays; or while a batch was added that is new
--- and fits, and the content opens to the history with it or without.
-abbrev pub DockEnds : Status → List ℕ → Option (List ℕ) → List ℕ → Option (List ℕ) → Option (List ℕ) → Type 0
-DockEnds Done taken left put old new =
-    HasEnded left × BothTold old new (λ old new. (history : List Batch) × (after : List Batch) × Opens old history × Opens new after × Answered taken history put after)
-DockEnds ReadFault taken left put old new = (put ≡ []) × BothTold old new (λ old new. (new ≡ old) × (history : List Batch) × Opens old history)
-DockEnds WriteFault taken left put old new =
-    HasEnded left × BothTold old new (λ old new. (history : List Batch) × (after : List Batch) × (unsaid : List ℕ)
-    × Opens old history × Opens new after × Answered taken history (put ++ unsaid) after)
-DockEnds DiskFault taken left put old new =
-    (put ≡ []) × BothTold old new (λ old new. ((taken ≡ []) × (new ≡ old)) ⊎ ((history : List Batch) × (batch : Batch)
-    × Opens old history × Spells taken batch × IsDue history batch × OpensEither new history (batch ∷ [])))
-DockEnds Memory taken left put old new = (put ≡ []) × Same old new
-DockEnds NoJournal taken left put old new = (taken ≡ []) × (put ≡ []) × BothTold old new (λ old new. (new ≡ old) × ((history : List Batch) → ¬ (Opens old history)))
-DockEnds BadInput taken left put old new =
-    (put ≡ []) × BothTold old new (λ old new. (new ≡ old) × (history : List Batch) × Opens old history)
-    × ((HasEnded left × IsBadInput taken) ⊎ (LONGEST_BATCH < length taken))
-DockEnds _ taken left put old new = ⊥
+-- where it was made, a crash leaves an empty journal; where bytes stood already, only what it could have left at entry
+pub record IsMade {D : Type 0} (content_of : D → Option (List ℕ)) (images_of : D → List ℕ → Type 0) (left_of : D → ℕ → List ℕ → Type 0)
+    (clock_of : D → ℕ) (status : Status) (old new : D) : Type 0 where
+  pub ends : InitEnds status (content_of old) (content_of new)
+  pub images : status ≡ Done → OnDisk (content_of new) (images_of new) (λ image. Opens image [])
+  pub refused : status ≡ NotEmpty → LeavesOnly clock_of left_of old new (images_of old)
+  pub others : Told (content_of old) (λ bytes. 0 < length bytes → LeavesOnly clock_of left_of old new (images_of old))
+
+-- ---- one text of a history
+
+-- journal B batches F facts
+abbrev pub counts_text : ℕ → ℕ → List ℕ
+counts_text batches facts = codes "journal " ++ decimal batches ++ codes " batches " ++ decimal facts ++ codes " facts\n"
+
+abbrev pub check_text : List Batch → List ℕ
+check_text history = counts_text (length history) (length (facts_of history))
+
+-- what a command shows of a history
+abbrev pub shown_by : Command → List Batch → Option Reply
+shown_by Init history = None
+shown_by Dock history = None
+shown_by Drain history = None
+shown_by (Show request) history = shown history request
+shown_by Check history = Some (Shown (check_text history))
+
+-- how the writing of a text ends: it is said whole, or a write failed and a front of it is said, or memory was wanting and nothing is said
+abbrev pub TextEnds : List ℕ → Status → Option (List Piece) → Option (List Piece) → Type 0
+TextEnds text Done old new = Said text old new []
+TextEnds text WriteFault old new = (unsaid : List ℕ) × Said text old new unsaid
+TextEnds text Memory old new = new ≡ old
+TextEnds text _ old new = ⊥
+
+-- .. or there is none of what was asked for, and nothing is said
+abbrev pub ReplyEnds : Reply → Status → Option (List Piece) → Option (List Piece) → Type 0
+ReplyEnds (Receipt handheld number position) status old new = ⊥
+ReplyEnds (Conflict position) status old new = ⊥
+ReplyEnds (Denied fact rule) status old new = ⊥
+ReplyEnds (Full facts) status old new = ⊥
+ReplyEnds (Shown text) status old new = TextEnds text status old new
+ReplyEnds (NoSuch what) status old new = (status ≡ HasNoSuch what) × (new ≡ old)
+ReplyEnds Fault status old new = ⊥
+ReplyEnds WantsMemory status old new = ⊥
+
+-- how the writing of any reply ends: that memory was wanted is told where it shows nothing
+abbrev pub PutEnds : Reply → Status → Option (List Piece) → Option (List Piece) → Type 0
+PutEnds (Receipt handheld number position) status old new = (status ≡ Memory) × (new ≡ old)
+PutEnds (Conflict position) status old new = (status ≡ Memory) × (new ≡ old)
+PutEnds (Denied fact rule) status old new = (status ≡ Memory) × (new ≡ old)
+PutEnds (Full facts) status old new = (status ≡ Memory) × (new ≡ old)
+PutEnds (Shown text) status old new = TextEnds text status old new
+PutEnds (NoSuch what) status old new = (status ≡ HasNoSuch what) × (new ≡ old)
+PutEnds Fault status old new = (status ≡ Memory) × (new ≡ old)
+PutEnds WantsMemory status old new = (status ≡ Memory) × (new ≡ old)
+
+-- the text of a history was written, and the journal left alone
+pub record IsShown {D : Type 0} (content_of : D → Option (List ℕ)) (images_of : D → List ℕ → Type 0) (left_of : D → ℕ → List ℕ → Type 0)
+    (clock_of : D → ℕ) (command : Command) (status : Status) (pieces pieces' : Option (List Piece)) (old new : D) : Type 0 where
+  pub history : List Batch
+  pub opened : IsOpened (content_of old) history
+  pub reply : Reply
+  pub is : shown_by command history ≡ Some reply
+  pub ends : ReplyEnds reply status pieces pieces'
+  pub alone : LeavesAlone content_of images_of left_of clock_of old new
+
+-- ---- each command
+
+-- nothing was taken, and nothing put
+abbrev pub Silent : Option (List ℕ) → Option (List ℕ) → Option (List Piece) → Option (List Piece) → Type 0
+Silent left left' pieces pieces' = (left' ≡ left) × (pieces' ≡ pieces)
 
 -- How a command ends: what it takes, puts and leaves. Nothing is touched where the words are no command.
-abbrev pub Ends : Option Command → Status → List ℕ → Option (List ℕ) → List ℕ → Option (List ℕ) → Option (List ℕ) → Type 0
-Ends None status taken left put old new = (status ≡ Usage) × (taken ≡ []) × (put ≡ []) × (new ≡ old)
-Ends (Some Init) status taken left put old new = (taken ≡ []) × (put ≡ []) × InitEnds status old new
-Ends (Some Dock) status taken left put old new = DockEnds status taken left put old new
+abbrev pub Ends : {D : Type 0} (content_of : D → Option (List ℕ)) (images_of : D → List ℕ → Type 0) (left_of : D → ℕ → List ℕ → Type 0)
+    (clock_of faults_of : D → ℕ) → Option Command → Status → (left left' : Option (List ℕ)) (pieces pieces' : Option (List Piece)) (old new : D) → Type 0
+Ends content_of images_of left_of clock_of faults_of None status left left' pieces pieces' old new =
+    (status ≡ Usage) × Silent left left' pieces pieces' × (new ≡ old)
+Ends content_of images_of left_of clock_of faults_of (Some Init) status left left' pieces pieces' old new =
+    Silent left left' pieces pieces' × IsMade content_of images_of left_of clock_of status old new
+Ends content_of images_of left_of clock_of faults_of (Some Dock) status left left' pieces pieces' old new =
+    (Silent left left' pieces pieces' × IsNotOpened content_of images_of left_of clock_of status old new)
+    ⊎ ((ended : Ended) × (status ≡ status_of ended)
+    × IsDocked content_of images_of left_of clock_of faults_of ended left left' pieces pieces' old new)
+Ends content_of images_of left_of clock_of faults_of (Some Drain) status left left' pieces pieces' old new =
+    (Silent left left' pieces pieces' × IsNotOpened content_of images_of left_of clock_of status old new)
+    ⊎ ((ended : Ended) × (status ≡ status_of ended)
+    × IsDrained content_of images_of left_of clock_of faults_of ended left left' pieces pieces' old new)
+Ends content_of images_of left_of clock_of faults_of (Some (Show request)) status left left' pieces pieces' old new =
+    (Silent left left' pieces pieces' × IsNotOpened content_of images_of left_of clock_of status old new)
+    ⊎ ((left' ≡ left) × IsShown content_of images_of left_of clock_of (Show request) status pieces pieces' old new)
+Ends content_of images_of left_of clock_of faults_of (Some Check) status left left' pieces pieces' old new =
+    (Silent left left' pieces pieces' × IsNotOpened content_of images_of left_of clock_of status old new)
+    ⊎ ((left' ≡ left) × IsShown content_of images_of left_of clock_of Check status pieces pieces' old new)

@@ -1,32 +1,155 @@
-ghost use Rattle.std.specs.Prelude.{◌≡◌, [], ◌∷◌, map};
+ghost use Rattle.std.specs.Prelude.{◌≡◌, map, IfSome};
 ghost use Rattle.std.specs.String.{string_bytes};
-ghost use Rattle.ldar_cli.specs.Command.{command_in};
+ghost use Rattle.office_views.specs.Answers.{IsView};
+ghost use Rattle.ldar_cli.specs.Command as spec;
+
+use crate::number::number_in;
+use ldar_days::Day;
+use ldar_law::Request;
 
 /// What the words ask for.
-#[derive(Clone, Copy, Debug, PartialEq, Eq)]
+#[derive(Drop)]
 pub enum Command {
     /// Make an empty journal.
     Init,
-    /// Take a batch.
+    /// Take batches.
     Dock,
+    /// Answer HTTP requests.
+    Drain,
+    /// Show a view.
+    Show(Request),
+    /// Tell how many batches and facts the journal has.
+    Check,
 }
 
 /// The command that the words are, if they are one.
 pub fn command_of(words: &[String]) -> Option<Command>
-    ensures value { result ≡ command_in (map string_bytes words.now) }
+    ensures value { result ≡ spec.command_in (map string_bytes words.now) }
+    ensures view { IfSome result spec.ShowsView }
 {
     match words {
-        [word] => named(word.as_str()),
+        [word] => alone(word.as_str()),
+        [word, name, unit, day] => {
+            showing(
+                word.as_str(),
+                view_on(name.as_str(), unit.as_str(), day.as_str()),
+            )
+        }
+        [word, name, unit, second, third] => showing(
+            word.as_str(),
+            view_of_four(
+                name.as_str(),
+                unit.as_str(),
+                second.as_str(),
+                third.as_str(),
+            ),
+        ),
         _ => None,
     }
 }
 
-fn named(word: &str) -> Option<Command>
-    ensures value { result ≡ command_in (word.now ∷ []) }
+/// The command of one word.
+fn alone(word: &str) -> Option<Command>
+    ensures value { result ≡ spec.alone word.now }
+    ensures view { IfSome result spec.ShowsView }
 {
     match word {
         "init" => Some(Command::Init),
         "dock" => Some(Command::Dock),
+        "drain" => Some(Command::Drain),
+        "check" => Some(Command::Check),
+        _ => None,
+    }
+}
+
+/// The command that shows a view, if this is its word.
+fn showing(word: &str, view: Option<Request>) -> Option<Command>
+    requires { IfSome view IsView }
+    ensures value { result ≡ spec.showing word.now view }
+    ensures view { IfSome result spec.ShowsView }
+{
+    if word != "show" {
+        return None;
+    }
+    match view {
+        Some(request) => Some(Command::Show(request)),
+        None => None,
+    }
+}
+
+/// The view that a name, UNIT and DAY are.
+#[tactic(auto, unfolding(crate::specs::Command::view_on))]
+fn view_on(name: &str, unit: &str, day: &str) -> Option<Request>
+    ensures value { result ≡ spec.view_on name.now unit.now day.now }
+    ensures view { IfSome result IsView }
+{
+    let unit = number_in(255, unit)?;
+    let day = Day::read(day.as_bytes())?;
+    view_named(name, unit, day)
+}
+
+fn view_named(name: &str, unit: u16, day: Day) -> Option<Request>
+    ensures value { result ≡ spec.view_named name.now unit day }
+    ensures view { IfSome result IsView }
+{
+    match name {
+        "due" => Some(Request::Due { unit, day }),
+        "tags" => Some(Request::Tags { unit, day }),
+        "delays" => Some(Request::Delays { unit, day }),
+        _ => None,
+    }
+}
+
+/// The view that four words behind `show` are.
+fn view_of_four(name: &str, unit: &str, second: &str, third: &str) -> Option<Request>
+    ensures value { result ≡ spec.view_of_four name.now unit.now second.now third.now }
+    ensures view { IfSome result IsView }
+{
+    if name == "route" {
+        return route_on(unit, second, third);
+    }
+    view_of_number(name, unit, second, third)
+}
+
+/// The route that UNIT, DAY and STOPS are.
+#[tactic(auto, unfolding(crate::specs::Command::route_on))]
+fn route_on(unit: &str, day: &str, stops: &str) -> Option<Request>
+    ensures value { result ≡ spec.route_on unit.now day.now stops.now }
+    ensures view { IfSome result IsView }
+{
+    let unit = number_in(255, unit)?;
+    let day = Day::read(day.as_bytes())?;
+    let stops = number_in(65_535, stops)?;
+    Some(Request::Route { unit, day, stops })
+}
+
+/// The view that a name, UNIT, QUARTER or HALF, and DAY are.
+#[tactic(auto, unfolding(crate::specs::Command::view_of_number))]
+fn view_of_number(name: &str, unit: &str, number: &str, day: &str) -> Option<Request>
+    ensures value { result ≡ spec.view_of_number name.now unit.now number.now day.now }
+    ensures view { IfSome result IsView }
+{
+    let unit = number_in(255, unit)?;
+    let number = number_in(65_535, number)?;
+    let day = Day::read(day.as_bytes())?;
+    numbered_view(name, unit, number, day)
+}
+
+fn numbered_view(name: &str, unit: u16, number: u16, day: Day) -> Option<Request>
+    ensures value { result ≡ spec.numbered_view name.now unit number day }
+    ensures view { IfSome result IsView }
+{
+    match name {
+        "percent" => Some(Request::Percent {
+            unit,
+            quarter: number,
+            day,
+        }),
+        "report" => Some(Request::Report {
+            unit,
+            half: number,
+            day,
+        }),
         _ => None,
     }
 }

@@ -1,6 +1,7 @@
-ghost use Rattle.std.specs.Prelude.{◌≡◌, ◌≤◌};
+ghost use Rattle.std.specs.Prelude.{◌≡◌, ◌⊎◌};
 ghost use Rattle.disk_model.specs.Faults.{Rose};
-ghost use Rattle.ldar_cli.specs.Run.{InitEnds};
+ghost use Rattle.disk_model.specs.Keeps.{Keeps};
+ghost use Rattle.ldar_cli.specs.Run.{IsMade};
 
 use crate::status::Status;
 use disk_model::Disk;
@@ -8,10 +9,10 @@ use ldar_journal::{CreateError, create};
 
 /// Makes an empty journal.
 pub fn init<D: Disk>(disk: &mut D) -> Status
-    ensures ends { InitEnds result (D.content disk.old) (D.content disk.new) }
+    ensures made { IsMade D.content D.images D.left D.clock result disk.old disk.new }
+    ensures only { (result ≡ Status.Done) ⊎ ((result ≡ Status.NotEmpty) ⊎ (result ≡ Status.DiskFault)) }
     ensures cause { result ≡ Status.DiskFault → Rose (D.faults disk.old) (D.faults disk.new) }
-    ensures never_falls { D.faults disk.old ≤ D.faults disk.new }
-    ensures name { D.name disk.new ≡ D.name disk.old }
+    ensures keeps { Keeps D.clock D.name D.faults disk.old disk.new }
 {
     match create(disk) {
         Ok(()) => Status::Done,

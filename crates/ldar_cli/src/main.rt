@@ -8,10 +8,13 @@ mod file_disk;
 mod file_tests;
 mod held;
 mod init;
-mod input;
 mod journal_file;
+mod noting;
+mod number;
 mod program;
-mod reply;
+#[cfg(test)]
+mod row_tests;
+mod showing;
 mod status;
 mod streams;
 #[cfg(test)]
@@ -28,8 +31,14 @@ pub use streams::{StdSink, StdSource};
 const HELP: &str = "usage: ldar JOURNAL COMMAND
 
 JOURNAL  the path of a journal, or :memory: for one that is gone with the run
-COMMAND  init   makes an empty journal
-         dock   reads a batch from standard input, and prints its receipt
+COMMAND  init                           makes an empty journal
+         dock                           reads batches from standard input, and prints the reply to each
+         drain                          reads HTTP requests from standard input, and prints the response to each
+         show due|tags|delays UNIT DAY  shows what is due, the leak tags, or the delays of repair
+         show route UNIT DAY STOPS      shows routes with at most so many stops
+         show percent UNIT QUARTER DAY  shows the percent leaking in a quarter
+         show report UNIT HALF DAY      shows the report of a half year
+         check                          prints how many batches and facts the journal has
 ";
 
 const VERSION: &str = "ldar 0.1.0\n";
@@ -49,7 +58,7 @@ fn main(rt: HostRuntime) -> ExitCode {
 fn answer(rt: &HostRuntime) -> u8 {
     let args = match env::args(rt) {
         Ok(args) => args,
-        Err(error) => return unread(error.kind()).number(),
+        Err(error) => return unread(rt, error.kind()),
     };
     let mut words: Vec<String> = Vec::new(rt.alloc());
     for word in args {
@@ -60,11 +69,11 @@ fn answer(rt: &HostRuntime) -> u8 {
     office(rt, &words)
 }
 
-/// How a command ends whose words could not be read: for want of memory, or since one is no text.
-fn unread(kind: io::ErrorKind) -> Status {
+/// Answers words that could not be read: for want of memory, or since one is no text and so no command.
+fn unread(rt: &HostRuntime, kind: io::ErrorKind) -> u8 {
     match kind {
-        io::ErrorKind::OutOfMemory => Status::Memory,
-        _ => Status::Usage,
+        io::ErrorKind::OutOfMemory => Status::Memory.number(),
+        _ => in_memory(rt, &[]),
     }
 }
 

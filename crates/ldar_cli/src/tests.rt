@@ -35,32 +35,35 @@ const EMPTY: [u8; 17] = *b"LDARJNL1\0\0\0\0\0\0\0\0\0";
 
 // What a run is given beside its disk. The calls of its input and output with some numbers fail.
 #[derive(Drop)]
-struct Trial<'a> {
+pub struct Trial<'a> {
     words: &'a [&'a str],
     input: &'a [u8],
     takes_that_fail: &'a [u64],
     puts_that_fail: &'a [u64],
+    notes_that_fail: &'a [u64],
 }
 
 // A run that is to go well but for its disk.
-fn untroubled<'a>(words: &'a [&'a str], input: &'a [u8]) -> Trial<'a> {
+pub fn untroubled<'a>(words: &'a [&'a str], input: &'a [u8]) -> Trial<'a> {
     Trial {
         words,
         input,
         takes_that_fail: &[],
         puts_that_fail: &[],
+        notes_that_fail: &[],
     }
 }
 
-// How a run ended: its status, what it wrote, and how often it asked for input.
+// How a run ended: its status, what it wrote and noted, and how often it asked for input.
 #[derive(Drop)]
-struct Outcome {
-    status: u8,
-    output: Vec<u8>,
+pub struct Outcome {
+    pub status: u8,
+    pub output: Vec<u8>,
+    noted: Vec<u8>,
     takes: u64,
 }
 
-fn ran(alloc: Global, disk: &mut MemoryDisk, trial: &Trial<'_>) -> Result<Outcome, Fail> {
+pub fn ran(alloc: Global, disk: &mut MemoryDisk, trial: &Trial<'_>) -> Result<Outcome, Fail> {
     let mut words = Vec::new(alloc);
     for word in trial.words {
         words.push(String::from_str(alloc, word)?)?;
@@ -68,17 +71,18 @@ fn ran(alloc: Global, disk: &mut MemoryDisk, trial: &Trial<'_>) -> Result<Outcom
     let pieces = vec![in alloc; Vec::from_slice(alloc, trial.input)?]?;
     let mut source = ListSource::new(alloc, &pieces, trial.takes_that_fail)?;
     let mut output = StampedSink::new(alloc, trial.puts_that_fail)?;
-    let mut notes = StampedSink::new(alloc, &[])?;
+    let mut notes = StampedSink::new(alloc, trial.notes_that_fail)?;
     let status = run(alloc, &words, &mut source, &mut output, &mut notes, disk);
     Ok(Outcome {
         status,
         output: output.bytes(alloc)?,
+        noted: notes.bytes(alloc)?,
         takes: source.calls(),
     })
 }
 
 // A disk with an empty journal.
-fn empty(alloc: Global) -> Result<MemoryDisk, Fail> {
+pub fn empty(alloc: Global) -> Result<MemoryDisk, Fail> {
     Ok(MemoryDisk::new(alloc, &EMPTY, &[])?)
 }
 
@@ -105,6 +109,13 @@ fn a_batch_is_docked_once(rt: HostRuntime) -> Result<(), Fail> {
         ("dock", OTHER.as_slice(), 0, "conflict 1\n", 42),
         ("dock", NEXT.as_slice(), 0, "receipt 7 13 2\n", 67),
         ("dock", BATCH.as_slice(), 0, "receipt 7 12 1\n", 67),
+        (
+            "check",
+            BATCH.as_slice(),
+            0,
+            "journal 2 batches 2 facts\n",
+            67,
+        ),
     ];
     for (word, input, status, line, length) in cases {
         let got = ran(rt.alloc(), &mut disk, &untroubled(&[word], input))?;
@@ -139,132 +150,189 @@ fn words_outside_the_command_set_touch_nothing(rt: HostRuntime) -> Result<(), Fa
         &["DOCK"],
         &[""],
         &["--help"],
+        &["show"],
+        &["show", "due", "1"],
+        &["show", "due", "256", "2024-02-28"],
+        &["show", "due", "01", "2024-02-28"],
+        &["show", "due", "1", "2024-02-30"],
+        &["show", "due", "1", "8", "2024-02-28"],
+        &["show", "percent", "1", "2024-02-28"],
+        &["show", "percent", "1", "65536", "2024-02-28"],
+        &["show", "percent", "1", "2024-02-28", "16"],
+        &["show", "route", "1", "16", "2024-02-28"],
+        &["shown", "due", "1", "2024-02-28"],
     ];
     for words in cases {
         let mut disk = empty(rt.alloc())?;
         let got = ran(rt.alloc(), &mut disk, &untroubled(words, &BATCH))?;
         assert_eq!(rt; (got.status, got.takes, disk.calls()), (2, 0, 0));
         assert!(rt; got.output.is_empty());
+        assert_eq!(rt;
+            got.noted.as_slice(),
+            b"usage: ldar JOURNAL COMMAND\n".as_slice()
+        );
     }
     Ok(())
 }
 
 #[test]
-fn an_input_that_is_no_batch_is_refused(rt: HostRuntime) -> Result<(), Fail> {
+fn an_input_is_docked_up_to_where_it_is_no_batch(rt: HostRuntime) -> Result<(), Fail> {
     let mut twice = Vec::from_slice(rt.alloc(), &BATCH)?;
     twice.extend_from_slice(&BATCH)?;
-    let mut long = Vec::from_slice(rt.alloc(), &BATCH)?;
-    long.resize(11_786, 0)?;
-    let cases = [&BATCH[..19], &twice, &long, b"no batch"];
-    for input in cases {
+    let mut wrong = Vec::from_slice(rt.alloc(), &BATCH)?;
+    wrong.push(67)?;
+    let cases = [
+        (&BATCH[..19], 8, "", "input cut: 19 bytes left\n"),
+        (&twice, 0, "receipt 7 12 1\nreceipt 7 12 1\n", ""),
+        (&wrong, 8, "receipt 7 12 1\n", "bad input at 20\n"),
+        (b"no batch", 8, "", "bad input at 0\n"),
+    ];
+    for (input, status, output, noted) in cases {
         let mut disk = empty(rt.alloc())?;
         let got = ran(rt.alloc(), &mut disk, &untroubled(&["dock"], input))?;
-        assert_eq!(rt; got.status, 8);
-        assert!(rt; got.output.is_empty());
-        assert_eq!(rt; disk.bytes(), EMPTY.as_slice());
+        assert_eq!(rt; got.status, status);
+        assert_eq!(rt; got.output.as_slice(), output.as_bytes());
+        assert_eq!(rt; got.noted.as_slice(), noted.as_bytes());
     }
     Ok(())
 }
 
 #[test]
-fn what_is_no_journal_is_not_docked_into(rt: HostRuntime) -> Result<(), Fail> {
-    // The bytes of the file, the status, and what is written to the output.
-    let mut wrong = image(rt.alloc(), &[])?;
-    if let Some(byte) = wrong.get_mut(7) {
-        *byte = 50;
+fn what_is_no_journal_is_noted_and_left_alone(rt: HostRuntime) -> Result<(), Fail> {
+    let mut damaged = image(rt.alloc(), &[])?;
+    if let Some(byte) = damaged.get_mut(21) {
+        *byte = 67;
     }
-    let mut cut = image(rt.alloc(), &[])?;
-    cut.truncate(30);
     let mut without_gate = image(rt.alloc(), &[])?;
     without_gate.truncate(41);
     let whole = image(rt.alloc(), &[])?;
     let followed = image(rt.alloc(), b"what a crash left")?;
     let cases = [
-        (b"LDARJ".as_slice(), 7, ""),
-        (&wrong, 7, ""),
-        (&cut, 7, ""),
-        (&without_gate, 7, ""),
-        (&whole, 0, "receipt 7 13 2\n"),
-        (&followed, 0, "receipt 7 13 2\n"),
+        (b"LDARJ".as_slice(), 7, "not a journal\n", ""),
+        (&damaged, 7, "damaged journal at 16\n", ""),
+        (&without_gate, 7, "damaged journal at 41\n", ""),
+        (&whole, 0, "", "journal 1 batches 1 facts\n"),
+        (&followed, 0, "", "journal 1 batches 1 facts\n"),
     ];
-    for (bytes, status, line) in cases {
-        let mut disk = MemoryDisk::new(rt.alloc(), bytes, &[])?;
-        let got = ran(rt.alloc(), &mut disk, &untroubled(&["dock"], &NEXT))?;
-        assert_eq!(rt; got.status, status);
-        assert_eq!(rt; got.output.as_slice(), line.as_bytes());
-        assert_eq!(rt;
-            (disk.bytes() == bytes, got.takes > 0),
-            (status == 7, status == 0)
-        );
+    for (bytes, status, noted, output) in cases {
+        for words in [
+            ["check"].as_slice(),
+            &["dock"],
+            &["show", "due", "1", "2024-02-28"],
+        ] {
+            let mut disk = MemoryDisk::new(rt.alloc(), bytes, &[])?;
+            let got = ran(rt.alloc(), &mut disk, &untroubled(words, &[]))?;
+            assert_eq!(rt; disk.bytes(), bytes);
+            if status == 7 {
+                assert_eq!(rt; (got.status, got.takes), (7, 0));
+                assert_eq!(rt; got.noted.as_slice(), noted.as_bytes());
+            } else if words == ["check"].as_slice() {
+                assert_eq!(rt; got.status, 0);
+                assert_eq!(rt; got.output.as_slice(), output.as_bytes());
+            }
+        }
     }
     Ok(())
 }
 
 #[test]
-fn a_fault_of_the_input_is_told(rt: HostRuntime) -> Result<(), Fail> {
-    // The first call gives the batch, and the second says that it has ended.
-    for (call, status) in [(0, 3), (1, 3), (2, 0)] {
-        let mut disk = empty(rt.alloc())?;
-        let mut faulty = untroubled(&["dock"], &BATCH);
-        let failing = [call];
-        faulty.takes_that_fail = &failing;
-        let got = ran(rt.alloc(), &mut disk, &faulty)?;
-        assert_eq!(rt; got.status, status);
-        assert_eq!(rt;
-            (got.output.is_empty(), disk.bytes() == EMPTY.as_slice()),
-            (status == 3, status == 3)
-        );
+fn a_view_is_shown_or_there_is_none(rt: HostRuntime) -> Result<(), Fail> {
+    let mut disk = empty(rt.alloc())?;
+    ran(rt.alloc(), &mut disk, &untroubled(&["dock"], &EVERY_KIND))?;
+    let cases = [
+        (
+            ["show", "due", "2", "2024-02-19"].as_slice(),
+            11,
+            "",
+            "no such unit\n",
+        ),
+        (
+            &["show", "route", "2", "2024-02-20", "0"],
+            11,
+            "",
+            "no such stops\n",
+        ),
+        (
+            &["show", "percent", "2", "0", "2024-02-20"],
+            11,
+            "",
+            "no such quarter\n",
+        ),
+        (
+            &["show", "report", "2", "0", "2024-02-20"],
+            11,
+            "",
+            "no such half\n",
+        ),
+        (
+            &["show", "delays", "2", "2024-02-20"],
+            0,
+            "delays 2 2024-02-20\nend 0\n",
+            "",
+        ),
+    ];
+    for (words, status, output, noted) in cases {
+        let before = Vec::from_slice(rt.alloc(), disk.bytes())?;
+        let got = ran(rt.alloc(), &mut disk, &untroubled(words, &BATCH))?;
+        assert_eq!(rt; (got.status, got.takes), (status, 0));
+        assert_eq!(rt; got.output.as_slice(), output.as_bytes());
+        assert_eq!(rt; got.noted.as_slice(), noted.as_bytes());
+        assert_eq!(rt; disk.bytes(), before.as_slice());
     }
     Ok(())
 }
 
 #[test]
-fn a_fault_of_the_output_is_told_and_the_batch_stands(rt: HostRuntime) -> Result<(), Fail> {
-    for (call, status) in [(0, 4), (1, 0)] {
+fn a_fault_of_a_stream_is_told(rt: HostRuntime) -> Result<(), Fail> {
+    // The calls of the input, the output and the notes that fail, the status, and what is noted.
+    let cases = [
+        (
+            [0].as_slice(),
+            [].as_slice(),
+            [].as_slice(),
+            3,
+            "read fault\n",
+        ),
+        (&[0], &[], &[0], 4, ""),
+        (&[], &[0], &[], 4, "write fault\n"),
+        (&[], &[0], &[0], 4, ""),
+        (&[], &[1], &[0], 0, ""),
+    ];
+    for (takes, puts, notes, status, noted) in cases {
         let mut disk = empty(rt.alloc())?;
-        let mut faulty = untroubled(&["dock"], &BATCH);
-        let failing = [call];
-        faulty.puts_that_fail = &failing;
-        assert_eq!(rt; ran(rt.alloc(), &mut disk, &faulty)?.status, status);
-        let again = ran(rt.alloc(), &mut disk, &untroubled(&["dock"], &BATCH))?;
-        assert_eq!(rt; again.output.as_slice(), b"receipt 7 12 1\n".as_slice());
-        assert_eq!(rt; disk.bytes().len(), 42);
+        let trial = Trial {
+            words: &["dock"],
+            input: &BATCH,
+            takes_that_fail: takes,
+            puts_that_fail: puts,
+            notes_that_fail: notes,
+        };
+        let got = ran(rt.alloc(), &mut disk, &trial)?;
+        assert_eq!(rt; got.status, status);
+        assert_eq!(rt; got.noted.as_slice(), noted.as_bytes());
     }
     Ok(())
 }
 
 #[test]
 fn a_fault_of_the_disk_is_told_where_its_call_was_made(rt: HostRuntime) -> Result<(), Fail> {
-    // `init` reads, writes and syncs. A `dock` syncs, reads, and writes and syncs twice.
+    // `init` reads, writes and syncs. A `dock` syncs and reads before it takes anything; what fails behind that is answered.
     for call in 0..12 {
         let mut disk = MemoryDisk::new(rt.alloc(), &[], &[call])?;
         for word in ["init", "dock"] {
-            let before = disk.calls();
+            let before = disk.faults();
             let got = ran(rt.alloc(), &mut disk, &untroubled(&[word], &BATCH))?;
-            let made = before <= call && call < disk.calls();
-            if made {
-                assert_eq!(rt; got.status, 5);
-                assert!(rt; got.output.is_empty());
-            } else if call > 2 {
-                assert_eq!(rt; got.status, 0);
+            if disk.faults() > before {
+                let told = got.status == 5 && got.output.is_empty();
+                let answered = got.status == 0
+                    && got.output.as_slice() == b"disk fault\n".as_slice();
+                assert!(rt; told || answered);
             }
         }
-        assert_eq!(rt; disk.faults(), u64::from(call < 9));
-    }
-    Ok(())
-}
-
-#[test]
-fn what_a_fault_of_the_disk_left_is_docked_again(rt: HostRuntime) -> Result<(), Fail> {
-    for call in 0..6 {
-        let mut disk = MemoryDisk::new(rt.alloc(), &EMPTY, &[call])?;
-        assert_eq!(rt;
-            ran(rt.alloc(), &mut disk, &untroubled(&["dock"], &BATCH))?.status,
-            5
-        );
         let again = ran(rt.alloc(), &mut disk, &untroubled(&["dock"], &BATCH))?;
-        assert_eq!(rt; again.output.as_slice(), b"receipt 7 12 1\n".as_slice());
-        assert_eq!(rt; disk.bytes(), image(rt.alloc(), &[])?.as_slice());
+        if call > 2 {
+            assert_eq!(rt; again.output.as_slice(), b"receipt 7 12 1\n".as_slice());
+        }
     }
     Ok(())
 }

@@ -1,43 +1,58 @@
-use Rattle.std.proofs.Common.{◌≡◌, ℕ, List, Option, [], sym, subst}
-use Rattle.disk_model.proofs.ToldLemmas.{BothTold-weaker}
-use Rattle.ldar_ports.specs.Sink.{bytes_of}
-use Rattle.ldar_journal.specs.Image.{OpensTo}
-use Rattle.ldar_cli.specs.declared.status.Status.{Status}
-use Rattle.ldar_cli.specs.Run.{DockEnds}
-use Rattle.ldar_cli.proofs.DockLemmas.{Takes-none, Puts-none, Same-is, opened_history, ends_refused}
+use Rattle.std.proofs.Common.{refl, inl, inr}
+use Rattle.ldar_session.specs.Batches.{IsBatch}
+use Rattle.ldar_session.specs.Dock.{Ends}
+use Rattle.ldar_cli.proofs.EndLemmas.{not_opened, refused_fault, refused_no_read, refused_no_write, ended_read, ended_write, ended_no_disk}
+use Rattle.ldar_cli.proofs.HeadlineLemmas.{served_by, served_keeps}
 use Rattle.ldar_cli.proofs.docking.dock.Goals as goal
 
-pub dock_into-status-requires-clause-opens : goal.dock_into-status-requires-clause-opens
-dock_into-status-requires-clause-opens g c =
-    opened_history (g.D.Disk.content c.args.disk) (g.D.Disk.content c.in-Ok.journal.disk) c.in-Ok.journal.frames c.in-Ok.accepted c.in-Ok.ensures.opens
-    c.in-Ok.ensures.value.0
-
+-- the journal was opened, and the input docked
 pub returns-in-Ok-clause-ends : goal.returns-in-Ok-clause-ends
 returns-in-Ok-clause-ends g c =
-    let ends = c.dock_into-status.ensures.ends in
-    let stays = BothTold-weaker (λ old new. (new ≡ old) × OpensTo old c.in-Ok.journal.frames) (λ old new. new ≡ old) (λ old new both. both.0)
-    (g.D.Disk.content c.args.disk) (g.D.Disk.content c.in-Ok.journal.disk) c.in-Ok.ensures.opens in
-    let same : g.D.Disk.content c.in-Ok.journal.disk ≡ g.D.Disk.content c.args.disk =
-    Same-is (g.D.Disk.content c.args.disk) (g.D.Disk.content c.in-Ok.journal.disk) stays in
-    let disk : c.dock_into-status.new.journal.disk ≡ c.into_disk.result = sym c.into_disk.ensures.value in (
-      ends.0,
-      ends.1,
-      ends.2,
-      ends.3,
-      subst (λ new. DockEnds c.dock_into-status.result ends.0 (g.S.Source.left c.dock_into-status.new.input) (bytes_of ends.1) (g.D.Disk.content c.args.disk)
-          (g.D.Disk.content new)) disk
-          (subst (λ (old : Option (List ℕ)). DockEnds c.dock_into-status.result ends.0 (g.S.Source.left c.dock_into-status.new.input) (bytes_of ends.1) old
-          (g.D.Disk.content c.dock_into-status.new.journal.disk)) same ends.4),
+    let d = g.D.Disk in
+    let talk = c.dock-ended.ensures.talk in
+    inr (
+      c.dock-ended.result,
+      c.status_of.ensures.value,
+      served_by d.content d.images d.left d.clock d.name d.faults g.met.D.Disk.only_now g.met.D.Disk.since_earlier IsBatch Ends c.args.disk
+          c.into_disk.result c.in-Ok.book c.dock-ended.new.office c.dock-ended.result (g.S.Source.left c.args.input.now)
+          (g.S.Source.left c.dock-ended.new.source) (g.K.Sink.pieces c.args.output.now) (g.K.Sink.pieces c.dock-ended.new.sink)
+          talk.0 talk.1 talk.2 c.in-Ok.ensures.opens c.in-Ok.ensures.settled c.in-Ok.ensures.ruly c.in-Ok.ensures.any_moment c.in-Ok.ensures.durable
+          c.in-Ok.ensures.keeps talk.3 talk.4 talk.5 c.into_disk.ensures.value c.into_disk.ensures.stands,
     )
 
+pub returns-in-Ok-clause-read_fault : goal.returns-in-Ok-clause-read_fault
+returns-in-Ok-clause-read_fault g c told =
+    c.dock-ended.ensures.read_fault (ended_read c.dock-ended.result c.status_of.result c.status_of.ensures.value told)
+
+pub returns-in-Ok-clause-write_fault : goal.returns-in-Ok-clause-write_fault
+returns-in-Ok-clause-write_fault g c told =
+    c.dock-ended.ensures.write_fault (ended_write c.dock-ended.result c.status_of.result c.status_of.ensures.value told)
+
+pub returns-in-Ok-clause-disk_fault : goal.returns-in-Ok-clause-disk_fault
+returns-in-Ok-clause-disk_fault g c told = absurd (ended_no_disk c.dock-ended.result c.status_of.result c.status_of.ensures.value told)
+
+pub returns-in-Ok-clause-keeps : goal.returns-in-Ok-clause-keeps
+returns-in-Ok-clause-keeps g c =
+    let d = g.D.Disk in
+    let talk = c.dock-ended.ensures.talk in
+    served_keeps d.content d.images d.left d.clock d.name d.faults g.met.D.Disk.only_now g.met.D.Disk.since_earlier c.args.disk c.into_disk.result c.in-Ok.book
+    c.dock-ended.new.office talk.4.calls c.in-Ok.ensures.keeps talk.4.run c.into_disk.ensures.value
+
+-- the journal was not opened
 pub returns-in-Err-clause-ends : goal.returns-in-Err-clause-ends
-returns-in-Err-clause-ends g c = (
-  [],
-  [],
-  Takes-none (g.S.Source.left c.args.input.now),
-  Puts-none (g.K.Sink.pieces c.args.output.now),
-  subst (λ (status : Status). DockEnds status [] (g.S.Source.left c.args.input.now) [] (g.D.Disk.content c.args.disk) (g.D.Disk.content c.in-Err.error.disk))
-      (sym c.refusal.ensures.value)
-      (ends_refused c.in-Err.error.why (g.S.Source.left c.args.input.now) (g.D.Disk.content c.args.disk) (g.D.Disk.content c.in-Err.error.disk)
-      c.in-Err.ensures.refused),
-)
+returns-in-Err-clause-ends g c =
+    let d = g.D.Disk in
+    inl (
+      (refl, refl),
+      not_opened d.content d.images d.left d.clock c.args.disk c.in-Err.error.disk c.in-Err.error.why c.refusal.result c.in-Err.ensures.refused
+          c.in-Err.ensures.any_moment c.refusal.ensures.value,
+    )
+
+pub returns-in-Err-clause-read_fault : goal.returns-in-Err-clause-read_fault
+returns-in-Err-clause-read_fault g c told = absurd (refused_no_read c.in-Err.error.why c.refusal.result c.refusal.ensures.value told)
+
+pub returns-in-Err-clause-write_fault : goal.returns-in-Err-clause-write_fault
+returns-in-Err-clause-write_fault g c told = absurd (refused_no_write c.in-Err.error.why c.refusal.result c.refusal.ensures.value told)
+
+pub returns-in-Err-clause-disk_fault : goal.returns-in-Err-clause-disk_fault
+returns-in-Err-clause-disk_fault g c told = c.in-Err.ensures.cause (refused_fault c.in-Err.error.why c.refusal.result c.refusal.ensures.value told)

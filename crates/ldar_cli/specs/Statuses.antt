@@ -1,0 +1,95 @@
+-- How a command may end: the exit status of each way, the line that notes it, and what is noted where that line cannot be written.
+use Rattle.std.specs.Prelude.{◌≡◌, ◌⊎◌, ℕ, List, [], ◌++◌, Option, Result, OnOk, codes}
+use Rattle.std.specs.Fmt.{decimal}
+use Rattle.ldar_ports.specs.Sink.{Piece, Puts, bytes_of}
+use Rattle.ldar_law.specs.Replies.{what_text}
+use Rattle.ldar_law.specs.Texts.{end_of_line}
+use Rattle.office_book.specs.declared.opening.BookWhy.{BookWhy}
+use Rattle.office_book.specs.declared.opening.BookWhy.TheVariants as reasons
+use Rattle.ldar_session.specs.declared.ended.Ended.{Ended}
+use Rattle.ldar_session.specs.declared.ended.Ended.TheVariants as ends
+use Rattle.ldar_cli.specs.declared.status.Status.{Status}
+use Rattle.ldar_cli.specs.declared.status.Status.TheVariants.{Done, Usage, ReadFault, WriteFault, DiskFault, Memory}
+use Rattle.ldar_cli.specs.declared.status.Status.TheVariants.{NotAJournal, Damaged, Unruly, CutShort, BadInput, NotEmpty, NoSuch}
+
+-- the number of a status
+abbrev pub status_number : Status → ℕ
+status_number Done = 0
+status_number Usage = 2
+status_number ReadFault = 3
+status_number WriteFault = 4
+status_number DiskFault = 5
+status_number Memory = 6
+status_number NotAJournal = 7
+status_number (Damaged at) = 7
+status_number (Unruly position rule) = 7
+status_number (CutShort got) = 8
+status_number (BadInput at) = 8
+status_number NotEmpty = 9
+status_number (NoSuch what) = 11
+
+-- the line that notes a status; that all went well is not noted
+abbrev pub note_of : Status → List ℕ
+note_of Done = []
+note_of Usage = codes "usage: ldar JOURNAL COMMAND" ++ end_of_line
+note_of ReadFault = codes "read fault" ++ end_of_line
+note_of WriteFault = codes "write fault" ++ end_of_line
+note_of DiskFault = codes "disk fault" ++ end_of_line
+note_of Memory = codes "memory" ++ end_of_line
+note_of NotAJournal = codes "not a journal" ++ end_of_line
+note_of (Damaged at) = codes "damaged journal at " ++ decimal at ++ end_of_line
+note_of (Unruly position rule) = codes "unruly batch " ++ decimal position ++ codes " " ++ (decimal rule ++ end_of_line)
+note_of (CutShort got) = codes "input cut: " ++ decimal got ++ codes " bytes left\n"
+note_of (BadInput at) = codes "bad input at " ++ decimal at ++ end_of_line
+note_of NotEmpty = codes "not empty" ++ end_of_line
+note_of (NoSuch what) = codes "no such " ++ what_text what ++ end_of_line
+
+-- the exit status where the note could not be written whole: a fault of writing, but want of memory stays
+abbrev pub number_unnoted : Status → ℕ
+number_unnoted Done = 0
+number_unnoted Usage = 4
+number_unnoted ReadFault = 4
+number_unnoted WriteFault = 4
+number_unnoted DiskFault = 4
+number_unnoted Memory = 6
+number_unnoted NotAJournal = 4
+number_unnoted (Damaged at) = 4
+number_unnoted (Unruly position rule) = 4
+number_unnoted (CutShort got) = 4
+number_unnoted (BadInput at) = 4
+number_unnoted NotEmpty = 4
+number_unnoted (NoSuch what) = 4
+
+-- behind the pieces that were there, pieces were put that say the text up to what is unsaid
+pub record Said (text : List ℕ) (old new : Option (List Piece)) (unsaid : List ℕ) : Type 0 where
+  pub put : List Piece
+  pub puts : Puts old put new
+  pub says : text ≡ bytes_of put ++ unsaid
+
+-- .. all of it where the putting went well
+abbrev pub IsPut : {T E : Type 0} → List ℕ → Option (List Piece) → Option (List Piece) → Result T E → Type 0
+IsPut text old new result = (unsaid : List ℕ) × Said text old new unsaid × OnOk result (unsaid ≡ [])
+
+-- the status was noted whole, and the exit status is its number; or in part, and it is that of a note that could not be written
+pub record IsNoted (status : Status) (old new : Option (List Piece)) (exit : ℕ) : Type 0 where
+  pub unsaid : List ℕ
+  pub said : Said (note_of status) old new unsaid
+  pub exits : ((unsaid ≡ []) × (exit ≡ status_number status)) ⊎ (exit ≡ number_unnoted status)
+
+-- the status of a command whose journal was not opened
+abbrev pub refusal_of : BookWhy → Status
+refusal_of reasons.Disk = DiskFault
+refusal_of reasons.NotAJournal = NotAJournal
+refusal_of (reasons.Damaged at) = Damaged at
+refusal_of (reasons.Unruly position rule) = Unruly position rule
+refusal_of reasons.Memory = Memory
+
+-- the status of a command whose connection ended so
+abbrev pub status_of : Ended → Status
+status_of ends.Done = Done
+status_of ends.Stopped = Done
+status_of (ends.CutShort got) = CutShort got
+status_of (ends.Refused at) = BadInput at
+status_of ends.ReadFault = ReadFault
+status_of ends.WriteFault = WriteFault
+status_of ends.Memory = Memory

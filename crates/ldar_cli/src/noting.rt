@@ -1,0 +1,111 @@
+ghost use Rattle.std.specs.Prelude.{◌≡◌, ◌≤◌, ◌⊎◌, ◌++◌, codes, OnErr};
+ghost use Rattle.disk_model.specs.Faults.{Rose};
+ghost use Rattle.ldar_law.specs.Texts.{end_of_line};
+ghost use Rattle.ldar_cli.specs.Statuses.{IsPut, IsNoted, note_of};
+
+use crate::status::Status;
+use disk_model::Disk;
+use itoa::{Buffer, Integer};
+use ldar_ports::{Sink, SinkFault, put_all};
+
+/// Notes how a command ended, and answers the exit status. A fault of the notes is told as a fault of writing, but
+/// that nothing was wrong and that memory was wanting stay. It takes no memory.
+pub fn note<E: Sink, D: Disk>(notes: &mut E, beside: &D, status: Status) -> u8
+    ensures noted { IsNoted status (E.pieces notes.old) (E.pieces notes.new) result }
+    ensures cause { result ≡ 4 → (status ≡ Status.WriteFault) ⊎ Rose (E.faults notes.old) (E.faults notes.new) }
+    ensures count { E.faults notes.old ≤ E.faults notes.new }
+{
+    match put_note(notes, beside, status) {
+        Ok(()) => status.number(),
+        Err(_) => status.number_unnoted(),
+    }
+}
+
+/// Puts the line that notes a status.
+fn put_note<E: Sink, D: Disk>(notes: &mut E, beside: &D, status: Status) -> Result<(), SinkFault>
+    ensures said { IsPut (note_of status) (E.pieces notes.old) (E.pieces notes.new) result }
+    ensures count { E.faults notes.old ≤ E.faults notes.new }
+    ensures cause { OnErr result (Rose (E.faults notes.old) (E.faults notes.new)) }
+{
+    match status {
+        Status::Done => put_text(notes, beside, ""),
+        Status::Usage => put_text(notes, beside, "usage: ldar JOURNAL COMMAND\n"),
+        Status::ReadFault => put_text(notes, beside, "read fault\n"),
+        Status::WriteFault => put_text(notes, beside, "write fault\n"),
+        Status::DiskFault => put_text(notes, beside, "disk fault\n"),
+        Status::Memory => put_text(notes, beside, "memory\n"),
+        Status::NotAJournal => put_text(notes, beside, "not a journal\n"),
+        Status::Damaged { at } => put_number(notes, beside, "damaged journal at ", at, "\n"),
+        Status::Unruly { position, rule } => put_unruly(notes, beside, position, rule),
+        Status::CutShort { got } => put_number(notes, beside, "input cut: ", got, " bytes left\n"),
+        Status::BadInput { at } => put_number(notes, beside, "bad input at ", at, "\n"),
+        Status::NotEmpty => put_text(notes, beside, "not empty\n"),
+        Status::NoSuch(what) => put_no_such(notes, beside, what.word()),
+    }
+}
+
+/// Puts a text.
+fn put_text<E: Sink, D: Disk>(notes: &mut E, beside: &D, text: &str) -> Result<(), SinkFault>
+    ensures said { IsPut text.now (E.pieces notes.old) (E.pieces notes.new) result }
+    ensures count { E.faults notes.old ≤ E.faults notes.new }
+    ensures cause { OnErr result (Rose (E.faults notes.old) (E.faults notes.new)) }
+{
+    put_all(notes, beside, text.as_bytes())
+}
+
+/// Puts two texts, one behind the other.
+fn put_both<E: Sink, D: Disk>(
+    notes: &mut E,
+    beside: &D,
+    first: &str,
+    second: &str,
+) -> Result<(), SinkFault>
+    ensures said { IsPut (first.now ++ second.now) (E.pieces notes.old) (E.pieces notes.new) result }
+    ensures count { E.faults notes.old ≤ E.faults notes.new }
+    ensures cause { OnErr result (Rose (E.faults notes.old) (E.faults notes.new)) }
+{
+    put_text(notes, beside, first)?;
+    put_text(notes, beside, second)
+}
+
+/// Puts a text, a number and a text.
+fn put_number<E: Sink, D: Disk, I: Integer>(
+    notes: &mut E,
+    beside: &D,
+    before: &str,
+    number: I,
+    behind: &str,
+) -> Result<(), SinkFault>
+    ensures said { IsPut (before.now ++ (I.text number ++ behind.now)) (E.pieces notes.old) (E.pieces notes.new) result }
+    ensures count { E.faults notes.old ≤ E.faults notes.new }
+    ensures cause { OnErr result (Rose (E.faults notes.old) (E.faults notes.new)) }
+{
+    put_text(notes, beside, before)?;
+    let mut digits = Buffer::new();
+    put_both(notes, beside, digits.format(number), behind)
+}
+
+/// Puts the note of a batch that is denied in the journal.
+fn put_unruly<E: Sink, D: Disk>(
+    notes: &mut E,
+    beside: &D,
+    position: u32,
+    rule: u8,
+) -> Result<(), SinkFault>
+    ensures said { IsPut (note_of (Status.Unruly position rule)) (E.pieces notes.old) (E.pieces notes.new) result }
+    ensures count { E.faults notes.old ≤ E.faults notes.new }
+    ensures cause { OnErr result (Rose (E.faults notes.old) (E.faults notes.new)) }
+{
+    put_number(notes, beside, "unruly batch ", position, " ")?;
+    put_number(notes, beside, "", rule, "\n")
+}
+
+/// Puts the note that there is none of what this word says.
+fn put_no_such<E: Sink, D: Disk>(notes: &mut E, beside: &D, word: &str) -> Result<(), SinkFault>
+    ensures said { IsPut (codes "no such " ++ word.now ++ end_of_line) (E.pieces notes.old) (E.pieces notes.new) result }
+    ensures count { E.faults notes.old ≤ E.faults notes.new }
+    ensures cause { OnErr result (Rose (E.faults notes.old) (E.faults notes.new)) }
+{
+    put_text(notes, beside, "no such ")?;
+    put_both(notes, beside, word, "\n")
+}
