@@ -126,7 +126,7 @@ def by_client(journal):
     def talk(port):
         asked = http.client.HTTPConnection("127.0.0.1", port)
         said = []
-        for path in ("/tags/1/2024-02-21", "/due/1/2024-02-21", "/percent/1/17/2024-02-21", "/nothing"):
+        for path in ("/tags/1/2024-02-21", "/due/1/2024-02-21", "/percent/1/16/2024-02-21", "/nothing"):
             asked.request("GET", path)
             answer = asked.getresponse()
             said.append((answer.status, answer.getheader("Content-Type"), answer.read()))
