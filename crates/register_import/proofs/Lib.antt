@@ -1,5 +1,4 @@
 pub mod BatchLemmas
-pub mod RowLemmas
 pub mod SortLemmas
 pub mod RecordLemmas
 pub mod DigitLemmas

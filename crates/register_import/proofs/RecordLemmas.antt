@@ -1,6 +1,7 @@
 -- The records that a reader has yet to give.
 use Rattle.std.proofs.Common.{◌≡◌, ℕ, zero, suc, Bool, true, false, List, [], ◌∷◌, length, Option, Some, None, refl, sym, ap, ◌∙◌, inr, Bor}
-use Rattle.csv.specs.Reading.{Reached, ReadRecord, ReadsOn, default_config, names_headers, reader_config, reader_headers, reader_state, reader_trim, records_from, records_next, strip_bom}
+use Rattle.csv.specs.Reading.{Reached, ReadRecord, ReadsOn, default_config, names_headers, reader_config}
+use Rattle.csv.specs.Reading.{reader_headers, reader_state, reader_trim, records_from, records_next, strip_bom}
 use Rattle.csv.specs.declared.parser.State.{State}
 use Rattle.csv.specs.declared.parser.State.TheVariants as st
 use Rattle.csv.specs.declared.reader.Trim.TheVariants as trim
