@@ -4,3 +4,4 @@ pub mod RecordLemmas
 pub mod DigitLemmas
 pub mod MemberLemmas
 pub mod UnitLemmas
+pub mod EnoughLemmas
