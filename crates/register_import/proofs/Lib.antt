@@ -1,7 +1,7 @@
 pub mod BatchLemmas
-pub mod RowLemmas
 pub mod SortLemmas
 pub mod RecordLemmas
 pub mod DigitLemmas
 pub mod MemberLemmas
 pub mod UnitLemmas
+pub mod EnoughLemmas

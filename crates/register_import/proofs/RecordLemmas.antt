@@ -1,10 +1,12 @@
 -- The records that a reader has yet to give.
 use Rattle.std.proofs.Common.{◌≡◌, ℕ, zero, suc, Bool, true, false, List, [], ◌∷◌, length, Option, Some, None, refl, sym, ap, ◌∙◌, inr, Bor}
-use Rattle.csv.specs.Reading.{Reached, ReadRecord, ReadsOn, default_config, names_headers, reader_config, reader_headers, reader_state, reader_trim, records_from, records_next, strip_bom}
+use Rattle.csv.specs.Reading.{Reached, ReadRecord, ReadsOn, default_config, names_headers, reader_config}
+use Rattle.csv.specs.Reading.{reader_headers, reader_state, reader_trim, records_from, records_next, strip_bom}
 use Rattle.csv.specs.declared.parser.State.{State}
 use Rattle.csv.specs.declared.parser.State.TheVariants as st
 use Rattle.csv.specs.declared.reader.Trim.TheVariants as trim
 use Rattle.csv.proofs.ReadFacts.{rows-end, rows-more}
+use Rattle.register_import.proofs.EnoughLemmas.{enough}
 use Rattle.register_import.specs.Records.{IsReading, TextReader, bytes_left, left_of, or_none, records_left, records_of}
 
 -- the bytes of a slice are known
@@ -63,7 +65,7 @@ unfolding records_of
 all_left reader text plain unnamed headless config start source =
     let bytes : bytes_left reader ≡ strip_bom text = ap or_none source in (
       record { trim = plain; ready = inr (inr (unnamed, headless)); config = config; source = source ∙ ap Some (sym bytes) },
-      rw (start, bytes) refl,
+      rw (start, bytes) (enough text),
     )
 
 -- .. where it is said that none was read

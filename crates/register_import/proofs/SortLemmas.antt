@@ -1,13 +1,12 @@
 -- Rows in turn: those that are difficult to monitor behind all others.
-use Rattle.std.proofs.Common.{◌≡◌, ℕ, ◌+◌, ◌<◌, Bool, true, false, not, cond, List, [], ◌∷◌, ◌++◌, length, filter, Option, Some, None, refl, sym, ap, ap₂, ◌∙◌, append_assoc, arith, Ok, Err}
+use Rattle.std.proofs.Common.{◌≡◌, ℕ, ◌+◌, Bool, true, false, not, cond, List, [], ◌∷◌, ◌++◌}
+use Rattle.std.proofs.Common.{length, filter, Some, None, refl, sym, ap, ap₂, ◌∙◌, append_assoc, arith, Ok, Err}
 use Rattle.std.proofs.lemmas.List.{append-nil, length-append}
 use Rattle.std.proofs.lemmas.List.Elements.{filter-append}
 use Rattle.fact_kinds.specs.Stated.{Stated}
-use Rattle.register_import.specs.declared.error.ImportError.{ImportError}
-use Rattle.register_import.specs.declared.error.ImportError.TheVariants.{Row, Memory}
 use Rattle.register_import.specs.ComponentRows.{component_of, is_difficult}
-use Rattle.register_import.specs.Components.{difficult_last, in_turn, rows_from, some_rows}
-use Rattle.register_import.specs.Rows.{Rows, TellsRow, behind, row_then}
+use Rattle.register_import.specs.Components.{in_turn, rows_from}
+use Rattle.register_import.specs.Rows.{Rows, behind}
 
 -- not difficult to monitor
 abbrev pub is_other : Stated → Bool
@@ -74,41 +73,3 @@ pub one_more : (others difficult more_others more_difficult : List Stated) (fact
     → length more_others + length more_difficult ≡ length others + length difficult + 1
 one_more others difficult more_others more_difficult fact to_others to_difficult =
     rw (to_others, to_difficult) (is_one_more (is_difficult fact) fact others difficult)
-
--- a fact stands in turn, difficult to monitor or not
-is_counted : (difficult : Bool) (fact : Stated) (others later : List Stated)
-    → 0 < length (cond (not difficult) (fact ∷ others) others ++ cond difficult (fact ∷ later) later)
-is_counted true fact others later = omega (arith, length-append others (fact ∷ later))
-is_counted false fact others later = omega arith
-
--- the facts of rows that are not bad
-abbrev facts_or_none : Rows → List Stated
-facts_or_none (Ok facts) = facts
-facts_or_none (Err at) = []
-
--- where a row stands, not nothing is said
-says_some : (fact : Option Stated) (rest : Rows) (facts : List Stated) → in_turn (row_then 2 fact rest) ≡ Ok facts → length facts ≡ 0 → ⊥
-says_some None rest facts said none = absurd cc
-says_some (Some fact) (Err at) facts said none = absurd cc
-says_some (Some fact) (Ok more) facts said none =
-    let same : difficult_last (fact ∷ more) ≡ facts = ap facts_or_none said in
-    let counted = is_counted (is_difficult fact) fact (filter is_other more) (filter is_difficult more) in
-    omega (arith, counted, ap length same)
-
--- rows that say facts, with one row at least
-pub some_said : (rows : List (List (List ℕ))) (facts : List Stated) → in_turn (rows_from 2 rows) ≡ Ok facts → 0 < length facts
-    → in_turn (some_rows rows) ≡ Ok facts
-some_said [] facts said some = let same : [] ≡ facts = ap facts_or_none said in absurd (omega (arith, some, ap length same))
-some_said (row ∷ rows) facts said some = said
-
--- .. and where none is said there is no row
-pub none_said : (rows : List (List (List ℕ))) (facts : List Stated) → in_turn (rows_from 2 rows) ≡ Ok facts → length facts ≡ 0
-    → in_turn (some_rows rows) ≡ Err 2
-none_said [] facts said none = refl
-none_said (row ∷ rows) facts said none = absurd (says_some (component_of row) (rows_from 3 rows) facts said none)
-
--- a bad row stands where a row stands
-pub bad_said : (rows : List (List (List ℕ))) (error : ImportError) → TellsRow (in_turn (rows_from 2 rows)) error → TellsRow (in_turn (some_rows rows)) error
-bad_said [] (Row at) said = absurd cc
-bad_said (row ∷ rows) (Row at) said = said
-bad_said rows Memory said = tt

@@ -1,14 +1,13 @@
 -- The records of a text, as the crate `csv` reads it with its usual settings and without a special first record.
-use Rattle.std.specs.Prelude.{◌≡◌, ℕ, suc, List, [], length, Option, Some, None}
+use Rattle.std.specs.Prelude.{◌≡◌, ℕ, List, [], Option, Some, None}
 use Rattle.std.specs.Borrow.{Bor}
-use Rattle.csv.specs.Reading.{Ready, default_config, reader_config, reader_state, reader_trim, records_from, source_of, strip_bom}
-use Rattle.csv.specs.declared.parser.State.TheVariants as st
+use Rattle.csv.specs.Reading.{Ready, default_config, reader_config, reader_state, reader_trim, records, records_from, source_of, strip_bom}
 use Rattle.csv.specs.declared.reader.Reader.{Reader}
 use Rattle.csv.specs.declared.reader.Trim.TheVariants as trim
 
--- a byte order mark in front is taken off; each record takes a byte, so there are no more than bytes
+-- all records of a text, behind the byte order mark if it has one
 unfoldable pub records_of : List ℕ → List (List (List ℕ))
-records_of text = records_from default_config (suc (length text)) st.StartRecord (strip_bom text)
+records_of text = records default_config (strip_bom text)
 
 -- a reader of a text
 abbrev pub TextReader : Type 0
