@@ -71,6 +71,8 @@ BODIES = {
     "attempt": (12, lambda f: struct.pack(">HB", f["component"], f["complete"])),
     "delay": (13, lambda f: struct.pack(">HBHH", f["component"], GROUNDS.index(f["ground"]), f["signer"], f["expected"] or 0)),
     "release": (14, lambda f: struct.pack(">H", f["component"])),
+    "retire": (4, lambda f: struct.pack(">H", f["component"])),
+    "indication": (15, lambda f: struct.pack(">HBB", f["component"], ("sensor", "evidence").index(f["sort"]) + 1, f["present"])),
 }
 
 
@@ -155,6 +157,17 @@ OTHERS = [
          f"{month} valves {valves} pumps 0 0 compressors 0 0\n" for month, valves in (
              ("2023-10", "0 0"), ("2023-11", "0 0"), ("2023-12", "0 0"), ("2024-01", "0 0"), ("2024-02", "1 0"), ("2024-03", "0 1"))) + "end 6\n"),
 ]
+# One fact of each kind at least, of a handheld that enters equipment.
+EVERY_KIND = [
+    batch(0, 2, unit(4, "ALKY-2", BEGIN), component(50, 4, "valve", "gas", BEGIN), component(51, 4, "pump", "heavy", BEGIN),
+          fact("class", "2024-02-20", component=50, **{"class": {**PLAIN, "designation": "nde"}}), fact("retire", "2024-02-21", component=50),
+          fact("election", "2024-07-01", 0, unit=4, mode=3, notified=day("2024-04-02")), fact("shutdown", "2024-06-01", 0, unit=4, days=14),
+          calibration("2024-02-20"), precision("2024-02-20"),
+          fact("drift", "2024-02-20", 900, instrument=1, value=500, readings=(500, 500, 500)), reading("2024-02-20", 51, 20),
+          fact("visual", "2024-02-20", component=5, state="drips"), fact("attempt", "2024-02-20", component=51, complete=True),
+          delay("2024-02-20", 51, "d", expected="2024-03-01"), fact("release", "2024-02-20", component=8),
+          fact("indication", "2024-02-20", component=51, sort="evidence", present=True)),
+]
 DENIED = [
     ("GROUND_OF_PUMPS", [batch(2, 1, delay("2024-03-01", 1, "d", 9, "2024-06-10"))], "denied 1 10 60.482-9a(d)\n"),
     ("NO_SIGNER", [batch(2, 1, delay("2024-03-01", 1, "a", 0, "2024-06-10"))], "denied 1 12 60.486a(c)(6)\n"),
@@ -236,6 +249,9 @@ use std::test::Fail;
     constant("BASE", BASE)
     for name, batches, *_ in TAGS + OTHERS + DENIED:
         constant(name, batches)
+    if rule_model.denial(BASE, EVERY_KIND[0]):
+        sys.exit("the model denies the batch of every kind")
+    constant("EVERY_KIND", EVERY_KIND)
     print("""// A disk with the base, and then these batches; and the lines of their replies.
 fn docked(alloc: Global, input: &[u8]) -> Result<(MemoryDisk, Vec<u8>), Fail> {
     let mut disk = empty(alloc)?;
@@ -258,6 +274,14 @@ fn docked(alloc: Global, input: &[u8]) -> Result<(MemoryDisk, Vec<u8>), Fail> {
 }
 """)
     print(REQUESTS)
+    print("""#[test]
+fn a_batch_of_every_kind_is_kept(rt: HostRuntime) -> Result<(), Fail> {
+    let (disk, lines) = docked(rt.alloc(), &EVERY_KIND)?;
+    assert_eq!(rt; lines.as_slice(), b"receipt 0 2 3\\n".as_slice());
+    assert_eq!(rt; disk.bytes().len(), 17 + 5 + 163 + 5 + 32 + 5 + EVERY_KIND.len());
+    Ok(())
+}
+""")
     print("#[test]\nfn a_denied_batch_is_told_its_rule(rt: HostRuntime) -> Result<(), Fail> {\n    let cases = [")
     for name, batches, said in DENIED:
         place, rule = rule_model.denial(BASE, batches[0])

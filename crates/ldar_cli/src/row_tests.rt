@@ -116,6 +116,15 @@ const NOTIFIED_LATE: [u8; 18] = *b"B\0\0\0\0\0\x02\0\x01\x05M\xc1\0\0\x01\x01Mh"
 
 const NO_QUARTER: [u8; 18] = *b"B\0\0\0\0\0\x02\0\x01\x05M\xc2\0\0\x01\x01Mg";
 
+const EVERY_KIND: [u8; 214] =
+    *b"B\0\0\0\0\0\x02\0\x10\x01Gd\0\0\x04\0ALKY-2\0\0\0\0\0\0\x02Gd\0\0\02\x04\x01\0\0\x01\0\0\
+    \x01\x02Gd\0\0\03\x04\x02\0\0\x03\0\0\x01\x03M=\x02X\02\x01\x01\0\x01\x04M>\x02X\02\x05M\
+    \xc1\0\0\x04\x03Mg\x06M\xa3\0\0\x04\0\x0e\x07M=\x01,\0\x01\0\0\x01\xf4\x08M=\0<\0\x01\0\
+    \0\x01\xf4\0\0\x01\xf4\0\0\x01\xf4\0\0\x01\xf4\x09M=\x03\x84\0\x01\0\0\x01\xf4\0\0\x01\
+    \xf4\0\0\x01\xf4\0\0\x01\xf4\x0aM=\x02X\03\0\x01\0\x01\x01\0\0\0\x14\0\0\0\0\x0bM=\x02X\
+    \0\x05\x01\x0cM=\x02X\03\x01\x0dM=\x02X\03\x04\0\0MG\x0eM=\x02X\0\x08\x0fM=\x02X\03\x02\
+    \x01";
+
 // A disk with the base, and then these batches; and the lines of their replies.
 fn docked(alloc: Global, input: &[u8]) -> Result<(MemoryDisk, Vec<u8>), Fail> {
     let mut disk = empty(alloc)?;
@@ -267,6 +276,17 @@ fn requests_are_answered_in_order(rt: HostRuntime) -> Result<(), Fail> {
     assert_eq!(rt;
         (got.status, got.output.as_slice()),
         (0, ANSWERS.as_bytes())
+    );
+    Ok(())
+}
+
+#[test]
+fn a_batch_of_every_kind_is_kept(rt: HostRuntime) -> Result<(), Fail> {
+    let (disk, lines) = docked(rt.alloc(), &EVERY_KIND)?;
+    assert_eq!(rt; lines.as_slice(), b"receipt 0 2 3\n".as_slice());
+    assert_eq!(rt;
+        disk.bytes().len(),
+        17 + 5 + 163 + 5 + 32 + 5 + EVERY_KIND.len()
     );
     Ok(())
 }

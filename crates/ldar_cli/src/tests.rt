@@ -33,6 +33,10 @@ const EVERY_KIND: [u8; 199] = *b"\x42\x01\x02\x01\x02\x03\x04\0\x0f\
 // The header of a journal and a closed gate.
 const EMPTY: [u8; 17] = *b"LDARJNL1\0\0\0\0\0\0\0\0\0";
 
+// Handheld 0, batch 2: process unit 2 from 2024-01-15, with valve 30 in gas service.
+const UNIT: [u8; 43] = *b"\x42\0\0\0\0\0\x02\0\x02\x01\x4d\x19\0\0\x02\0COKER\0\0\0\0\0\0\0\
+    \x02\x4d\x19\0\0\0\x1e\x02\x01\0\0\x01\0\0\x01";
+
 // What a run is given beside its disk. The calls of its input and output with some numbers fail.
 #[derive(Drop)]
 pub struct Trial<'a> {
@@ -127,15 +131,12 @@ fn a_batch_is_docked_once(rt: HostRuntime) -> Result<(), Fail> {
 }
 
 #[test]
-fn a_batch_of_every_kind_is_docked(rt: HostRuntime) -> Result<(), Fail> {
+fn a_handheld_enters_no_equipment(rt: HostRuntime) -> Result<(), Fail> {
     let mut disk = empty(rt.alloc())?;
     let got = ran(rt.alloc(), &mut disk, &untroubled(&["dock"], &EVERY_KIND))?;
     assert_eq!(rt; got.status, 0);
-    assert_eq!(rt;
-        got.output.as_slice(),
-        b"receipt 258 16909060 1\n".as_slice()
-    );
-    assert_eq!(rt; disk.bytes().len(), 17 + 5 + 199);
+    assert_eq!(rt; got.output.as_slice(), b"denied 1 16 P1\n".as_slice());
+    assert_eq!(rt; disk.bytes().len(), 17);
     Ok(())
 }
 
@@ -238,10 +239,10 @@ fn what_is_no_journal_is_noted_and_left_alone(rt: HostRuntime) -> Result<(), Fai
 #[test]
 fn a_view_is_shown_or_there_is_none(rt: HostRuntime) -> Result<(), Fail> {
     let mut disk = empty(rt.alloc())?;
-    ran(rt.alloc(), &mut disk, &untroubled(&["dock"], &EVERY_KIND))?;
+    ran(rt.alloc(), &mut disk, &untroubled(&["dock"], &UNIT))?;
     let cases = [
         (
-            ["show", "due", "2", "2024-02-19"].as_slice(),
+            ["show", "due", "2", "2024-01-14"].as_slice(),
             11,
             "",
             "no such unit\n",
@@ -329,8 +330,9 @@ fn a_fault_of_the_disk_is_told_where_its_call_was_made(rt: HostRuntime) -> Resul
                 assert!(rt; told || answered);
             }
         }
+        let before = disk.faults();
         let again = ran(rt.alloc(), &mut disk, &untroubled(&["dock"], &BATCH))?;
-        if call > 2 {
+        if call > 2 && disk.faults() == before {
             assert_eq!(rt; again.output.as_slice(), b"receipt 7 12 1\n".as_slice());
         }
     }
