@@ -10,7 +10,7 @@ use Rattle.ldar_session.specs.declared.ended.Ended.{Ended}
 use Rattle.ldar_cli.specs.declared.command.Command.{Command}
 use Rattle.ldar_cli.specs.declared.command.Command.TheVariants.{Init, Dock, Drain, Show, Check}
 use Rattle.ldar_cli.specs.declared.status.Status.{Status}
-use Rattle.ldar_cli.specs.Headline.{IsCrashSafe, IsConnection}
+use Rattle.ldar_cli.specs.Connection.{IsCrashSafe, IsConnection}
 use Rattle.ldar_cli.specs.Run.{LeavesAlone, IsNotOpened, IsMade, IsShown, Ends}
 
 module _ {D : Type 0} (content_of : D → Option (List ℕ)) (images_of : D → List ℕ → Type 0) (left_of : D → ℕ → List ℕ → Type 0)

@@ -25,7 +25,7 @@ use Rattle.ldar_cli.specs.declared.status.Status.{Status}
 use Rattle.ldar_cli.specs.declared.status.Status.TheVariants.{ReadFault, WriteFault, DiskFault}
 use Rattle.ldar_cli.specs.Run.{LeavesAlone, IsNotOpened, IsShown, TextEnds, ReplyEnds, PutEnds, shown_by}
 use Rattle.ldar_cli.specs.Statuses.{refusal_of, status_of}
-use Rattle.ldar_cli.proofs.HeadlineLemmas.{opens_history, opened_stays}
+use Rattle.ldar_cli.proofs.ConnectionLemmas.{opens_history, opened_stays}
 use Rattle.ldar_cli.proofs.KindLemmas.{shown_kind}
 use Rattle.ldar_cli.proofs.ViewLemmas.{IsViewed}
 

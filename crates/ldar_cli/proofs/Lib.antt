@@ -1,6 +1,6 @@
 pub mod CommandLemmas
+pub mod ConnectionLemmas
 pub mod EndLemmas
-pub mod HeadlineLemmas
 pub mod KindLemmas
 pub mod NoteLemmas
 pub mod NumberLemmas

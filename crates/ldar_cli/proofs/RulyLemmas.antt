@@ -15,7 +15,7 @@ use Rattle.ldar_law.specs.Machine.{batch_added, batches_added, IsAnswered, IsWan
 use Rattle.ldar_law.specs.Verdicts.{is_pass, is_ruly, verdict_on}
 use Rattle.ldar_law.proofs.BatchLemmas.{ruly_by_one_more}
 use Rattle.office_book.specs.Safe.{StandsIn, StandsInRun}
-use Rattle.ldar_cli.specs.Headline.{OpensRuly}
+use Rattle.ldar_cli.specs.Connection.{OpensRuly}
 
 -- the history of a state is ruly, and so it is with the batches in doubt
 pub record IsRulyState (state : State) : Type 0 where

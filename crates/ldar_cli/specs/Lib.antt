@@ -1,4 +1,4 @@
 pub mod Command
-pub mod Headline
+pub mod Connection
 pub mod Run
 pub mod Statuses

@@ -19,7 +19,7 @@ use Rattle.ldar_cli.specs.declared.command.Command.TheVariants.{Init, Dock, Drai
 use Rattle.ldar_cli.specs.declared.status.Status.{Status}
 use Rattle.ldar_cli.specs.declared.status.Status.TheVariants.{Done, Usage, WriteFault, DiskFault, Memory}
 use Rattle.ldar_cli.specs.declared.status.Status.TheVariants.{NotEmpty, NoSuch as HasNoSuch}
-use Rattle.ldar_cli.specs.Headline.{IsDocked, IsDrained}
+use Rattle.ldar_cli.specs.Connection.{IsDocked, IsDrained}
 use Rattle.ldar_cli.specs.Statuses.{Said, refusal_of, status_of}
 
 -- ---- the journal

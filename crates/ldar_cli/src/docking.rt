@@ -2,7 +2,7 @@ ghost use Rattle.std.specs.Prelude.{◌≡◌, ◌≤◌, ◌⊎◌};
 ghost use Rattle.disk_model.specs.Faults.{Rose};
 ghost use Rattle.disk_model.specs.Keeps.{Keeps};
 ghost use Rattle.ldar_session.specs.declared.ended.Ended.{Ended};
-ghost use Rattle.ldar_cli.specs.Headline.{IsDocked, IsDrained};
+ghost use Rattle.ldar_cli.specs.Connection.{IsDocked, IsDrained};
 ghost use Rattle.ldar_cli.specs.Run.{IsNotOpened, Silent};
 ghost use Rattle.ldar_cli.specs.Statuses.{status_of as status_by};
 

@@ -27,7 +27,7 @@ pub fn run<S: Source, D: Disk, K: Sink, E: Sink>(
     notes: &mut E,
     disk: &mut D,
 ) -> u8
-    // What the command takes, puts and leaves, by its status, which is noted. For `dock` and `drain` it is the headline (`IsDocked`, `IsDrained`).
+    // What the command takes, puts and leaves, by its status, which is noted. For `dock` and `drain` see `IsDocked` and `IsDrained`.
     ensures ends { (status : Status) × IsNoted status (E.pieces notes.old) (E.pieces notes.new) result
         × Ends D.content D.images D.left D.clock D.faults (command_in (map string_bytes words.now)) status
         (S.left input.old) (S.left input.new) (K.pieces output.old) (K.pieces output.new) disk.old disk.new }

@@ -2,7 +2,7 @@ use Rattle.std.proofs.Common.{refl, inl, inr}
 use Rattle.ldar_session.specs.Requests.{HasItsAnswer}
 use Rattle.ldar_session.specs.Session.{Ends}
 use Rattle.ldar_cli.proofs.EndLemmas.{not_opened, refused_fault, refused_no_read, refused_no_write, ended_read, ended_write, ended_no_disk}
-use Rattle.ldar_cli.proofs.HeadlineLemmas.{served_by, served_keeps}
+use Rattle.ldar_cli.proofs.ConnectionLemmas.{served_by, served_keeps}
 use Rattle.ldar_cli.proofs.docking.drain.Goals as goal
 
 -- the journal was opened, and the requests answered

@@ -1,4 +1,4 @@
--- The headline: what docking over the journal of a disk does, and what a crash at any moment leaves of it.
+-- What docking and draining over the journal of a disk do, and what a crash at any moment leaves of it.
 use Rattle.std.specs.Prelude.{◌≡◌, ◌≤◌, ◌⊎◌, ℕ, List, [], ◌∷◌, ◌++◌, length, take, drop, Option, MatchOption, IsTrue}
 use Rattle.std.specs.List.{AllByRecursion}
 use Rattle.disk_model.specs.Told.{Told}

@@ -24,7 +24,7 @@ use Rattle.ldar_session.specs.Served.{Served, Stretch, HasItsClock, Stamped, ite
 use Rattle.ldar_session.specs.declared.ended.Ended.{Ended}
 use Rattle.ldar_session.proofs.RunLemmas.{runs_have_clocks}
 use Rattle.ldar_session.proofs.StampLemmas.{all_parts}
-use Rattle.ldar_cli.specs.Headline.{AreLinesKept, IsCrashSafe, IsConnection}
+use Rattle.ldar_cli.specs.Connection.{AreLinesKept, IsCrashSafe, IsConnection}
 use Rattle.ldar_cli.proofs.RulyLemmas.{run_ruly, is_ruly_state}
 
 -- ---- receipts, and the lines that say them
