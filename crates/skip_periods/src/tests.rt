@@ -330,12 +330,12 @@ fn a_walk_over_the_events_marks_as_each_quarter_alone(rt: HostRuntime) -> Result
     let mut delayed = [false; 17];
     delayed[16] = true;
     let cases = [
-        (14, UNCOUNTED, UNCOUNTED),
-        (15, FOUND, FOUND),
-        (16, CLEAN, CLEAN),
-        (17, FOUND, FOUND),
-        (18, FOUND, UNCOUNTED),
-        (19, UNCOUNTED, UNCOUNTED),
+        (13, UNCOUNTED, UNCOUNTED),
+        (14, FOUND, FOUND),
+        (15, CLEAN, CLEAN),
+        (16, FOUND, FOUND),
+        (17, FOUND, UNCOUNTED),
+        (18, UNCOUNTED, UNCOUNTED),
     ];
     let marks = marks_to(alloc, &item, &[], startup(), &events, &delayed, 368, view)?;
     let kept = marks_to(
@@ -349,16 +349,16 @@ fn a_walk_over_the_events_marks_as_each_quarter_alone(rt: HostRuntime) -> Result
         view,
     )?;
     assert_eq!(rt; (marks.len(), kept.len()), (368, 368));
-    for (quarter, expected, under_class) in cases {
+    for (place, expected, under_class) in cases {
         assert_eq!(rt;
-            marks.get(quarter - 1),
+            marks.get(place),
             Some(&expected),
-            "quarter {quarter}"
+            "behind {place} quarters"
         );
         assert_eq!(rt;
-            kept.get(quarter - 1),
+            kept.get(place),
             Some(&under_class),
-            "quarter {quarter}"
+            "behind {place} quarters"
         );
     }
     for place in 0..368u16 {
