@@ -1,4 +1,4 @@
-ghost use Rattle.std.specs.Prelude.{◌≡◌, ◌<◌, length, All, OnOk};
+ghost use Rattle.std.specs.Prelude.{◌≡◌, ◌<◌, ◌≤◌, length, All, OnOk};
 ghost use Rattle.fact_store.specs.Kept.{is_held};
 
 use crate::{Arrivals, FactStore, Place, Steps};
@@ -117,7 +117,10 @@ fn attempt(day: Day) -> Fact {
     attempt_at(day, 7)
 }
 
-fn attempt_at(day: Day, component: u16) -> Fact {
+fn attempt_at(day: Day, component: u16) -> Fact
+    requires low { 1 ≤ component }
+    requires high { component ≤ 60_000 }
+{
     Fact {
         day,
         minute: 0,
@@ -204,7 +207,7 @@ fn facts_in_reverse_are_listed_at_once_as_one_by_one(rt: HostRuntime) -> Result<
     for n in 0..100 {
         // Long lists in reverse, and one list that comes as it likes.
         let minute = if n % 5 == 0 { n * 37 % 101 } else { 1000 - n };
-        entries.push((at(day, minute, 1, 1, n), attempt_at(day, n % 5)))?;
+        entries.push((at(day, minute, 1, 1, n), attempt_at(day, n % 5 + 1)))?;
     }
     let inserted = store_of(alloc, &entries)?;
     let listed = arrivals_of(alloc, &entries)?.list()?;
