@@ -224,3 +224,19 @@ fn facts_in_reverse_are_listed_at_once_as_one_by_one(rt: HostRuntime) -> Result<
     }
     Ok(())
 }
+
+#[test]
+fn a_fact_with_room_comes_after_a_list_was_made(rt: HostRuntime) -> Result<(), Fail> {
+    let alloc = rt.alloc();
+    let day = Day::of_number(20_000).ok_or("day")?;
+    let late = attempt(day);
+    let mut arrivals = Arrivals::new(alloc);
+    arrivals.reserve(&[late])?;
+    let mut store = arrivals.list()?;
+    assert!(rt; store.of_component(7).is_empty());
+    store.insert(at(day, 9, 1, 1, 0), late);
+    let places = store.of_component(7);
+    let found = keys_at::<Brand>(alloc, Blank::new(1), &store, places)?;
+    assert_eq!(rt; found.as_slice(), [at(day, 9, 1, 1, 0)].as_slice());
+    Ok(())
+}

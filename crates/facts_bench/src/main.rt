@@ -95,12 +95,7 @@ fn stored(
 }
 
 /// A store of the facts of these places, listed at once or one by one.
-fn store_of(
-    alloc: Global,
-    at_once: bool,
-    places: &[u32],
-    sort: Sort,
-) -> Result<FactStore, Memory> {
+fn store_of(alloc: Global, at_once: bool, places: &[u32], sort: Sort) -> Result<FactStore, Memory> {
     if at_once {
         return filled_at_once(alloc, places, sort);
     }
