@@ -5,6 +5,7 @@ use Rattle.disk_model.specs.Faults.{Rose}
 use Rattle.disk_model.specs.Keeps.{Keeps}
 use Rattle.ldar_ports.specs.Sink.{Piece}
 use Rattle.ldar_ports.specs.Source.{Takes}
+use Rattle.ldar_ports.specs.Window.{WindowState, after_taking}
 use Rattle.ldar_law.specs.declared.reply.Reply.{Reply}
 use Rattle.ldar_law.specs.declared.reply.Reply.TheVariants.{Receipt, Conflict, Denied, Full, Shown, NoSuch, Fault, Memory}
 use Rattle.ldar_law.specs.declared.request.Request.{Request}
@@ -32,6 +33,12 @@ items_none (s ∷ served) each = ap (λ l. l ++ items_of served) each.0.no_item 
 pub takes_text : (served : List Served) (old new : Option (List ℕ)) (text : List ℕ) → AllByRecursion IsSent served → Takes old text new
     → Takes old (items_of served ++ text) new
 takes_text served old new text each takes = subst (λ (l : List ℕ). Takes old (l ++ text) new) (sym (items_none served each)) takes
+
+-- a window that was empty holds what was taken into it
+pub filled : (empty full : WindowState) (taken : List ℕ) → empty ≡ record { bytes = []; size = 8_388_609 } → full ≡ after_taking empty taken
+    → (full.bytes ≡ taken) × (full.size ≡ 8_388_609)
+filled empty full taken new after =
+    (ap (λ w. w.bytes) after ∙ ap (λ (w : WindowState). w.bytes ++ taken) new, ap (λ w. w.size) after ∙ ap (λ w. w.size) new)
 
 -- ---- statuses
 

@@ -6,6 +6,7 @@ use Rattle.ldar_law.specs.declared.reply.Reply.{Reply}
 use Rattle.ldar_law.specs.declared.reply.Reply.TheVariants as replies
 use Rattle.ldar_law.specs.Replies.{reply_text, what_text}
 use Rattle.ldar_law.specs.Texts.{end_of_line}
+use Rattle.ldar_law.specs.Verdicts.{paragraph_of}
 use Rattle.office_book.specs.declared.opening.BookWhy.{BookWhy}
 use Rattle.office_book.specs.declared.opening.BookWhy.TheVariants as reasons
 use Rattle.ldar_session.specs.declared.ended.Ended.{Ended}
@@ -55,7 +56,7 @@ note_of TooLarge = codes "input too large" ++ end_of_line
 note_of NotEmpty = codes "not empty" ++ end_of_line
 note_of (BadRow at) = codes "bad row " ++ decimal at ++ end_of_line
 note_of (Conflict position) = reply_text (replies.Conflict position)
-note_of (Denied fact rule) = reply_text (replies.Denied fact rule)
+note_of (Denied fact rule) = codes "denied " ++ decimal fact ++ codes " " ++ (decimal rule ++ codes " " ++ (paragraph_of rule ++ end_of_line))
 note_of (Full facts) = reply_text (replies.Full facts)
 note_of (NoSuch what) = codes "no such " ++ what_text what ++ end_of_line
 

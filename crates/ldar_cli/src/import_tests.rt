@@ -118,7 +118,7 @@ fn a_component_of_no_unit_is_denied(rt: HostRuntime) -> Result<(), Fail> {
     assert_eq!(rt; got.status, 11);
     assert_eq!(rt;
         got.output.as_slice(),
-        b"denied 1 16 P1\n".as_slice()
+        b"denied 1 17 P2\n".as_slice()
     );
     assert_eq!(rt; got.noted.as_slice(), got.output.as_slice());
     assert_eq!(rt; disk.bytes().len(), 17);

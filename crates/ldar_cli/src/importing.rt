@@ -93,8 +93,9 @@ fn text_of<S: Source>(alloc: Global, input: &mut S) -> Result<Window, Status>
     let Ok(mut window) = Window::new(alloc, LONGEST_TEXT + 1) else {
         return Err(Status::Memory);
     };
-    if window.fill_from(input).is_err() {
-        return Err(Status::ReadFault);
+    match window.fill_from(input) {
+        Ok(()) => {}
+        Err(_) => return Err(Status::ReadFault),
     }
     if window.is_full() {
         return Err(Status::TooLarge);
