@@ -15,7 +15,7 @@ use Rattle.ldar_ports.specs.Sink.{Piece, Puts, IsStamped, bytes_of}
 use Rattle.office_book.specs.Asking.{requests_of, replies_of}
 use Rattle.batch_sending.specs.declared.sending.Sent.{Sent}
 use Rattle.batch_sending.specs.declared.sending.Sent.TheVariants.{Done, Unreceipted, WriteFault, Memory}
-use Rattle.batch_sending.specs.Sending.{IsSent, IsReceipt, AreReceipted, asked_in, AllReceipted, SentUpTo, EndsUnreceipted, EndsReceipted, EndsAsking}
+use Rattle.batch_sending.specs.Sending.{IsSent, IsReceipt, AreReceipted, asked_in, AllReceipted, SentUpTo, EndsAsking}
 use Rattle.ldar_session.specs.Served.{Served, Stretch, texts_of, turns_of}
 use Rattle.ldar_session.proofs.Stretches.{stretch_call, stretch_unsaid}
 

@@ -1,4 +1,4 @@
-use Rattle.std.proofs.Common.{◌≡◌, ◌≤◌, List, [], take}
+use Rattle.std.proofs.Common.{◌≤◌, List, [], take}
 use Rattle.batch_sending.specs.Sending.{AllReceipted, IsSent}
 use Rattle.ldar_session.specs.Served.{Served, Stretch}
 use Rattle.batch_sending.proofs.sending.send_each.Given as goal

@@ -1,6 +1,5 @@
-use Rattle.std.proofs.Common.{◌≡◌, ◌≤◌, ◌++◌, inl, inr, refl, sym, subst, ◌∙◌}
+use Rattle.std.proofs.Common.{◌≡◌, ◌≤◌, inl, inr, refl, sym, subst, ◌∙◌}
 use Rattle.ldar_law.specs.Replies.{reply_text}
-use Rattle.ldar_ports.specs.Sink.{bytes_of}
 use Rattle.ldar_session.specs.Served.{texts_of}
 use Rattle.batch_sending.proofs.SendingLemmas.{sent_in, sent_put, sent_unsaid, sent_one, ends_one}
 use Rattle.batch_sending.proofs.sending.send_one.Goals as goal
