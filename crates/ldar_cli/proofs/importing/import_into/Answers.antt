@@ -1,6 +1,8 @@
-use Rattle.std.proofs.Common.{◌≡◌, ℕ, List, [], inl, inr, refl, sym, ap, ◌∙◌}
+use Rattle.std.proofs.Common.{◌≡◌, ℕ, List, [], inl, inr, refl, sym, ap, subst, ◌∙◌}
 use Rattle.ldar_session.proofs.Stretches.{stretch_none}
 use Rattle.batch_sending.specs.Sending.{IsSent}
+use Rattle.register_import.specs.declared.error.ImportError.{ImportError}
+use Rattle.register_import.specs.Rows.{TellsRow}
 use Rattle.ldar_cli.specs.Imports.{batches_in}
 use Rattle.ldar_cli.proofs.importing.import_into.Goals as goal
 
@@ -30,7 +32,8 @@ returns-in-Err-Row-clause-talk g c =
         record {
           read = taken.2.1;
           at = _;
-          first = ap (λ (l : List ℕ). batches_in c.args.sort c.args.number l) same ∙ c.in-Err-Row.ensures.bad;
+          first = ap (λ (l : List ℕ). batches_in c.args.sort c.args.number l) same
+              ∙ subst (λ (e : ImportError). TellsRow (batches_in c.args.sort c.args.number c.bytes.result.now) e) c.in-Err-Row.field-0-is c.in-Err-Row.ensures.bad;
           told = refl;
         },
         (refl, refl),
