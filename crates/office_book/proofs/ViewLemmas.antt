@@ -4,12 +4,13 @@ use Rattle.std.specs.Prelude.{Result, Ok, Err}
 use Rattle.std.specs.declared.alloc.AllocError.{AllocError}
 use Rattle.fact_kinds.specs.declared.batch.Batch.{Batch}
 use Rattle.ldar_law.specs.declared.reply.Reply.{Reply}
-use Rattle.ldar_law.specs.declared.reply.Reply.TheVariants.{Shown, NoSuch, Memory}
+use Rattle.ldar_law.specs.declared.reply.Reply.TheVariants.{Shown, NoSuch, Fault, Memory}
 use Rattle.ldar_law.specs.declared.request.Request.{Request}
 use Rattle.ldar_law.specs.declared.request.Request.TheVariants.{Sync, Due, Tags, Delays, Route, Percent, Report as ReportView}
 use Rattle.ldar_law.specs.Machine.{State, Answers}
 use Rattle.ldar_law.specs.Replies.{HasRule}
 use Rattle.ldar_law.specs.Shown.{shown}
+use Rattle.office_book.specs.Room.{IsNoFault}
 use Rattle.office_book.specs.Serving.{certain, Serves}
 use Rattle.office_book.specs.Viewed.{reply_shown}
 use Rattle.office_views.specs.Answers.{IsShown, IsView}
@@ -46,3 +47,9 @@ pub shown_ruled : {E : Type 0} (result : Result View E) (reply : Reply) → repl
 shown_ruled (Ok (Text text)) reply is = subst HasRule (sym is) tt
 shown_ruled (Ok (NoneOf what)) reply is = subst HasRule (sym is) tt
 shown_ruled (Err e) reply is = subst HasRule (sym is) tt
+
+-- it is no fault
+pub shown_faultless : {E : Type 0} (result : Result View E) (reply : Reply) → reply ≡ reply_shown result → IsNoFault reply
+shown_faultless (Ok (Text text)) reply is = subst IsNoFault (sym is) (λ fault. cc)
+shown_faultless (Ok (NoneOf what)) reply is = subst IsNoFault (sym is) (λ fault. cc)
+shown_faultless (Err e) reply is = subst IsNoFault (sym is) (λ fault. cc)

@@ -1,10 +1,12 @@
 ghost use Rattle.std.specs.Prelude.{◌≡◌, ◌≤◌, [], ◌∷◌};
 ghost use Rattle.disk_model.specs.Faults.{Rose};
 ghost use Rattle.fact_kinds.specs.Facts.{facts_to};
+ghost use Rattle.ldar_journal.specs.Crash.{AnswersInRoom};
 ghost use Rattle.ldar_journal.specs.Image.{batches_of};
 ghost use Rattle.ldar_law.specs.Machine.{Call};
 ghost use Rattle.office_book.specs.Asking.{requests_of, replies_of, HasRule};
 ghost use Rattle.office_book.specs.Moves.{Moves};
+ghost use Rattle.office_book.specs.Room.{IsNoFault};
 ghost use Rattle.office_book.specs.Safe.{Leads, state_of};
 ghost use Rattle.office_book.specs.Serving.{Serves};
 ghost use Rattle.office_book.specs.Viewed.{reply_shown};
@@ -26,6 +28,12 @@ impl<D: Disk> Book<D> {
             × (requests_of call ≡ request.now ∷ []) × (replies_of call ≡ result ∷ [])
             × (call.end.clock ≤ D.clock self.new.disk) }
         ensures ruled { HasRule result }
+
+        // With nothing in doubt the office stays as it was.
+        ensures unchanged { self.old.doubt ≡ [] → self.new ≡ self.old }
+
+        // Over a disk with told room.
+        ensures roomy { AnswersInRoom D.room D.clock 2 self.old.disk self.new.disk (λ _. IsNoFault result) }
     {
         if self.settle_first().is_err() {
             return Reply::Fault;
@@ -40,6 +48,8 @@ impl<D: Disk> Book<D> {
         ensures serves { Serves (Rose (D.faults self.old.disk) (D.faults self.new.disk)) (batches_of self.old.frames) (request.now ∷ []) (result ∷ [])
             (state_of self.new) }
         ensures moves { Moves D.content D.images D.left D.clock D.name D.faults self.old self.new 1 }
+        ensures unchanged { self.new ≡ self.old }
+        ensures no_fault { IsNoFault result }
         ensures ruled { HasRule result }
     {
         reply_to(self.archive.show(request))

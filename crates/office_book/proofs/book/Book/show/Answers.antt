@@ -7,7 +7,7 @@ use Rattle.office_book.specs.Moves.{Moves}
 use Rattle.office_book.specs.Safe.{state_of}
 use Rattle.office_book.proofs.BookLemmas.{certain_state}
 use Rattle.office_book.proofs.MoveLemmas.{moves_nothing}
-use Rattle.office_book.proofs.ViewLemmas.{serves_shown, shown_ruled}
+use Rattle.office_book.proofs.ViewLemmas.{serves_shown, shown_ruled, shown_faultless}
 use Rattle.office_views.specs.Answers.{IsShown}
 use Rattle.office_book.proofs.book.Book.show.Goals as goal
 
@@ -31,3 +31,6 @@ returns-clause-moves g c =
 
 pub returns-clause-ruled : goal.returns-clause-ruled
 returns-clause-ruled g c = shown_ruled c.show.result c.reply_to.result c.reply_to.ensures.value
+
+pub returns-clause-no_fault : goal.returns-clause-no_fault
+returns-clause-no_fault g c = shown_faultless c.show.result c.reply_to.result c.reply_to.ensures.value

@@ -1,6 +1,9 @@
-use Rattle.std.proofs.Common.{[], ◌∷◌, refl, sym, ◌∙◌, arith}
+use Rattle.std.proofs.Common.{[], ◌∷◌, refl, sym, ◌∙◌, subst, arith}
 use Rattle.disk_model.specs.Faults.{Rose}
+use Rattle.ldar_journal.proofs.CrashLemmas.{AnswersInRoom-weaker, not_err}
 use Rattle.ldar_journal.proofs.ShelfLemmas.{from_ok}
+use Rattle.ldar_journal.specs.Crash.{AnswersInRoom}
+use Rattle.office_book.specs.Room.{IsNoFault}
 use Rattle.office_book.proofs.KeepLemmas.{from_err}
 use Rattle.office_book.proofs.MoveLemmas.{serves_call, faults_call}
 use Rattle.office_book.proofs.book.Book.view.Goals as goal
@@ -30,3 +33,30 @@ returns-clause-value g c =
 
 pub returns-clause-ruled : goal.returns-clause-ruled
 returns-clause-ruled g c = c.show.ensures.ruled
+
+-- with nothing in doubt
+
+pub returns-then-is_err-clause-unchanged : goal.returns-then-is_err-clause-unchanged
+returns-then-is_err-clause-unchanged g c =
+    let settle = c.settle_first in
+    λ none. absurd (from_err settle.result (sym c.is_err.ensures.value ∙ c.if-is_err.true) settle.ensures.doubt none)
+
+pub returns-clause-unchanged : goal.returns-clause-unchanged
+returns-clause-unchanged g c = λ none. c.show.ensures.unchanged ∙ c.settle_first.ensures.nothing none
+
+-- over a disk with told room
+
+pub returns-then-is_err-clause-roomy : goal.returns-then-is_err-clause-roomy
+returns-then-is_err-clause-roomy g c =
+    let settle = c.settle_first in
+    let failed = sym c.is_err.ensures.value ∙ c.if-is_err.true in
+    AnswersInRoom-weaker g.D.Disk.room g.D.Disk.clock 2 2 c.args.self.now.disk settle.new.self.disk _ _ (omega arith)
+    (λ room went is. not_err settle.result failed went) settle.ensures.roomy
+
+pub returns-clause-roomy : goal.returns-clause-roomy
+returns-clause-roomy g c =
+    let d = g.D.Disk in
+    let settle = c.settle_first in
+    subst (λ s. AnswersInRoom d.room d.clock 2 c.args.self.now.disk s.disk (λ _. IsNoFault c.show.result)) (sym c.show.ensures.unchanged)
+    (AnswersInRoom-weaker d.room d.clock 2 2 c.args.self.now.disk settle.new.self.disk _ _ (omega arith)
+    (λ room went. c.show.ensures.no_fault) settle.ensures.roomy)
