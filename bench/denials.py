@@ -36,7 +36,7 @@ def main():
     subprocess.run(["rt", "run", "--", "none", "import", "1"], cwd=crate, check=True, stdout=subprocess.DEVNULL, stderr=subprocess.DEVNULL)
     with tempfile.TemporaryDirectory() as folder:
         rust = pathlib.Path(folder) / "rust"
-        subprocess.run(["rustc", "-O", "--edition", "2021", "-o", rust, here / "denials.rs"], check=True)
+        subprocess.run(["rustc", "-O", "-A", "dead_code", "--edition", "2021", "-o", rust, here / "denials.rs"], check=True)
         print(f"{'verdicts, ns a fact':24} {'ours':>8} {'Rust':>8} {'ratio':>6}")
         for sort, facts, without in (("readings", READINGS, "none"), ("import", 60_000, "insert")):
             took = []

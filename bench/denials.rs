@@ -1,6 +1,5 @@
 // A plain Rust register with the rules by which a batch is denied: the yardstick of denials.py.
 // usage: denials WORK SORT FACTS    as crates/denials_bench has them
-#![allow(dead_code)]
 use std::collections::{HashMap, HashSet};
 
 #[derive(Clone, Copy, PartialEq, Eq, PartialOrd, Ord)]

@@ -77,7 +77,7 @@ def main():
     subprocess.run(["rt", "run", "--", "repair", "1", "1"], cwd=crate, check=True, stdout=subprocess.DEVNULL, stderr=subprocess.DEVNULL)
     with tempfile.TemporaryDirectory() as folder:
         rust = pathlib.Path(folder) / "rust"
-        subprocess.run(["rustc", "-O", "--edition", "2021", "-o", rust, here / "law.rs"], check=True)
+        subprocess.run(["rustc", "-O", "-A", "dead_code", "--edition", "2021", "-o", rust, here / "law.rs"], check=True)
         programs = (crate / "out/law_bench", rust)
         print(f"{'ns a call: least, and ratios':40} {'ours':>10} {'Rust':>10} {'ratio':>6} {'median':>6} {'twice':>6} {'Rust':>6}")
         for shown, words, size, passes, calls in rows():

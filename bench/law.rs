@@ -1,7 +1,6 @@
 // A plain Rust program of the rule's functions on the life of a component: the yardstick of law.py.
 // usage: law CALL HISTORY COMPONENTS FACTS PASSES, or law CALL SIZE PASSES    as crates/law_bench has them
 // Each function makes one pass over what it is given, takes room at once and searches by halving where order allows it.
-#![allow(dead_code)]
 
 #[derive(Clone, Copy, PartialEq, Eq, PartialOrd, Ord)]
 struct Key { day: u16, minute: u16, handheld: u16, number: u32, index: u16 }

@@ -1,0 +1,468 @@
+// A plain Rust office over the file of a journal: the yardstick of office.py.
+// usage: office JOURNAL WORK NUMBER    as crates/office_bench has them
+// It judges each batch by the rules of denials.rs, and shows views by the functions of law.rs. A fact stands once; the facts
+// of each component are listed at the first view. Its views know no delays and no elections.
+#![allow(dead_code)]
+
+mod law {
+    include!("law.rs");
+
+    pub mod rules {
+        include!("denials.rs");
+
+        pub mod office {
+            use super::super as law;
+            use super::{Batch, Body, Class, Designation, Fact, Kind, Register, Service, Verdict, is_entry, key_of, verdict};
+            use std::collections::BTreeMap;
+            use std::fmt::Write;
+            use std::fs::File;
+            use std::io::Read;
+            use std::os::unix::fs::FileExt;
+
+            const HEADER: &[u8; 16] = b"LDARJNL1\0\0\0\0\0\0\0\0";
+            const PIECE: usize = 1 << 20;
+
+            // ---- bytes
+
+            struct Bytes<'a> { rest: &'a [u8] }
+
+            impl Bytes<'_> {
+                fn number(&mut self, width: usize, low: u32, high: u32) -> Option<u32> {
+                    let (now, rest) = self.rest.split_at_checked(width)?;
+                    self.rest = rest;
+                    let value = now.iter().fold(0, |value, byte| value << 8 | u32::from(*byte));
+                    (low <= value && value <= high).then_some(value)
+                }
+
+                fn flag(&mut self) -> Option<bool> { Some(self.number(1, 0, 1)? == 1) }
+                fn component(&mut self) -> Option<u16> { Some(self.number(2, 1, 60_000)? as u16) }
+                fn unit(&mut self) -> Option<u8> { Some(self.number(1, 1, 64)? as u8) }
+                fn instrument(&mut self) -> Option<u16> { Some(self.number(2, 1, 65_535)? as u16) }
+                fn ppm(&mut self) -> Option<u32> { self.number(4, 0, 999_999) }
+
+                fn class(&mut self) -> Option<Class> {
+                    let service = [Service::Gas, Service::Light, Service::Heavy, Service::Vacuum, Service::Under300][self.number(1, 1, 5)? as usize - 1];
+                    let designation = [Designation::Plain, Designation::Nde, Designation::Unsafe, Designation::Difficult][self.number(1, 0, 3)? as usize];
+                    let plan = if designation == Designation::Unsafe { self.number(1, 1, 60)? } else { self.number(1, 0, 0)? } as u8;
+                    Some(Class { service, designation, plan, month: self.number(1, 1, 3)? as u8 })
+                }
+
+                fn name(&mut self) -> Option<[u8; 12]> {
+                    let (now, rest) = self.rest.split_first_chunk::<12>()?;
+                    self.rest = rest;
+                    let length = now.iter().position(|byte| *byte == 0).unwrap_or(12);
+                    let fits = now[..length].iter().all(|byte| byte.is_ascii_uppercase() || byte.is_ascii_digit() || *byte == b'-');
+                    (length > 0 && fits && now[length..].iter().all(|byte| *byte == 0)).then_some(*now)
+                }
+
+                fn tested(&mut self) -> Option<(u16, u32, (u32, u32, u32))> {
+                    Some((self.instrument()?, self.number(4, 1, 999_999)?, (self.ppm()?, self.ppm()?, self.ppm()?)))
+                }
+
+                fn fact(&mut self) -> Option<Fact> {
+                    let kind = self.number(1, 1, 15)?;
+                    let (day, minute) = (self.number(2, 13_879, 47_481)? as u16, self.number(2, 0, 1_439)? as u16);
+                    let body = match kind {
+                        1 => Body::Unit { unit: self.unit()?, older: self.flag()?, name: self.name()? },
+                        2 => Body::Component {
+                            component: self.component()?,
+                            unit: self.unit()?,
+                            kind: [Kind::Valve, Kind::Pump, Kind::Compressor, Kind::Relief][self.number(1, 1, 4)? as usize - 1],
+                            monomer: self.flag()?,
+                            replaces: self.flag()?,
+                            class: self.class()?,
+                        },
+                        3 => Body::Class { component: self.component()?, class: self.class()? },
+                        4 => Body::Retire { component: self.component()? },
+                        5 => Body::Election {
+                            unit: self.unit()?,
+                            mode: self.number(1, 0, 3).filter(|mode| *mode != 2)? as u8,
+                            notified: self.number(2, 13_879, 47_481)? as u16,
+                        },
+                        6 => Body::Shutdown { unit: self.unit()?, days: self.number(2, 1, 366)? as u16 },
+                        7 => Body::Calibration { instrument: self.instrument()?, gas: self.number(4, 1, 999_999)? },
+                        8 => {
+                            let (instrument, value, readings) = self.tested()?;
+                            Body::Precision { instrument, value, readings }
+                        }
+                        9 => {
+                            let (instrument, value, readings) = self.tested()?;
+                            Body::Drift { instrument, value, readings }
+                        }
+                        10 => Body::Reading {
+                            component: self.component()?,
+                            instrument: self.number(2, 0, 65_535)? as u16,
+                            operator: self.number(2, 0, 65_535)? as u16,
+                            purpose: self.number(1, 1, 2)? as u8,
+                            ppm: self.ppm()?,
+                            background: self.ppm()?,
+                        },
+                        11 => Body::Visual { component: self.component()?, state: self.number(1, 0, 2)? as u8 },
+                        12 => Body::Attempt { component: self.component()?, complete: self.flag()? },
+                        13 => Body::Delay {
+                            component: self.component()?,
+                            ground: self.number(1, 0, 5)? as u8,
+                            signer: self.number(2, 0, 65_535)? as u16,
+                            expected: match self.number(2, 0, 47_481)? {
+                                0 => None,
+                                day => Some(day as u16).filter(|day| *day >= 13_879).map(Some)?,
+                            },
+                        },
+                        14 => Body::Release { component: self.component()? },
+                        _ => Body::Indication { component: self.component()?, sensor: self.number(1, 1, 2)? == 1, present: self.flag()? },
+                    };
+                    Some(Fact { day, minute, body })
+                }
+
+                fn batch(&mut self, facts: Vec<Fact>) -> Option<Batch> {
+                    self.number(1, 66, 66)?;
+                    let (handheld, number) = (self.number(2, 0, 65_535)? as u16, self.number(4, 0, u32::MAX)?);
+                    let count = self.number(2, 1, 512)?;
+                    let mut batch = Batch { handheld, number, facts };
+                    batch.facts.clear();
+                    for _ in 0..count { batch.facts.push(self.fact()?); }
+                    Some(batch)
+                }
+            }
+
+            // ---- the office
+
+            struct Kept { handheld: u16, number: u32, first: u32 }
+
+            /// The places of the facts of each component and of the instruments, and the batch of each fact.
+            struct Lists { batch_of: Vec<u32>, starts: Vec<u32>, places: Vec<u32>, instruments: BTreeMap<u16, law::Instrument> }
+
+            struct Office {
+                file: File,
+                place: u64,
+                register: Register,
+                facts: Vec<Fact>,
+                kept: Vec<Kept>,
+                positions: BTreeMap<(u16, u32), u32>,
+                lists: Option<Lists>,
+            }
+
+            fn named(body: &Body) -> Option<u16> { super::asked_for(body).or(super::entry_named(body)) }
+
+            impl Office {
+                fn keep(&mut self, batch: &Batch) {
+                    self.kept.push(Kept { handheld: batch.handheld, number: batch.number, first: self.facts.len() as u32 });
+                    self.positions.insert((batch.handheld, batch.number), self.kept.len() as u32);
+                    for (index, fact) in batch.facts.iter().enumerate() {
+                        if is_entry(&fact.body) { self.register.insert(key_of(batch, index), fact); }
+                        self.facts.push(*fact);
+                    }
+                }
+
+                /// Opens a journal, by pieces of 1 MiB.
+                fn open(file: File) -> Option<Office> {
+                    file.sync_all().ok()?;
+                    let mut office = Office {
+                        file,
+                        place: 16,
+                        register: Register::default(),
+                        facts: Vec::new(),
+                        kept: Vec::new(),
+                        positions: BTreeMap::new(),
+                        lists: None,
+                    };
+                    let (mut window, mut start, mut at) = (Vec::with_capacity(PIECE), 0, 0u64);
+                    let mut wants = |office: &Office, window: &mut Vec<u8>, start: &mut usize, wanted: usize| {
+                        while window.len() - *start < wanted {
+                            if window.len() == PIECE {
+                                window.drain(..*start);
+                                *start = 0;
+                            }
+                            let end = window.len();
+                            window.resize(PIECE, 0);
+                            let more = office.file.read_at(&mut window[end..], at).unwrap_or(0);
+                            window.truncate(end + more);
+                            at += more as u64;
+                            if more == 0 { return false; }
+                        }
+                        true
+                    };
+                    if !wants(&office, &mut window, &mut start, 16) || window[..16] != HEADER[..] { return None; }
+                    start = 16;
+                    let mut spare = Vec::new();
+                    loop {
+                        if !wants(&office, &mut window, &mut start, 1) { return None; }
+                        if window[start] != 1 { return Some(office); }
+                        if !wants(&office, &mut window, &mut start, 5) { return None; }
+                        let length = u32::from_be_bytes(window[start + 1..start + 5].try_into().unwrap()) as usize;
+                        if length == 0 || length > 188_560 || !wants(&office, &mut window, &mut start, 5 + length) { return None; }
+                        let mut payload = Bytes { rest: &window[start + 5..start + 5 + length] };
+                        while !payload.rest.is_empty() {
+                            let batch = payload.batch(std::mem::take(&mut spare))?;
+                            let is_known = office.positions.contains_key(&(batch.handheld, batch.number));
+                            if is_known || verdict(&office.register, office.facts.len() as u64, &batch) != Verdict::Pass { return None; }
+                            office.keep(&batch);
+                            spare = batch.facts;
+                        }
+                        start += 5 + length;
+                        office.place += 5 + length as u64;
+                    }
+                }
+
+                fn same(&self, position: u32, batch: &Batch) -> bool {
+                    let at = position as usize - 1;
+                    let end = self.kept.get(at + 1).map_or(self.facts.len(), |next| next.first as usize);
+                    let mut bytes = self.facts[self.kept[at].first as usize..end].iter().zip(&batch.facts);
+                    end - self.kept[at].first as usize == batch.facts.len() && bytes.all(|(a, b)| same_fact(a, b))
+                }
+
+                /// Keeps batches at once, in one frame. The spelling of each stands behind it.
+                fn dock(&mut self, group: Vec<(Batch, &[u8])>) -> u32 {
+                    let (mut receipts, mut facts, mut frame) = (0, self.facts.len() as u64, vec![0; 4]);
+                    let mut new: Vec<Batch> = Vec::new();
+                    for (batch, spelling) in group {
+                        if let Some(position) = self.positions.get(&(batch.handheld, batch.number)) {
+                            receipts += u32::from(self.same(*position, &batch));
+                        } else if new.iter().all(|other| other.handheld != batch.handheld || other.number != batch.number)
+                            && verdict(&self.register, facts, &batch) == Verdict::Pass
+                        {
+                            facts += batch.facts.len() as u64;
+                            frame.extend_from_slice(spelling);
+                            new.push(batch);
+                        }
+                    }
+                    if new.is_empty() { return receipts; }
+                    let length = (frame.len() - 4) as u32;
+                    frame[..4].copy_from_slice(&length.to_be_bytes());
+                    frame.push(0);
+                    self.file.write_all_at(&frame, self.place + 1).expect("a write");
+                    self.file.sync_all().expect("a sync");
+                    self.file.write_all_at(&[1], self.place).expect("a gate");
+                    self.file.sync_all().expect("a sync");
+                    self.place += 5 + u64::from(length);
+                    for batch in &new { self.keep(batch); }
+                    self.lists = None;
+                    receipts + new.len() as u32
+                }
+
+                // ---- views
+
+                fn key_at(&self, lists: &Lists, place: u32) -> law::Key {
+                    let fact = &self.facts[place as usize];
+                    let kept = &self.kept[lists.batch_of[place as usize] as usize];
+                    law::Key { day: fact.day, minute: fact.minute, handheld: kept.handheld, number: kept.number, index: (place - kept.first) as u16 }
+                }
+
+                fn made_lists(&self) -> Lists {
+                    let mut lists = Lists { batch_of: Vec::with_capacity(self.facts.len()), starts: vec![0; 60_002], places: Vec::new(), instruments: BTreeMap::new() };
+                    for at in 0..self.kept.len() {
+                        let end = self.kept.get(at + 1).map_or(self.facts.len(), |next| next.first as usize);
+                        lists.batch_of.resize(end, at as u32);
+                    }
+                    for fact in &self.facts {
+                        if let Some(component) = named(&fact.body) { lists.starts[usize::from(component) + 1] += 1; }
+                    }
+                    for at in 1..lists.starts.len() { lists.starts[at] += lists.starts[at - 1]; }
+                    let mut next = lists.starts.clone();
+                    lists.places = vec![0; lists.starts[60_001] as usize];
+                    let mut instruments: BTreeMap<u16, Vec<(law::Key, law::Fact)>> = BTreeMap::new();
+                    for (place, fact) in (0..).zip(&self.facts) {
+                        if let Some(component) = named(&fact.body) {
+                            let at = &mut next[usize::from(component)];
+                            lists.places[*at as usize] = place;
+                            *at += 1;
+                        } else if let Body::Calibration { instrument, .. } | Body::Precision { instrument, .. } | Body::Drift { instrument, .. } = fact.body {
+                            instruments.entry(instrument).or_default().push((self.key_at(&lists, place), law_fact(fact)));
+                        }
+                    }
+                    for (instrument, mut facts) in instruments {
+                        facts.sort_unstable_by_key(|entry| entry.0);
+                        lists.instruments.insert(instrument, law::Instrument::new(&facts));
+                    }
+                    for component in 0..60_001 {
+                        let list = lists.starts[component] as usize..lists.starts[component + 1] as usize;
+                        let mut places = std::mem::take(&mut lists.places);
+                        if !places[list.clone()].is_sorted_by_key(|place| self.key_at(&lists, *place)) {
+                            places[list].sort_unstable_by_key(|place| self.key_at(&lists, *place));
+                        }
+                        lists.places = places;
+                    }
+                    lists
+                }
+
+                /// Of each component of a unit what it is and its events up to a day, in order.
+                fn each(&self, lists: &Lists, unit: u8, day: u16, mut shows: impl FnMut(&law::Equipment, &[(law::Key, law::Class)], &[law::Event])) {
+                    let (mut facts, mut fitness) = (Vec::new(), Vec::new());
+                    for component in self.register.members.get(&unit).map_or(&[][..], |members| members.as_slice()) {
+                        let slot = &self.register.slots[usize::from(*component)];
+                        let entered = slot.entered.expect("a member");
+                        let retired = slot.retired.filter(|first| *first <= day);
+                        let item = law::Equipment {
+                            component: *component,
+                            unit,
+                            kind: law_kind(entered.kind),
+                            monomer: false,
+                            replaces: false,
+                            begin: entered.begin,
+                            retired,
+                            class: law_class(&entered.class),
+                        };
+                        let classes: Vec<(law::Key, law::Class)> = slot.classes.iter().filter(|entry| entry.0.day <= day)
+                            .map(|(key, class)| (law::Key { day: key.day, minute: key.minute, handheld: key.handheld, number: key.number, index: key.index }, law_class(class)))
+                            .collect();
+                        facts.clear();
+                        fitness.clear();
+                        for place in &lists.places[lists.starts[usize::from(*component)] as usize..lists.starts[usize::from(*component) + 1] as usize] {
+                            let fact = law_fact(&self.facts[*place as usize]);
+                            if fact.day > day { break; }
+                            let key = self.key_at(lists, *place);
+                            if let law::Body::Reading { instrument, .. } = fact.body {
+                                let limit = item.limit(law::regime(item.kind, item.class_on(&classes, fact.day).service));
+                                let fit = lists.instruments.get(&instrument).map_or(law::Fitness::NoCalibration, |instrument| instrument.fit(&fact, &key, limit));
+                                fitness.push(fit);
+                            }
+                            facts.push((key, fact));
+                        }
+                        shows(&item, &classes, &law::events_of(&item, &classes, &facts, &fitness));
+                    }
+                }
+
+                fn view(&mut self, work: &str, unit: u8, quarter: u16, day: u16) -> String {
+                    let lists = self.lists.take().unwrap_or_else(|| self.made_lists());
+                    let startup = self.register.units[&unit].startup;
+                    let mut text = String::new();
+                    if work == "percent" {
+                        let (mut leaking, mut monitored) = (0u64, 0u64);
+                        self.each(&lists, unit, day, |item, classes, events| {
+                            if item.kind != law::Kind::Valve { return; }
+                            let marks = law::marks_to(item, classes, startup, events, &[], quarter, day);
+                            let mark = marks[usize::from(quarter) - 1];
+                            leaking += u64::from(mark.leaking);
+                            monitored += u64::from(mark.monitored);
+                        });
+                        let good = if monitored > 0 && 50 * leaking <= monitored { "good" } else { "not good" };
+                        writeln!(text, "percent {unit} {quarter} leaking {leaking} monitored {monitored} {good} not skipped").unwrap();
+                    } else {
+                        let mut lines = 0;
+                        writeln!(text, "due {unit} {}", day_text(day)).unwrap();
+                        self.each(&lists, unit, day, |item, classes, events| {
+                            let mut duties = law::duties_of(item, classes, startup, events, &[], day);
+                            duties.sort_by_key(|duty| (duty.cause, duty.due));
+                            for duty in &duties {
+                                let cause = ["first", "monthly", "quarterly", "yearly", "plan", "weekly", "drip", "release", "evidence"][usize::from(duty.cause) - 1];
+                                let state = match duty.met {
+                                    Some(key) => format!("done {}", day_text(key.day)),
+                                    None => String::from(if duty.due >= day { "open" } else { "missed" }),
+                                };
+                                writeln!(text, "{} {cause} {} {state}", duty.component, day_text(duty.due)).unwrap();
+                                lines += 1;
+                            }
+                        });
+                        writeln!(text, "end {lines}").unwrap();
+                    }
+                    self.lists = Some(lists);
+                    text
+                }
+            }
+
+            fn day_text(day: u16) -> String {
+                let (month, place) = law::month_and_place(day);
+                format!("{:04}-{:02}-{:02}", month / 12, month % 12 + 1, place + 1)
+            }
+
+            fn same_fact(a: &Fact, b: &Fact) -> bool { a.day == b.day && a.minute == b.minute && same_body(&a.body, &b.body) }
+
+            fn same_body(a: &Body, b: &Body) -> bool {
+                match (*a, *b) {
+                    (Body::Calibration { instrument, gas }, Body::Calibration { instrument: other, gas: its }) => instrument == other && gas == its,
+                    _ => panic!("only calibrations are docked"),
+                }
+            }
+
+            fn law_kind(kind: Kind) -> law::Kind {
+                match kind {
+                    Kind::Valve => law::Kind::Valve,
+                    Kind::Pump => law::Kind::Pump,
+                    Kind::Compressor => law::Kind::Compressor,
+                    Kind::Relief => law::Kind::Relief,
+                }
+            }
+
+            fn law_class(class: &Class) -> law::Class {
+                let service = match class.service {
+                    Service::Gas => law::Service::Gas,
+                    Service::Light => law::Service::Light,
+                    Service::Heavy => law::Service::Heavy,
+                    Service::Vacuum => law::Service::Vacuum,
+                    Service::Under300 => law::Service::Under300,
+                };
+                let designation = match class.designation {
+                    Designation::Plain => law::Designation::Plain,
+                    Designation::Nde => law::Designation::Nde,
+                    Designation::Unsafe => law::Designation::Unsafe,
+                    Designation::Difficult => law::Designation::Difficult,
+                };
+                law::Class { service, designation, plan: class.plan, month: class.month }
+            }
+
+            fn law_fact(fact: &Fact) -> law::Fact {
+                let body = match fact.body {
+                    Body::Unit { unit, older, name } => law::Body::Unit { unit, older, name },
+                    Body::Component { component, unit, kind, monomer, replaces, class } => {
+                        law::Body::Component { component, unit, kind: law_kind(kind), monomer, replaces, class: law_class(&class) }
+                    }
+                    Body::Class { component, class } => law::Body::Class { component, class: law_class(&class) },
+                    Body::Retire { component } => law::Body::Retire { component },
+                    Body::Election { unit, mode, notified } => law::Body::Election { unit, mode, notified },
+                    Body::Shutdown { unit, days } => law::Body::Shutdown { unit, days },
+                    Body::Calibration { instrument, gas } => law::Body::Calibration { instrument, gas },
+                    Body::Precision { instrument, value, readings } => law::Body::Precision { instrument, value, readings },
+                    Body::Drift { instrument, value, readings } => law::Body::Drift { instrument, value, readings },
+                    Body::Reading { component, instrument, operator, purpose, ppm, background } => {
+                        law::Body::Reading { component, instrument, operator, routine: purpose == 1, ppm, background }
+                    }
+                    Body::Visual { component, state } => {
+                        law::Body::Visual { component, state: [law::State::Dry, law::State::Drips, law::State::Designated][usize::from(state)] }
+                    }
+                    Body::Attempt { component, complete } => law::Body::Attempt { component, complete },
+                    Body::Delay { component, ground, signer, expected } => law::Body::Delay { component, ground, signer, expected },
+                    Body::Release { component } => law::Body::Release { component },
+                    Body::Indication { component, sensor, present } => law::Body::Indication { component, sensor, present },
+                };
+                law::Fact { day: fact.day, minute: fact.minute, body }
+            }
+
+            pub fn main() {
+                let words: Vec<String> = std::env::args().skip(1).collect();
+                let [path, work, number] = &words[..] else { panic!("three words") };
+                let number: u32 = number.parse().expect("a number");
+                let file = File::options().read(true).write(true).open(path).expect("a file");
+                let mut office = Office::open(file).expect("a journal");
+                match work.as_str() {
+                    "percent" | "due" => {
+                        let day = number as u16;
+                        let first = law::first_quarter(office.register.units[&1].startup);
+                        let quarter = (law::month_of(day) - first) / 3 + 1;
+                        print!("{}", office.view(work, 1, quarter as u16, day));
+                    }
+                    "dock" => {
+                        let mut input = Vec::new();
+                        std::io::stdin().read_to_end(&mut input).expect("batches");
+                        let (mut rest, mut receipts) = (&input[..], 0);
+                        while !rest.is_empty() {
+                            let mut group = Vec::new();
+                            while group.len() < number as usize && !rest.is_empty() {
+                                let mut bytes = Bytes { rest };
+                                let batch = bytes.batch(Vec::new()).expect("a batch");
+                                let used = rest.len() - bytes.rest.len();
+                                group.push((batch, &rest[..used]));
+                                rest = &rest[used..];
+                            }
+                            receipts += office.dock(group);
+                        }
+                        println!("{receipts} receipts");
+                    }
+                    _ => {}
+                }
+                println!("{} batches {} facts", office.kept.len(), office.facts.len());
+            }
+        }
+    }
+}
+
+fn main() { law::rules::office::main() }
