@@ -6,7 +6,7 @@ use Rattle.disk_model.specs.Disk.{Torn}
 use Rattle.disk_model.specs.Images.{Same, Only, Tears, Elapses, Roomy}
 use Rattle.disk_model.specs.Told.{Told, BothTold}
 use Rattle.disk_model.proofs.WriteLemmas.{torn_none}
-use Rattle.ldar_journal.specs.Crash.{OnDisk, ComesFrom, LeavesOnly, AnswersInRoom}
+use Rattle.ldar_journal.specs.Crash.{OnDisk, ComesFrom, LeavesOnly, AnswersInRoom, AnswersOverRoom}
 
 -- after a write that went through, or may have, a crash leaves what it left before, torn in the range
 pub torn_images : {T E : Type 0} (at n : ℕ) (old new : List ℕ → Type 0) (r : Result T E)
@@ -96,6 +96,30 @@ module _ {D : Type 0} (room_of : D → Option ℕ) (clock_of : D → ℕ) where
     steps = λ room told. let steps = answers.steps room told in omega arith;
     answers = λ room told below. weaker room (answers.answers room told (omega arith));
   }
+
+module _ {D : Type 0} (room_of : D → Option ℕ) where
+  -- no call
+  pub AnswersOverRoom-stays : (d : D) (P : Type 0) → P → AnswersOverRoom room_of d d P
+  AnswersOverRoom-stays d P kept = record { stays = refl; answers = λ room told. kept }
+
+  -- one call
+  pub AnswersOverRoom-call : (clock_of : D → ℕ) (old new : D) (P : ℕ → Type 0) (Q : Type 0) → ((room : ℕ) → P room → Q)
+      → Roomy room_of clock_of old new P → AnswersOverRoom room_of old new Q
+  AnswersOverRoom-call clock_of old new P Q keeps roomy =
+      record { stays = roomy.stays; answers = λ room told. keeps room (roomy.answers room told) }
+
+  -- calls one after the other
+  pub AnswersOverRoom-joins : (a b c : D) (P Q R : Type 0) → (P → Q → R)
+      → AnswersOverRoom room_of a b P → AnswersOverRoom room_of b c Q → AnswersOverRoom room_of a c R
+  AnswersOverRoom-joins a b c P Q R both first second = record {
+    stays = second.stays ∙ first.stays;
+    answers = λ room told. both (first.answers room told) (second.answers room (first.stays ∙ told));
+  }
+
+  -- a weaker promise
+  pub AnswersOverRoom-weaker : (old new : D) (P Q : Type 0) → (P → Q) → AnswersOverRoom room_of old new P → AnswersOverRoom room_of old new Q
+  AnswersOverRoom-weaker old new P Q weaker answers =
+      record { stays = answers.stays; answers = λ room told. weaker (answers.answers room told) }
 
 -- an answer that is Ok is no error
 pub not_err : {T E : Type 0} (r : Result T E) → is_err r ≡ true → IsOk r → ⊥

@@ -21,3 +21,8 @@ pub record AnswersInRoom {D : Type 0} (room_of : D → Option ℕ) (clock_of : D
   pub stays : room_of new ≡ room_of old
   pub steps : (room : ℕ) → room_of old ≡ Some room → clock_of new ≤ clock_of old + calls
   pub answers : (room : ℕ) → room_of old ≡ Some room → clock_of old + calls < 2 ^ 64 → promise room
+
+-- Of calls of a disk that may tell its room, however many, which write nothing: the room stays, and where it is told, the calls keep their promise.
+pub record AnswersOverRoom {D : Type 0} (room_of : D → Option ℕ) (old new : D) (promise : Type 0) : Type 0 where
+  pub stays : room_of new ≡ room_of old
+  pub answers : (room : ℕ) → room_of old ≡ Some room → promise

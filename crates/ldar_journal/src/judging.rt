@@ -1,8 +1,9 @@
-ghost use Rattle.std.specs.Prelude.{◌≡◌, ◌≢◌, ◌^◌, ◌<◌, ◌≤◌, ◌++◌, ℕ, List, length, drop, slice_index, Err, IfOk, IfErr, OnOk, OnErr};
+ghost use Rattle.std.specs.Prelude.{◌≡◌, ◌≢◌, ◌^◌, ◌<◌, ◌≤◌, ◌++◌, ℕ, List, length, drop, slice_index, Err, IfOk, IfErr, OnOk, OnErr, IsOk};
 ghost use Rattle.std.specs.Bool.{MatchBool};
 ghost use Rattle.disk_model.specs.Faults.{Rose};
 ghost use Rattle.disk_model.specs.Keeps.{Keeps};
 ghost use Rattle.disk_model.specs.Told.{BothTold};
+ghost use Rattle.ldar_journal.specs.Crash.{AnswersOverRoom};
 ghost use Rattle.ldar_journal.specs.FrameAt.{HasNoFrame};
 ghost use Rattle.ldar_journal.specs.Opening.{IsJudged, IfWhole};
 ghost use Rattle.ldar_journal.specs.Piece.{IsFaultOrMemory};
@@ -44,6 +45,7 @@ pub fn judge<D: Disk>(
     ensures only { IfErr result IsFaultOrMemory }
     ensures reads { OnlyReads D.content D.images D.left D.clock disk.old disk.new }
     ensures keeps { Keeps D.clock D.name D.faults disk.old disk.new }
+    ensures roomy { AnswersOverRoom D.room disk.old disk.new (result ≢ Err OpenWhy.Disk) }
     ensures cause { result ≡ Err OpenWhy.Disk → Rose (D.faults disk.old) (D.faults disk.new) }
 {
     if !fill(disk, window, place, 1)? {
@@ -77,6 +79,7 @@ fn fetch_frame<D: Disk>(disk: &mut D, window: &mut Window, place: u64) -> Result
         (λ old new. IsAhead place window.old.bytes old → HasNoFrame window.new.bytes → HasNoFrame (drop place old))) }
     ensures reads { OnlyReads D.content D.images D.left D.clock disk.old disk.new }
     ensures keeps { Keeps D.clock D.name D.faults disk.old disk.new }
+    ensures roomy { AnswersOverRoom D.room disk.old disk.new (IsOk result) }
     ensures cause { OnErr result (Rose (D.faults disk.old) (D.faults disk.new)) }
 {
     if !fill(disk, window, place, 5)? {

@@ -1,9 +1,9 @@
-ghost use Rattle.std.specs.Prelude.{◌≡◌, ◌≢◌, [], true, Err, IfOk, OnOk, IfErr, MatchResult};
+ghost use Rattle.std.specs.Prelude.{◌≡◌, ◌≢◌, ◌<◌, ◌-◌, ◌^◌, [], true, Err, IfOk, OnOk, IfErr, MatchResult};
 ghost use Rattle.disk_model.specs.Faults.{Rose};
 ghost use Rattle.disk_model.specs.Images.{Only};
 ghost use Rattle.disk_model.specs.Keeps.{Keeps};
 ghost use Rattle.disk_model.specs.Told.{Told};
-ghost use Rattle.ldar_journal.specs.Crash.{LeavesOnly};
+ghost use Rattle.ldar_journal.specs.Crash.{AnswersOverRoom, LeavesOnly};
 ghost use Rattle.ldar_journal.specs.Damage.{IfDamaged, IsDamagedAt};
 ghost use Rattle.ldar_journal.specs.Image.{batches_of, IsKept};
 ghost use Rattle.ldar_journal.specs.Opening.{IsOpened, IsRefused};
@@ -72,6 +72,10 @@ pub fn open_journal<D: Disk>(
         (λ e. LeavesOnly D.clock D.left disk e.disk (D.images disk)) }
     ensures durable { IfOk result (λ r. Told (D.content r.0.disk) (λ bytes. Only bytes (D.images r.0.disk))) }
 
+    // Over a disk with told room that is not at its last clock.
+    ensures roomy { MatchResult result (λ r. AnswersOverRoom D.room disk r.0.disk (Unit {0}))
+        (λ e. AnswersOverRoom D.room disk e.disk (D.clock disk < 2 ^ 64 - 1 → e.why ≢ OpenWhy.Disk)) }
+
     ensures cause { IfErr result (λ e. e.why ≡ OpenWhy.Disk → Rose (D.faults disk) (D.faults e.disk)) }
     ensures keeps { MatchResult result (λ r. Keeps D.clock D.name D.faults disk r.0.disk) (λ e. Keeps D.clock D.name D.faults disk e.disk) }
 {
@@ -95,6 +99,10 @@ pub fn open_accepted<D: Disk>(
     ensures any_moment { MatchResult result (λ r. LeavesOnly D.clock D.left disk r.0.disk (D.images disk))
         (λ e. LeavesOnly D.clock D.left disk e.disk (D.images disk)) }
     ensures durable { IfOk result (λ r. Told (D.content r.0.disk) (λ bytes. Only bytes (D.images r.0.disk))) }
+
+    // Over a disk with told room that is not at its last clock.
+    ensures roomy { MatchResult result (λ r. AnswersOverRoom D.room disk r.0.disk (Unit {0}))
+        (λ e. AnswersOverRoom D.room disk e.disk (D.clock disk < 2 ^ 64 - 1 → e.why ≢ OpenWhy.Disk)) }
 
     ensures cause { IfErr result (λ e. e.why ≡ OpenWhy.Disk → Rose (D.faults disk) (D.faults e.disk)) }
     ensures keeps { MatchResult result (λ r. Keeps D.clock D.name D.faults disk r.0.disk) (λ e. Keeps D.clock D.name D.faults disk e.disk) }
@@ -121,6 +129,7 @@ fn collect<D: Disk>(alloc: Global, opening: &mut Opening<D>) -> Result<Vec<Batch
     ensures not_a_journal { result ≢ Err OpenWhy.NotAJournal }
     ensures damaged { IfErr result (IfDamaged (λ at. Told (D.content opening.old.disk) (λ bytes. IsDamagedAt bytes at))) }
     ensures reads { OnlyReads D.content D.images D.left D.clock opening.old.disk opening.new.disk }
+    ensures roomy { AnswersOverRoom D.room opening.old.disk opening.new.disk (result ≢ Err OpenWhy.Disk) }
     ensures cause { result ≡ Err OpenWhy.Disk → Rose (D.faults opening.old.disk) (D.faults opening.new.disk) }
     ensures keeps { Keeps D.clock D.name D.faults opening.old.disk opening.new.disk }
 {

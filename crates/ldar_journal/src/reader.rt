@@ -1,11 +1,11 @@
-ghost use Rattle.std.specs.Prelude.{◌≡◌, ◌≢◌, ◌<◌, ◌≤◌, [], ◌∷◌, ◌++◌, length, take, map, true, false, Ok, Err, IfOk, OnOk, OnErr, IfErr, MatchResult};
+ghost use Rattle.std.specs.Prelude.{◌≡◌, ◌≢◌, ◌<◌, ◌≤◌, ◌-◌, ◌^◌, [], ◌∷◌, ◌++◌, length, take, map, true, false, Ok, Err, IfOk, OnOk, OnErr, IsOk, IfErr, MatchResult};
 ghost use Rattle.fact_kinds.specs.declared.limits.TheConstants.{MOST_FACTS};
 ghost use Rattle.disk_model.specs.Faults.{Rose};
 ghost use Rattle.disk_model.specs.Images.{Only};
 ghost use Rattle.disk_model.specs.Keeps.{Keeps};
 ghost use Rattle.disk_model.specs.Told.{Told, BothTold};
 ghost use Rattle.fact_kinds.specs.Identity.{identity_of};
-ghost use Rattle.ldar_journal.specs.Crash.{LeavesOnly};
+ghost use Rattle.ldar_journal.specs.Crash.{AnswersOverRoom, LeavesOnly};
 ghost use Rattle.ldar_journal.specs.Damage.{OnNotAJournal, IfDamaged, IsDamagedAt};
 ghost use Rattle.ldar_journal.specs.Image.{header, batches_of, end_of, fact_count, IsKept, EndsAt};
 ghost use Rattle.ldar_journal.specs.Opening.{IsRefused, IsStarted};
@@ -63,6 +63,8 @@ impl<D: Disk> Opening<D> {
         ensures refused { IfErr result (λ e. IsRefused (D.content disk) (D.content e.disk) e.why) }
         ensures any_moment { MatchResult result (λ opening. LeavesOnly D.clock D.left disk opening.disk (D.images disk))
             (λ e. LeavesOnly D.clock D.left disk e.disk (D.images disk)) }
+        ensures roomy { MatchResult result (λ opening. AnswersOverRoom D.room disk opening.disk (Unit {0}))
+            (λ e. AnswersOverRoom D.room disk e.disk (D.clock disk < 2 ^ 64 - 1 → e.why ≢ OpenWhy.Disk)) }
         ensures cause { IfErr result (λ e. e.why ≡ OpenWhy.Disk → Rose (D.faults disk) (D.faults e.disk)) }
         ensures keeps { MatchResult result (λ opening. Keeps D.clock D.name D.faults disk opening.disk) (λ e. Keeps D.clock D.name D.faults disk e.disk) }
     {
@@ -93,6 +95,7 @@ impl<D: Disk> Opening<D> {
         ensures not_a_journal { result ≢ Err OpenWhy.NotAJournal }
         ensures damaged { IfErr result (IfDamaged (λ at. Told (D.content self.old.disk) (λ bytes. IsDamagedAt bytes at))) }
         ensures reads { OnlyReads D.content D.images D.left D.clock self.old.disk self.new.disk }
+        ensures roomy { AnswersOverRoom D.room self.old.disk self.new.disk (result ≢ Err OpenWhy.Disk) }
         ensures cause { result ≡ Err OpenWhy.Disk → Rose (D.faults self.old.disk) (D.faults self.new.disk) }
         ensures keeps { Keeps D.clock D.name D.faults self.old.disk self.new.disk }
     {
@@ -171,6 +174,7 @@ fn started<D: Disk>(alloc: Global, disk: &mut D) -> Result<(Window, Positions), 
     ensures not_damaged { IfErr result (IfDamaged (λ at. Told (D.content disk.old) (λ bytes. IsDamagedAt bytes at))) }
     ensures unchanged { BothTold (D.content disk.old) (D.content disk.new) (λ old new. new ≡ old) }
     ensures any_moment { LeavesOnly D.clock D.left disk.old disk.new (D.images disk.old) }
+    ensures roomy { AnswersOverRoom D.room disk.old disk.new (D.clock disk.old < 2 ^ 64 - 1 → result ≢ Err OpenWhy.Disk) }
     ensures cause { result ≡ Err OpenWhy.Disk → Rose (D.faults disk.old) (D.faults disk.new) }
     ensures keeps { Keeps D.clock D.name D.faults disk.old disk.new }
 {
@@ -189,6 +193,7 @@ fn make_stable<D: Disk>(disk: &mut D) -> Result<(), DiskFault>
     ensures same { BothTold (D.content disk.old) (D.content disk.new) (λ old new. new ≡ old) }
     ensures durable { OnOk result (Told (D.content disk.new) (λ bytes. Only bytes (D.images disk.new))) }
     ensures any_moment { LeavesOnly D.clock D.left disk.old disk.new (D.images disk.old) }
+    ensures roomy { AnswersOverRoom D.room disk.old disk.new (D.clock disk.old < 2 ^ 64 - 1 → IsOk result) }
     ensures cause { OnErr result (Rose (D.faults disk.old) (D.faults disk.new)) }
     ensures keeps { Keeps D.clock D.name D.faults disk.old disk.new }
 {

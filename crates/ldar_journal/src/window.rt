@@ -1,8 +1,9 @@
-ghost use Rattle.std.specs.Prelude.{◌≡◌, ◌^◌, ◌+◌, ◌-◌, ◌<◌, ◌≤◌, ◌++◌, [], ℕ, List, length, take, drop, true, false, Ok, IfOk, OnOk, OnErr};
+ghost use Rattle.std.specs.Prelude.{◌≡◌, ◌^◌, ◌+◌, ◌-◌, ◌<◌, ◌≤◌, ◌++◌, [], ℕ, List, length, take, drop, true, false, Ok, IfOk, OnOk, OnErr, IsOk};
 ghost use Rattle.disk_model.specs.Disk.{Reads};
 ghost use Rattle.disk_model.specs.Faults.{Rose};
 ghost use Rattle.disk_model.specs.Keeps.{Keeps};
 ghost use Rattle.disk_model.specs.Told.{BothTold};
+ghost use Rattle.ldar_journal.specs.Crash.{AnswersOverRoom};
 ghost use Rattle.ldar_journal.specs.Window.{IsAhead, OnlyReads};
 
 use disk_model::{Disk, DiskFault};
@@ -80,6 +81,7 @@ impl Window {
         ensures unchanged { OnErr result (self.new ≡ self.old) }
         ensures reads { OnlyReads D.content D.images D.left D.clock disk.old disk.new }
         ensures keeps { Keeps D.clock D.name D.faults disk.old disk.new }
+        ensures roomy { AnswersOverRoom D.room disk.old disk.new (IsOk result) }
         ensures cause { OnErr result (Rose (D.faults disk.old) (D.faults disk.new)) }
     {
         let (start, end) = make_room(&mut self.buffer, self.start, self.end);
@@ -106,6 +108,7 @@ fn read_behind<D: Disk>(
         (λ old new. IfOk result (Reads place old (drop at buffer.old.items) (drop at buffer.new.items))) }
     ensures reads { OnlyReads D.content D.images D.left D.clock disk.old disk.new }
     ensures keeps { Keeps D.clock D.name D.faults disk.old disk.new }
+    ensures roomy { AnswersOverRoom D.room disk.old disk.new (IsOk result) }
     ensures cause { OnErr result (Rose (D.faults disk.old) (D.faults disk.new)) }
 {
     disk.read_at(place, &mut buffer[at..])
@@ -145,6 +148,7 @@ pub fn fill<D: Disk>(
     ensures short { result ≡ Ok false → length window.new.bytes < wanted }
     ensures reads { OnlyReads D.content D.images D.left D.clock disk.old disk.new }
     ensures keeps { Keeps D.clock D.name D.faults disk.old disk.new }
+    ensures roomy { AnswersOverRoom D.room disk.old disk.new (IsOk result) }
     ensures cause { OnErr result (Rose (D.faults disk.old) (D.faults disk.new)) }
 {
     while window.len() < wanted {

@@ -10,6 +10,7 @@ invariant-loop-frame g l = record {
   batches : l.all.items ≡ batches_of l.opening.frames;
   few : fact_count (batches_of l.opening.frames) ≤ 8_000_000;
   reads : OnlyReads g.D.Disk.content g.D.Disk.images g.D.Disk.left g.D.Disk.clock l.fn.opening.disk l.opening.disk;
+  room : g.D.Disk.room l.opening.disk ≡ g.D.Disk.room l.fn.opening.disk;
   keeps : Keeps g.D.Disk.clock g.D.Disk.name g.D.Disk.faults l.fn.opening.disk l.opening.disk;
 }
 

@@ -11,6 +11,7 @@ invariant-loop-window g l = record {
   ahead : BothTold (g.D.Disk.content l.fn.disk) (g.D.Disk.content l.disk)
       (λ old new. IsAhead l.place l.fn.window.bytes old → IsAhead l.place l.window.bytes old);
   reads : OnlyReads g.D.Disk.content g.D.Disk.images g.D.Disk.left g.D.Disk.clock l.fn.disk l.disk;
+  room : g.D.Disk.room l.disk ≡ g.D.Disk.room l.fn.disk;
   keeps : Keeps g.D.Disk.clock g.D.Disk.name g.D.Disk.faults l.fn.disk l.disk;
 }
 
