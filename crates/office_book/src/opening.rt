@@ -1,10 +1,10 @@
-ghost use Rattle.std.specs.Prelude.{◌≡◌, ◌≤◌, [], length, IsTrue, IfOk, OnOk, IfErr, MatchResult};
+ghost use Rattle.std.specs.Prelude.{◌≡◌, ◌≢◌, ◌<◌, ◌≤◌, ◌-◌, ◌^◌, [], length, IsTrue, IfOk, OnOk, IfErr, MatchResult};
 ghost use Rattle.disk_model.specs.Faults.{Rose};
 ghost use Rattle.disk_model.specs.Images.{Only};
 ghost use Rattle.disk_model.specs.Keeps.{Keeps};
 ghost use Rattle.disk_model.specs.Told.{Told};
 ghost use Rattle.fact_kinds.specs.declared.limits.TheConstants.{MOST_FACTS};
-ghost use Rattle.ldar_journal.specs.Crash.{LeavesOnly};
+ghost use Rattle.ldar_journal.specs.Crash.{AnswersOverRoom, LeavesOnly};
 ghost use Rattle.ldar_journal.specs.Image.{batches_of, IsKept};
 ghost use Rattle.ldar_journal.specs.Opening.{IsOpened};
 ghost use Rattle.ldar_law.specs.Verdicts.{is_ruly};
@@ -63,6 +63,10 @@ pub fn open_book<D: Disk>(alloc: Global, disk: D) -> Result<Book<D>, BookError<D
     ensures any_moment { MatchResult result (λ book. LeavesOnly D.clock D.left disk book.disk (D.images disk))
         (λ e. LeavesOnly D.clock D.left disk e.disk (D.images disk)) }
     ensures durable { IfOk result (λ book. Told (D.content book.disk) (λ bytes. Only bytes (D.images book.disk))) }
+
+    // Over a disk with told room that is not at its last clock.
+    ensures roomy { MatchResult result (λ book. AnswersOverRoom D.room disk book.disk (Unit {0}))
+        (λ e. AnswersOverRoom D.room disk e.disk (D.clock disk < 2 ^ 64 - 1 → e.why ≢ BookWhy.Disk)) }
 
     ensures cause { IfErr result (λ e. e.why ≡ BookWhy.Disk → Rose (D.faults disk) (D.faults e.disk)) }
     ensures keeps { MatchResult result (λ book. Keeps D.clock D.name D.faults disk book.disk) (λ e. Keeps D.clock D.name D.faults disk e.disk) }
