@@ -1,10 +1,10 @@
 -- What a view is answered.
-use Rattle.std.proofs.Common.{◌≡◌, inr, ℕ, Some, List, [], ◌∷◌, refl, sym, ap, subst, ◌∙◌}
+use Rattle.std.proofs.Common.{◌≡◌, inr, Some, List, [], ◌∷◌, refl, sym, ap, subst, ◌∙◌}
 use Rattle.std.specs.Prelude.{Result, Ok, Err}
 use Rattle.std.specs.declared.alloc.AllocError.{AllocError}
 use Rattle.fact_kinds.specs.declared.batch.Batch.{Batch}
 use Rattle.ldar_law.specs.declared.reply.Reply.{Reply}
-use Rattle.ldar_law.specs.declared.reply.Reply.TheVariants.{Shown, NoSuch, Fault, Memory}
+use Rattle.ldar_law.specs.declared.reply.Reply.TheVariants.{Shown, NoSuch}
 use Rattle.ldar_law.specs.declared.request.Request.{Request}
 use Rattle.ldar_law.specs.declared.request.Request.TheVariants.{Sync, Due, Tags, Delays, Route, Percent, Report as ReportView}
 use Rattle.ldar_law.specs.Machine.{State, Answers}

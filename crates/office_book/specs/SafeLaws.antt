@@ -1,11 +1,10 @@
 -- Runs of calls join: no call leads nowhere, and stretches one after the other are one.
-use Rattle.std.specs.Prelude.{◌≡◌, ℕ, ◌+◌, ◌≤◌, ◌⊎◌, Option, Some, None, List, [], ◌∷◌, ◌++◌, length}
+use Rattle.std.specs.Prelude.{◌≡◌, ℕ, ◌≤◌, ◌⊎◌, Option, Some, None, List, [], ◌∷◌, ◌++◌}
 use Rattle.std.proofs.Common.{inl, inr, refl, ◌∙◌, subst, arith, length-append}
 use Rattle.disk_model.specs.Told.{Told, BothTold}
-use Rattle.ldar_journal.specs.Crash.{LeavesOnly}
 use Rattle.ldar_journal.specs.Shelf.{Shelf}
 use Rattle.ldar_law.specs.Machine.{State, Moment, Call, Turn, Steps, GroupStep, Runs}
-use Rattle.office_book.specs.Safe.{StandsIn, StandsInRun, AreBehind, IsSafe, Leads, state_of, moment_of, frames_written}
+use Rattle.office_book.specs.Safe.{StandsInRun, AreBehind, IsSafe, Leads, state_of, moment_of}
 
 -- ---- runs of the machine
 

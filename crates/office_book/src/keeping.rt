@@ -13,7 +13,7 @@ ghost use Rattle.office_book.specs.Kept.{kept_reply};
 ghost use Rattle.office_book.specs.Moves.{Moves};
 ghost use Rattle.office_book.specs.Room.{HasRoom, IsNoFault};
 ghost use Rattle.office_book.specs.Safe.{Leads, state_of};
-ghost use Rattle.office_book.specs.Serving.{Serves};
+ghost use Rattle.office_book.specs.Serving.{added, Serves};
 
 use crate::archive::Standing;
 use crate::book::Book;
@@ -37,7 +37,7 @@ impl<D: Disk> Book<D> {
 
         // Over a disk with told room, with nothing in doubt before.
         ensures roomy { AnswersInRoom D.room D.clock 6 self.old.disk self.new.disk
-            (λ room. self.old.doubt ≡ [] → HasRoom self.old.frames (batch.now ∷ []) room → IsNoFault result) }
+            (λ room. self.old.doubt ≡ [] → HasRoom self.old.frames (added (batches_of self.old.frames) (requests.Sync batch.now ∷ [])) room → IsNoFault result) }
     {
         if self.settle_first().is_err() {
             return Reply::Fault;
@@ -52,7 +52,7 @@ impl<D: Disk> Book<D> {
             (state_of self.new) }
         ensures moves { Moves D.content D.images D.left D.clock D.name D.faults self.old self.new 1 }
         ensures roomy { AnswersInRoom D.room D.clock 4 self.old.disk self.new.disk
-            (λ room. HasRoom self.old.frames (batch.now ∷ []) room → IsNoFault result) }
+            (λ room. HasRoom self.old.frames (added (batches_of self.old.frames) (requests.Sync batch.now ∷ [])) room → IsNoFault result) }
         ensures ruled { HasRule result }
     {
         // What the office keeps is known from here on.

@@ -52,19 +52,17 @@ fn said<D: Disk>(alloc: Global, book: &mut Book<D>, bytes: &[u8]) -> Result<Vec<
 }
 
 // Sees that this line is answered to a batch of these bytes.
-fn says<D: Disk>(
-    alloc: Global,
-    book: &mut Book<D>,
-    bytes: &[u8],
-    want: &str,
-) -> Result<(), Fail> {
+fn says<D: Disk>(alloc: Global, book: &mut Book<D>, bytes: &[u8], want: &str) -> Result<(), Fail> {
     let line = said(alloc, book, bytes)?;
     is(line.as_slice() == want.as_bytes(), "the line")
 }
 
 // Sees how many batches are kept, of one fact each, and how many bytes the journal has.
 fn holds(book: &Book<MemoryDisk>, batches: u32, bytes: usize) -> Result<(), Fail> {
-    is(book.counts() == (batches, u64::from(batches)), "what is kept")?;
+    is(
+        book.counts() == (batches, u64::from(batches)),
+        "what is kept",
+    )?;
     is(book.disk().bytes().len() == bytes, "the journal's length")
 }
 
@@ -88,7 +86,12 @@ fn a_batch_acts_once(rt: HostRuntime) -> Result<(), Fail> {
 #[test]
 fn a_batch_is_denied_by_the_register(rt: HostRuntime) -> Result<(), Fail> {
     let mut book = opened(rt.alloc(), &[])?;
-    says(rt.alloc(), &mut book, &UNKNOWN, "denied 1 1 60.486a(e)(1)\n")?;
+    says(
+        rt.alloc(),
+        &mut book,
+        &UNKNOWN,
+        "denied 1 1 60.486a(e)(1)\n",
+    )?;
     holds(&book, 0, 17)
 }
 

@@ -41,6 +41,11 @@ fn a_settling_comes_before_a_denial(rt: HostRuntime) -> Result<(), Fail> {
     let mut book = opened(rt.alloc(), &[first.saturating_add(3)])?;
     says(rt.alloc(), &mut book, &TWELVE, "disk fault\n")?;
     holds(&book, 0, 42)?;
-    says(rt.alloc(), &mut book, &UNKNOWN, "denied 1 1 60.486a(e)(1)\n")?;
+    says(
+        rt.alloc(),
+        &mut book,
+        &UNKNOWN,
+        "denied 1 1 60.486a(e)(1)\n",
+    )?;
     holds(&book, 1, 42)
 }

@@ -15,12 +15,7 @@ const DAMAGED: [u8; 64] = *b"LDARJNL1\0\0\0\0\0\0\0\0\
     \x01\0\0\0\x11\x42\0\x07\0\0\0\x0e\0\x01\x0c\x4d\x3d\x02\x58\0\x01\x01\x01";
 
 // Sees that no office opens over these bytes, and why, and that the bytes stay.
-fn is_refused(
-    alloc: Global,
-    bytes: &[u8],
-    failing: &[u64],
-    because: BookWhy,
-) -> Result<(), Fail> {
+fn is_refused(alloc: Global, bytes: &[u8], failing: &[u64], because: BookWhy) -> Result<(), Fail> {
     match open_book(alloc, MemoryDisk::new(alloc, bytes, failing)?) {
         Ok(_) => Err(Fail::from("an office")),
         Err(BookError { disk, why }) => {

@@ -18,8 +18,7 @@ fn shows(alloc: Global, book: &mut Book<MemoryDisk>, want: &str) -> Result<(), F
         day: Day::at(19_813),
     };
     let mut text = Vec::new(alloc);
-    book.ask(alloc, &request)
-        .put_line(alloc, &mut text)?;
+    book.ask(alloc, &request).put_line(alloc, &mut text)?;
     is(text.as_slice() == want.as_bytes(), "the text")
 }
 

@@ -1,4 +1,6 @@
-use Rattle.std.proofs.Common.{refl, subst, rules}
+use Rattle.std.proofs.Common.{List, refl, subst, rules, arith}
+use Rattle.fact_kinds.specs.declared.batch.Batch.{Batch}
+use Rattle.ldar_journal.proofs.CrashLemmas.{AnswersInRoom-weaker}
 use Rattle.ldar_journal.specs.Image.{batches_of}
 use Rattle.ldar_law.specs.declared.reply.Reply.{Reply}
 use Rattle.ldar_law.specs.declared.request.Request.TheVariants as requests
@@ -6,7 +8,8 @@ use Rattle.ldar_law.specs.Machine.{Answers}
 use Rattle.office_book.specs.Moves.{Moves}
 use Rattle.office_book.specs.Safe.{state_of}
 use Rattle.office_book.proofs.BookLemmas.{certain_state}
-use Rattle.office_book.proofs.KeepLemmas.{serves_said}
+use Rattle.office_book.specs.Room.{HasRoom}
+use Rattle.office_book.proofs.KeepLemmas.{serves_said, adds_it, adds_one}
 use Rattle.office_book.proofs.MoveLemmas.{moves_nothing}
 use Rattle.office_book.proofs.RoomLemmas.{room_stays}
 use Rattle.office_book.proofs.book.Book.keep.Goals as goal
@@ -50,4 +53,9 @@ returns-in-Some-clause-roomy g c =
     (λ room has is. subst (λ (r : Reply). Answers history (requests.Sync c.args.batch.now) r history) is c.in-Some.ensures.said.answers)
 
 pub returns-in-None-clause-roomy : goal.returns-in-None-clause-roomy
-returns-in-None-clause-roomy g c = c.add.ensures.roomy
+returns-in-None-clause-roomy g c =
+    let frames = c.args.self.now.frames in
+    let batch = c.args.batch.now in
+    let adds = adds_it (batches_of frames) batch (c.in-None.ensures.is_new (search rules)) (c.in-None.ensures.passes (search rules)) in
+    AnswersInRoom-weaker g.D.Disk.room g.D.Disk.clock 4 4 c.args.self.now.disk c.add.new.self.disk _ _ (omega arith)
+    (λ room kept has. kept (subst (λ (l : List Batch). HasRoom frames l room) (adds_one (batches_of frames) batch adds) has)) c.add.ensures.roomy

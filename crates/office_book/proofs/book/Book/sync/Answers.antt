@@ -3,7 +3,9 @@ use Rattle.disk_model.specs.Faults.{Rose}
 use Rattle.ldar_journal.proofs.ShelfLemmas.{from_ok}
 use Rattle.ldar_law.specs.declared.request.Request.TheVariants as requests
 use Rattle.ldar_journal.proofs.CrashLemmas.{AnswersInRoom-weaker, AnswersInRoom-joins, not_err}
+use Rattle.ldar_journal.specs.Image.{batches_of}
 use Rattle.office_book.specs.Room.{HasRoom}
+use Rattle.office_book.specs.Serving.{added}
 use Rattle.office_book.proofs.KeepLemmas.{from_err}
 use Rattle.office_book.proofs.MoveLemmas.{serves_call, faults_call}
 use Rattle.office_book.proofs.book.Book.sync.Goals as goal
@@ -48,5 +50,6 @@ pub returns-clause-roomy : goal.returns-clause-roomy
 returns-clause-roomy g c =
     let settle = c.settle_first in
     AnswersInRoom-joins g.D.Disk.room g.D.Disk.clock 2 4 c.args.self.now.disk settle.new.self.disk c.keep.new.self.disk _ _ _
-    (λ room went kept none has. kept (subst (λ s. HasRoom s.frames (c.args.batch.now ∷ []) room) (sym (settle.ensures.nothing none)) has))
+    (λ room went kept none has. kept (subst (λ s. HasRoom s.frames (added (batches_of s.frames) (requests.Sync c.args.batch.now ∷ [])) room)
+    (sym (settle.ensures.nothing none)) has))
     settle.ensures.roomy c.keep.ensures.roomy

@@ -1,4 +1,4 @@
-use Rattle.std.proofs.Common.{[], ◌∷◌, refl, sym, ◌∙◌, subst, arith}
+use Rattle.std.proofs.Common.{[], refl, sym, ◌∙◌, subst, arith}
 use Rattle.disk_model.specs.Faults.{Rose}
 use Rattle.ldar_journal.proofs.CrashLemmas.{AnswersInRoom-weaker, not_err}
 use Rattle.ldar_journal.proofs.ShelfLemmas.{from_ok}
