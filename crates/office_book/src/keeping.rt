@@ -37,7 +37,8 @@ impl<D: Disk> Book<D> {
 
         // Over a disk with told room, with nothing in doubt before.
         ensures roomy { AnswersInRoom D.room D.clock 6 self.old.disk self.new.disk
-            (λ room. self.old.doubt ≡ [] → HasRoom self.old.frames (added (batches_of self.old.frames) (requests.Sync batch.now ∷ [])) room → IsNoFault result) }
+            (λ room. self.old.doubt ≡ [] → HasRoom self.old.frames (added (batches_of self.old.frames) (requests.Sync batch.now ∷ [])) room
+            → IsNoFault result) }
     {
         if self.settle_first().is_err() {
             return Reply::Fault;
