@@ -1,4 +1,4 @@
-ghost use Rattle.std.specs.Prelude.{◌≡◌, ◌<◌, Some, [], ◌∷◌, ◌++◌, not, if◌then◌else◌, is_none, slice_get, drop, IfOk, OnOk, OnErr};
+ghost use Rattle.std.specs.Prelude.{◌≡◌, ◌<◌, Some, [], ◌∷◌, ◌++◌, not, if◌then◌else◌, is_none, slice_get, drop, IfOk, IsTrue, OnOk, OnErr};
 ghost use Rattle.std.specs.List.{list_any};
 ghost use Rattle.fact_kinds.specs.Facts.{facts_to};
 ghost use Rattle.fact_kinds.specs.Identity.{identity_of, position_of};
@@ -79,6 +79,8 @@ impl Office {
     /// Whether a batch is new and passes after those that were adopted.
     pub fn is_accepted(&self, batch: &Batch) -> bool
         ensures value { result ≡ law_accepts self.now.adopted batch.now }
+        ensures new { IsTrue result → IsNew self.now.adopted batch.now }
+        ensures passes { IsTrue result → verdict_on self.now.adopted batch.now ≡ Pass }
     {
         self.is_new(batch) && is_pass(&self.judged(batch))
     }
