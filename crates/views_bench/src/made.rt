@@ -1,5 +1,7 @@
 //! The batches that are adopted, and the days of their facts.
 
+ghost use Rattle.std.specs.Prelude.{◌≤◌};
+
 use fact_kinds::{Batch, Class, Designation, Fact, FactBody, Kind, Memory, Name, Purpose, Service};
 use ldar_days::Day;
 use std::alloc::Global;
@@ -74,6 +76,20 @@ fn unit() -> Option<Fact> {
     })
 }
 
+/// The number of the valve at a place, from 0.
+fn valve_at(place: u32) -> u16
+    ensures in_range { (1 ≤ result) × (result ≤ 60_000) }
+{
+    (place % 60_000 + 1) as u16
+}
+
+/// The number of a handheld, from 0, as it is told, and of its instrument.
+fn number_of(handheld: u32) -> u16
+    ensures in_range { 1 ≤ result }
+{
+    (handheld % HANDHELDS + 1) as u16
+}
+
 /// The valve with this number, from 1.
 fn valve(number: u32) -> Fact {
     let class = Class {
@@ -86,7 +102,7 @@ fn valve(number: u32) -> Fact {
         day: Day::at(STARTUP),
         minute: 0,
         body: FactBody::Component {
-            component: (number.saturating_sub(1) % 60_000 + 1) as u16,
+            component: valve_at(number.saturating_sub(1)),
             unit: 1,
             kind: Kind::Valve,
             monomer: false,
@@ -119,10 +135,10 @@ fn shutdown(days: u32) -> Fact {
 
 /// The batch of a handheld in a month, both from 0: the tests of its instrument, its readings, and what follows its leaks.
 pub fn monthly_batch(alloc: Global, month: u32, handheld: u32) -> Result<Option<Batch>, Memory> {
-    let number = (handheld % HANDHELDS + 1) as u16;
+    let number = number_of(handheld);
     let day = Day::at(FIRST).plus_months(month).plus_days(handheld % 10);
     let first = handheld % HANDHELDS * READ;
-    let mut facts = vec![in alloc; precision(day, number), calibration(day, number)]?;
+    let mut facts = vec![in alloc; precision(day, handheld), calibration(day, handheld)]?;
     for place in first..first + READ {
         facts.push(reading(day, number, place, ppm(place, month)))?;
     }
@@ -134,24 +150,24 @@ pub fn monthly_batch(alloc: Global, month: u32, handheld: u32) -> Result<Option<
     Ok(Batch::new(number, month, facts))
 }
 
-fn precision(day: Day, number: u16) -> Fact {
+fn precision(day: Day, handheld: u32) -> Fact {
     Fact {
         day,
         minute: 60,
         body: FactBody::Precision {
-            instrument: number.max(1),
+            instrument: number_of(handheld),
             value: 500,
             readings: (500, 500, 500),
         },
     }
 }
 
-fn calibration(day: Day, number: u16) -> Fact {
+fn calibration(day: Day, handheld: u32) -> Fact {
     Fact {
         day,
         minute: 61,
         body: FactBody::Calibration {
-            instrument: number.max(1),
+            instrument: number_of(handheld),
             gas: 500,
         },
     }
@@ -176,7 +192,7 @@ fn reading(day: Day, number: u16, place: u32, ppm: u32) -> Fact {
         day,
         minute: (120 + place % 600) as u16,
         body: FactBody::Reading {
-            component: (place % 60_000 + 1) as u16,
+            component: valve_at(place),
             instrument: number,
             operator: 1,
             purpose: Purpose::Routine,
@@ -188,26 +204,25 @@ fn reading(day: Day, number: u16, place: u32, ppm: u32) -> Fact {
 
 /// What follows a leak on its day: a delay of repair for want of a shutdown at one in five, and else an attempt.
 fn follow_up(day: Day, place: u32) -> Fact {
-    let component = (place % 60_000 + 1) as u16;
     if place / 50 % 5 == 4 {
-        return delay(day, component);
+        return delay(day, place);
     }
     Fact {
         day,
         minute: 1_000,
         body: FactBody::Attempt {
-            component: component.clamp(1, 60_000),
+            component: valve_at(place),
             complete: false,
         },
     }
 }
 
-fn delay(day: Day, component: u16) -> Fact {
+fn delay(day: Day, place: u32) -> Fact {
     Fact {
         day,
         minute: 1_000,
         body: FactBody::Delay {
-            component: component.clamp(1, 60_000),
+            component: valve_at(place),
             ground: 1,
             signer: 9,
             expected: Some(day.plus_days(90)),
