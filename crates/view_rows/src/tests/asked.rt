@@ -1,6 +1,6 @@
 //! Views as a test asks for them: the name of the view, the process unit, and what else it takes, in the order of its text.
 
-ghost use Rattle.std.specs.Prelude.{IfOk};
+ghost use Rattle.std.specs.Prelude.{◌≡◌, IfOk};
 ghost use Rattle.office_views.specs.Answers.{IsView};
 
 use crate::Office;
@@ -100,7 +100,9 @@ fn report(unit: u16, words: &[&str]) -> Result<Request, Fail>
 }
 
 /// What an office shows, or what it has none of.
-pub fn shown(alloc: Global, office: &mut Office, view: &str) -> Result<String, Fail> {
+pub fn shown(alloc: Global, office: &mut Office, view: &str) -> Result<String, Fail>
+    ensures unchanged { office.new ≡ office.old }
+{
     let request = request(alloc, view)?;
     match office.ask(&request)? {
         Shown::Text(text) => Ok(String::from_utf8_lossy(alloc, text.as_bytes())?),

@@ -117,6 +117,23 @@ fn batches_in_any_order_show_the_same(rt: HostRuntime) -> Result<(), Fail> {
     Ok(())
 }
 
+/// What is due on 2024-09-10 while a batch has room, and once it is adopted.
+fn due_around(alloc: Global, office: &mut Office, batch: &Batch) -> Result<(String, String), Fail> {
+    office.reserve(batch)?;
+    let before = shown(alloc, office, "due 2 2024-09-10")?;
+    if !office.adopt(batch)? {
+        return Err(Fail::from("a batch does not pass"));
+    }
+    let after = shown(alloc, office, "due 2 2024-09-10")?;
+    Ok((before, after))
+}
+
+/// Whether a batch is adopted once more.
+fn is_adopted_again(office: &mut Office, batch: &Batch) -> Result<bool, Fail> {
+    office.reserve(batch)?;
+    Ok(office.adopt(batch)?)
+}
+
 #[test]
 fn room_shows_nothing_until_its_batch_is_adopted(rt: HostRuntime) -> Result<(), Fail> {
     let alloc = rt.alloc();
@@ -125,13 +142,10 @@ fn room_shows_nothing_until_its_batch_is_adopted(rt: HostRuntime) -> Result<(), 
     let mut last = shown(alloc, &mut office, "due 2 2024-09-10")?;
     assert_eq!(rt; last.as_str(), "no such unit");
     for batch in &batches(alloc, history.as_str())? {
-        office.reserve(batch)?;
-        let before = shown(alloc, &mut office, "due 2 2024-09-10")?;
+        let (before, after) = due_around(alloc, &mut office, batch)?;
         assert_eq!(rt; before.as_str(), last.as_str());
-        assert!(rt; office.adopt(batch)?);
-        last = shown(alloc, &mut office, "due 2 2024-09-10")?;
-        office.reserve(batch)?;
-        assert!(rt; !office.adopt(batch)?, "a batch is adopted once");
+        assert!(rt; !is_adopted_again(&mut office, batch)?);
+        last = after;
     }
     assert_eq!(rt; last.as_str(), MISSED);
     Ok(())
