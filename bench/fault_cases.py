@@ -22,9 +22,9 @@ def traced(words, given=b"", calls="pread64,pwrite64,fsync,fdatasync,write,flock
 
 
 def steps(words, given=b""):
-    """The locks, reads, writes, syncs and replies of a run of the program, in order; reads behind one another are told once."""
+    """The locks, reads, writes, syncs, replies and notes of a run of the program, in order; reads behind one another are told once."""
     found = []
-    for name, path, rest in re.findall(r"(\w+)\(\d+<([^>]*)>(.*)", traced([PROGRAM, *words], given)):
+    for name, file, path, rest in re.findall(r"(\w+)\((\d+)<([^>]*)>(.*)", traced([PROGRAM, *words], given)):
         on = os.path.basename(path)
         place = re.search(r', (\d+), (\d+)\) += \d+', rest)
         if name == "pwrite64" and place:
@@ -34,7 +34,7 @@ def steps(words, given=b""):
         elif name == "flock":
             found.append(f"lock {on}")
         elif name == "write":
-            found.append("reply")
+            found.append("note" if file == "2" else "reply")
         elif name == "pread64" and ".so" not in on and found[-1:] != [f"read {on}"]:
             found.append(f"read {on}")
     return found
@@ -53,7 +53,7 @@ def order_of_calls():
     case("a new batch", steps(["site/unit/j", "dock"], batch(1)), is_added)
     case("a batch that is kept", steps(["site/unit/j", "dock"], batch(1)), [*opened, "reply"])
     case("an empty input", steps(["site/unit/j", "dock"]), opened)
-    case("init where a journal stands", steps(["site/unit/j", "init"]), ["lock j", "read j"])
+    case("init where a journal stands", steps(["site/unit/j", "init"]), ["lock j", "read j", "note"])
     os.symlink("../site/unit/j", "links/link")
     case("behind a link", steps(["links/link", "dock"]), opened)
     os.symlink("../site/unit/k", "links/loose")
@@ -62,19 +62,20 @@ def order_of_calls():
     case("init of a file that another program made", steps(["site/unit/j", "init"]), is_made)
     os.chdir("site/unit")
     case("in the folder itself", steps(["j", "dock"]), opened)
-    case("words that are no command", steps(["j", "undock"], batch(2)), [])
+    case("words that are no command", steps(["j", "undock"], batch(2)), ["note"])
 
 
 def calls_of(words, given):
-    """Each system call of a run behind the program's start: its name, which of that name it is, and how the run may end where it
-    fails, if it is one of the program's own on the journal, its folder, or a stream. What fails once the input was read is answered."""
+    """Each system call of a run behind the program's start: its name, which of that name it is, and how the run is to end where it
+    fails, if it is one of the program's own on the journal, its folder, or a stream: its status, and what it prints, if that is sure.
+    What fails on the journal once the input was read is answered."""
     is_docking, counts, found = False, {}, []
     for name, file, path in re.findall(r"(?m)^\d+ +(\w+)\((?:(\d+)<([^>]*)>)?", traced([PROGRAM, *words], given, "all")):
         counts[name] = counts.get(name, 0) + 1
         is_disk = name in ("flock", "pread64", "pwrite64", "fsync") and ".so" not in path
         is_docking = is_docking or (name, file) == ("read", "0")
         of_disk = (0, b"disk fault\n") if is_docking else (5, b"")
-        wanted = of_disk if is_disk else (3, b"") if (name, file) == ("read", "0") else (4, b"") if (name, file) == ("write", "1") else None
+        wanted = of_disk if is_disk else (3, None) if (name, file) == ("read", "0") else (4, b"") if (name, file) == ("write", "1") else None
         if name not in ("execve", "exit_group"):
             found.append((name, counts[name], wanted))
     return found
@@ -97,7 +98,7 @@ def each_call(run_name, words, given, wrong_with):
             got, why = wrong_with(name, number, what)
             if why:
                 wrong.append(f"{name} {number}: {why}")
-            elif wanted is not None and what != "signal=KILL" and got != wanted:
+            elif wanted is not None and what != "signal=KILL" and got != (wanted[0], got[1] if wanted[1] is None else wanted[1]):
                 wrong.append(f"{name} {number}: {got}, not {wanted}")
         case(f"{run_name} with {what} at each of {len(calls)} calls", wrong, [])
 
