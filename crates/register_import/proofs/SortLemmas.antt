@@ -38,7 +38,7 @@ sorted_behind-push others difficult more_others more_difficult fact (Ok facts) t
     rw (to_others, to_difficult)
     (ap₂ (λ (a b : List Stated). Ok (a ++ b)) (filter-behind is_other others fact facts) (filter-behind is_difficult difficult fact facts))
 
--- nothing came before the rows from row 2 on
+-- nothing came before the rows behind the first record
 pub first_rows : (at : ℕ) (rows all : List (List (List ℕ))) → at ≡ 2 → rows ≡ all → sorted_behind [] [] (rows_from at rows) ≡ in_turn (rows_from 2 all)
 first_rows at rows all second same = rw (second, same) (sorted_behind-none (rows_from 2 all))
 

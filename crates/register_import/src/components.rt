@@ -16,7 +16,7 @@ use std::alloc::Global;
 /// The batches of a file of components: CSV, with a first record that names the ten columns. They are of handheld 0,
 /// numbered from `number`, with up to 512 facts. Components that are difficult to monitor stand behind all others, so
 /// that their share of a unit's valves (40 CFR 60.482-7a(h)(2)(ii)) is judged when these are known. The first bad row
-/// is told, where the first record is row 1.
+/// is told by its place among the records, from 1.
 pub fn components_of(alloc: Global, text: &[u8], number: u32) -> Result<Vec<Batch>, ImportError>
     requires in_range { number ≤ LAST_NUMBER }
     requires fits { length text.now ≤ LONGEST_TEXT }
@@ -89,7 +89,7 @@ fn facts_behind(
     Ok(facts)
 }
 
-// The facts of the rows from row 2 on, so many at most.
+// The facts of the rows behind the first record, so many at most.
 fn rows_of(
     alloc: Global,
     reader: &mut Reader<&[u8]>,

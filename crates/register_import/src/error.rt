@@ -3,7 +3,7 @@ use fact_kinds::Memory;
 /// Why a file gave no batches.
 #[derive(Clone, Copy, Debug, PartialEq, Eq)]
 pub enum ImportError {
-    /// The first bad row, from 1. Row 0 is a text that is no document of the form.
+    /// The first bad row, counted from 1; 0 for a text that is no document of the form.
     Row { at: u32 },
     Memory,
 }

@@ -96,7 +96,7 @@ pub fn documents()
     ensures row_0 { rows_of_elements None ≡ Err 0 }
 {}
 
-/// The first bad row is told: the first element is row 1, and so is the first record of a file of components.
+/// The first bad row is told: elements are counted from 1, and so are the records of a file of components.
 pub fn first_bad_row()
     ensures second_unit { rows_from 1 (item crude_row (item (table no_members) (item (table no_members) no_items))) ≡ Err 2 }
     ensures no_record { rows_of_records [] ≡ Err 1 }
