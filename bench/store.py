@@ -1,6 +1,7 @@
 #!/usr/bin/env python3
 """Measures fact_store: facts of 20,000 components that come in key order, in reverse and shuffled, and each component's
-list read, beside a plain Rust program of the same job (store.rs).
+list read, beside a plain Rust program of the same job (store.rs). They are put into their lists one by one, or listed at
+once when all have come.
 
 Attempts stand in the list of their component; readings also in that of one of 200 instruments. What making the facts
 takes is left out. The program crates/facts_bench is proved and built first, so rt and rustc have to be on the path.
@@ -15,6 +16,7 @@ import tempfile
 FACTS = int(sys.argv[1]) if len(sys.argv) > 1 else 1_000_000
 RUNS = 3
 READS = 20
+ROWS = [([], "key"), ([], "reverse"), ([], "shuffled"), (["listed"], "key"), (["listed"], "reverse"), (["listed"], "shuffled")]
 
 here = pathlib.Path(__file__).parent
 crate = here.parent / "crates/facts_bench"
@@ -35,12 +37,12 @@ def measured(program, words):
     return best, int(told.stderr.split()[-1]) * 1024, told.stdout
 
 
-def figures(program, order, sort):
+def figures(program, way, order, sort):
     """Nanoseconds a fact to insert and to read again, bytes a fact, and what was read."""
     words = [order, sort, str(FACTS)]
     make, made, _ = measured(program, ["none", *words])
-    insert, kept, _ = measured(program, ["0", *words])
-    read, _, told = measured(program, [str(READS), *words])
+    insert, kept, _ = measured(program, [*way, "0", *words])
+    read, _, told = measured(program, [*way, str(READS), *words])
     return (insert - make) / FACTS * 1e9, (read - insert) / READS / FACTS * 1e9, (kept - made) / FACTS, told
 
 
@@ -49,13 +51,13 @@ def main():
     with tempfile.TemporaryDirectory() as folder:
         rust = pathlib.Path(folder) / "rust"
         subprocess.run(["rustc", "-O", "--edition", "2021", "-o", rust, here / "store.rs"], check=True)
-        print(f"{FACTS} facts            insert, ns a fact         list, ns a fact    bytes a fact")
-        print(f"{'':18} {'ours':>8} {'Rust':>8} {'ratio':>6} {'ours':>8} {'Rust':>8} {'ours':>8} {'Rust':>6}")
+        print(f"{FACTS} facts                    insert, ns a fact         list, ns a fact    bytes a fact")
+        print(f"{'':28} {'ours':>6} {'Rust':>8} {'ratio':>6} {'ours':>8} {'Rust':>8} {'ours':>8} {'Rust':>6}")
         for sort in ("attempts", "readings"):
-            for order in ("key", "reverse", "shuffled"):
-                insert, listed, kept, told = figures(crate / "out/facts_bench", order, sort)
-                plain, plain_listed, plain_kept, plain_told = figures(rust, order, sort)
-                print(f"{sort:9}{order:9} {insert:8.0f} {plain:8.0f} {insert / plain:6.2f} {listed:8.0f} {plain_listed:8.0f} "
+            for way, order in ROWS:
+                insert, listed, kept, told = figures(crate / "out/facts_bench", way, order, sort)
+                plain, plain_listed, plain_kept, plain_told = figures(rust, way, order, sort)
+                print(f"{sort:9}{order:9}{' '.join(way) or 'one by one':10} {insert:6.0f} {plain:8.0f} {insert / plain:6.2f} {listed:8.0f} {plain_listed:8.0f} "
                       f"{kept:8.0f} {plain_kept:6.0f}")
                 if told != plain_told:
                     print("they read otherwise:", told, plain_told)

@@ -1,5 +1,5 @@
 // A plain Rust store of facts by component and instrument in key order: the yardstick of store.py.
-// usage: store READS ORDER SORT FACTS    as crates/facts_bench has them
+// usage: store [listed] READS ORDER SORT FACTS    as crates/facts_bench has them
 #[derive(Clone, Copy, PartialEq, Eq, PartialOrd, Ord)]
 struct Key { day: u16, minute: u16, handheld: u16, number: u32, index: u16 }
 
@@ -35,6 +35,28 @@ impl Store {
         }
         self.arrived.push((key, fact));
     }
+
+    /// Lists the facts that came, each list sorted once.
+    fn list(&mut self) {
+        let (mut components, mut readings) = (Vec::new(), Vec::new());
+        for (at, (_, fact)) in self.arrived.iter().enumerate() {
+            push(&mut components, component_of(fact), at as u32);
+            if let Body::Reading { instrument, .. } = fact.body {
+                push(&mut readings, instrument, at as u32);
+            }
+        }
+        for list in components.iter_mut().chain(&mut readings) {
+            list.sort_unstable_by_key(|place: &u32| self.arrived[*place as usize].0);
+        }
+        (self.components, self.readings) = (components, readings);
+    }
+}
+
+fn push(lists: &mut Vec<Vec<u32>>, number: u16, at: u32) {
+    if lists.len() <= number.into() {
+        lists.resize_with(usize::from(number) + 1, Vec::new);
+    }
+    lists[usize::from(number)].push(at);
 }
 
 fn component_of(fact: &Fact) -> u16 {
@@ -61,7 +83,11 @@ fn mixed(place: u32) -> u32 {
 }
 
 fn main() {
-    let words: Vec<String> = std::env::args().skip(1).collect();
+    let mut words: Vec<String> = std::env::args().skip(1).collect();
+    let at_once = words[0] == "listed";
+    if at_once {
+        words.remove(0);
+    }
     let [reads, order, sort, count] = &words[..] else { panic!("four words") };
     let mut places: Vec<u32> = (0..count.parse().expect("a number")).collect();
     match order.as_str() {
@@ -83,8 +109,15 @@ fn main() {
             add(&fact);
         } else {
             let key = Key { day: fact.day, minute: fact.minute, handheld: 1, number: number as u32, index: 0 };
-            store.insert(key, fact);
+            if at_once {
+                store.arrived.push((key, fact));
+            } else {
+                store.insert(key, fact);
+            }
         }
+    }
+    if at_once {
+        store.list();
     }
     for _ in 0..times.unwrap_or(0) {
         for place in store.components.iter().flatten() {

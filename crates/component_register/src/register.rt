@@ -12,7 +12,7 @@ use crate::members::{joined_among, put_member};
 use crate::slots::{EMPTY, Slot, enter, make_slots, row_of};
 use crate::units::{Units, enter_unit, make_units};
 use fact_kinds::{Class, Fact, Key, Memory};
-use fact_store::FactStore;
+use fact_store::Arrivals;
 use fact_store::lists::{Lists, list_of, make_rooms};
 use ldar_days::Day;
 use ldar_law::{Equipment, UnitEntry};
@@ -24,7 +24,7 @@ use std::marker::Model;
 #[derive(Drop)]
 pub struct Register {
     alloc: Global,
-    store: FactStore,
+    store: Arrivals,
     slots: Vec<Slot>,
     units: Units,
     /// The classes that were entered for each component, in key order.
@@ -51,7 +51,7 @@ impl Register {
     {
         Register {
             alloc,
-            store: FactStore::new(alloc),
+            store: Arrivals::new(alloc),
             slots: Vec::new(alloc),
             units: Vec::new(alloc),
             classes: Vec::new(alloc),

@@ -83,7 +83,7 @@ impl MemoryDisk {
     /// of a write the first bytes of its range are these, as far as the range goes. A call that
     /// failed had changed nothing. A write of no byte leaves the bytes as they were.
     pub fn stopped(&self, alloc: Global, call: u64, left: &[u8]) -> Result<MemoryDisk, Memory>
-        requires { call < self.now.calls.made }
+        requires in_range { call < self.now.calls.made }
         ensures value { IfOk result (λ disk. disk
             ≡ new_disk (stopped_bytes self.now call left.now) []) }
         ensures any_moment { IfOk result (λ disk. IsLeftIn self.now call disk.start) }
@@ -109,7 +109,7 @@ impl MemoryDisk {
 
     /// The clock at the start of a call.
     pub fn clock_before(&self, call: u64) -> u64
-        requires { call < self.now.calls.made }
+        requires in_range { call < self.now.calls.made }
         ensures value { result ≡ clock_of (disk_before call self.now) }
     {
         let past = up_to(&self.past, call);

@@ -5,7 +5,7 @@ use crate::body::FactBody;
 
 /// The component that a fact names, if its kind names one.
 pub fn component_of(body: &FactBody) -> Option<u16>
-    ensures { result ≡ named.component_of body.now }
+    ensures value { result ≡ named.component_of body.now }
 {
     match *body {
         FactBody::Component { component, .. }
@@ -28,7 +28,7 @@ pub fn component_of(body: &FactBody) -> Option<u16>
 
 /// The process unit that a fact names, if its kind names one.
 pub fn unit_of(body: &FactBody) -> Option<u8>
-    ensures { result ≡ named.unit_of body.now }
+    ensures value { result ≡ named.unit_of body.now }
 {
     match *body {
         FactBody::Unit { unit, .. }
@@ -51,7 +51,7 @@ pub fn unit_of(body: &FactBody) -> Option<u8>
 
 /// The instrument that a calibration, a precision test or a drift assessment is of.
 pub fn tested_instrument(body: &FactBody) -> Option<u16>
-    ensures { result ≡ named.tested_instrument body.now }
+    ensures value { result ≡ named.tested_instrument body.now }
 {
     match *body {
         FactBody::Calibration { instrument, .. }
@@ -74,7 +74,7 @@ pub fn tested_instrument(body: &FactBody) -> Option<u16>
 
 /// The instrument of a reading; 0 where it names none.
 pub fn reading_instrument(body: &FactBody) -> Option<u16>
-    ensures { result ≡ named.reading_instrument body.now }
+    ensures value { result ≡ named.reading_instrument body.now }
 {
     match *body {
         FactBody::Reading { instrument, .. } => Some(instrument),

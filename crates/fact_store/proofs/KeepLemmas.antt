@@ -105,28 +105,28 @@ index_reserved naming arrived spare facts old new keeps same grows room =
           (subst (λ n. HasRoomFor (named_by n) facts new.lists.items) keeps.by room);
     }
 
-module _ (naming : Naming) (arrived : List Entry) (reserved : List Stated) (used : ℕ) (fact : Stated) (body : FactBody) (stated : body ≡ fact.body)
-    (first : slice_get (drop used reserved) 0 ≡ Some fact) (apart : AllApart goes_first arrived) where
-  named_so : (index : Index) → KeepsIndex naming arrived (drop used reserved) index → named_by index.naming body ≡ named_by naming fact.body
+module _ (naming : Naming) (arrived : List Entry) (spare : List Stated) (fact : Stated) (body : FactBody) (stated : body ≡ fact.body)
+    (first : slice_get spare 0 ≡ Some fact) (apart : AllApart goes_first arrived) where
+  named_so : (index : Index) → KeepsIndex naming arrived spare index → named_by index.naming body ≡ named_by naming fact.body
   named_so index keeps = rw (keeps.by, stated) refl
 
   -- the fact that has room next can come
-  pub can_come : (index : Index) → KeepsIndex naming arrived (drop used reserved) index → CanTake arrived (named_by index.naming body) index.lists.items
+  pub can_come : (index : Index) → KeepsIndex naming arrived spare index → CanTake arrived (named_by index.naming body) index.lists.items
   can_come index keeps =
       rw (named_so index keeps)
-      (can_take (named_by naming) arrived fact (drop (used + 1) reserved) index.lists.items apart
-      (subst (λ spare. KeepsLists (named_by naming) arrived spare index.lists.items) (spare_first reserved used fact first) keeps.lists))
+      (can_take (named_by naming) arrived fact (drop 1 spare) index.lists.items apart
+      (subst (λ facts. KeepsLists (named_by naming) arrived facts index.lists.items) (first_of spare fact first) keeps.lists))
 
   -- .. and when it has, the index holds its place as well
-  pub has_come : (key : Key) (old new : Index) → is_held key arrived ≡ false → KeepsIndex naming arrived (drop used reserved) old
+  pub has_come : (key : Key) (old new : Index) → is_held key arrived ≡ false → KeepsIndex naming arrived spare old
       → new.naming ≡ old.naming → Takes arrived (named_by old.naming body) key old.lists.items new.lists.items
-      → KeepsIndex naming (arrived ++ (key, fact) ∷ []) (drop (used + 1) reserved) new
+      → KeepsIndex naming (arrived ++ (key, fact) ∷ []) (drop 1 spare) new
   has_come key old new new_key keeps same takes =
       record {
         by = same ∙ keeps.by;
-        lists = keeps_taken (named_by naming) arrived key fact (drop (used + 1) reserved) old.lists.items new.lists.items apart
+        lists = keeps_taken (named_by naming) arrived key fact (drop 1 spare) old.lists.items new.lists.items apart
             (apart_more arrived key fact apart new_key)
-            (subst (λ spare. KeepsLists (named_by naming) arrived spare old.lists.items) (spare_first reserved used fact first) keeps.lists)
+            (subst (λ facts. KeepsLists (named_by naming) arrived facts old.lists.items) (first_of spare fact first) keeps.lists)
             (subst (λ n. Takes arrived n key old.lists.items new.lists.items) (named_so old keeps) takes);
       }
 

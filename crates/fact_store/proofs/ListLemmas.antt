@@ -1,10 +1,10 @@
-use Rattle.std.proofs.Common.{◌+◌, ◌≡◌, ℕ, zero, suc, ◌-◌, ◌<◌, ◌≤◌, cond, nat_eq, Vec, List, [], ◌∷◌, ◌++◌, length, get_or, set, refl, sym, ap, ◌∙◌, inl, inr}
+use Rattle.std.proofs.Common.{◌+◌, ◌≡◌, ℕ, zero, suc, ◌-◌, ◌<◌, ◌≤◌, cond, nat_eq, Vec, Option, Some, None, List, [], ◌∷◌, ◌++◌, length, get_or, set, refl, sym, ap, ◌∙◌, inl, inr}
 use Rattle.std.proofs.Common.{arith}
 use Rattle.std.specs.List.{insert}
 use Rattle.std.specs.Vec.{vec_len, vec_capacity}
 use Rattle.std.proofs.lemmas.Bool.{ne_eqb, eq-eqb, cases_eq, cases_lt}
 use Rattle.std.proofs.lemmas.Bool.Decides.{nat_tests}
-use Rattle.fact_store.specs.Lists.{value_at, items_in, room_in, OnlyGrow, PutsIn}
+use Rattle.fact_store.specs.Lists.{value_at, items_in, room_in, OnlyGrow, PutsIn, Pushes}
 
 -- the element that stands at a place, and none past the end
 pub value_at-read : {V Y : Type 0} (f : V → Y) (none : Y) (vs : List V) (i : ℕ) (v : V) → i < length vs → v ≡ get_or vs i v → value_at f none vs i ≡ f v
@@ -37,6 +37,24 @@ value_at-push f none (w ∷ ws) v zero e = refl
 value_at-push f none (w ∷ ws) v (suc i) e = value_at-push f none ws v i e
 
 -- ---- lists that only grow
+
+-- one more at the end
+pub value_at-append : {V Y : Type 0} (f : V → Y) (none : Y) (vs : List V) (v : V) (i : ℕ)
+    → value_at f none (vs ++ v ∷ []) i ≡ cond (nat_eq (length vs) i) (f v) (value_at f none vs i)
+value_at-append f none [] v zero = refl
+value_at-append f none [] v (suc i) = rw (ne_eqb 0 (suc i) (λ e. absurd (omega arith))) refl
+value_at-append f none (w ∷ ws) v zero = rw (ne_eqb (length (w ∷ ws)) 0 (λ e. absurd (omega arith))) refl
+value_at-append f none (w ∷ ws) v (suc i) = value_at-append f none ws v i ∙ same_test (length ws) i _ _
+
+-- a number counted once more
+pub counted_more : (counts : List ℕ) (at count : ℕ) → at < length counts → count ≡ get_or counts at count → (n : ℕ)
+    → value_at (λ c. c) 0 (set counts at (count + 1)) n ≡ value_at (λ c. c) 0 counts n + cond (nat_eq at n) 1 0
+counted_more counts at count within read n =
+    value_at-set (λ c. c) 0 counts at (count + 1) n within
+    ∙ elim (cases_eq at n) [
+      | inl e ↦ rw (eq-eqb at n e, sym e, value_at-read (λ c. c) 0 counts at count within read) refl
+      | inr other ↦ rw (ne_eqb at n other) (omega arith)
+    ]
 
 module _ {X Z : Type 0} where
   room_push : (lists : List (Vec X Z)) (list : Vec X Z) (i : ℕ) → room_in lists i ≤ room_in (lists ++ list ∷ []) i
@@ -114,3 +132,40 @@ module _ {X Z : Type 0} where
               | inr other ↦ rw (ne_eqb number n other) (omega arith)
             ]);
       }
+
+  -- ---- lists made and filled
+
+  -- one list more, with room for its count
+  pub roomy_push : (lists : List (Vec X Z)) (list : Vec X Z) (counts : List ℕ) (count : ℕ) → length lists ≡ length counts
+      → count ≤ vec_capacity list - vec_len list → ((n : ℕ) → value_at (λ c. c) 0 counts n ≤ room_in lists n)
+      → (n : ℕ) → value_at (λ c. c) 0 (counts ++ count ∷ []) n ≤ room_in (lists ++ list ∷ []) n
+  roomy_push lists list counts count same roomy before n =
+      rw (value_at-append (λ c. c) 0 counts count n, value_at-append (λ v. vec_capacity v - vec_len v) 0 lists list n, same)
+      (elim (cases_eq (length counts) n) [
+        | inl e ↦ rw (eq-eqb (length counts) n e) roomy
+        | inr other ↦ rw (ne_eqb (length counts) n other) (before n)
+      ])
+
+  -- a write of a list that has one element more at its end
+  pub pushes_set : (lists : List (Vec X Z)) (number : ℕ) (element : X) (old new : Vec X Z) → number < length lists → old ≡ get_or lists number old
+      → new.items ≡ old.items ++ element ∷ [] → vec_len new ≡ vec_len old + 1 → vec_capacity new ≡ vec_capacity old
+      → Pushes (Some number) element lists (set lists number new)
+  pushes_set lists number element old new within read items len capacity =
+      let here : items_in lists number ≡ old.items = value_at-read (λ v. v.items) [] lists number old within read in
+      let room : room_in lists number ≡ vec_capacity old - vec_len old = value_at-read (λ v. vec_capacity v - vec_len v) 0 lists number old within read in
+      record {
+        items = λ n. rw (value_at-set (λ v. v.items) [] lists number new n within)
+            (elim (cases_eq number n) [
+              | inl e ↦ rw (eq-eqb number n e, sym e, here) items
+              | inr other ↦ rw (ne_eqb number n other) refl
+            ]);
+        room = λ n. rw (value_at-set (λ v. vec_capacity v - vec_len v) 0 lists number new n within)
+            (elim (cases_eq number n) [
+              | inl e ↦ rw (eq-eqb number n e, sym e, room) (omega arith)
+              | inr other ↦ rw (ne_eqb number n other) (omega arith)
+            ]);
+      }
+
+  -- lists stay where there is no number
+  pub pushes_none : (lists : List (Vec X Z)) (element : X) → Pushes None element lists lists
+  pushes_none lists element = record { items = λ n. refl; room = λ n. omega arith }

@@ -22,10 +22,20 @@ get_last : (arrived : List Entry) (e : Entry) → slice_get (arrived ++ e ∷ []
 get_last [] e = refl
 get_last (x ∷ xs) e = get_last xs e
 
+-- the facts at some places stay
 pub entries_at-kept : (arrived : List Entry) (e : Entry) (places : List Place) → AreHeld (length arrived) places
     → entries_at (arrived ++ e ∷ []) places ≡ entries_at arrived places
 entries_at-kept arrived e [] held = refl
 entries_at-kept arrived e (p ∷ ps) held = rw (get_kept arrived e p.at held.0, entries_at-kept arrived e ps held.1) refl
+
+-- its place at the end of some places is it at the end of their facts
+pub entries_at-push : (arrived : List Entry) (e : Entry) (place : Place) (places : List Place) → place.at ≡ length arrived
+    → AreHeld (length arrived) places → entries_at (arrived ++ e ∷ []) (places ++ place ∷ []) ≡ entries_at arrived places ++ e ∷ []
+entries_at-push arrived e place [] new held = rw (new, get_last arrived e) refl
+entries_at-push arrived e place (p ∷ ps) new held =
+    let here = stands arrived p.at held.0 in
+    let same = get_kept arrived e p.at held.0 ∙ here.1 in
+    rw (same, here.1) (ap (λ es. here.0 ∷ es) (entries_at-push arrived e place ps new held.1))
 
 -- its place put among some places is it put among their facts
 pub entries_at-insert : (arrived : List Entry) (e : Entry) (place : Place) (places : List Place) (n : ℕ) → place.at ≡ length arrived

@@ -1,8 +1,6 @@
 -- What is true inside every store.
-use Rattle.std.specs.Prelude.{◌≡◌, ℕ, ◌+◌, ◌≤◌, Vec, Option, List, length, filter}
-use Rattle.std.specs.Vec.{vec_len, vec_capacity}
-use Rattle.fact_kinds.specs.declared.limits.TheConstants.{MOST_FACTS}
-use Rattle.list_words.specs.Order.{in_order, AllApart}
+use Rattle.std.specs.Prelude.{◌≡◌, ℕ, Vec, Option, List, length, filter}
+use Rattle.list_words.specs.Order.{in_order}
 use Rattle.fact_kinds.specs.declared.body.FactBody.{FactBody}
 use Rattle.fact_kinds.specs.Facts.{Entry, goes_first}
 use Rattle.fact_kinds.specs.Stated.{Stated}
@@ -10,7 +8,7 @@ use Rattle.fact_store.specs.declared.place.Place.{Place}
 use Rattle.fact_store.specs.declared.index.Index.{Index}
 use Rattle.fact_store.specs.declared.naming.Naming.{Naming}
 use Rattle.fact_store.specs.declared.naming.Naming.TheVariants.{Component, Unit as OfUnit, Tested, Reading}
-use Rattle.fact_store.specs.Kept.{entries_at, names}
+use Rattle.fact_store.specs.Kept.{Kept, entries_at, names}
 use Rattle.fact_store.specs.Lists.{items_in}
 use Rattle.fact_store.specs.Naming.{HasRoomFor, named_by}
 use Rattle.fact_store.specs.Takes.{AreHeld}
@@ -27,11 +25,8 @@ pub record KeepsIndex (naming : Naming) (arrived : List Entry) (spare : List Sta
   pub lists : KeepsLists (named_by naming) arrived spare index.lists.items
 
 -- what is true inside every store
-pub record IsSound {Z : Type 0} (arrived : Vec Entry Z) (spare : List Stated) (components units instruments readings : Index) : Type 0 where
-  pub apart : AllApart goes_first arrived.items
-  pub few : vec_len arrived ≤ MOST_FACTS
-  pub room : vec_len arrived + length spare ≤ vec_capacity arrived
-  pub by_component : KeepsIndex Component arrived.items spare components
-  pub by_unit : KeepsIndex OfUnit arrived.items spare units
-  pub by_instrument : KeepsIndex Tested arrived.items spare instruments
-  pub by_reading : KeepsIndex Reading arrived.items spare readings
+pub record IsSound (kept : Kept) (components units instruments readings : Index) : Type 0 where
+  pub by_component : KeepsIndex Component kept.arrived kept.spare components
+  pub by_unit : KeepsIndex OfUnit kept.arrived kept.spare units
+  pub by_instrument : KeepsIndex Tested kept.arrived kept.spare instruments
+  pub by_reading : KeepsIndex Reading kept.arrived kept.spare readings

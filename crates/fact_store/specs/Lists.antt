@@ -1,6 +1,7 @@
 -- Lists by number: what they hold, the room that they have, and what putting an element in changes.
-use Rattle.std.specs.Prelude.{◌≡◌, ℕ, ◌+◌, ◌-◌, ◌≤◌, zero, suc, nat_eq, if◌then◌else◌, Vec, List, [], ◌∷◌, insert, count_by}
+use Rattle.std.specs.Prelude.{◌≡◌, ℕ, ◌+◌, ◌-◌, ◌≤◌, zero, suc, nat_eq, if◌then◌else◌, Vec, Option, List, [], ◌∷◌, ◌++◌, insert, count_by}
 use Rattle.std.specs.Vec.{vec_len, vec_capacity}
+use Rattle.fact_kinds.specs.Named.{is_numbered}
 
 -- what an element at a place gives, and something else past the end
 abbrev pub value_at : {V Y : Type 0} → (V → Y) → Y → List V → ℕ → Y
@@ -29,3 +30,8 @@ HaveRoomForEach numbers lists = (number : ℕ) → count_by (λ n. nat_eq n numb
 pub record PutsIn {X Z : Type 0} (number index : ℕ) (element : X) (old new : List (Vec X Z)) : Type 0 where
   pub items : (n : ℕ) → items_in new n ≡ (if nat_eq number n then insert (items_in old n) index element else items_in old n)
   pub room : (n : ℕ) → room_in old n ≤ room_in new n + (if nat_eq number n then 1 else 0)
+
+-- one element more stands at the end of the list of a number, if there is a number, and the others stay
+pub record Pushes {X Z : Type 0} (number : Option ℕ) (element : X) (old new : List (Vec X Z)) : Type 0 where
+  pub items : (n : ℕ) → items_in new n ≡ (if is_numbered number n then items_in old n ++ element ∷ [] else items_in old n)
+  pub room : (n : ℕ) → room_in old n ≤ room_in new n + (if is_numbered number n then 1 else 0)

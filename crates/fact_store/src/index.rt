@@ -1,9 +1,15 @@
-ghost use Rattle.std.specs.Prelude.{◌≡◌, ◌+◌, ◌^◌, ◌<◌, [], length, OnOk};
+ghost use Rattle.std.specs.Prelude.{◌≡◌, ◌+◌, ◌^◌, ◌<◌, ◌≤◌, [], length, IfOk, OnOk};
+ghost use Rattle.list_words.specs.Order.{AllApart};
+ghost use Rattle.fact_kinds.specs.declared.limits.TheConstants.{MOST_FACTS};
+ghost use Rattle.fact_kinds.specs.Facts.{goes_first};
+ghost use Rattle.fact_store.specs.Inside.{KeepsIndex};
 ghost use Rattle.fact_store.specs.Lists.{items_in, OnlyGrow};
 ghost use Rattle.fact_store.specs.Naming.{HasRoomFor, named_by};
 ghost use Rattle.fact_store.specs.Takes.{CanTake, Takes};
 
-use crate::lists::{Lists, list_of, make_rooms};
+use crate::counting::counts_of;
+use crate::listing::{push_places, sort_lists};
+use crate::lists::{Lists, list_of, lists_for, make_rooms};
 use crate::naming::Naming;
 use crate::place::Place;
 use crate::put::put_place;
@@ -27,6 +33,24 @@ impl Index {
             naming,
             lists: Vec::new(alloc),
         }
+    }
+
+    /// The index of facts that came, with room for the places of others.
+    pub fn of(
+        alloc: Global,
+        naming: Naming,
+        arrived: &[(Key, Fact)],
+        spare: &[Fact],
+    ) -> Result<Index, AllocError>
+        requires apart { AllApart goes_first arrived.now }
+        requires few { length arrived.now ≤ MOST_FACTS }
+        ensures value { IfOk result (λ index. KeepsIndex naming arrived.now spare.now index) }
+    {
+        let counts = counts_of(alloc, naming, arrived, spare)?;
+        let mut lists = lists_for(alloc, &counts)?;
+        push_places(&mut lists, naming, arrived);
+        sort_lists(&mut lists, arrived);
+        Ok(Index { naming, lists })
     }
 
     /// Makes room for the places of these facts.

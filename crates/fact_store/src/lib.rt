@@ -1,7 +1,10 @@
 //! Accepted facts, kept by component, process unit and instrument in key order. Reading one is counted.
 #![tactic(auto)]
 
+mod arrivals;
+mod counting;
 mod index;
+mod listing;
 pub mod lists;
 mod naming;
 mod place;
@@ -9,6 +12,7 @@ mod put;
 mod steps;
 mod store;
 
+pub use arrivals::Arrivals;
 pub use place::Place;
 pub use steps::Steps;
 pub use store::FactStore;

@@ -1,8 +1,8 @@
 //! Lists by number. Room is made for elements first, so that putting one in takes no memory.
 
-ghost use Rattle.std.specs.Prelude.{◌≡◌, ℕ, ◌+◌, ◌<◌, ◌≤◌, nat_eq, unwrap_or, if◌then◌else◌, IfOk, OnOk, vec_len, count_by, length};
+ghost use Rattle.std.specs.Prelude.{◌≡◌, ℕ, ◌+◌, ◌<◌, ◌≤◌, Some, nat_eq, unwrap_or, if◌then◌else◌, IfOk, OnOk, [], vec_len, count_by, length};
 ghost use Rattle.std.specs.HashMap.{get};
-ghost use Rattle.fact_store.specs.Lists.{items_in, room_in, OnlyGrow, HaveRoomForEach, PutsIn};
+ghost use Rattle.fact_store.specs.Lists.{value_at, items_in, room_in, OnlyGrow, HaveRoomForEach, PutsIn, Pushes};
 
 use std::alloc::{AllocError, Global};
 use std::collections::HashMap;
@@ -86,4 +86,24 @@ pub fn put_in<T: Drop>(lists: &mut Lists<T>, number: u16, index: usize, element:
 {
     // There is room, so this can't fail.
     let _ = lists[usize::from(number)].insert(index, element);
+}
+
+/// Empty lists, each with room for so many elements.
+pub fn lists_for<T: Drop>(alloc: Global, counts: &[usize]) -> Result<Lists<T>, AllocError>
+    ensures empty { IfOk result (λ lists. (n : ℕ) → items_in lists.items n ≡ []) }
+    ensures roomy { IfOk result (λ lists. (n : ℕ) → value_at (λ c. c) 0 counts.now n ≤ room_in lists.items n) }
+{
+    let mut lists = Vec::with_capacity(alloc, counts.len())?;
+    for count in counts {
+        lists.push(Vec::with_capacity(alloc, *count)?)?;
+    }
+    Ok(lists)
+}
+
+/// Adds an element at the end of the list of a number. It takes no memory, since there is room.
+pub fn push_in<T: Drop>(lists: &mut Lists<T>, number: u16, element: T)
+    requires roomy { 0 < room_in lists.old.items number }
+    ensures value { Pushes (Some number) element lists.old.items lists.new.items }
+{
+    lists[usize::from(number)].push_reserved(element);
 }

@@ -1,7 +1,7 @@
-ghost use Rattle.std.specs.Prelude.{◌≡◌, ◌<◌, length, All, OnOk};
+ghost use Rattle.std.specs.Prelude.{◌≡◌, ◌<◌, ◌≤◌, length, All, OnOk};
 ghost use Rattle.fact_store.specs.Kept.{is_held};
 
-use crate::{FactStore, Place, Steps};
+use crate::{Arrivals, FactStore, Place, Steps};
 use fact_kinds::{Day, Fact, FactBody, Key, Memory, Purpose};
 use std::alloc::{AllocError, Global};
 use std::marker::Brand;
@@ -30,6 +30,33 @@ fn add_new(
     if seen.len() < 1000 && !is_seen(seen, &entry.0) {
         store.reserve(&[entry.1])?;
         store.insert(entry.0, entry.1);
+        seen.push(entry)?;
+    }
+    Ok(())
+}
+
+/// These facts as they came, not listed; of two with one key the first.
+fn arrivals_of(alloc: Global, entries: &[(Key, Fact)]) -> Result<Arrivals, Memory> {
+    let mut arrivals = Arrivals::new(alloc);
+    let mut seen: Vec<(Key, Fact)> = Vec::new(alloc);
+    for entry in entries {
+        add_arrival(&mut arrivals, &mut seen, *entry)?;
+    }
+    Ok(arrivals)
+}
+
+/// Adds a fact, if none with its key is among those seen.
+fn add_arrival(
+    arrivals: &mut Arrivals,
+    seen: &mut Vec<(Key, Fact)>,
+    entry: (Key, Fact),
+) -> Result<(), Memory>
+    requires { seen.old.items ≡ arrivals.old.arrived }
+    ensures { OnOk result (seen.new.items ≡ arrivals.new.arrived) }
+{
+    if seen.len() < 1000 && !is_seen(seen, &entry.0) {
+        arrivals.reserve(&[entry.1])?;
+        arrivals.insert(entry.0, entry.1);
         seen.push(entry)?;
     }
     Ok(())
@@ -87,11 +114,18 @@ fn at(day: Day, minute: u16, handheld: u16, number: u32, index: u16) -> Key {
 }
 
 fn attempt(day: Day) -> Fact {
+    attempt_at(day, 7)
+}
+
+fn attempt_at(day: Day, component: u16) -> Fact
+    requires low { 1 ≤ component }
+    requires high { component ≤ 60_000 }
+{
     Fact {
         day,
         minute: 0,
         body: FactBody::Attempt {
-            component: 7,
+            component,
             complete: false,
         },
     }
@@ -162,5 +196,47 @@ fn an_instruments_tests_and_readings_stand_apart(rt: HostRuntime) -> Result<(), 
     let named = keys_at::<Brand>(alloc, Blank::new(1), &store, store.of_component(7))?;
     assert_eq!(rt; named.as_slice(), [at(day, 9, 1, 1, 0)].as_slice());
     assert!(rt; store.readings_of(4).is_empty());
+    Ok(())
+}
+
+#[test]
+fn facts_in_reverse_are_listed_at_once_as_one_by_one(rt: HostRuntime) -> Result<(), Fail> {
+    let alloc = rt.alloc();
+    let day = Day::of_number(20_000).ok_or("day")?;
+    let mut entries = Vec::new(alloc);
+    for n in 0..100 {
+        // Long lists in reverse, and one list that comes as it likes.
+        let minute = if n % 5 == 0 { n * 37 % 101 } else { 1000 - n };
+        entries.push((at(day, minute, 1, 1, n), attempt_at(day, n % 5 + 1)))?;
+    }
+    let inserted = store_of(alloc, &entries)?;
+    let listed = arrivals_of(alloc, &entries)?.list()?;
+    for component in 0..6 {
+        let want = keys_at::<Brand>(
+            alloc,
+            Blank::new(1),
+            &inserted,
+            inserted.of_component(component),
+        )?;
+        let places = listed.of_component(component);
+        let found = keys_at::<Brand>(alloc, Blank::new(2), &listed, places)?;
+        assert_eq!(rt; found.as_slice(), want.as_slice(), "component {component}");
+    }
+    Ok(())
+}
+
+#[test]
+fn a_fact_with_room_comes_after_a_list_was_made(rt: HostRuntime) -> Result<(), Fail> {
+    let alloc = rt.alloc();
+    let day = Day::of_number(20_000).ok_or("day")?;
+    let late = attempt(day);
+    let mut arrivals = Arrivals::new(alloc);
+    arrivals.reserve(&[late])?;
+    let mut store = arrivals.list()?;
+    assert!(rt; store.of_component(7).is_empty());
+    store.insert(at(day, 9, 1, 1, 0), late);
+    let places = store.of_component(7);
+    let found = keys_at::<Brand>(alloc, Blank::new(1), &store, places)?;
+    assert_eq!(rt; found.as_slice(), [at(day, 9, 1, 1, 0)].as_slice());
     Ok(())
 }

@@ -3,7 +3,7 @@ ghost use Rattle.facts_bench.specs.Numbered.{AreNumbered};
 
 use crate::sort::{Sort, fact_at};
 use fact_kinds::{Fact, Key, MOST_FACTS, Memory};
-use fact_store::FactStore;
+use fact_store::{Arrivals, FactStore};
 use std::alloc::{AllocError, Global};
 
 /// How many facts room is made for at once: as many as a batch may have.
@@ -18,6 +18,17 @@ pub fn filled(alloc: Global, places: &[u32], sort: Sort) -> Result<FactStore, Me
         came = add_facts(&mut store, came, &facts)?;
     }
     Ok(store)
+}
+
+/// A store of the facts of these places, which came one after the other and were then listed at once.
+pub fn filled_at_once(alloc: Global, places: &[u32], sort: Sort) -> Result<FactStore, Memory> {
+    let mut arrivals = Arrivals::new(alloc);
+    let mut came = 0;
+    for some in places.chunks(AT_ONCE) {
+        let facts = facts_at(alloc, some, sort)?;
+        came = add_arrivals(&mut arrivals, came, &facts)?;
+    }
+    arrivals.list()
 }
 
 fn facts_at(alloc: Global, places: &[u32], sort: Sort) -> Result<Vec<Fact>, AllocError> {
@@ -39,6 +50,23 @@ fn add_facts(store: &mut FactStore, before: u32, facts: &[Fact]) -> Result<u32, 
             break;
         }
         store.insert(key_of(fact, came), *fact);
+        came += 1;
+    }
+    Ok(came)
+}
+
+/// Adds facts that are not listed, numbered in the same way.
+fn add_arrivals(arrivals: &mut Arrivals, before: u32, facts: &[Fact]) -> Result<u32, Memory>
+    requires numbered { AreNumbered before arrivals.old.arrived }
+    ensures numbered { IfOk result (λ came. AreNumbered came arrivals.new.arrived) }
+{
+    arrivals.reserve(facts)?;
+    let mut came = before;
+    for fact in facts {
+        if u64::from(came) >= MOST_FACTS {
+            break;
+        }
+        arrivals.insert(key_of(fact, came), *fact);
         came += 1;
     }
     Ok(came)

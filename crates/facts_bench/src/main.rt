@@ -3,7 +3,7 @@
 //! With `read FILE PASSES` it reads the batches of a file so many times. With `READS ORDER SORT FACTS` it makes so many
 //! facts of 20,000 components, puts them into a store, and reads each component's list so many times; where READS is no
 //! number it makes them alone. They come in `key`, `reverse` or `shuffled` order, and are `attempts` or `readings`. With
-//! no words it does a little of each.
+//! `listed` in front they are listed at once when all have come. With no words it does a little of each.
 #![tactic(auto)]
 
 mod filling;
@@ -14,7 +14,8 @@ mod sort;
 mod total;
 
 use fact_kinds::Memory;
-use filling::filled;
+use fact_store::FactStore;
+use filling::{filled, filled_at_once};
 use listing::listed;
 use order::{Order, places};
 use reading::read_all;
@@ -30,7 +31,12 @@ fn main(rt: HostRuntime) -> Result<(), anyhow::Error> {
     let words: Vec<&str> = words.iter().map(|word| word.as_str()).collect(rt.alloc())?;
     match words.as_slice() {
         ["read", path, passes] => read(&rt, path, passes.parse().unwrap_or(1)),
-        [reads, order, sort, facts] => store(&rt, reads, order, sort, facts.parse().unwrap_or(0)),
+        [reads, order, sort, facts] => {
+            store(&rt, false, reads, order, sort, facts.parse().unwrap_or(0))
+        }
+        ["listed", reads, order, sort, facts] => {
+            store(&rt, true, reads, order, sort, facts.parse().unwrap_or(0))
+        }
         _ => a_little(&rt),
     }
 }
@@ -49,6 +55,7 @@ fn read(rt: &HostRuntime, path: &str, passes: u32) -> Result<(), anyhow::Error> 
 
 fn store(
     rt: &HostRuntime,
+    at_once: bool,
     reads: &str,
     order: &str,
     sort: &str,
@@ -56,7 +63,7 @@ fn store(
 ) -> Result<(), anyhow::Error> {
     let places = places(rt.alloc(), Order::of(order), facts)?;
     let total = match reads.parse::<u32>() {
-        Ok(reads) => stored(rt.alloc(), &places, Sort::of(sort), reads)?,
+        Ok(reads) => stored(rt.alloc(), at_once, &places, Sort::of(sort), reads)?,
         Err(_) => made(&places, Sort::of(sort)),
     };
     println!(rt;
@@ -76,16 +83,31 @@ fn made(places: &[u32], sort: Sort) -> Total {
 }
 
 /// The total of the facts of these places, which are read so many times from a store, component by component.
-fn stored(alloc: Global, places: &[u32], sort: Sort, reads: u32) -> Result<Total, Memory> {
-    let store = filled(alloc, places, sort)?;
+fn stored(
+    alloc: Global,
+    at_once: bool,
+    places: &[u32],
+    sort: Sort,
+    reads: u32,
+) -> Result<Total, Memory> {
+    let store = store_of(alloc, at_once, places, sort)?;
     Ok(listed::<Brand>(Blank::new(1), &store, reads))
+}
+
+/// A store of the facts of these places, listed at once or one by one.
+fn store_of(alloc: Global, at_once: bool, places: &[u32], sort: Sort) -> Result<FactStore, Memory> {
+    if at_once {
+        return filled_at_once(alloc, places, sort);
+    }
+    filled(alloc, places, sort)
 }
 
 fn a_little(rt: &HostRuntime) -> Result<(), anyhow::Error> {
     read(rt, "batches", 2)?;
     for order in ["key", "reverse", "shuffled"] {
         for sort in ["attempts", "readings"] {
-            store(rt, "1", order, sort, 40_000)?;
+            store(rt, false, "1", order, sort, 40_000)?;
+            store(rt, true, "1", order, sort, 40_000)?;
         }
     }
     Ok(())

@@ -73,7 +73,7 @@ fn text_of(bytes: &[u8]) -> &str
 /// What the request asks that `cut` found at the front of these bytes, with a head of so many bytes: a batch or a view, or
 /// why it asks nothing.
 pub fn request_of(alloc: Global, bytes: &[u8], head: usize) -> Result<Asked, Memory>
-    requires { WasCut bytes.now head }
+    requires was_cut { WasCut bytes.now head }
     ensures value { IfOk result (IsAsked bytes.now head) }
 {
     let line = line_of(&bytes[..head]);

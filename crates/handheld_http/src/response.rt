@@ -238,7 +238,7 @@ pub fn reply_bytes(
     closing: bool,
     out: &mut Vec<u8>,
 ) -> Result<(), Memory>
-    requires { IsSent answer.now }
+    requires is_sent { IsSent answer.now }
     ensures value { OnOk result (out.new.items ≡ out.old.items ++ answer_bytes answer.now closing) }
     ensures unchanged { OnErr result (out.new.items ≡ out.old.items) }
 {

@@ -55,7 +55,7 @@ impl Day {
 
     /// The day with this number, which the calendar has.
     pub fn at(number: u32) -> Day
-        requires { IsDay number }
+        requires in_range { IsDay number }
         ensures value { result ≡ number }
     {
         Day {

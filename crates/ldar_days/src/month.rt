@@ -31,7 +31,7 @@ pub const LAST_MONTH: u32 = 25_199;
 impl Month {
     /// The month with this number, which the calendar has.
     pub fn at(number: u32) -> Month
-        requires { IsMonth number }
+        requires in_range { IsMonth number }
         ensures value { result ≡ number }
     {
         Month {
@@ -64,7 +64,7 @@ impl Month {
 
     /// The next month, where the calendar has it.
     pub fn next(self) -> Month
-        requires { self < 25_199 }
+        requires in_range { self < 25_199 }
         ensures value { result ≡ self + 1 }
     {
         self.later(1)
@@ -72,7 +72,7 @@ impl Month {
 
     /// The month that many months later, where the calendar has it.
     pub fn later(self, months: u32) -> Month
-        requires { self + months ≤ 25_199 }
+        requires in_range { self + months ≤ 25_199 }
         ensures value { result ≡ self + months }
     {
         Month::at(self.number() + months)
@@ -80,7 +80,7 @@ impl Month {
 
     /// The month that many months earlier, where the calendar has it.
     pub fn earlier(self, months: u32) -> Month
-        requires { 24_096 + months ≤ self }
+        requires in_range { 24_096 + months ≤ self }
         ensures value { result + months ≡ self }
     {
         Month::at(self.number() - months)

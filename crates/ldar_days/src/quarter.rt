@@ -15,7 +15,7 @@ pub const LAST_STARTUP: u32 = 46_751;
 ///
 /// The quarter's last month is the last one all of whose days are among startup + 1 to startup + 180.
 pub fn first_quarter(startup: Day) -> Month
-    requires { startup ≤ LAST_STARTUP }
+    requires in_range { startup ≤ LAST_STARTUP }
     ensures value { result ≡ spec.first_quarter startup }
     ensures in_range { IsMonth result }
     ensures third_month { spec.IsWithin180Days startup (result + 2) }
@@ -27,7 +27,7 @@ pub fn first_quarter(startup: Day) -> Month
 
 /// The quarter of a month, counted from 1, and `None` before quarter 1.
 pub fn quarter_of(startup: Day, month: Month) -> Option<u16>
-    requires { startup ≤ LAST_STARTUP }
+    requires in_range { startup ≤ LAST_STARTUP }
     ensures value { result ≡ spec.quarter_of startup month }
     ensures found { IfSome result (λ quarter. (spec.quarter_first startup quarter ≤ first_day month)
         × (last_day month ≤ spec.quarter_last startup quarter)) }

@@ -43,7 +43,7 @@ pub enum Reply {
 impl Reply {
     /// Appends the line of the reply, or the text of a view; nothing where memory is wanting.
     pub fn put_line(&self, alloc: Global, out: &mut Vec<u8>) -> Result<(), Memory>
-        requires { HasRule self.now }
+        requires has_rule { HasRule self.now }
         ensures value { OnOk result (out.new.items ≡ out.old.items ++ reply_text self.now) }
         ensures unchanged { OnErr result (out.new.items ≡ out.old.items) }
     {

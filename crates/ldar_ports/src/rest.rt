@@ -23,7 +23,7 @@ impl Model for Rest {
 
 impl Rest {
     pub fn new(alloc: Global, bytes: &[u8]) -> Result<Rest, Memory>
-        ensures { IfOk result (λ rest. rest ≡ bytes.now) }
+        ensures value { IfOk result (λ rest. rest ≡ bytes.now) }
     {
         Ok(Rest {
             bytes: Vec::from_slice(alloc, bytes)?,
@@ -32,13 +32,13 @@ impl Rest {
     }
 
     pub fn as_slice(&self) -> &[u8]
-        ensures { result.now ≡ self.now }
+        ensures value { result.now ≡ self.now }
     {
         &self.bytes[self.taken..]
     }
 
     pub fn is_empty(&self) -> bool
-        ensures { IsTrue result ↔ (length self.now ≡ 0) }
+        ensures value { IsTrue result ↔ (length self.now ≡ 0) }
     {
         self.as_slice().is_empty()
     }

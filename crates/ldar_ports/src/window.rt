@@ -103,7 +103,7 @@ impl Window {
 
     /// Forgets bytes at the front.
     pub fn drop_front(&mut self, n: usize)
-        requires { n ≤ length self.old.bytes }
+        requires in_range { n ≤ length self.old.bytes }
         ensures value { self.new ≡ after_dropping self.old n }
     {
         self.start += n;

@@ -4,7 +4,7 @@ use Rattle.handheld_http.proofs.requests.request_of.Goals as goal
 
 pub slice_bounds-body-end : goal.slice_bounds-body-end
 slice_bounds-body-end c =
-    body_inside c.args.bytes.now c.args.head c.requires c.line_of-line.result.method.now c.line_of-line.result.target.now
+    body_inside c.args.bytes.now c.args.head c.requires.was_cut c.line_of-line.result.method.now c.line_of-line.result.target.now
     c.line_of-line.result.body c.line_of-line.ensures
 
 pub returns : goal.returns

@@ -9,5 +9,5 @@ returns-clause-third_month c =
     let startup : IsDay c.args.startup = (omega arith, omega arith) in
     let later : c.at.result ≡ c.args.startup + 181 = omega arith in
     let month = rw later at c.month.ensures.value in
-    let is : c.earlier.result ≡ first_quarter c.args.startup = omega (arith, first_quarter-month_of c.args.startup startup c.requires) in
-    rw is (first_quarter-third c.args.startup startup c.requires)
+    let is : c.earlier.result ≡ first_quarter c.args.startup = omega (arith, first_quarter-month_of c.args.startup startup c.requires.in_range) in
+    rw is (first_quarter-third c.args.startup startup c.requires.in_range)

@@ -25,7 +25,7 @@ loop-index-preserved c =
     c.index-facts-index.is in
     let here = subst (λ fs. slice_get fs c.loop-index.index ≡ Some item) c.as_slice-facts.ensures.value read in
     record {
-      stored = c.insert.ensures
+      stored = c.insert.ensures.value
           ∙ stored_more c.args.store.now c.loop-index.store batch c.loop-index.index c.key_at.result item c.loop-index.invariant.stored c.key_at.ensures.value
           here;
       in_range = all_next IsFact batch.facts c.loop-index.index item here c.loop-index.invariant.in_range c.key_at.ensures.in_range;

@@ -1,5 +1,5 @@
 use Rattle.std.proofs.Common.{rules, ◌≡◌, ◌+◌, ◌<◌, Some, None, true, not, [], ◌∷◌, ◌++◌, length, get_or, set, take, sym, ap, subst, ◌∙◌, arith}
-use Rattle.std.specs.Prelude.{is_none, is_some}
+use Rattle.std.specs.Prelude.{is_none}
 use Rattle.std.proofs.lemmas.List.{take_more}
 use Rattle.route_planner.specs.Visits.{visit_of, visits_asked, earlier_of, TellsLeast}
 use Rattle.route_planner.proofs.LeastLemmas.{asked_more, least_none, least_more, only_none, same_there}

@@ -1,4 +1,4 @@
-use Rattle.std.proofs.Common.{◌≡◌, None, map, get_or, sym, ap, subst, ◌∙◌}
+use Rattle.std.proofs.Common.{None, map, get_or, sym, ap, subst, ◌∙◌}
 use Rattle.route_planner.specs.Visits.{Visit, visits_asked, visits_from}
 use Rattle.route_planner.specs.Chains.{AreChained, Leads, Rises, on_day}
 use Rattle.route_planner.specs.declared.chains.TheConstants.{DAYS}

@@ -49,7 +49,7 @@ invariant_of-self c =
     let new_key = subst (λ kept. is_held c.args.key kept.arrived ≡ false) (sym c.self.view_is) c.requires.new_key in
     let first = subst (λ kept. IsFirstOfNumber fact.body (facts_in kept)) (sym c.self.view_is) c.requires.first in
     let few = subst (λ kept. length kept.arrived < 8_000_000) (sym c.self.view_is) c.requires.few in
-    rw c.insert.ensures
+    rw c.insert.ensures.value
     (sound_more inside.store c.args.key fact c.fact.inside.body (ap (λ s. s.body) c.fact.view_is) next new_key first few
     inside.slots.items c.enter.new.slots.items inside.units.items c.enter_unit.new.units.items inside.classes.items c.put_class.new.classes.items
     inside.rosters.items c.put_member.new.rosters.items c.self.invariant c.enter.ensures.value c.enter_unit.ensures.value c.put_class.ensures

@@ -16,7 +16,7 @@ returns g c =
     let kept = lists.store.now in
     let places = c.of_component.result.now in
     let same : up_to lists.day (entries_at kept.arrived places) ≡ facts_of_component c.args.component (facts_by lists) =
-    read_part component_of c.args.component lists.day kept places c.of_component.ensures in
+    read_part component_of c.args.component lists.day kept places c.of_component.ensures.value in
     record {
       value = IfOk-weaker c.read_to.result (λ facts. facts.items ≡ up_to lists.day (entries_at kept.arrived places))
           (λ facts. facts.items ≡ facts_of_component c.args.component (facts_by lists)) (λ facts is. is ∙ same) c.read_to.ensures.value;

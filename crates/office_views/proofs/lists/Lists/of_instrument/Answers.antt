@@ -16,7 +16,7 @@ returns g c =
     let kept = lists.store.now in
     let places = c.of_instrument.result.now in
     let same : up_to lists.day (entries_at kept.arrived places) ≡ facts_of_instrument c.args.instrument (facts_by lists) =
-    read_part tested_instrument c.args.instrument lists.day kept places c.of_instrument.ensures in
+    read_part tested_instrument c.args.instrument lists.day kept places c.of_instrument.ensures.value in
     record {
       value = IfOk-weaker c.read_to.result (λ facts. facts.items ≡ up_to lists.day (entries_at kept.arrived places))
           (λ facts. facts.items ≡ facts_of_instrument c.args.instrument (facts_by lists)) (λ facts is. is ∙ same) c.read_to.ensures.value;

@@ -16,7 +16,7 @@ returns g c =
     let kept = lists.store.now in
     let places = c.of_unit.result.now in
     let same : up_to lists.day (entries_at kept.arrived places) ≡ facts_of_unit c.args.unit (facts_by lists) =
-    read_part unit_of c.args.unit lists.day kept places c.of_unit.ensures in
+    read_part unit_of c.args.unit lists.day kept places c.of_unit.ensures.value in
     record {
       value = IfOk-weaker c.read_to.result (λ facts. facts.items ≡ up_to lists.day (entries_at kept.arrived places))
           (λ facts. facts.items ≡ facts_of_unit c.args.unit (facts_by lists)) (λ facts is. is ∙ same) c.read_to.ensures.value;
