@@ -1,6 +1,5 @@
 -- What is shown of a process unit that was entered, and of one that was not.
 use Rattle.std.proofs.Common.{◌≡◌, ℕ, Bool, Option, Some, None, Result, Ok, Err, List, refl, ap, ◌∙◌, subst, cond}
-use Rattle.std.specs.declared.alloc.AllocError.{AllocError}
 use Rattle.fact_kinds.specs.Facts.{Entry}
 use Rattle.ldar_law.specs.declared.reply.Reply.{Reply}
 use Rattle.ldar_law.specs.declared.reply.Reply.TheVariants.{NoSuch}
@@ -10,15 +9,12 @@ use Rattle.ldar_law.specs.declared.request.What.TheVariants.{Unit as NoUnit, Hal
 use Rattle.ldar_law.specs.declared.unit_entry.UnitEntry.{UnitEntry}
 use Rattle.ldar_law.specs.Equipment.{unit_entry_of}
 use Rattle.ldar_law.specs.Reports.{has_half_begun}
-use Rattle.ldar_law.specs.declared.request.Request.{Request}
 use Rattle.ldar_law.specs.declared.tally.Tally.{Tally}
 use Rattle.ldar_law.specs.Percent.{is_good}
-use Rattle.ldar_law.specs.Shown.{of_unit, quarter_text, report_of_unit, view_day, view_of}
+use Rattle.ldar_law.specs.Shown.{of_unit, quarter_text, report_of_unit}
 use Rattle.ldar_law.specs.Texts.{percent_text}
 use Rattle.ldar_law.specs.Units.{is_skipped_of_unit, tally_of_unit}
-use Rattle.history_laws.specs.DayLaws.{up_to}
-use Rattle.office_views.specs.declared.shown.Shown.{Shown}
-use Rattle.office_views.specs.Answers.{report_asked, IsShown, Shows}
+use Rattle.office_views.specs.Answers.{report_asked}
 
 module _ (unit : ℕ) (facts : List Entry) (view : UnitEntry → Reply) where
   -- the unit was entered
@@ -38,16 +34,6 @@ module _ (unit half day : ℕ) (facts : List Entry) where
   -- .. of no unit
   pub asked_of_none : unit_entry_of unit facts ≡ None → report_asked unit half day facts ≡ Err NoUnit
   asked_of_none is = rw (is, report_asked) refl
-
--- what is shown of a view, by what its own call shows of the facts up to its day
-pub shown_by : (request : Request) (facts : List Entry) (day : ℕ) (result : Result Shown AllocError) (view : ℕ → List Entry → Reply)
-    → day ≡ view_day request → ((es : List Entry) → view_of request es ≡ Some (view (view_day request) es)) → Shows result (view day (up_to day facts))
-    → IsShown result (view_of request (up_to (view_day request) facts))
-shown_by request facts day result view day_is is shows = (
-  view (view_day request) (up_to (view_day request) facts),
-  is (up_to (view_day request) facts),
-  subst (λ d. Shows result (view d (up_to d facts))) day_is shows,
-)
 
 -- the text of a quarter, from its parts
 pub quarter_is : (unit : UnitEntry) (quarter day : ℕ) (facts : List Entry) (number : ℕ) (tally : Tally) (good skipped : Bool) → number ≡ unit.unit

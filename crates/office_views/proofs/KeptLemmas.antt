@@ -1,5 +1,5 @@
 -- What the views keep, as the lists of a view ask it.
-use Rattle.std.proofs.Common.{◌≡◌, ℕ, ◌≤◌, Option, Some, List, take, sym, ap, ◌∙◌, subst}
+use Rattle.std.proofs.Common.{◌≡◌, ℕ, ◌≤◌, Option, Some, List, take, IfSome, sym, ap, ◌∙◌, subst}
 use Rattle.std.specs.List.{AllByRecursion}
 use Rattle.list_words.specs.Order.{Ascends}
 use Rattle.fact_kinds.specs.declared.batch.Batch.{Batch}
@@ -19,12 +19,15 @@ use Rattle.ldar_law.specs.declared.unit_entry.UnitEntry.{UnitEntry}
 use Rattle.ldar_law.specs.Equipment.{unit_entry_of}
 use Rattle.ldar_law.specs.Shown.{shown, view_day, view_of}
 use Rattle.ldar_law.specs.Slices.{register_facts}
+use Rattle.office_views.specs.Asked.{unit_known}
 use Rattle.office_views.specs.declared.header.Header.{Header}
 use Rattle.office_views.specs.Headers.{batches_by, facts_kept}
 use Rattle.office_views.specs.Held.{Held}
 use Rattle.office_views.specs.Inside.{AreOf}
 use Rattle.office_views.specs.Lists.{AreKept}
+use Rattle.office_views.proofs.ListLemmas.{some_holds}
 use Rattle.office_views.proofs.SoundLemmas.{adopted_is, facts_are_of, held_by, register_is}
+use Rattle.office_views.proofs.UnitLemmas.{started_in_bound, unit_is}
 
 -- process units start up by the last day of facts
 abbrev StartInBound : List Entry → Type 0
@@ -46,6 +49,16 @@ module _ (batches : List Batch) (store register : Kept) (headers : List Header) 
     in_range = subst (AllByRecursion IsInRange) (sym stored) (facts_are_in_range (take count batches) sound.in_range);
     startups = subst StartInBound (sym stored) (ruly_gives_register (take count batches) sound.ruly).0.startups;
   }
+
+  -- the process unit of a number on a day, as the register has it
+  pub unit_known_is : (unit day : ℕ) → unit_known unit day (facts_in register) ≡ unit_entry_of unit (up_to day (facts_in store))
+  unit_known_is unit day = unit_is day unit (facts_in store) (facts_in register) stored_ascend stored_kept
+
+  -- .. which starts up in bound
+  pub unit_in_bound : (unit day : ℕ) → IfSome (unit_known unit day (facts_in register)) (λ entry. entry.startup ≤ LAST_FACT_DAY)
+  unit_in_bound unit day =
+      some_holds (λ entry. entry.startup ≤ LAST_FACT_DAY) (unit_known unit day (facts_in register))
+      (λ entry found. started_in_bound day unit (facts_in store) (facts_in register) entry stored_ascend stored_kept (sym (unit_known_is unit day) ∙ found))
 
   module _ (held : Held) (is : held_by (batches_by (facts_kept store) headers) count ≡ held) where
     -- they are those of the adopted batches

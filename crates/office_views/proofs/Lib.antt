@@ -1,5 +1,6 @@
 pub mod AdoptLemmas
 pub mod AnswerLemmas
+pub mod AskedLemmas
 pub mod HeaderLemmas
 pub mod KeptLemmas
 pub mod KeyLemmas

@@ -1,7 +1,9 @@
 pub mod Answers
+pub mod Asked
 pub mod Headers
 pub mod Held
 pub mod Inside
+pub mod Kept
 pub mod Known
 pub mod Lists
 pub mod Taking

@@ -2,7 +2,6 @@ ghost use Rattle.std.specs.Prelude.{◌≡◌, ◌≤◌, ℕ, List, IfOk};
 ghost use Rattle.fact_store.specs.Kept.{facts_in};
 ghost use Rattle.ldar_law.specs.declared.reply.Reply.TheVariants as replies;
 ghost use Rattle.ldar_law.specs.declared.numbers.TheConstants.{LAST_FACT_DAY};
-ghost use Rattle.ldar_law.specs.Shown as law;
 ghost use Rattle.ldar_law.specs.Texts as texts;
 ghost use Rattle.ldar_law.specs.Units as units;
 ghost use Rattle.office_views.specs.Answers.{Shows};
@@ -10,13 +9,12 @@ ghost use Rattle.office_views.specs.Lists.{AreKept, facts_by};
 
 use crate::due::duties_of_unit;
 use crate::lists::Lists;
-use crate::register_on::unit_at;
 use crate::shown::Shown;
 use crate::unit_lists::{delays_of_unit, tags_of_unit};
 use component_register::Register;
 use fact_kinds::Memory;
 use fact_store::Steps;
-use ldar_law::{Text, UnitEntry, What};
+use ldar_law::{Text, UnitEntry};
 use std::sync::ledger::Ledger;
 use view_texts::{delays_text, due_text, tags_text};
 
@@ -31,7 +29,7 @@ pub fn shown(text: Result<Text, Memory>) -> Result<Shown, Memory>
 }
 
 /// The text of the tags of a process unit; `unit` is the number that was asked.
-fn tags_on<L: Ledger>(
+pub fn tags_on<L: Ledger>(
     lists: &Lists<'_>,
     register: &Register,
     unit: u16,
@@ -45,24 +43,8 @@ fn tags_on<L: Ledger>(
     tags_text(lists.alloc, unit, lists.day, &listed)
 }
 
-/// What the view of the tags of a process unit shows.
-pub fn tags_view<L: Ledger>(
-    lists: &Lists<'_>,
-    register: &Register,
-    unit: u16,
-    steps: &mut Steps<L>,
-) -> Result<Shown, Memory>
-    requires kept { AreKept (facts_in lists.now.store.now) (facts_in register.now) }
-    ensures value { Shows result (law.tags_view unit lists.now.day (facts_by lists.now)) }
-{
-    match unit_at(lists, register, unit) {
-        Some(entry) => shown(tags_on(lists, register, unit, &entry, steps)),
-        None => Ok(Shown::NoSuch(What::Unit)),
-    }
-}
-
 /// The text of the delayed repairs of a process unit; `unit` is the number that was asked.
-fn delays_on<L: Ledger>(
+pub fn delays_on<L: Ledger>(
     lists: &Lists<'_>,
     register: &Register,
     unit: u16,
@@ -76,24 +58,8 @@ fn delays_on<L: Ledger>(
     delays_text(lists.alloc, unit, lists.day, &listed)
 }
 
-/// What the view of the delayed repairs of a process unit shows.
-pub fn delays_view<L: Ledger>(
-    lists: &Lists<'_>,
-    register: &Register,
-    unit: u16,
-    steps: &mut Steps<L>,
-) -> Result<Shown, Memory>
-    requires kept { AreKept (facts_in lists.now.store.now) (facts_in register.now) }
-    ensures value { Shows result (law.delays_view unit lists.now.day (facts_by lists.now)) }
-{
-    match unit_at(lists, register, unit) {
-        Some(entry) => shown(delays_on(lists, register, unit, &entry, steps)),
-        None => Ok(Shown::NoSuch(What::Unit)),
-    }
-}
-
 /// The text of what has to be done at the components of a process unit; `unit` is the number that was asked.
-fn due_on<L: Ledger>(
+pub fn due_on<L: Ledger>(
     lists: &Lists<'_>,
     register: &Register,
     unit: u16,
@@ -106,20 +72,4 @@ fn due_on<L: Ledger>(
 {
     let listed = duties_of_unit(lists, register, entry, steps)?;
     due_text(lists.alloc, unit, lists.day, &listed)
-}
-
-/// What the view of the duties of a process unit shows.
-pub fn due_view<L: Ledger>(
-    lists: &Lists<'_>,
-    register: &Register,
-    unit: u16,
-    steps: &mut Steps<L>,
-) -> Result<Shown, Memory>
-    requires kept { AreKept (facts_in lists.now.store.now) (facts_in register.now) }
-    ensures value { Shows result (law.due_view unit lists.now.day (facts_by lists.now)) }
-{
-    match unit_at(lists, register, unit) {
-        Some(entry) => shown(due_on(lists, register, unit, &entry, steps)),
-        None => Ok(Shown::NoSuch(What::Unit)),
-    }
 }

@@ -1,53 +1,45 @@
-ghost use Rattle.std.specs.Prelude.{◌≡◌};
+ghost use Rattle.std.specs.Prelude.{◌≡◌, ◌≤◌, Some};
 ghost use Rattle.list_words.specs.Order.{Ascends};
 ghost use Rattle.fact_kinds.specs.Facts.{goes_first};
 ghost use Rattle.fact_store.specs.Kept.{facts_in};
 ghost use Rattle.history_laws.specs.DayLaws.{up_to};
+ghost use Rattle.ldar_law.specs.declared.numbers.TheConstants.{LAST_FACT_DAY};
+ghost use Rattle.ldar_law.specs.Equipment.{unit_entry_of};
 ghost use Rattle.ldar_law.specs.Shown as law;
 ghost use Rattle.office_views.specs.Answers.{IsShown, IsView};
+ghost use Rattle.office_views.specs.Asked.{view_unit, IsWhole};
 ghost use Rattle.office_views.specs.Lists.{AreKept};
 
-use crate::answers::{delays_view, due_view, tags_view};
+use crate::answers::{delays_on, due_on, shown, tags_on};
+use crate::asked::view_day;
 use crate::lists::Lists;
-use crate::reporting::report_view;
-use crate::routes::route_view;
-use crate::shares::percent_view;
+use crate::reporting::half_text;
+use crate::routes::route_on;
+use crate::shares::quarter_text;
 use crate::shown::Shown;
 use component_register::Register;
 use fact_kinds::Memory;
 use fact_store::{FactStore, Steps};
-use ldar_days::Day;
-use ldar_law::Request;
+use ldar_law::{Request, UnitEntry};
 use std::alloc::Global;
 use std::sync::ledger::Ledger;
 
-/// The day of a view.
-fn view_day(request: &Request) -> Day
-    requires view { IsView request.now }
-    ensures value { result ≡ law.view_day request.now }
-{
-    match request {
-        Request::Due { day, .. } => *day,
-        Request::Tags { day, .. } => *day,
-        Request::Delays { day, .. } => *day,
-        Request::Route { day, .. } => *day,
-        Request::Percent { day, .. } => *day,
-        Request::Report { day, .. } => *day,
-        Request::Sync(_) => unreachable!(),
-    }
-}
-
-/// What a view shows of the facts of a store, with the register of its entries.
+/// What a view shows of the facts of a store, with the register of its entries. It asks of a process unit in which there is
+/// all that it asks.
 pub fn answer<L: Ledger>(
     alloc: Global,
     store: &FactStore,
     register: &Register,
+    entry: &UnitEntry,
     request: &Request,
     steps: &mut Steps<L>,
 ) -> Result<Shown, Memory>
     requires view { IsView request.now }
     requires ordered { Ascends goes_first (facts_in store.now) }
     requires kept { AreKept (facts_in store.now) (facts_in register.now) }
+    requires entered { unit_entry_of (view_unit request.now) (up_to (law.view_day request.now) (facts_in store.now)) ≡ Some entry.now }
+    requires startup { entry.now.startup ≤ LAST_FACT_DAY }
+    requires whole { IsWhole request.now entry.now }
     ensures value { IsShown result (law.view_of request.now (up_to (law.view_day request.now) (facts_in store.now))) }
 {
     let lists = Lists {
@@ -56,14 +48,16 @@ pub fn answer<L: Ledger>(
         day: view_day(request),
     };
     match request {
-        Request::Due { unit, .. } => due_view(&lists, register, *unit, steps),
-        Request::Tags { unit, .. } => tags_view(&lists, register, *unit, steps),
-        Request::Delays { unit, .. } => delays_view(&lists, register, *unit, steps),
-        Request::Route { unit, stops, .. } => route_view(&lists, register, *unit, *stops, steps),
-        Request::Percent { unit, quarter, .. } => {
-            percent_view(&lists, register, *unit, *quarter, steps)
+        Request::Due { unit, .. } => shown(due_on(&lists, register, *unit, entry, steps)),
+        Request::Tags { unit, .. } => shown(tags_on(&lists, register, *unit, entry, steps)),
+        Request::Delays { unit, .. } => shown(delays_on(&lists, register, *unit, entry, steps)),
+        Request::Route { unit, stops, .. } => {
+            shown(route_on(&lists, register, *unit, entry, *stops, steps))
         }
-        Request::Report { unit, half, .. } => report_view(&lists, register, *unit, *half, steps),
+        Request::Percent { quarter, .. } => {
+            shown(quarter_text(&lists, register, entry, *quarter, steps))
+        }
+        Request::Report { half, .. } => shown(half_text(&lists, register, entry, *half, steps)),
         Request::Sync(_) => unreachable!(),
     }
 }

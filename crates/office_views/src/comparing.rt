@@ -1,9 +1,10 @@
 ghost use Rattle.std.specs.Prelude.{◌≡◌, ◌+◌, ◌≤◌, ◌↔◌, IsTrue, length, take, drop, map};
 ghost use Rattle.office_views.specs.Headers.{batch_by, facts_kept};
 
+use crate::facts::Facts;
 use crate::header::Header;
 use fact_kinds::{Batch, Fact};
-use fact_store::{FactStore, Place, Steps};
+use fact_store::{Place, Steps};
 use std::sync::ledger::Ledger;
 
 /// Whether two facts are the same.
@@ -15,7 +16,7 @@ fn is_same(a: &Fact, b: &Fact) -> bool
 
 /// Whether just these facts came to the store from a place on.
 fn are_facts_at<L: Ledger>(
-    store: &FactStore,
+    store: &Facts,
     first: usize,
     facts: &[Fact],
     steps: &mut Steps<L>,
@@ -37,7 +38,7 @@ fn are_facts_at<L: Ledger>(
 
 /// Whether the batch of a header, of which all facts came to the store, is this one.
 pub fn is_batch_of<L: Ledger>(
-    store: &FactStore,
+    store: &Facts,
     header: &Header,
     batch: &Batch,
     steps: &mut Steps<L>,

@@ -2,10 +2,12 @@
 #![tactic(auto)]
 
 mod answers;
+mod asked;
 mod asking;
 mod comparing;
 mod due;
 mod entered;
+mod facts;
 mod header;
 mod instruments;
 mod judged;

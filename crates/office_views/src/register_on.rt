@@ -1,11 +1,9 @@
-ghost use Rattle.std.specs.Prelude.{◌≡◌, ◌≤◌, None, nat_le, if◌then◌else◌, option_and_then, IfSome};
+ghost use Rattle.std.specs.Prelude.{◌≡◌, option_and_then};
 ghost use Rattle.fact_store.specs.Kept.{facts_in};
 ghost use Rattle.history_laws.specs.DayLaws as days;
 ghost use Rattle.ldar_law.specs.Equipment as law;
-ghost use Rattle.ldar_law.specs.declared.numbers.TheConstants.{LAST_FACT_DAY};
-ghost use Rattle.office_views.specs.Lists.{AreKept, facts_by};
+ghost use Rattle.office_views.specs.Asked.{unit_known};
 
-use crate::lists::Lists;
 use component_register::Register;
 use ldar_days::Day;
 use ldar_law::{Equipment, UnitEntry};
@@ -50,21 +48,11 @@ fn if_started(day: Day, unit: UnitEntry) -> Option<UnitEntry>
 }
 
 /// The process unit of a number, if it has started up by a day; one above 255 is none.
-fn unit_on(register: &Register, unit: u16, day: Day) -> Option<UnitEntry>
-    ensures value { result ≡ (if nat_le unit 255
-        then option_and_then (days.if_started day) (law.unit_entry_of unit (facts_in register.now)) else None) }
+pub fn unit_on(register: &Register, unit: u16, day: Day) -> Option<UnitEntry>
+    ensures value { result ≡ unit_known unit day (facts_in register.now) }
 {
     if unit > 255 {
         return None;
     }
     if_started(day, register.unit(unit as u8)?)
-}
-
-/// The process unit of a number as it is known on the day; one above 255 is none.
-pub fn unit_at(lists: &Lists<'_>, register: &Register, unit: u16) -> Option<UnitEntry>
-    requires kept { AreKept (facts_in lists.now.store.now) (facts_in register.now) }
-    ensures value { result ≡ law.unit_entry_of unit (facts_by lists.now) }
-    ensures startup { IfSome result (λ entry. entry.startup ≤ LAST_FACT_DAY) }
-{
-    unit_on(register, unit, lists.day)
 }

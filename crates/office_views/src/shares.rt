@@ -1,27 +1,21 @@
-ghost use Rattle.std.specs.Prelude.{◌≡◌, ◌+◌, ◌-◌, ◌*◌, ◌≤◌, nat_le, if◌then◌else◌, IfOk, IsTrue};
+ghost use Rattle.std.specs.Prelude.{◌≡◌, ◌+◌, ◌-◌, ◌*◌, ◌≤◌, nat_le, IfOk, IsTrue};
 ghost use Rattle.ldar_days.specs.Calendar.{first_day};
 ghost use Rattle.ldar_days.specs.Quarters.{first_quarter as first_quarter_of};
 ghost use Rattle.fact_store.specs.Kept.{facts_in};
 ghost use Rattle.ldar_law.specs.declared.numbers.TheConstants.{LAST_FACT_DAY};
-ghost use Rattle.ldar_law.specs.declared.reply.Reply.TheVariants as replies;
-ghost use Rattle.ldar_law.specs.declared.request.What.TheVariants.{Quarter as NoQuarter};
 ghost use Rattle.ldar_law.specs.Reports as reports;
 ghost use Rattle.ldar_law.specs.Shown as law;
-ghost use Rattle.office_views.specs.Answers.{Shows};
 ghost use Rattle.office_views.specs.Lists.{AreKept, facts_by};
 
-use crate::answers::shown;
 use crate::instruments::none_ready;
 use crate::lists::Lists;
-use crate::register_on::unit_at;
-use crate::shown::Shown;
 use crate::tallies::tallies_of_unit;
 use crate::unit_lists::elections_on;
 use component_register::Register;
 use fact_kinds::Memory;
 use fact_store::Steps;
 use ldar_days::{Day, first_quarter};
-use ldar_law::{Text, UnitEntry, What};
+use ldar_law::{Text, UnitEntry};
 use skip_periods::skipped;
 use std::sync::ledger::Ledger;
 use view_texts::percent_text;
@@ -46,7 +40,7 @@ fn has_month_begun(month: u32, day: Day) -> bool
 }
 
 /// Whether a quarter of a process unit has begun by a day. Quarters count from 1.
-fn has_quarter_begun(startup: Day, quarter: u16, day: Day) -> bool
+pub fn has_quarter_begun(startup: Day, quarter: u16, day: Day) -> bool
     requires startup { startup ≤ LAST_FACT_DAY }
     ensures value { result ≡ reports.has_quarter_begun startup quarter day }
     ensures from_one { IsTrue result → 1 ≤ quarter }
@@ -55,7 +49,7 @@ fn has_quarter_begun(startup: Day, quarter: u16, day: Day) -> bool
 }
 
 /// The text of a quarter that has begun: its counts, whether they are good, and whether it is skipped.
-fn quarter_text<L: Ledger>(
+pub fn quarter_text<L: Ledger>(
     lists: &Lists<'_>,
     register: &Register,
     unit: &UnitEntry,
@@ -81,40 +75,4 @@ fn quarter_text<L: Ledger>(
         tally.is_good(),
         is_skipped,
     )
-}
-
-/// What the view of a quarter of a process unit that was entered shows.
-fn percent_of<L: Ledger>(
-    lists: &Lists<'_>,
-    register: &Register,
-    entry: &UnitEntry,
-    quarter: u16,
-    steps: &mut Steps<L>,
-) -> Result<Shown, Memory>
-    requires kept { AreKept (facts_in lists.now.store.now) (facts_in register.now) }
-    requires startup { entry.now.startup ≤ LAST_FACT_DAY }
-    ensures value { Shows result (if reports.has_quarter_begun entry.now.startup quarter lists.now.day
-        then replies.Shown (law.quarter_text entry.now quarter lists.now.day (facts_by lists.now)) else replies.NoSuch NoQuarter) }
-{
-    if !has_quarter_begun(entry.startup, quarter, lists.day) {
-        return Ok(Shown::NoSuch(What::Quarter));
-    }
-    shown(quarter_text(lists, register, entry, quarter, steps))
-}
-
-/// What the view of a quarter of a process unit shows.
-pub fn percent_view<L: Ledger>(
-    lists: &Lists<'_>,
-    register: &Register,
-    unit: u16,
-    quarter: u16,
-    steps: &mut Steps<L>,
-) -> Result<Shown, Memory>
-    requires kept { AreKept (facts_in lists.now.store.now) (facts_in register.now) }
-    ensures value { Shows result (law.percent_view unit quarter lists.now.day (facts_by lists.now)) }
-{
-    match unit_at(lists, register, unit) {
-        Some(entry) => percent_of(lists, register, &entry, quarter, steps),
-        None => Ok(Shown::NoSuch(What::Unit)),
-    }
 }

@@ -5,9 +5,9 @@ ghost use Rattle.fact_kinds.specs.Fields.{IsFact};
 ghost use Rattle.ldar_law.specs.Slices.{is_registered as says_registered, register_facts};
 ghost use Rattle.office_views.specs.Taking.{CanEnter, HasOwnKeys};
 
+use crate::facts::Facts;
 use component_register::Register;
 use fact_kinds::{Batch, Fact, Key};
-use fact_store::FactStore;
 use ldar_law::is_registered;
 
 /// The key of the fact at a place of a batch.
@@ -26,7 +26,7 @@ fn key_at(batch: &Batch, index: usize, fact: &Fact) -> Key
 }
 
 /// Adds the facts of a batch to the store, which has room for them.
-pub fn put_facts(store: &mut FactStore, batch: &Batch)
+pub fn put_facts(store: &mut Facts, batch: &Batch)
     requires roomy { take (length batch.now.facts) store.old.spare ≡ batch.now.facts }
     requires own_keys { HasOwnKeys store.old.arrived batch.now }
     ensures value { store.new ≡ record { arrived = store.old.arrived ++ entries_of batch.now; spare = drop (length batch.now.facts) store.old.spare } }

@@ -9,16 +9,18 @@ ghost use Rattle.ldar_law.specs.Verdicts.{verdict_on};
 ghost use Rattle.office_views.specs.Answers as asked;
 ghost use Rattle.office_views.specs.Answers.{IsShown, IsView, Tells};
 
+use crate::asked::unit_asked;
 use crate::asking::answer;
 use crate::comparing::is_batch_of;
+use crate::facts::Facts;
 use crate::header::{Header, facts_of_all, push_headers};
 use crate::lists::Lists;
-use crate::reporting::report_asked;
+use crate::reporting::report_on;
 use crate::shown::{AskError, Shown};
 use crate::taking::{put_entries, put_facts};
 use component_register::Register;
 use fact_kinds::{Batch, Memory};
-use fact_store::{FactStore, Steps};
+use fact_store::Steps;
 use ldar_days::Day;
 use ldar_law::{Report, Request};
 use std::alloc::Global;
@@ -30,7 +32,7 @@ use std::sync::ledger::Ledger;
 #[derive(Drop)]
 pub struct Views {
     alloc: Global,
-    store: FactStore,
+    store: Facts,
     register: Register,
     /// The batches: those that were adopted, and then those that have room.
     headers: Vec<Header>,
@@ -62,7 +64,7 @@ impl Views {
     {
         Views {
             alloc,
-            store: FactStore::new(alloc),
+            store: Facts::new(alloc),
             register: Register::new(alloc),
             headers: Vec::new(alloc),
             adopted: 0,
@@ -125,7 +127,14 @@ impl Views {
         ensures value { IsShown result (law.shown self.old.adopted request.now) }
         ensures unchanged { self.new ≡ self.old }
     {
-        answer(self.alloc, &self.store, &self.register, request, steps)
+        let entry = match unit_asked(&self.register, request) {
+            Ok(entry) => entry,
+            Err(what) => return Ok(Shown::NoSuch(what)),
+        };
+        let store = self.store.list(self.alloc)?;
+        let shown = answer(self.alloc, &store, &self.register, &entry, request, steps);
+        self.store = Facts::of(store);
+        shown
     }
 
     /// The report of a half of a process unit as known on a day (40 CFR 60.487a(c)), or what there is none of, which takes
@@ -140,12 +149,19 @@ impl Views {
         ensures value { Tells result (asked.report_asked unit half day (facts_to day self.old.adopted)) }
         ensures unchanged { self.new ≡ self.old }
     {
+        let entry = match unit_asked(&self.register, &Request::Report { unit, half, day }) {
+            Ok(entry) => entry,
+            Err(what) => return Err(AskError::NoSuch(what)),
+        };
+        let store = self.store.list(self.alloc)?;
         let lists = Lists {
             alloc: self.alloc,
-            store: &self.store,
+            store: &store,
             day,
         };
-        report_asked(&lists, &self.register, unit, half, steps)
+        let report = report_on(&lists, &self.register, &entry, half, steps);
+        self.store = Facts::of(store);
+        Ok(report?)
     }
 
     /// Whether the adopted batch at a position, from 1, is just this one.

@@ -1,26 +1,60 @@
-use Rattle.std.proofs.Common.{ap, subst}
+use Rattle.std.proofs.Common.{◌≡◌, Some, sym, ap, ◌∙◌, subst}
+use Rattle.list_words.specs.Order.{Ascends}
+use Rattle.fact_kinds.specs.Facts.{goes_first}
+use Rattle.fact_store.specs.Kept.{facts_in}
 use Rattle.history_laws.specs.DayLaws.{up_to}
+use Rattle.ldar_law.specs.declared.request.Request.TheVariants.{Report as ReportView}
+use Rattle.ldar_law.specs.Shown.{report_of_unit}
 use Rattle.office_views.specs.Answers.{report_asked, Tells}
-use Rattle.office_views.proofs.KeptLemmas.{facts_of_adopted, stored_ascend, stored_kept}
+use Rattle.office_views.specs.Asked.{asked, unit_known}
+use Rattle.office_views.specs.Lists.{AreKept}
+use Rattle.office_views.proofs.AskedLemmas.{asked_whole, half_begun, none_is_told, report_is_told}
+use Rattle.office_views.proofs.KeptLemmas.{facts_of_adopted, stored_ascend, stored_kept, unit_in_bound, unit_known_is}
 use Rattle.office_views.proofs.views.Views.report.Goals as goal
+
+pub unit_asked-requires-clause-startup : goal.unit_asked-requires-clause-startup
+unit_asked-requires-clause-startup g c =
+    let inside = c.self.inside in
+    let sound = c.self.invariant.0 in
+    unit_in_bound sound.0 inside.store inside.register inside.headers.items inside.adopted sound.1 c.args.unit c.args.day
+
+pub returns-in-Err-clause-value : goal.returns-in-Err-clause-value
+returns-in-Err-clause-value g c =
+    let inside = c.self.inside in
+    let sound = c.self.invariant.0 in
+    let a = c.args in
+    let facts = up_to a.day (facts_in inside.store) in
+    let known = unit_known_is sound.0 inside.store inside.register inside.headers.items inside.adopted sound.1 a.unit a.day in
+    let none = none_is_told a.unit a.half a.day facts c.in-Err.what (ap (asked (ReportView a.unit a.half a.day)) (sym known) ∙ sym c.in-Err.ensures.value) in
+    subst (λ es. Tells _ (report_asked a.unit a.half a.day (up_to a.day es)))
+    (facts_of_adopted sound.0 inside.store inside.register inside.headers.items inside.adopted sound.1 a.self.now c.self.view_is) none
+
+pub invariant_of-self : goal.invariant_of-self
+invariant_of-self g c = rw c.in_err-store.ensures.unchanged c.self.invariant
 
 pub invariant_of-lists : goal.invariant_of-lists
 invariant_of-lists g c =
     let inside = c.self.inside in
     let sound = c.self.invariant.0 in
-    record { ordered = stored_ascend sound.0 inside.store inside.register inside.headers.items inside.adopted sound.1 }
+    record {
+      ordered = subst (λ k. Ascends goes_first (facts_in k)) (sym c.in_ok-store.ensures.ok)
+          (stored_ascend sound.0 inside.store inside.register inside.headers.items inside.adopted sound.1);
+    }
 
-pub report_asked-requires : goal.report_asked-requires
-report_asked-requires g c =
+pub report_on-report-requires-clause-kept : goal.report_on-report-requires-clause-kept
+report_on-report-requires-clause-kept g c =
     let inside = c.self.inside in
     let sound = c.self.invariant.0 in
-    record { kept = stored_kept sound.0 inside.store inside.register inside.headers.items inside.adopted sound.1 }
+    subst (λ k. AreKept (facts_in k) (facts_in inside.register)) (sym c.in_ok-store.ensures.ok)
+    (stored_kept sound.0 inside.store inside.register inside.headers.items inside.adopted sound.1)
 
-pub returns-clause-value : goal.returns-clause-value
-returns-clause-value g c =
-    let inside = c.self.inside in
-    let sound = c.self.invariant.0 in
-    let held = c.args.self.now in
+pub report_on-report-requires-clause-startup : goal.report_on-report-requires-clause-startup
+report_on-report-requires-clause-startup g c = c.in-Ok.ensures.startup
+
+pub report_on-report-requires-clause-begun : goal.report_on-report-requires-clause-begun
+report_on-report-requires-clause-begun g c =
     let a = c.args in
-    subst (λ facts. Tells c.report_asked.result (report_asked a.unit a.half a.day (up_to a.day facts)))
-    (facts_of_adopted sound.0 inside.store inside.register inside.headers.items inside.adopted sound.1 held c.self.view_is) c.report_asked.ensures.value
+    let entry = c.in-Ok.entry in
+    let whole = asked_whole (ReportView a.unit a.half a.day) (unit_known a.unit a.day (facts_in c.self.inside.register)) entry
+    (sym c.in-Ok.ensures.value) in
+    half_begun entry.startup a.half a.day whole.1
