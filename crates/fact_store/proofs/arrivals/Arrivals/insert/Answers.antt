@@ -25,5 +25,7 @@ returns c =
     let inside = c.self.inside in
     let rest : drop 1 (drop inside.used inside.reserved.items) ≡ drop (inside.used + 1) inside.reserved.items = drop-drop 1 inside.used inside.reserved.items in
     rw c.push_reserved.ensures.items
-    (subst (λ s. record { arrived = inside.arrived.items ++ (c.args.key, c.args.fact) ∷ []; spare = drop (inside.used + 1) inside.reserved.items }
-    ≡ record { arrived = s.arrived ++ (c.args.key, c.args.fact) ∷ []; spare = drop 1 s.spare }) c.self.view_is (rw rest refl))
+    (record {
+      value = subst (λ s. record { arrived = inside.arrived.items ++ (c.args.key, c.args.fact) ∷ []; spare = drop (inside.used + 1) inside.reserved.items }
+          ≡ record { arrived = s.arrived ++ (c.args.key, c.args.fact) ∷ []; spare = drop 1 s.spare }) c.self.view_is (rw rest refl);
+    })
