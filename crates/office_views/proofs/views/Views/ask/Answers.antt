@@ -1,4 +1,5 @@
-use Rattle.std.proofs.Common.{◌≡◌, Some, refl, sym, ap, ◌∙◌, subst}
+use Rattle.std.proofs.Common.{◌≡◌, Some, Ok, Err, refl, sym, ap, ◌∙◌, subst}
+use Rattle.std.proofs.lemmas.Result.{err_from_is_err_and}
 use Rattle.list_words.specs.Order.{Ascends}
 use Rattle.fact_kinds.specs.Facts.{goes_first}
 use Rattle.fact_store.specs.Kept.{facts_in}
@@ -6,6 +7,7 @@ use Rattle.history_laws.specs.DayLaws.{up_to}
 use Rattle.ldar_law.specs.declared.reply.Reply.TheVariants as replies
 use Rattle.ldar_law.specs.Equipment.{unit_entry_of}
 use Rattle.ldar_law.specs.Shown.{view_day, view_of}
+use Rattle.office_views.specs.declared.shown.Shown.TheVariants.{NoSuch}
 use Rattle.office_views.specs.Answers.{IsShown}
 use Rattle.office_views.specs.Asked.{asked, unit_known, view_unit}
 use Rattle.office_views.specs.Lists.{AreKept}
@@ -28,7 +30,7 @@ returns-in-Err-clause-value g c =
     let facts = up_to (view_day request) (facts_in inside.store) in
     let known = unit_known_is sound.0 inside.store inside.register inside.headers.items inside.adopted sound.1 (view_unit request) (view_day request) in
     let none = none_is_shown request facts c.requires.view c.in-Err.what (ap (asked request) (sym known) ∙ sym c.in-Err.ensures.value) in
-    subst (IsShown _)
+    subst (IsShown (Ok (NoSuch c.in-Err.what)))
     (shown_is request (facts_in inside.store) c.args.self.now.adopted
     (facts_of_adopted sound.0 inside.store inside.register inside.headers.items inside.adopted sound.1 c.args.self.now c.self.view_is))
     (replies.NoSuch c.in-Err.what, none, refl)
@@ -41,27 +43,29 @@ returns-in_err-store-clause-value g c =
     let facts = up_to (view_day request) (facts_in inside.store) in
     let known = unit_known_is sound.0 inside.store inside.register inside.headers.items inside.adopted sound.1 (view_unit request) (view_day request) in
     let text = text_is_shown request facts c.requires.view c.in-Ok.entry (ap (asked request) (sym known) ∙ sym c.in-Ok.ensures.value) in
-    subst (IsShown _)
+    let p = err_from_is_err_and c.from_residual.result c.from_residual.ensures.1 in
+    rw p.1
+    (subst (IsShown (Err p.0))
     (shown_is request (facts_in inside.store) c.args.self.now.adopted
     (facts_of_adopted sound.0 inside.store inside.register inside.headers.items inside.adopted sound.1 c.args.self.now c.self.view_is))
-    text
+    text)
 
-pub answer-requires-clause-ordered : goal.answer-requires-clause-ordered
-answer-requires-clause-ordered g c =
+pub answer-shown-requires-clause-ordered : goal.answer-shown-requires-clause-ordered
+answer-shown-requires-clause-ordered g c =
     let inside = c.self.inside in
     let sound = c.self.invariant.0 in
     subst (λ k. Ascends goes_first (facts_in k)) (sym c.in_ok-store.ensures.ok)
     (stored_ascend sound.0 inside.store inside.register inside.headers.items inside.adopted sound.1)
 
-pub answer-requires-clause-kept : goal.answer-requires-clause-kept
-answer-requires-clause-kept g c =
+pub answer-shown-requires-clause-kept : goal.answer-shown-requires-clause-kept
+answer-shown-requires-clause-kept g c =
     let inside = c.self.inside in
     let sound = c.self.invariant.0 in
     subst (λ k. AreKept (facts_in k) (facts_in inside.register)) (sym c.in_ok-store.ensures.ok)
     (stored_kept sound.0 inside.store inside.register inside.headers.items inside.adopted sound.1)
 
-pub answer-requires-clause-entered : goal.answer-requires-clause-entered
-answer-requires-clause-entered g c =
+pub answer-shown-requires-clause-entered : goal.answer-shown-requires-clause-entered
+answer-shown-requires-clause-entered g c =
     let inside = c.self.inside in
     let sound = c.self.invariant.0 in
     let request = c.args.request.now in
@@ -71,11 +75,11 @@ answer-requires-clause-entered g c =
     subst (λ k. unit_entry_of (view_unit request) (up_to (view_day request) (facts_in k)) ≡ Some entry) (sym c.in_ok-store.ensures.ok)
     (sym known ∙ whole.0)
 
-pub answer-requires-clause-startup : goal.answer-requires-clause-startup
-answer-requires-clause-startup g c = c.in-Ok.ensures.startup
+pub answer-shown-requires-clause-startup : goal.answer-shown-requires-clause-startup
+answer-shown-requires-clause-startup g c = c.in-Ok.ensures.startup
 
-pub answer-requires-clause-whole : goal.answer-requires-clause-whole
-answer-requires-clause-whole g c =
+pub answer-shown-requires-clause-whole : goal.answer-shown-requires-clause-whole
+answer-shown-requires-clause-whole g c =
     let inside = c.self.inside in
     let request = c.args.request.now in
     let whole = asked_whole request (unit_known (view_unit request) (view_day request) (facts_in inside.register)) c.in-Ok.entry

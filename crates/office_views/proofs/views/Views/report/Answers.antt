@@ -1,10 +1,13 @@
-use Rattle.std.proofs.Common.{◌≡◌, Some, sym, ap, ◌∙◌, subst}
+use Rattle.std.proofs.Common.{◌≡◌, Some, Ok, Err, sym, ap, ◌∙◌, subst}
+use Rattle.std.proofs.lemmas.Result.{err_from_is_err_and}
 use Rattle.list_words.specs.Order.{Ascends}
 use Rattle.fact_kinds.specs.Facts.{goes_first}
 use Rattle.fact_store.specs.Kept.{facts_in}
 use Rattle.history_laws.specs.DayLaws.{up_to}
 use Rattle.ldar_law.specs.declared.request.Request.TheVariants.{Report as ReportView}
+use Rattle.ldar_law.specs.declared.report.Report.{Report}
 use Rattle.ldar_law.specs.Shown.{report_of_unit}
+use Rattle.office_views.specs.declared.shown.AskError.TheVariants.{NoSuch as NoneOf}
 use Rattle.office_views.specs.Answers.{report_asked, Tells}
 use Rattle.office_views.specs.Asked.{asked, unit_known}
 use Rattle.office_views.specs.Lists.{AreKept}
@@ -26,7 +29,7 @@ returns-in-Err-clause-value g c =
     let facts = up_to a.day (facts_in inside.store) in
     let known = unit_known_is sound.0 inside.store inside.register inside.headers.items inside.adopted sound.1 a.unit a.day in
     let none = none_is_told a.unit a.half a.day facts c.in-Err.what (ap (asked (ReportView a.unit a.half a.day)) (sym known) ∙ sym c.in-Err.ensures.value) in
-    subst (λ es. Tells _ (report_asked a.unit a.half a.day (up_to a.day es)))
+    subst (λ es. Tells (Err (NoneOf c.in-Err.what)) (report_asked a.unit a.half a.day (up_to a.day es)))
     (facts_of_adopted sound.0 inside.store inside.register inside.headers.items inside.adopted sound.1 a.self.now c.self.view_is) none
 
 pub invariant_of-self : goal.invariant_of-self
@@ -58,3 +61,51 @@ report_on-report-requires-clause-begun g c =
     let whole = asked_whole (ReportView a.unit a.half a.day) (unit_known a.unit a.day (facts_in c.self.inside.register)) entry
     (sym c.in-Ok.ensures.value) in
     half_begun entry.startup a.half a.day whole.1
+
+pub returns-in_err-store-clause-value : goal.returns-in_err-store-clause-value
+returns-in_err-store-clause-value g c =
+    let a = c.args in
+    let inside = c.self.inside in
+    let sound = c.self.invariant.0 in
+    let entry = c.in-Ok.entry in
+    let facts = up_to a.day (facts_in inside.store) in
+    let known = unit_known_is sound.0 inside.store inside.register inside.headers.items inside.adopted sound.1 a.unit a.day in
+    let whole = asked_whole (ReportView a.unit a.half a.day) (unit_known a.unit a.day (facts_in inside.register)) entry (sym c.in-Ok.ensures.value) in
+    let told = report_is_told a.unit a.half a.day facts entry (sym known ∙ whole.0) (half_begun entry.startup a.half a.day whole.1) in
+    let adopted = facts_of_adopted sound.0 inside.store inside.register inside.headers.items inside.adopted sound.1 a.self.now c.self.view_is in
+    let p = err_from_is_err_and c.from_residual.result c.from_residual.ensures.1 in
+    rw (p.1, p.2)
+    (subst (λ es. (report : Report) × (report_asked a.unit a.half a.day (up_to a.day es) ≡ Ok report)) adopted
+    (report_of_unit entry a.half a.day facts, told))
+
+pub returns-in_err-report-clause-value : goal.returns-in_err-report-clause-value
+returns-in_err-report-clause-value g c =
+    let a = c.args in
+    let inside = c.self.inside in
+    let sound = c.self.invariant.0 in
+    let entry = c.in-Ok.entry in
+    let facts = up_to a.day (facts_in inside.store) in
+    let known = unit_known_is sound.0 inside.store inside.register inside.headers.items inside.adopted sound.1 a.unit a.day in
+    let whole = asked_whole (ReportView a.unit a.half a.day) (unit_known a.unit a.day (facts_in inside.register)) entry (sym c.in-Ok.ensures.value) in
+    let told = report_is_told a.unit a.half a.day facts entry (sym known ∙ whole.0) (half_begun entry.startup a.half a.day whole.1) in
+    let adopted = facts_of_adopted sound.0 inside.store inside.register inside.headers.items inside.adopted sound.1 a.self.now c.self.view_is in
+    let p = err_from_is_err_and c.from_residual-in_err-report.result c.from_residual-in_err-report.ensures.1 in
+    rw (p.1, p.2)
+    (subst (λ es. (report : Report) × (report_asked a.unit a.half a.day (up_to a.day es) ≡ Ok report)) adopted
+    (report_of_unit entry a.half a.day facts, told))
+
+pub returns-clause-value : goal.returns-clause-value
+returns-clause-value g c =
+    let a = c.args in
+    let inside = c.self.inside in
+    let sound = c.self.invariant.0 in
+    let entry = c.in-Ok.entry in
+    let facts = up_to a.day (facts_in inside.store) in
+    let known = unit_known_is sound.0 inside.store inside.register inside.headers.items inside.adopted sound.1 a.unit a.day in
+    let whole = asked_whole (ReportView a.unit a.half a.day) (unit_known a.unit a.day (facts_in inside.register)) entry (sym c.in-Ok.ensures.value) in
+    let told = report_is_told a.unit a.half a.day facts entry (sym known ∙ whole.0) (half_begun entry.startup a.half a.day whole.1) in
+    let adopted = facts_of_adopted sound.0 inside.store inside.register inside.headers.items inside.adopted sound.1 a.self.now c.self.view_is in
+    let report = c.in_ok-report.field-0 in
+    subst (λ es. report_asked a.unit a.half a.day (up_to a.day es) ≡ Ok report) adopted
+    (told ∙ ap (λ k. Ok (report_of_unit entry a.half a.day (up_to a.day (facts_in k)))) (sym c.in_ok-store.ensures.ok)
+    ∙ ap (λ r. Ok r) (sym c.in_ok-report.ensures.value))
