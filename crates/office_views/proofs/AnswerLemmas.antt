@@ -1,10 +1,8 @@
 -- What is shown of a process unit that was entered, and of one that was not.
-use Rattle.std.proofs.Common.{◌≡◌, ℕ, Bool, Option, Some, None, Result, Ok, Err, List, refl, ap, ◌∙◌, subst, cond}
+use Rattle.std.proofs.Common.{◌≡◌, ℕ, Bool, Some, None, Ok, Err, List, refl, ap, ◌∙◌, cond}
 use Rattle.fact_kinds.specs.Facts.{Entry}
 use Rattle.ldar_law.specs.declared.reply.Reply.{Reply}
 use Rattle.ldar_law.specs.declared.reply.Reply.TheVariants.{NoSuch}
-use Rattle.ldar_law.specs.declared.report.Report.{Report}
-use Rattle.ldar_law.specs.declared.request.What.{What}
 use Rattle.ldar_law.specs.declared.request.What.TheVariants.{Unit as NoUnit, Half as NoHalf}
 use Rattle.ldar_law.specs.declared.unit_entry.UnitEntry.{UnitEntry}
 use Rattle.ldar_law.specs.Equipment.{unit_entry_of}

@@ -1,9 +1,9 @@
 -- What the views keep, as the lists of a view ask it.
-use Rattle.std.proofs.Common.{◌≡◌, ℕ, ◌≤◌, Option, Some, List, take, IfSome, sym, ap, ◌∙◌, subst}
+use Rattle.std.proofs.Common.{◌≡◌, ℕ, ◌≤◌, Some, List, take, IfSome, sym, ap, ◌∙◌, subst}
 use Rattle.std.specs.List.{AllByRecursion}
 use Rattle.list_words.specs.Order.{Ascends}
 use Rattle.fact_kinds.specs.declared.batch.Batch.{Batch}
-use Rattle.fact_kinds.specs.Facts.{Entry, facts_of, facts_to, goes_first}
+use Rattle.fact_kinds.specs.Facts.{Entry, facts_of, goes_first}
 use Rattle.fact_kinds.proofs.OrderFree.{facts_ascend}
 use Rattle.fact_store.specs.Kept.{Kept, facts_in}
 use Rattle.history_laws.specs.DayLaws.{up_to}
@@ -13,7 +13,6 @@ use Rattle.history_laws.proofs.OnceLemmas.{each_is_entered_once}
 use Rattle.history_laws.proofs.RangeLemmas.{facts_are_in_range}
 use Rattle.history_laws.proofs.RegisterOfRuly.{ruly_gives_register}
 use Rattle.ldar_law.specs.declared.numbers.TheConstants.{LAST_FACT_DAY}
-use Rattle.ldar_law.specs.declared.reply.Reply.{Reply}
 use Rattle.ldar_law.specs.declared.request.Request.{Request}
 use Rattle.ldar_law.specs.declared.unit_entry.UnitEntry.{UnitEntry}
 use Rattle.ldar_law.specs.Equipment.{unit_entry_of}

@@ -1,5 +1,5 @@
 -- Instruments that are ready, and what is known of a component.
-use Rattle.std.proofs.Common.{◌≡◌, ℕ, ◌<◌, Bool, true, false, cond, nat_le, Option, Some, None, List, [], ◌∷◌, refl, sym, ap, ◌∙◌, subst, inl, inr}
+use Rattle.std.proofs.Common.{◌≡◌, ℕ, ◌<◌, true, cond, nat_le, Option, Some, None, List, [], ◌∷◌, refl, sym, ap, ◌∙◌, subst, inl, inr}
 use Rattle.std.specs.BTreeMap.{is_at}
 use Rattle.std.specs.Option.{option_to_list}
 use Rattle.std.specs.Ordering.{is_eq, nat_cmp, MatchOrdering}
@@ -28,7 +28,7 @@ use Rattle.ldar_law.specs.Fitness.{fitness_of}
 use Rattle.ldar_law.specs.Force.{limit_on}
 use Rattle.ldar_law.specs.Slices.{facts_of_instrument}
 use Rattle.ldar_law.specs.Tags.{tags_of}
-use Rattle.ldar_law.specs.Units.{Known, known_of}
+use Rattle.ldar_law.specs.Units.{known_of}
 use Rattle.method21_reading.specs.Instruments.{Apart, AreThoseOf}
 use Rattle.method21_reading.specs.Readings.{fitness_by}
 use Rattle.office_views.specs.Lists.{AreReady}

@@ -1,7 +1,6 @@
 use Rattle.std.proofs.Common.{◌≡◌, ◌∙◌}
-use Rattle.std.specs.List.{filter_map}
 use Rattle.std.proofs.lemmas.Result.{IfOk-weaker}
-use Rattle.ldar_law.specs.Events.{events_in, fitness_in}
+use Rattle.ldar_law.specs.Events.{events_in}
 use Rattle.method21_reading.specs.Readings.{AreEventsAmongAll}
 use Rattle.office_views.specs.Lists.{facts_by}
 use Rattle.office_views.proofs.judged.judged.Goals as goal

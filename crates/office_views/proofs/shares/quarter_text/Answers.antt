@@ -2,7 +2,6 @@ use Rattle.std.proofs.Common.{◌≡◌, ℕ, ◌+◌, ◌-◌, ◌<◌, length,
 use Rattle.std.proofs.lemmas.Result.{IfOk-weaker}
 use Rattle.list_words.specs.Ranges.{from_to}
 use Rattle.ldar_law.specs.declared.tally.Tally.{Tally}
-use Rattle.ldar_law.specs.Equipment.{elections_of}
 use Rattle.ldar_law.specs.Shown.{quarter_text}
 use Rattle.ldar_law.specs.Skips.{is_skipped}
 use Rattle.ldar_law.specs.Texts.{percent_text}

@@ -1,4 +1,4 @@
-use Rattle.std.proofs.Common.{take, ap, ◌∙◌, arith}
+use Rattle.std.proofs.Common.{take, ap, arith}
 use Rattle.std.specs.Option.{option_to_list, option_map}
 use Rattle.fact_store.specs.Kept.{facts_in}
 use Rattle.ldar_law.specs.Units.{tallies_to}
