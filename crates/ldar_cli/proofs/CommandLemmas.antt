@@ -15,7 +15,8 @@ use Rattle.ldar_cli.specs.Run.{LeavesAlone, IsNotOpened, IsMade, IsShown, Ends}
 module _ {D : Type 0} (content_of : D → Option (List ℕ)) (images_of : D → List ℕ → Type 0) (left_of : D → ℕ → List ℕ → Type 0)
     (clock_of faults_of : D → ℕ) where
   -- words that are the command end as it does
-  pub ends_for : (command other : Option Command) (status : Status) (counts : ℕ × ℕ) (left left' : Option (List ℕ)) (pieces pieces' : Option (List Piece)) (old new : D)
+  pub ends_for : (command other : Option Command) (status : Status) (counts : ℕ × ℕ) (left left' : Option (List ℕ))
+      (pieces pieces' : Option (List Piece)) (old new : D)
       → command ≡ other → Ends content_of images_of left_of clock_of faults_of command status counts left left' pieces pieces' old new
       → Ends content_of images_of left_of clock_of faults_of other status counts left left' pieces pieces' old new
   ends_for command other status counts left left' pieces pieces' old new same ends =
@@ -148,7 +149,8 @@ module _ {A D : Type 0} (f : A → D) (content_of : D → Option (List ℕ)) (im
   ]
 
   -- .. for a disk that is what the reference then refers to
-  pub ends_at : (command : Option Command) (status : Status) (counts : ℕ × ℕ) (left left' : Option (List ℕ)) (pieces pieces' : Option (List Piece)) (old new : A) (now : D)
+  pub ends_at : (command : Option Command) (status : Status) (counts : ℕ × ℕ) (left left' : Option (List ℕ))
+      (pieces pieces' : Option (List Piece)) (old new : A) (now : D)
       → now ≡ f new
       → Ends (λ (a : A). content_of (f a)) (λ (a : A). images_of (f a)) (λ (a : A). left_of (f a)) (λ (a : A). clock_of (f a)) (λ (a : A). faults_of (f a))
       command status counts left left' pieces pieces' old new

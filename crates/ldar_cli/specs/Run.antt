@@ -127,7 +127,8 @@ Silent left left' pieces pieces' = (left' ≡ left) × (pieces' ≡ pieces)
 -- How a command ends: what it takes, puts and leaves, and the counts of faults of the output before and after. Nothing is touched where the words are
 -- no command.
 abbrev pub Ends : {D : Type 0} (content_of : D → Option (List ℕ)) (images_of : D → List ℕ → Type 0) (left_of : D → ℕ → List ℕ → Type 0)
-    (clock_of faults_of : D → ℕ) → Option Command → Status → (counts : ℕ × ℕ) → (left left' : Option (List ℕ)) (pieces pieces' : Option (List Piece)) (old new : D) → Type 0
+    (clock_of faults_of : D → ℕ) → Option Command → Status → (counts : ℕ × ℕ) → (left left' : Option (List ℕ)) (pieces pieces' : Option (List Piece))
+    (old new : D) → Type 0
 Ends content_of images_of left_of clock_of faults_of None status counts left left' pieces pieces' old new =
     (status ≡ Usage) × Silent left left' pieces pieces' × (new ≡ old)
 Ends content_of images_of left_of clock_of faults_of (Some Init) status counts left left' pieces pieces' old new =

@@ -35,7 +35,8 @@ const TANK: &str = "component,unit,kind,service,designation,plan,month,monomer,r
 4,1,tank,light,none,0,1,0,0,2020-01-15
 ";
 
-const LEADING_ZERO: &str = "component,unit,kind,service,designation,plan,month,monomer,replaces,begin
+const LEADING_ZERO: &str =
+    "component,unit,kind,service,designation,plan,month,monomer,replaces,begin
 01,1,valve,gas,none,0,1,0,0,2020-01-15
 ";
 
@@ -90,11 +91,7 @@ fn a_register_is_imported(rt: HostRuntime) -> Result<(), Fail> {
         ),
     ];
     for (words, input, status, output, noted) in cases {
-        let got = ran(
-            rt.alloc(),
-            &mut disk,
-            &untroubled(&words, input.as_bytes()),
-        )?;
+        let got = ran(rt.alloc(), &mut disk, &untroubled(&words, input.as_bytes()))?;
         assert_eq!(rt; got.status, status);
         assert_eq!(rt; got.output.as_slice(), output.as_bytes());
         assert_eq!(rt; got.noted.as_slice(), noted.as_bytes());
@@ -116,44 +113,121 @@ fn a_component_of_no_unit_is_denied(rt: HostRuntime) -> Result<(), Fail> {
         &untroubled(&["import", "1", "components"], OF_NO_UNIT.as_bytes()),
     )?;
     assert_eq!(rt; got.status, 11);
-    assert_eq!(rt;
-        got.output.as_slice(),
-        b"denied 1 17 P2\n".as_slice()
-    );
+    assert_eq!(rt; got.output.as_slice(), b"denied 1 17 P2\n".as_slice());
     assert_eq!(rt; got.noted.as_slice(), got.output.as_slice());
     assert_eq!(rt; disk.bytes().len(), 17);
     Ok(())
 }
 
-// A file of 513 facts is two batches. What fails in the middle ends the import there.
+// A file of so many valves of process unit 1, the last of them of another unit.
+fn valves(alloc: Global, count: u16, unit_of_last: u8) -> Result<String, Fail> {
+    let mut text = String::from_str(
+        alloc,
+        "component,unit,kind,service,designation,plan,month,monomer,replaces,begin\n",
+    )?;
+    for component in 1..=count {
+        let unit = if component == count { unit_of_last } else { 1 };
+        let row = format!(in alloc; "{component},{unit},valve,gas,none,0,1,0,0,2020-01-15\n")?;
+        text.push_str(&row)?;
+    }
+    Ok(text)
+}
+
+// A disk with a journal that has process unit 1.
+fn with_unit(alloc: Global) -> Result<MemoryDisk, Fail> {
+    let mut disk = empty(alloc)?;
+    ran(
+        alloc,
+        &mut disk,
+        &untroubled(&["import", "1", "units"], UNIT.as_bytes()),
+    )?;
+    Ok(MemoryDisk::new(alloc, disk.bytes(), &[])?)
+}
+
+// A file of 513 facts is two batches. What stops it in the middle ends the import there.
 #[test]
-fn an_import_ends_with_a_fault(rt: HostRuntime) -> Result<(), Fail> {
-    // The calls of the input, the output and the notes that fail, the status, what is put and what is noted.
+fn an_import_ends_where_it_is_stopped(rt: HostRuntime) -> Result<(), Fail> {
+    let alloc = rt.alloc();
+    let good = valves(alloc, 513, 1)?;
+    let denied = valves(alloc, 513, 9)?;
+    // The file, the calls of the input, the output and the notes that fail, the status, what is put and what is noted.
     let cases = [
         (
-            [0].as_slice(),
+            &good,
             [].as_slice(),
             [].as_slice(),
-            3,
+            [].as_slice(),
+            0,
+            "receipt 0 2 2\nreceipt 0 3 3\n",
             "",
-            "read fault\n",
         ),
-        (&[], &[0], &[], 4, "", "write fault\n"),
-        (&[], &[], &[], 0, "receipt 0 1 1\n", ""),
+        (&good, &[0], &[], &[], 3, "", "read fault\n"),
+        (&good, &[1], &[], &[], 3, "", "read fault\n"),
+        (&good, &[], &[0], &[], 4, "", "write fault\n"),
+        (&good, &[], &[1], &[], 4, "receipt 0 2 2\n", "write fault\n"),
+        (
+            &denied,
+            &[],
+            &[],
+            &[],
+            11,
+            "receipt 0 2 2\ndenied 1 17 P2\n",
+            "denied 1 17 P2\n",
+        ),
+        (
+            &denied,
+            &[],
+            &[1],
+            &[],
+            11,
+            "receipt 0 2 2\n",
+            "denied 1 17 P2\n",
+        ),
+        (
+            &denied,
+            &[],
+            &[],
+            &[0],
+            4,
+            "receipt 0 2 2\ndenied 1 17 P2\n",
+            "",
+        ),
     ];
-    for (takes, puts, notes, status, output, noted) in cases {
-        let mut disk = empty(rt.alloc())?;
+    for (file, takes, puts, notes, status, output, noted) in cases {
+        let mut disk = with_unit(alloc)?;
         let trial = Trial {
-            words: &["import", "1", "units"],
-            input: UNIT.as_bytes(),
+            words: &["import", "2", "components"],
+            input: file.as_bytes(),
             takes_that_fail: takes,
             puts_that_fail: puts,
             notes_that_fail: notes,
         };
-        let got = ran(rt.alloc(), &mut disk, &trial)?;
+        let got = ran(alloc, &mut disk, &trial)?;
         assert_eq!(rt; got.status, status);
         assert_eq!(rt; got.output.as_slice(), output.as_bytes());
         assert_eq!(rt; got.noted.as_slice(), noted.as_bytes());
+    }
+    Ok(())
+}
+
+// An import of two batches is stopped inside each call of the disk, and then the same command is given again.
+#[test]
+fn an_import_that_was_cut_off_is_completed(rt: HostRuntime) -> Result<(), Fail> {
+    let alloc = rt.alloc();
+    let file = valves(alloc, 513, 1)?;
+    let words = ["import", "2", "components"];
+    let mut whole = with_unit(alloc)?;
+    let first = ran(alloc, &mut whole, &untroubled(&words, file.as_bytes()))?;
+    assert_eq!(rt; first.status, 0);
+    for call in 0..whole.calls() {
+        // Of a write none of its bytes came through, or one, which opens a gate.
+        for left in [[].as_slice(), &[1]] {
+            let mut disk = whole.stopped(alloc, call, left)?;
+            let again = ran(alloc, &mut disk, &untroubled(&words, file.as_bytes()))?;
+            assert_eq!(rt; again.status, 0);
+            assert_eq!(rt; again.output.as_slice(), first.output.as_slice());
+            assert_eq!(rt; disk.bytes(), whole.bytes());
+        }
     }
     Ok(())
 }
@@ -162,11 +236,7 @@ fn an_import_ends_with_a_fault(rt: HostRuntime) -> Result<(), Fail> {
 fn a_fault_of_the_disk_ends_an_import(rt: HostRuntime) -> Result<(), Fail> {
     // The calls of an import on an empty journal: it syncs and reads as it opens, and what fails behind that is answered.
     for call in 0..10 {
-        let mut disk = MemoryDisk::new(
-            rt.alloc(),
-            b"LDARJNL1\0\0\0\0\0\0\0\0\0",
-            &[call],
-        )?;
+        let mut disk = MemoryDisk::new(rt.alloc(), b"LDARJNL1\0\0\0\0\0\0\0\0\0", &[call])?;
         let got = ran(
             rt.alloc(),
             &mut disk,

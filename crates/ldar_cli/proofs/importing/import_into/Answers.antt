@@ -3,6 +3,7 @@ use Rattle.ldar_session.proofs.Stretches.{stretch_none}
 use Rattle.batch_sending.specs.Sending.{IsSent}
 use Rattle.register_import.specs.declared.error.ImportError.{ImportError}
 use Rattle.register_import.specs.Rows.{TellsRow}
+use Rattle.ldar_cli.specs.declared.status.Status.TheVariants.{BadRow}
 use Rattle.ldar_cli.specs.Imports.{batches_in}
 use Rattle.ldar_cli.proofs.importing.import_into.Goals as goal
 
@@ -22,7 +23,8 @@ returns-in-Err-clause-talk g c =
 pub returns-in-Err-Row-clause-talk : goal.returns-in-Err-Row-clause-talk
 returns-in-Err-Row-clause-talk g c =
     let taken = c.in-Ok.ensures.taken in
-    let same : taken.0 ≡ c.bytes.result.now = sym (c.bytes.ensures.value ∙ taken.2.0) in (
+    let same : taken.0 ≡ c.bytes.result.now = sym (c.bytes.ensures.value ∙ taken.2.0) in
+    let said = λ (text : List ℕ). batches_in c.args.sort c.args.number text in (
       [],
       taken.0,
       [],
@@ -31,10 +33,10 @@ returns-in-Err-Row-clause-talk g c =
       inr (inl (
         record {
           read = taken.2.1;
-          at = _;
-          first = ap (λ (l : List ℕ). batches_in c.args.sort c.args.number l) same
-              ∙ subst (λ (e : ImportError). TellsRow (batches_in c.args.sort c.args.number c.bytes.result.now) e) c.in-Err-Row.field-0-is c.in-Err-Row.ensures.bad;
-          told = refl;
+          at = c.in-Err-Row.at;
+          first = ap said same
+              ∙ subst (λ (e : ImportError). TellsRow (said c.bytes.result.now) e) c.in-Err-Row.field-0-is c.in-Err-Row.ensures.bad;
+          told = ap BadRow c.in-Err-Row.at-is;
         },
         (refl, refl),
       )),
