@@ -4,6 +4,7 @@
 mod parsing;
 mod positionals;
 
+pub use clap::Error;
 pub use positionals::{four_positionals, no_positionals, three_positionals, two_positionals};
 
 #[cfg(test)]

@@ -9,3 +9,4 @@ pub mod NumberLemmas
 pub mod RulyLemmas
 pub mod StatusLemmas
 pub mod ViewLemmas
+pub mod WordLemmas

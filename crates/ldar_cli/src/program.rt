@@ -4,7 +4,7 @@ ghost use Rattle.disk_model.specs.Faults.{Rose};
 ghost use Rattle.disk_model.specs.Keeps.{Keeps};
 ghost use Rattle.ldar_cli.specs.declared.status.Status.{Status};
 ghost use Rattle.ldar_cli.specs.Command.{command_in};
-ghost use Rattle.ldar_cli.specs.Run.{Ends};
+ghost use Rattle.ldar_cli.specs.Run.{RunEnds};
 ghost use Rattle.ldar_cli.specs.Statuses.{IsNoted};
 
 use crate::command::{Command, command_of};
@@ -28,10 +28,10 @@ pub fn run<S: Source, D: Disk, K: Sink, E: Sink>(
     notes: &mut E,
     disk: &mut D,
 ) -> u8
-    // What the command takes, puts and leaves, by its status, which is noted. For `dock`, `drain` and `import` see `IsDocked`,
+    // What the command takes, puts and leaves, by its status, which is noted; or memory was wanted to read its words. For `dock`, `drain` and `import` see `IsDocked`,
     // `IsDrained` and `IsImported`.
     ensures ends { (status : Status) × IsNoted status (E.pieces notes.old) (E.pieces notes.new) result
-        × Ends D.content D.images D.left D.clock D.faults (command_in (map string_bytes words.now)) status
+        × RunEnds D.content D.images D.left D.clock D.faults (command_in (map string_bytes words.now)) status
         (K.faults output.old, K.faults output.new) (S.left input.old) (S.left input.new) (K.pieces output.old) (K.pieces output.new) disk.old disk.new }
 
     // Words that are no command are answered before anything but the notes is asked.
@@ -61,7 +61,7 @@ fn run_over<S: Source, D: Disk, K: Sink>(
     output: &mut K,
     disk: D,
 ) -> (Status, D)
-    ensures ends { Ends D.content D.images D.left D.clock D.faults (command_in (map string_bytes words.now)) result.0
+    ensures ends { RunEnds D.content D.images D.left D.clock D.faults (command_in (map string_bytes words.now)) result.0
         (K.faults output.old, K.faults output.new) (S.left input.old) (S.left input.new) (K.pieces output.old) (K.pieces output.new) disk result.1 }
     ensures unchanged { command_in (map string_bytes words.now) ≡ None
         → (input.new ≡ input.old) × (output.new ≡ output.old) × (result.1 ≡ disk) }
@@ -72,19 +72,20 @@ fn run_over<S: Source, D: Disk, K: Sink>(
     ensures write_count { K.faults output.old ≤ K.faults output.new }
     ensures keeps { Keeps D.clock D.name D.faults disk result.1 }
 {
-    match command_of(words) {
-        None => (Status::Usage, disk),
-        Some(Command::Init) => {
+    match command_of(alloc, words) {
+        Err(_) => (Status::Memory, disk),
+        Ok(None) => (Status::Usage, disk),
+        Ok(Some(Command::Init)) => {
             let mut disk = disk;
             let status = init(&mut disk);
             (status, disk)
         }
-        Some(Command::Dock) => dock(alloc, input, output, disk),
-        Some(Command::Drain) => drain(alloc, input, output, disk),
-        Some(Command::Import { number, sort }) => {
+        Ok(Some(Command::Dock)) => dock(alloc, input, output, disk),
+        Ok(Some(Command::Drain)) => drain(alloc, input, output, disk),
+        Ok(Some(Command::Import { number, sort })) => {
             import(alloc, input, output, disk, number, sort)
         }
-        Some(Command::Show(request)) => show(alloc, output, disk, &request),
-        Some(Command::Check) => check(alloc, output, disk),
+        Ok(Some(Command::Show(request))) => show(alloc, output, disk, &request),
+        Ok(Some(Command::Check)) => check(alloc, output, disk),
     }
 }
