@@ -1,11 +1,9 @@
 -- What an import reads and sends: no item of its own, and which of its statuses tell which faults.
-use Rattle.std.proofs.Common.{◌≡◌, ◌≢◌, ◌⊎◌, inl, inr, ℕ, ◌≤◌, Option, List, [], ◌∷◌, ◌++◌, refl, sym, ap, subst, ◌∙◌}
+use Rattle.std.proofs.Common.{◌≡◌, ◌≢◌, inl, inr, ℕ, Option, List, [], ◌∷◌, ◌++◌, refl, sym, ap, subst, ◌∙◌}
 use Rattle.std.specs.List.{AllByRecursion}
 use Rattle.disk_model.specs.Faults.{Rose}
 use Rattle.disk_model.specs.Keeps.{Keeps}
-use Rattle.ldar_ports.specs.Sink.{Piece}
 use Rattle.ldar_ports.specs.Source.{Takes}
-use Rattle.ldar_ports.specs.Window.{WindowState, after_taking}
 use Rattle.ldar_law.specs.declared.reply.Reply.{Reply}
 use Rattle.ldar_law.specs.declared.reply.Reply.TheVariants.{Receipt, Conflict, Denied, Full, Shown, NoSuch, Fault, Memory}
 use Rattle.ldar_law.specs.declared.request.Request.{Request}
@@ -18,7 +16,7 @@ use Rattle.batch_sending.specs.Sending.{IsSent, EndsSending}
 use Rattle.ldar_session.specs.Served.{Served, items_of, turns_in, turns_of}
 use Rattle.ldar_cli.specs.declared.command.Sort.{Sort}
 use Rattle.ldar_cli.specs.declared.status.Status.{Status}
-use Rattle.ldar_cli.specs.declared.status.Status.TheVariants.{ReadFault, WriteFault, DiskFault, BadRow}
+use Rattle.ldar_cli.specs.declared.status.Status.TheVariants.{ReadFault, WriteFault, DiskFault}
 use Rattle.ldar_cli.specs.Imports.{EndsImport, ReadsNone}
 use Rattle.ldar_cli.specs.Statuses.{status_replied, status_sent}
 use Rattle.ldar_cli.proofs.FaultLemmas.{AnyTurn, IsFault, any_last, rose_since, run_rose}
@@ -33,12 +31,6 @@ items_none (s ∷ served) each = ap (λ l. l ++ items_of served) each.0.no_item 
 pub takes_text : (served : List Served) (old new : Option (List ℕ)) (text : List ℕ) → AllByRecursion IsSent served → Takes old text new
     → Takes old (items_of served ++ text) new
 takes_text served old new text each takes = subst (λ (l : List ℕ). Takes old (l ++ text) new) (sym (items_none served each)) takes
-
--- a window that was empty holds what was taken into it
-pub filled : (empty full : WindowState) (taken : List ℕ) → empty ≡ record { bytes = []; size = 8_388_609 } → full ≡ after_taking empty taken
-    → (full.bytes ≡ taken) × (full.size ≡ 8_388_609)
-filled empty full taken new after =
-    (ap (λ w. w.bytes) after ∙ ap (λ (w : WindowState). w.bytes ++ taken) new, ap (λ w. w.size) after ∙ ap (λ w. w.size) new)
 
 -- ---- statuses
 

@@ -23,13 +23,13 @@ loop-request-preserved g c =
     let talk = c.in-Done.ensures.talk in
     let said = talk.3.said in (
       (
-      so_far.0 ++ talk.0,
-      stretch_more IsSent g.O.Office.led g.met.O.Office.joins c.args.office.now c.loop-request.office c.send_one.new.office
-          (g.K.Sink.pieces c.args.sink.now) (g.K.Sink.pieces c.loop-request.sink) (g.K.Sink.pieces c.send_one.new.sink) so_far.0 talk.0 [] so_far.1
-          (subst (λ l. Stretch IsSent g.O.Office.led c.loop-request.office c.send_one.new.office (g.K.Sink.pieces c.loop-request.sink)
-          (g.K.Sink.pieces c.send_one.new.sink) talk.0 l) said talk.2),
-      all_at c.args.requests.now c.loop-request.request-index c.request-item.result so_far.0 talk.0 c.loop-request-test.true c.request-item.is so_far.2
-          (subst (λ (l : List ℕ). AllReceipted (c.request-item.result ∷ []) talk.0 l) said talk.3),
+        so_far.0 ++ talk.0,
+        stretch_more IsSent g.O.Office.led g.met.O.Office.joins c.args.office.now c.loop-request.office c.send_one.new.office
+            (g.K.Sink.pieces c.args.sink.now) (g.K.Sink.pieces c.loop-request.sink) (g.K.Sink.pieces c.send_one.new.sink) so_far.0 talk.0 [] so_far.1
+            (subst (λ l. Stretch IsSent g.O.Office.led c.loop-request.office c.send_one.new.office (g.K.Sink.pieces c.loop-request.sink)
+            (g.K.Sink.pieces c.send_one.new.sink) talk.0 l) said talk.2),
+        all_at c.args.requests.now c.loop-request.request-index c.request-item.result so_far.0 talk.0 c.loop-request-test.true c.request-item.is so_far.2
+            (subst (λ (l : List ℕ). AllReceipted (c.request-item.result ∷ []) talk.0 l) said talk.3),
       ),
       omega (arith, c.loop-request.invariant.1, c.send_one.ensures.write_count),
     )

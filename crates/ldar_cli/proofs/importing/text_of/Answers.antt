@@ -1,6 +1,5 @@
-use Rattle.std.proofs.Common.{[], arith, ap, length}
+use Rattle.std.proofs.Common.{[]}
 use Rattle.ldar_ports.proofs.TakesLemmas.{takes_none}
-use Rattle.ldar_cli.proofs.ImportLemmas.{filled}
 use Rattle.ldar_cli.proofs.importing.text_of.Goals as goal
 
 -- no room for the window
