@@ -1,10 +1,10 @@
-ghost use Rattle.std.specs.Prelude.{◌≡◌, ◌≤◌, ◌⊎◌, None, map};
+ghost use Rattle.std.specs.Prelude.{◌≡◌, ◌≤◌, ◌⊎◌, Some, None, map};
 ghost use Rattle.std.specs.String.{string_bytes};
 ghost use Rattle.disk_model.specs.Faults.{Rose};
 ghost use Rattle.disk_model.specs.Keeps.{Keeps};
 ghost use Rattle.ldar_cli.specs.declared.status.Status.{Status};
-ghost use Rattle.ldar_cli.specs.Command.{command_in};
-ghost use Rattle.ldar_cli.specs.Run.{RunEnds};
+ghost use Rattle.ldar_cli.specs.Command.{command_in, IsInRange};
+ghost use Rattle.ldar_cli.specs.Run.{Ends, RunEnds};
 ghost use Rattle.ldar_cli.specs.Statuses.{IsNoted};
 
 use crate::command::{Command, command_of};
@@ -28,8 +28,8 @@ pub fn run<S: Source, D: Disk, K: Sink, E: Sink>(
     notes: &mut E,
     disk: &mut D,
 ) -> u8
-    // What the command takes, puts and leaves, by its status, which is noted; or memory was wanted to read its words. For `dock`, `drain` and `import` see `IsDocked`,
-    // `IsDrained` and `IsImported`.
+    // What the command takes, puts and leaves, by its status, which is noted, or that memory was wanted to read the words. For
+    // `dock`, `drain` and `import` see `IsDocked`, `IsDrained` and `IsImported`.
     ensures ends { (status : Status) × IsNoted status (E.pieces notes.old) (E.pieces notes.new) result
         × RunEnds D.content D.images D.left D.clock D.faults (command_in (map string_bytes words.now)) status
         (K.faults output.old, K.faults output.new) (S.left input.old) (S.left input.new) (K.pieces output.old) (K.pieces output.new) disk.old disk.new }
@@ -73,19 +73,40 @@ fn run_over<S: Source, D: Disk, K: Sink>(
     ensures keeps { Keeps D.clock D.name D.faults disk result.1 }
 {
     match command_of(alloc, words) {
-        Err(_) => (Status::Memory, disk),
+        Ok(Some(command)) => run_command(alloc, command, input, output, disk),
         Ok(None) => (Status::Usage, disk),
-        Ok(Some(Command::Init)) => {
+        Err(_) => (Status::Memory, disk),
+    }
+}
+
+/// Runs a command that was read.
+fn run_command<S: Source, D: Disk, K: Sink>(
+    alloc: Global,
+    command: Command,
+    input: &mut S,
+    output: &mut K,
+    disk: D,
+) -> (Status, D)
+    requires in_range { IsInRange command }
+    ensures ends { Ends D.content D.images D.left D.clock D.faults (Some command) result.0
+        (K.faults output.old, K.faults output.new) (S.left input.old) (S.left input.new) (K.pieces output.old) (K.pieces output.new) disk result.1 }
+    ensures read_fault { result.0 ≡ Status.ReadFault → Rose (S.faults input.old) (S.faults input.new) }
+    ensures write_fault { result.0 ≡ Status.WriteFault → Rose (K.faults output.old) (K.faults output.new) }
+    ensures disk_fault { result.0 ≡ Status.DiskFault → Rose (D.faults disk) (D.faults result.1) }
+    ensures read_count { S.faults input.old ≤ S.faults input.new }
+    ensures write_count { K.faults output.old ≤ K.faults output.new }
+    ensures keeps { Keeps D.clock D.name D.faults disk result.1 }
+{
+    match command {
+        Command::Init => {
             let mut disk = disk;
             let status = init(&mut disk);
             (status, disk)
         }
-        Ok(Some(Command::Dock)) => dock(alloc, input, output, disk),
-        Ok(Some(Command::Drain)) => drain(alloc, input, output, disk),
-        Ok(Some(Command::Import { number, sort })) => {
-            import(alloc, input, output, disk, number, sort)
-        }
-        Ok(Some(Command::Show(request))) => show(alloc, output, disk, &request),
-        Ok(Some(Command::Check)) => check(alloc, output, disk),
+        Command::Dock => dock(alloc, input, output, disk),
+        Command::Drain => drain(alloc, input, output, disk),
+        Command::Import { number, sort } => import(alloc, input, output, disk, number, sort),
+        Command::Show(request) => show(alloc, output, disk, &request),
+        Command::Check => check(alloc, output, disk),
     }
 }
