@@ -7,5 +7,7 @@ pub mod KindLemmas
 pub mod NoteLemmas
 pub mod NumberLemmas
 pub mod RulyLemmas
+pub mod RunLemmas
 pub mod StatusLemmas
 pub mod ViewLemmas
+pub mod WordLemmas

@@ -110,3 +110,8 @@ command_in (word ∷ number ∷ sort ∷ []) = importing word number sort
 command_in (word ∷ name ∷ unit ∷ day ∷ []) = showing word (view_on name unit day)
 command_in (word ∷ name ∷ unit ∷ second ∷ third ∷ []) = showing word (view_of_four name unit second third)
 command_in _ = None
+
+-- the command that a word and its positionals are
+abbrev pub command_with : List ℕ → Option (List (List ℕ)) → Option Command
+command_with word None = None
+command_with word (Some further) = command_in (word ∷ further)

@@ -150,3 +150,11 @@ Ends content_of images_of left_of clock_of faults_of (Some (Show request)) statu
 Ends content_of images_of left_of clock_of faults_of (Some Check) status counts left left' pieces pieces' old new =
     (Silent left left' pieces pieces' × IsNotOpened content_of images_of left_of clock_of status old new)
     ⊎ ((left' ≡ left) × IsShown content_of images_of left_of clock_of Check status pieces pieces' old new)
+
+-- how a run ends: as its command does, or memory was wanted to read the words, and nothing is touched
+abbrev pub RunEnds : {D : Type 0} (content_of : D → Option (List ℕ)) (images_of : D → List ℕ → Type 0) (left_of : D → ℕ → List ℕ → Type 0)
+    (clock_of faults_of : D → ℕ) → Option Command → Status → (counts : ℕ × ℕ) → (left left' : Option (List ℕ)) (pieces pieces' : Option (List Piece))
+    (old new : D) → Type 0
+RunEnds content_of images_of left_of clock_of faults_of command status counts left left' pieces pieces' old new =
+    ((status ≡ Memory) × Silent left left' pieces pieces' × (new ≡ old))
+    ⊎ Ends content_of images_of left_of clock_of faults_of command status counts left left' pieces pieces' old new

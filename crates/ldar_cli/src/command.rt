@@ -1,12 +1,16 @@
-ghost use Rattle.std.specs.Prelude.{◌≡◌, map, IfSome};
+ghost use Rattle.std.specs.Prelude.{◌≡◌, map, IfSome, IfOk, IfErr};
 ghost use Rattle.std.specs.String.{string_bytes};
+ghost use Rattle.command_words.specs.Parsing.{IsWantOfMemory};
+ghost use Rattle.command_words.specs.Positionals.{positionals_of};
 ghost use Rattle.office_views.specs.Answers.{IsView};
 ghost use Rattle.ldar_cli.specs.Command as spec;
 
 use crate::number::{long_number_in, number_in};
+use command_words::{Error, four_positionals, no_positionals, three_positionals, two_positionals};
 use ldar_days::Day;
 use ldar_law::Request;
 use register_import::LAST_NUMBER;
+use std::alloc::Global;
 
 /// What a file of the register lists.
 #[derive(Clone, Copy, Debug, PartialEq, Eq)]
@@ -32,34 +36,75 @@ pub enum Command {
     Check,
 }
 
-/// The command that the words are, if they are one.
-pub fn command_of(words: &[String]) -> Option<Command>
-    ensures value { result ≡ spec.command_in (map string_bytes words.now) }
-    ensures range { IfSome result spec.IsInRange }
+/// The command that the words are, if they are one. clap reads those behind the first.
+pub fn command_of(alloc: Global, words: &[String]) -> Result<Option<Command>, Error>
+    ensures value { IfOk result (λ command. command ≡ spec.command_in (map string_bytes words.now)) }
+    ensures range { IfOk result (λ command. IfSome command spec.IsInRange) }
+    ensures memory { IfErr result IsWantOfMemory }
 {
     match words {
-        [word] => alone(word.as_str()),
-        [word, number, sort] => importing(word.as_str(), number.as_str(), sort.as_str()),
-        [word, name, unit, day] => {
-            showing(
-                word.as_str(),
-                view_on(name.as_str(), unit.as_str(), day.as_str()),
-            )
-        }
-        [word, name, unit, second, third] => showing(
-            word.as_str(),
-            view_of_four(
-                name.as_str(),
-                unit.as_str(),
-                second.as_str(),
-                third.as_str(),
-            ),
-        ),
-        _ => None,
+        [word] => of_one_word(alloc, word.as_str(), words),
+        [word, _, _] => of_three_words(alloc, word.as_str(), words),
+        [word, _, _, _] => of_four_words(alloc, word.as_str(), words),
+        [word, _, _, _, _] => of_five_words(alloc, word.as_str(), words),
+        _ => Ok(None),
     }
 }
 
 /// The command of one word.
+fn of_one_word(alloc: Global, word: &str, words: &[String]) -> Result<Option<Command>, Error>
+    ensures value { IfOk result (λ command. command ≡ spec.command_with word.now (positionals_of 0 (map string_bytes words.now))) }
+    ensures range { IfOk result (λ command. IfSome command spec.IsInRange) }
+    ensures memory { IfErr result IsWantOfMemory }
+{
+    if no_positionals(alloc, words)? {
+        return Ok(alone(word));
+    }
+    Ok(None)
+}
+
+/// The command of a word and two positionals.
+fn of_three_words(alloc: Global, word: &str, words: &[String]) -> Result<Option<Command>, Error>
+    ensures value { IfOk result (λ command. command ≡ spec.command_with word.now (positionals_of 2 (map string_bytes words.now))) }
+    ensures range { IfOk result (λ command. IfSome command spec.IsInRange) }
+    ensures memory { IfErr result IsWantOfMemory }
+{
+    match two_positionals(alloc, words) {
+        Ok(Some((number, sort))) => Ok(importing(word, number, sort)),
+        Ok(None) => Ok(None),
+        Err(error) => Err(error),
+    }
+}
+
+/// The command of a word and three positionals.
+fn of_four_words(alloc: Global, word: &str, words: &[String]) -> Result<Option<Command>, Error>
+    ensures value { IfOk result (λ command. command ≡ spec.command_with word.now (positionals_of 3 (map string_bytes words.now))) }
+    ensures range { IfOk result (λ command. IfSome command spec.IsInRange) }
+    ensures memory { IfErr result IsWantOfMemory }
+{
+    match three_positionals(alloc, words) {
+        Ok(Some((name, unit, day))) => Ok(showing(word, view_on(name, unit, day))),
+        Ok(None) => Ok(None),
+        Err(error) => Err(error),
+    }
+}
+
+/// The command of a word and four positionals.
+fn of_five_words(alloc: Global, word: &str, words: &[String]) -> Result<Option<Command>, Error>
+    ensures value { IfOk result (λ command. command ≡ spec.command_with word.now (positionals_of 4 (map string_bytes words.now))) }
+    ensures range { IfOk result (λ command. IfSome command spec.IsInRange) }
+    ensures memory { IfErr result IsWantOfMemory }
+{
+    match four_positionals(alloc, words) {
+        Ok(Some((name, unit, second, third))) => {
+            Ok(showing(word, view_of_four(name, unit, second, third)))
+        }
+        Ok(None) => Ok(None),
+        Err(error) => Err(error),
+    }
+}
+
+/// The command that a word alone is.
 fn alone(word: &str) -> Option<Command>
     ensures value { result ≡ spec.alone word.now }
     ensures range { IfSome result spec.IsInRange }

@@ -33,17 +33,33 @@ pub use streams::{StdSink, StdSource};
 
 const HELP: &str = "usage: ldar JOURNAL COMMAND
 
+The leak detection and repair office of a refinery, under 40 CFR 60 Subpart VVa: it keeps
+batches of facts in a journal, and shows what is due, what leaks and what is reported.
+
 JOURNAL  the path of a journal, or :memory: for one that is gone with the run
+
 COMMAND  init                           makes an empty journal
-         dock                           reads batches from standard input, and prints the reply to each
-         drain                          reads HTTP requests from standard input, and prints the response to each
-         import NUMBER units            reads process units (TOML) from standard input, as batches numbered from NUMBER
-         import NUMBER components       reads components (CSV), likewise
+         dock                           keeps the batches of its input, and prints the reply to each
+         drain                          answers the HTTP requests of its input
+         import NUMBER units            keeps the process units of its input (TOML)
+         import NUMBER components       keeps the components of its input (CSV)
          show due|tags|delays UNIT DAY  shows what is due, the leak tags, or the delays of repair
          show route UNIT DAY STOPS      shows routes with at most so many stops
          show percent UNIT QUARTER DAY  shows the percent leaking in a quarter
          show report UNIT HALF DAY      shows the report of a half year
          check                          prints how many batches and facts the journal has
+
+UNIT is 0 to 255, a DAY as 2024-02-29; QUARTER and HALF count from 1, from the unit's first.
+The batches of an import are numbered from NUMBER. No word of a command begins with a hyphen.
+
+STATUS   0  done                        6  memory was wanted
+         2  the words are no command    7  no journal, or a damaged or unruly one
+         3  a fault of the input        8  the input is cut short, bad or too large
+         4  a fault of the output       9  a journal was to be made where bytes stand
+         5  a fault of the disk        11  no such thing, a bad row, or a batch not kept
+
+A line on standard error tells more. docs/ldar.1 is the manual, docs/FORMATS.md has what is
+read and printed, docs/HANDHELDS.md is for who writes a handheld.
 ";
 
 const VERSION: &str = "ldar 0.1.0\n";

@@ -1,10 +1,10 @@
-ghost use Rattle.std.specs.Prelude.{◌≡◌, ◌≤◌, ◌⊎◌, None, map};
+ghost use Rattle.std.specs.Prelude.{◌≡◌, ◌≤◌, ◌⊎◌, Some, None, map};
 ghost use Rattle.std.specs.String.{string_bytes};
 ghost use Rattle.disk_model.specs.Faults.{Rose};
 ghost use Rattle.disk_model.specs.Keeps.{Keeps};
 ghost use Rattle.ldar_cli.specs.declared.status.Status.{Status};
-ghost use Rattle.ldar_cli.specs.Command.{command_in};
-ghost use Rattle.ldar_cli.specs.Run.{Ends};
+ghost use Rattle.ldar_cli.specs.Command.{command_in, IsInRange};
+ghost use Rattle.ldar_cli.specs.Run.{Ends, RunEnds};
 ghost use Rattle.ldar_cli.specs.Statuses.{IsNoted};
 
 use crate::command::{Command, command_of};
@@ -28,10 +28,10 @@ pub fn run<S: Source, D: Disk, K: Sink, E: Sink>(
     notes: &mut E,
     disk: &mut D,
 ) -> u8
-    // What the command takes, puts and leaves, by its status, which is noted. For `dock`, `drain` and `import` see `IsDocked`,
-    // `IsDrained` and `IsImported`.
+    // What the command takes, puts and leaves, by its status, which is noted, or that memory was wanted to read the words. For
+    // `dock`, `drain` and `import` see `IsDocked`, `IsDrained` and `IsImported`.
     ensures ends { (status : Status) × IsNoted status (E.pieces notes.old) (E.pieces notes.new) result
-        × Ends D.content D.images D.left D.clock D.faults (command_in (map string_bytes words.now)) status
+        × RunEnds D.content D.images D.left D.clock D.faults (command_in (map string_bytes words.now)) status
         (K.faults output.old, K.faults output.new) (S.left input.old) (S.left input.new) (K.pieces output.old) (K.pieces output.new) disk.old disk.new }
 
     // Words that are no command are answered before anything but the notes is asked.
@@ -61,7 +61,7 @@ fn run_over<S: Source, D: Disk, K: Sink>(
     output: &mut K,
     disk: D,
 ) -> (Status, D)
-    ensures ends { Ends D.content D.images D.left D.clock D.faults (command_in (map string_bytes words.now)) result.0
+    ensures ends { RunEnds D.content D.images D.left D.clock D.faults (command_in (map string_bytes words.now)) result.0
         (K.faults output.old, K.faults output.new) (S.left input.old) (S.left input.new) (K.pieces output.old) (K.pieces output.new) disk result.1 }
     ensures unchanged { command_in (map string_bytes words.now) ≡ None
         → (input.new ≡ input.old) × (output.new ≡ output.old) × (result.1 ≡ disk) }
@@ -72,19 +72,41 @@ fn run_over<S: Source, D: Disk, K: Sink>(
     ensures write_count { K.faults output.old ≤ K.faults output.new }
     ensures keeps { Keeps D.clock D.name D.faults disk result.1 }
 {
-    match command_of(words) {
-        None => (Status::Usage, disk),
-        Some(Command::Init) => {
+    match command_of(alloc, words) {
+        Ok(Some(command)) => run_command(alloc, command, input, output, disk),
+        Ok(None) => (Status::Usage, disk),
+        Err(_) => (Status::Memory, disk),
+    }
+}
+
+/// Runs a command that was read.
+fn run_command<S: Source, D: Disk, K: Sink>(
+    alloc: Global,
+    command: Command,
+    input: &mut S,
+    output: &mut K,
+    disk: D,
+) -> (Status, D)
+    requires in_range { IsInRange command }
+    ensures ends { Ends D.content D.images D.left D.clock D.faults (Some command) result.0
+        (K.faults output.old, K.faults output.new) (S.left input.old) (S.left input.new) (K.pieces output.old) (K.pieces output.new) disk result.1 }
+    ensures read_fault { result.0 ≡ Status.ReadFault → Rose (S.faults input.old) (S.faults input.new) }
+    ensures write_fault { result.0 ≡ Status.WriteFault → Rose (K.faults output.old) (K.faults output.new) }
+    ensures disk_fault { result.0 ≡ Status.DiskFault → Rose (D.faults disk) (D.faults result.1) }
+    ensures read_count { S.faults input.old ≤ S.faults input.new }
+    ensures write_count { K.faults output.old ≤ K.faults output.new }
+    ensures keeps { Keeps D.clock D.name D.faults disk result.1 }
+{
+    match command {
+        Command::Init => {
             let mut disk = disk;
             let status = init(&mut disk);
             (status, disk)
         }
-        Some(Command::Dock) => dock(alloc, input, output, disk),
-        Some(Command::Drain) => drain(alloc, input, output, disk),
-        Some(Command::Import { number, sort }) => {
-            import(alloc, input, output, disk, number, sort)
-        }
-        Some(Command::Show(request)) => show(alloc, output, disk, &request),
-        Some(Command::Check) => check(alloc, output, disk),
+        Command::Dock => dock(alloc, input, output, disk),
+        Command::Drain => drain(alloc, input, output, disk),
+        Command::Import { number, sort } => import(alloc, input, output, disk, number, sort),
+        Command::Show(request) => show(alloc, output, disk, &request),
+        Command::Check => check(alloc, output, disk),
     }
 }

@@ -158,6 +158,10 @@ fn words_outside_the_command_set_touch_nothing(rt: HostRuntime) -> Result<(), Fa
         &["import", "-1", "components"],
         &["import", "1", "units", "units"],
         &["imports", "1", "units"],
+        &["import", "--", "units"],
+        &["import", "1", "-"],
+        &["check", "--"],
+        &["check", "--help"],
         &["show"],
         &["show", "due", "1"],
         &["show", "due", "256", "2024-02-28"],
@@ -169,6 +173,10 @@ fn words_outside_the_command_set_touch_nothing(rt: HostRuntime) -> Result<(), Fa
         &["show", "percent", "1", "2024-02-28", "16"],
         &["show", "route", "1", "16", "2024-02-28"],
         &["shown", "due", "1", "2024-02-28"],
+        &["show", "--help", "1", "2024-02-28"],
+        &["show", "due", "-h", "2024-02-28"],
+        &["show", "due", "1", "--"],
+        &["show", "route", "1", "2024-02-28", "-16"],
     ];
     for words in cases {
         let mut disk = empty(rt.alloc())?;

@@ -1,0 +1,5 @@
+pub mod PlainWords
+pub mod TakenWords
+pub mod PositionalLemmas
+pub mod CountedWords
+pub mod ParsingLemmas
