@@ -7,8 +7,12 @@ mod file_disk;
 #[cfg(test)]
 mod file_tests;
 mod held;
+#[cfg(test)]
+mod http_tests;
 mod init;
 mod journal_file;
+#[cfg(test)]
+mod large_tests;
 mod noting;
 mod number;
 mod program;
@@ -16,6 +20,8 @@ mod program;
 mod row_tests;
 mod showing;
 mod status;
+#[cfg(test)]
+mod stop_tests;
 mod streams;
 #[cfg(test)]
 mod tests;
