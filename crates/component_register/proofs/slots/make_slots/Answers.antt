@@ -13,5 +13,5 @@ loop-fact-preserved c =
       adds = adds_on no_slot c.args.slots.now.items old new c.loop-fact.invariant.adds c.in_ok-make_row.ensures.adds;
       roomy = have_rows_more named.component_of c.args.facts.now c.loop-fact.fact-index c.fact-item.result no_slot old new (omega arith) c.fact-item.is
           c.loop-fact.invariant.roomy c.in_ok-make_row.ensures.adds
-          (subst (λ n. HasRow n new) (c.component_of.ensures ∙ ap named.component_of (ap (λ s. s.body) c.fact.view_is)) c.in_ok-make_row.ensures.roomy);
+          (subst (λ n. HasRow n new) (c.component_of.ensures.value ∙ ap named.component_of (ap (λ s. s.body) c.fact.view_is)) c.in_ok-make_row.ensures.roomy);
     }
