@@ -6,9 +6,8 @@ use Rattle.ldar_journal.specs.Crash.{LeavesOnly}
 use Rattle.ldar_law.specs.Machine.{Call, Moment}
 use Rattle.office_book.specs.Safe.{StandsInRun}
 use Rattle.ldar_session.specs.Served.{Served}
-use Rattle.ldar_session.specs.declared.ended.Ended.{Ended}
 use Rattle.ldar_cli.specs.declared.command.Command.{Command}
-use Rattle.ldar_cli.specs.declared.command.Command.TheVariants.{Init, Dock, Drain, Show, Check}
+use Rattle.ldar_cli.specs.declared.command.Command.TheVariants.{Init, Dock, Drain, Import, Show, Check}
 use Rattle.ldar_cli.specs.declared.status.Status.{Status}
 use Rattle.ldar_cli.specs.Connection.{IsCrashSafe, IsConnection}
 use Rattle.ldar_cli.specs.Run.{LeavesAlone, IsNotOpened, IsMade, IsShown, Ends}
@@ -16,11 +15,12 @@ use Rattle.ldar_cli.specs.Run.{LeavesAlone, IsNotOpened, IsMade, IsShown, Ends}
 module _ {D : Type 0} (content_of : D → Option (List ℕ)) (images_of : D → List ℕ → Type 0) (left_of : D → ℕ → List ℕ → Type 0)
     (clock_of faults_of : D → ℕ) where
   -- words that are the command end as it does
-  pub ends_for : (command other : Option Command) (status : Status) (left left' : Option (List ℕ)) (pieces pieces' : Option (List Piece)) (old new : D)
-      → command ≡ other → Ends content_of images_of left_of clock_of faults_of command status left left' pieces pieces' old new
-      → Ends content_of images_of left_of clock_of faults_of other status left left' pieces pieces' old new
-  ends_for command other status left left' pieces pieces' old new same ends =
-      subst (λ (c : Option Command). Ends content_of images_of left_of clock_of faults_of c status left left' pieces pieces' old new) same ends
+  pub ends_for : (command other : Option Command) (status : Status) (counts : ℕ × ℕ) (left left' : Option (List ℕ))
+      (pieces pieces' : Option (List Piece)) (old new : D)
+      → command ≡ other → Ends content_of images_of left_of clock_of faults_of command status counts left left' pieces pieces' old new
+      → Ends content_of images_of left_of clock_of faults_of other status counts left left' pieces pieces' old new
+  ends_for command other status counts left left' pieces pieces' old new same ends =
+      subst (λ (c : Option Command). Ends content_of images_of left_of clock_of faults_of c status counts left left' pieces pieces' old new) same ends
 
 module _ {A D : Type 0} (f : A → D) (content_of : D → Option (List ℕ)) (images_of : D → List ℕ → Type 0) (left_of : D → ℕ → List ℕ → Type 0)
     (clock_of faults_of : D → ℕ) where
@@ -84,7 +84,7 @@ module _ {A D : Type 0} (f : A → D) (content_of : D → Option (List ℕ)) (im
   }
 
   -- a connection
-  connection_along : (IsItem : Served → Type 0) (Closes : Ended → List Served → List ℕ → Option (List ℕ) → List ℕ → Type 0) (ended : Ended)
+  connection_along : {E : Type 0} (IsItem : Served → Type 0) (Closes : E → List Served → List ℕ → Option (List ℕ) → List ℕ → Type 0) (ended : E)
       (left left' : Option (List ℕ)) (pieces pieces' : Option (List Piece)) (old new : A)
       → IsConnection IsItem Closes (λ (a : A). content_of (f a)) (λ (a : A). images_of (f a)) (λ (a : A). left_of (f a)) (λ (a : A). clock_of (f a))
       (λ (a : A). faults_of (f a)) ended left left' pieces pieces' old new
@@ -121,35 +121,40 @@ module _ {A D : Type 0} (f : A → D) (content_of : D → Option (List ℕ)) (im
   }
 
   -- each command
-  ends_along : (command : Option Command) (status : Status) (left left' : Option (List ℕ)) (pieces pieces' : Option (List Piece)) (old new : A)
+  ends_along : (command : Option Command) (status : Status) (counts : ℕ × ℕ) (left left' : Option (List ℕ)) (pieces pieces' : Option (List Piece)) (old new : A)
       → Ends (λ (a : A). content_of (f a)) (λ (a : A). images_of (f a)) (λ (a : A). left_of (f a)) (λ (a : A). clock_of (f a)) (λ (a : A). faults_of (f a))
-      command status left left' pieces pieces' old new
-      → Ends content_of images_of left_of clock_of faults_of command status left left' pieces pieces' (f old) (f new)
-  ends_along None status left left' pieces pieces' old new ends = (ends.0, ends.1, ap f ends.2)
-  ends_along (Some Init) status left left' pieces pieces' old new ends = (ends.0, made_along status old new ends.1)
-  ends_along (Some Dock) status left left' pieces pieces' old new ends = elim ends [
+      command status counts left left' pieces pieces' old new
+      → Ends content_of images_of left_of clock_of faults_of command status counts left left' pieces pieces' (f old) (f new)
+  ends_along None status counts left left' pieces pieces' old new ends = (ends.0, ends.1, ap f ends.2)
+  ends_along (Some Init) status counts left left' pieces pieces' old new ends = (ends.0, made_along status old new ends.1)
+  ends_along (Some Dock) status counts left left' pieces pieces' old new ends = elim ends [
     | inl shut ↦ inl (shut.0, shut_along status old new shut.1)
     | inr talk ↦ inr (talk.0, talk.1, connection_along _ _ talk.0 left left' pieces pieces' old new talk.2)
   ]
-  ends_along (Some Drain) status left left' pieces pieces' old new ends = elim ends [
+  ends_along (Some Drain) status counts left left' pieces pieces' old new ends = elim ends [
     | inl shut ↦ inl (shut.0, shut_along status old new shut.1)
     | inr talk ↦ inr (talk.0, talk.1, connection_along _ _ talk.0 left left' pieces pieces' old new talk.2)
   ]
-  ends_along (Some (Show request)) status left left' pieces pieces' old new ends = elim ends [
+  ends_along (Some (Import number sort)) status counts left left' pieces pieces' old new ends = elim ends [
+    | inl shut ↦ inl (shut.0, shut_along status old new shut.1)
+    | inr sent ↦ inr (connection_along _ _ status left left' pieces pieces' old new sent)
+  ]
+  ends_along (Some (Show request)) status counts left left' pieces pieces' old new ends = elim ends [
     | inl shut ↦ inl (shut.0, shut_along status old new shut.1)
     | inr shown ↦ inr (shown.0, shown_along (Show request) status pieces pieces' old new shown.1)
   ]
-  ends_along (Some Check) status left left' pieces pieces' old new ends = elim ends [
+  ends_along (Some Check) status counts left left' pieces pieces' old new ends = elim ends [
     | inl shut ↦ inl (shut.0, shut_along status old new shut.1)
     | inr shown ↦ inr (shown.0, shown_along Check status pieces pieces' old new shown.1)
   ]
 
   -- .. for a disk that is what the reference then refers to
-  pub ends_at : (command : Option Command) (status : Status) (left left' : Option (List ℕ)) (pieces pieces' : Option (List Piece)) (old new : A) (now : D)
+  pub ends_at : (command : Option Command) (status : Status) (counts : ℕ × ℕ) (left left' : Option (List ℕ))
+      (pieces pieces' : Option (List Piece)) (old new : A) (now : D)
       → now ≡ f new
       → Ends (λ (a : A). content_of (f a)) (λ (a : A). images_of (f a)) (λ (a : A). left_of (f a)) (λ (a : A). clock_of (f a)) (λ (a : A). faults_of (f a))
-      command status left left' pieces pieces' old new
-      → Ends content_of images_of left_of clock_of faults_of command status left left' pieces pieces' (f old) now
-  ends_at command status left left' pieces pieces' old new now same ends =
-      subst (λ (d : D). Ends content_of images_of left_of clock_of faults_of command status left left' pieces pieces' (f old) d) (sym same)
-      (ends_along command status left left' pieces pieces' old new ends)
+      command status counts left left' pieces pieces' old new
+      → Ends content_of images_of left_of clock_of faults_of command status counts left left' pieces pieces' (f old) now
+  ends_at command status counts left left' pieces pieces' old new now same ends =
+      subst (λ (d : D). Ends content_of images_of left_of clock_of faults_of command status counts left left' pieces pieces' (f old) d) (sym same)
+      (ends_along command status counts left left' pieces pieces' old new ends)

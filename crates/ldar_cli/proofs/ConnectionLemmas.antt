@@ -21,7 +21,6 @@ use Rattle.office_book.specs.Receipts.{AreReceiptsKept, IsReceiptKept}
 use Rattle.office_book.specs.Safe.{StandsIn, StandsInRun, IsSafe, Leads, state_of, moment_of}
 use Rattle.office_book.proofs.ReceiptLemmas.{receipts_are_behind}
 use Rattle.ldar_session.specs.Served.{Served, Stretch, HasItsClock, Stamped, items_of, turns_in, turns_of}
-use Rattle.ldar_session.specs.declared.ended.Ended.{Ended}
 use Rattle.ldar_session.proofs.RunLemmas.{runs_have_clocks}
 use Rattle.ldar_session.proofs.StampLemmas.{all_parts}
 use Rattle.ldar_cli.specs.Connection.{AreLinesKept, IsCrashSafe, IsConnection}
@@ -169,8 +168,8 @@ module _ {D : Type 0} (content_of : D → Option (List ℕ)) (images_of : D → 
       stands.1
 
   -- a connection over an opened disk
-  served_over : (IsItem : Served → Type 0) (Closes : Ended → List Served → List ℕ → Option (List ℕ) → List ℕ → Type 0)
-      (old : D) (start end : Shelf D) (ended : Ended) (left left' : Option (List ℕ)) (pieces pieces' : Option (List Piece))
+  served_over : {E : Type 0} (IsItem : Served → Type 0) (Closes : E → List Served → List ℕ → Option (List ℕ) → List ℕ → Type 0)
+      (old : D) (start end : Shelf D) (ended : E) (left left' : Option (List ℕ)) (pieces pieces' : Option (List Piece))
       (served : List Served) (rest unsaid : List ℕ)
       → IsOpened (content_of old) (content_of start.disk) start.frames → start.doubt ≡ [] → IsTrue (is_ruly (batches_of start.frames))
       → LeavesOnly clock_of left_of old start.disk (images_of old) → Told (content_of start.disk) (λ bytes. Only bytes (images_of start.disk))
@@ -213,8 +212,8 @@ module _ {D : Type 0} (content_of : D → Option (List ℕ)) (images_of : D → 
       }
 
   -- .. which is handed back
-  pub served_by : (IsItem : Served → Type 0) (Closes : Ended → List Served → List ℕ → Option (List ℕ) → List ℕ → Type 0)
-      (old new : D) (start end : Shelf D) (ended : Ended) (left left' : Option (List ℕ)) (pieces pieces' : Option (List Piece))
+  pub served_by : {E : Type 0} (IsItem : Served → Type 0) (Closes : E → List Served → List ℕ → Option (List ℕ) → List ℕ → Type 0)
+      (old new : D) (start end : Shelf D) (ended : E) (left left' : Option (List ℕ)) (pieces pieces' : Option (List Piece))
       (served : List Served) (rest unsaid : List ℕ)
       → IsOpened (content_of old) (content_of start.disk) start.frames → start.doubt ≡ [] → IsTrue (is_ruly (batches_of start.frames))
       → LeavesOnly clock_of left_of old start.disk (images_of old) → Told (content_of start.disk) (λ bytes. Only bytes (images_of start.disk))

@@ -1,6 +1,8 @@
 pub mod CommandLemmas
 pub mod ConnectionLemmas
 pub mod EndLemmas
+pub mod FaultLemmas
+pub mod ImportLemmas
 pub mod KindLemmas
 pub mod NoteLemmas
 pub mod NumberLemmas

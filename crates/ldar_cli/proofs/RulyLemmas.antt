@@ -114,7 +114,7 @@ settled_ruly they_are_gone state ruly = certain_ruly (settled they_are_gone stat
 abbrev GoesBy : Reply → State → Turn → State → Type 0
 GoesBy reply state turn next = elim reply [ Fault ↦ ⊥ | Memory ↦ IsWanting state turn next | other ↦ IsAnswered state turn next ]
 
-abbrev StepsBy : Reply → State → Turn → List Turn → State → Type 0
+abbrev pub StepsBy : Reply → State → Turn → List Turn → State → Type 0
 StepsBy reply state turn turns next = elim reply [
   | Fault ↦ BreaksOff state turn turns next
   | other ↦ (between : State) × Step state turn between × Steps between turns next

@@ -3,7 +3,8 @@ use Rattle.std.proofs.Common.{◌≡◌, inl, inr, ℕ, Option, List, refl, sym,
 use Rattle.ldar_ports.specs.Sink.{Piece}
 use Rattle.ldar_cli.specs.declared.status.Status.{Status}
 use Rattle.ldar_cli.specs.declared.status.Status.TheVariants.{Done, Usage, ReadFault, WriteFault, DiskFault, Memory}
-use Rattle.ldar_cli.specs.declared.status.Status.TheVariants.{NotAJournal, Damaged, Unruly, CutShort, BadInput, NotEmpty, NoSuch}
+use Rattle.ldar_cli.specs.declared.status.Status.TheVariants.{NotAJournal, Damaged, Unruly, CutShort, BadInput, TooLarge, NotEmpty}
+use Rattle.ldar_cli.specs.declared.status.Status.TheVariants.{BadRow, Conflict, Denied, Full, NoSuch}
 use Rattle.ldar_cli.specs.Statuses.{status_number, number_unnoted, IsNoted}
 
 -- 3 is the number of a fault of reading alone
@@ -19,7 +20,12 @@ number_read (Damaged at) is = absurd (omega (arith, is))
 number_read (Unruly position rule) is = absurd (omega (arith, is))
 number_read (CutShort got) is = absurd (omega (arith, is))
 number_read (BadInput at) is = absurd (omega (arith, is))
+number_read TooLarge is = absurd (omega (arith, is))
 number_read NotEmpty is = absurd (omega (arith, is))
+number_read (BadRow at) is = absurd (omega (arith, is))
+number_read (Conflict position) is = absurd (omega (arith, is))
+number_read (Denied fact rule) is = absurd (omega (arith, is))
+number_read (Full facts) is = absurd (omega (arith, is))
 number_read (NoSuch what) is = absurd (omega (arith, is))
 
 -- 4 is that of a fault of writing alone
@@ -35,7 +41,12 @@ number_write (Damaged at) is = absurd (omega (arith, is))
 number_write (Unruly position rule) is = absurd (omega (arith, is))
 number_write (CutShort got) is = absurd (omega (arith, is))
 number_write (BadInput at) is = absurd (omega (arith, is))
+number_write TooLarge is = absurd (omega (arith, is))
 number_write NotEmpty is = absurd (omega (arith, is))
+number_write (BadRow at) is = absurd (omega (arith, is))
+number_write (Conflict position) is = absurd (omega (arith, is))
+number_write (Denied fact rule) is = absurd (omega (arith, is))
+number_write (Full facts) is = absurd (omega (arith, is))
 number_write (NoSuch what) is = absurd (omega (arith, is))
 
 -- 5 is that of a fault of the disk alone
@@ -51,7 +62,12 @@ number_disk (Damaged at) is = absurd (omega (arith, is))
 number_disk (Unruly position rule) is = absurd (omega (arith, is))
 number_disk (CutShort got) is = absurd (omega (arith, is))
 number_disk (BadInput at) is = absurd (omega (arith, is))
+number_disk TooLarge is = absurd (omega (arith, is))
 number_disk NotEmpty is = absurd (omega (arith, is))
+number_disk (BadRow at) is = absurd (omega (arith, is))
+number_disk (Conflict position) is = absurd (omega (arith, is))
+number_disk (Denied fact rule) is = absurd (omega (arith, is))
+number_disk (Full facts) is = absurd (omega (arith, is))
 number_disk (NoSuch what) is = absurd (omega (arith, is))
 
 -- a note that could not be written is told by no 3
@@ -67,7 +83,12 @@ unnoted_no_read (Damaged at) is = omega (arith, is)
 unnoted_no_read (Unruly position rule) is = omega (arith, is)
 unnoted_no_read (CutShort got) is = omega (arith, is)
 unnoted_no_read (BadInput at) is = omega (arith, is)
+unnoted_no_read TooLarge is = omega (arith, is)
 unnoted_no_read NotEmpty is = omega (arith, is)
+unnoted_no_read (BadRow at) is = omega (arith, is)
+unnoted_no_read (Conflict position) is = omega (arith, is)
+unnoted_no_read (Denied fact rule) is = omega (arith, is)
+unnoted_no_read (Full facts) is = omega (arith, is)
 unnoted_no_read (NoSuch what) is = omega (arith, is)
 
 -- .. and by no 5
@@ -83,7 +104,12 @@ unnoted_no_disk (Damaged at) is = omega (arith, is)
 unnoted_no_disk (Unruly position rule) is = omega (arith, is)
 unnoted_no_disk (CutShort got) is = omega (arith, is)
 unnoted_no_disk (BadInput at) is = omega (arith, is)
+unnoted_no_disk TooLarge is = omega (arith, is)
 unnoted_no_disk NotEmpty is = omega (arith, is)
+unnoted_no_disk (BadRow at) is = omega (arith, is)
+unnoted_no_disk (Conflict position) is = omega (arith, is)
+unnoted_no_disk (Denied fact rule) is = omega (arith, is)
+unnoted_no_disk (Full facts) is = omega (arith, is)
 unnoted_no_disk (NoSuch what) is = omega (arith, is)
 
 -- an exit status of 3 tells a fault of reading

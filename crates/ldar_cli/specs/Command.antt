@@ -1,5 +1,5 @@
 -- The words that are commands.
-use Rattle.std.specs.Prelude.{ℕ, nat_eq, Bool, Option, Some, None, List, [], ◌∷◌, codes, option_map, if◌then◌else◌}
+use Rattle.std.specs.Prelude.{◌≤◌, ℕ, nat_eq, Bool, Option, Some, None, List, [], ◌∷◌, codes, option_map, if◌then◌else◌}
 use Rattle.std.specs.Cmp.Lexicographic.{pointwise}
 use Rattle.ldar_days.specs.Texts.{day_of}
 use Rattle.ldar_law.specs.declared.request.Request.{Request}
@@ -7,15 +7,19 @@ use Rattle.ldar_law.specs.declared.request.Request.TheVariants.{Due, Tags, Delay
 use Rattle.handheld_http.specs.Requests.{decimal_in}
 use Rattle.office_views.specs.Answers.{IsView}
 use Rattle.ldar_cli.specs.declared.command.Command.{Command}
-use Rattle.ldar_cli.specs.declared.command.Command.TheVariants.{Init, Dock, Drain, Show, Check}
+use Rattle.ldar_cli.specs.declared.command.Command.TheVariants.{Init, Dock, Drain, Import, Show, Check}
+use Rattle.ldar_cli.specs.declared.command.Sort.{Sort}
+use Rattle.ldar_cli.specs.declared.command.Sort.TheVariants.{Units, Components}
+use Rattle.register_import.specs.declared.limits.TheConstants.{LAST_NUMBER}
 
--- a command that shows something shows a view
-abbrev pub ShowsView : Command → Type 0
-ShowsView Init = Unit {0}
-ShowsView Dock = Unit {0}
-ShowsView Drain = Unit {0}
-ShowsView (Show request) = IsView request
-ShowsView Check = Unit {0}
+-- a command that shows something shows a view, and the batches of one that imports can be numbered
+abbrev pub IsInRange : Command → Type 0
+IsInRange Init = Unit {0}
+IsInRange Dock = Unit {0}
+IsInRange Drain = Unit {0}
+IsInRange (Import number sort) = number ≤ LAST_NUMBER
+IsInRange (Show request) = IsView request
+IsInRange Check = Unit {0}
 
 -- a word is just this text
 abbrev pub is_word : List ℕ → List ℕ → Bool
@@ -29,6 +33,24 @@ alone word =
     else if is_word word (codes "drain") then Some Drain
     else if is_word word (codes "check") then Some Check
     else None
+
+-- what a file of the register lists, by its word
+abbrev pub sort_named : List ℕ → Option Sort
+sort_named word =
+    if is_word word (codes "units") then Some Units
+    else if is_word word (codes "components") then Some Components
+    else None
+
+-- the command that takes a file of this sort, as batches from NUMBER on
+unfoldable pub import_of : List ℕ → List ℕ → Option Command
+import_of number sort = elim (decimal_in LAST_NUMBER number) [
+  | None ↦ None
+  | Some number ↦ elim (sort_named sort) [ None ↦ None | Some sort ↦ Some (Import number sort) ]
+]
+
+-- .. if this is its word
+abbrev pub importing : List ℕ → List ℕ → List ℕ → Option Command
+importing word number sort = if is_word word (codes "import") then import_of number sort else None
 
 -- a view of a process unit on a day, by its name
 abbrev pub view_named : List ℕ → ℕ → ℕ → Option Request
@@ -84,6 +106,7 @@ showing word view = if is_word word (codes "show") then option_map Show view els
 -- the command that words are, if they are in the command set
 abbrev pub command_in : List (List ℕ) → Option Command
 command_in (word ∷ []) = alone word
+command_in (word ∷ number ∷ sort ∷ []) = importing word number sort
 command_in (word ∷ name ∷ unit ∷ day ∷ []) = showing word (view_on name unit day)
 command_in (word ∷ name ∷ unit ∷ second ∷ third ∷ []) = showing word (view_of_four name unit second third)
 command_in _ = None

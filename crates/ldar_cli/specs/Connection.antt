@@ -15,9 +15,13 @@ use Rattle.office_book.specs.Serving.{certain}
 use Rattle.ldar_session.specs.Batches.{IsBatch}
 use Rattle.ldar_session.specs.Dock.{Ends as EndsBatches}
 use Rattle.ldar_session.specs.Requests.{HasItsAnswer}
+use Rattle.batch_sending.specs.Sending.{IsSent}
 use Rattle.ldar_session.specs.Session.{Ends as EndsRequests}
 use Rattle.ldar_session.specs.Served.{Served, Stamped, items_of, texts_of, turns_in, turns_of}
 use Rattle.ldar_session.specs.declared.ended.Ended.{Ended}
+use Rattle.ldar_cli.specs.declared.command.Sort.{Sort}
+use Rattle.ldar_cli.specs.declared.status.Status.{Status}
+use Rattle.ldar_cli.specs.Imports.{EndsImport}
 
 -- the image opens to a history of which each batch passes after those before it
 pub record OpensRuly (image : List ℕ) : Type 0 where
@@ -55,9 +59,9 @@ pub record IsCrashSafe {D : Type 0} (images_of : D → List ℕ → Type 0) (lef
 
 -- The bytes read are the items of a run of the machine, from the history that the journal opened to, and the bytes written are what is said to them,
 -- up to what is unsaid; the content at the end opens to the last state; and the run is safe at every crash.
-pub record IsConnection {D : Type 0} (IsItem : Served → Type 0) (Closes : Ended → List Served → List ℕ → Option (List ℕ) → List ℕ → Type 0)
+pub record IsConnection {D E : Type 0} (IsItem : Served → Type 0) (Closes : E → List Served → List ℕ → Option (List ℕ) → List ℕ → Type 0)
     (content_of : D → Option (List ℕ)) (images_of : D → List ℕ → Type 0) (left_of : D → ℕ → List ℕ → Type 0)
-    (clock_of faults_of : D → ℕ) (ended : Ended) (left left' : Option (List ℕ)) (pieces pieces' : Option (List Piece)) (old new : D) : Type 0 where
+    (clock_of faults_of : D → ℕ) (ended : E) (left left' : Option (List ℕ)) (pieces pieces' : Option (List Piece)) (old new : D) : Type 0 where
   -- the history that the journal opened to
   pub history : List Batch
   pub opens : Told (content_of old) (λ bytes. Opens bytes history)
@@ -97,3 +101,10 @@ abbrev pub IsDrained : {D : Type 0} (content_of : D → Option (List ℕ)) (imag
     (clock_of faults_of : D → ℕ) (ended : Ended) (left left' : Option (List ℕ)) (pieces pieces' : Option (List Piece)) (old new : D) → Type 0
 IsDrained content_of images_of left_of clock_of faults_of ended left left' pieces pieces' old new =
     IsConnection HasItsAnswer EndsRequests content_of images_of left_of clock_of faults_of ended left left' pieces pieces' old new
+
+-- the items are the batches of a file of the register that is the input, and what is said to each is the line of its reply
+abbrev pub IsImported : {D : Type 0} (content_of : D → Option (List ℕ)) (images_of : D → List ℕ → Type 0) (left_of : D → ℕ → List ℕ → Type 0)
+    (clock_of faults_of : D → ℕ) (sort : Sort) (number : ℕ) (counts : ℕ × ℕ) (status : Status) (left left' : Option (List ℕ))
+    (pieces pieces' : Option (List Piece)) (old new : D) → Type 0
+IsImported content_of images_of left_of clock_of faults_of sort number counts status left left' pieces pieces' old new =
+    IsConnection IsSent (EndsImport sort number counts) content_of images_of left_of clock_of faults_of status left left' pieces pieces' old new

@@ -1,4 +1,5 @@
 pub mod Command
 pub mod Connection
+pub mod Imports
 pub mod Run
 pub mod Statuses

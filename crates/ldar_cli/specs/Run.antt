@@ -15,11 +15,11 @@ use Rattle.office_book.specs.declared.opening.BookWhy.{BookWhy}
 use Rattle.office_book.specs.Opened.{IsReason}
 use Rattle.ldar_session.specs.declared.ended.Ended.{Ended}
 use Rattle.ldar_cli.specs.declared.command.Command.{Command}
-use Rattle.ldar_cli.specs.declared.command.Command.TheVariants.{Init, Dock, Drain, Show, Check}
+use Rattle.ldar_cli.specs.declared.command.Command.TheVariants.{Init, Dock, Drain, Import, Show, Check}
 use Rattle.ldar_cli.specs.declared.status.Status.{Status}
 use Rattle.ldar_cli.specs.declared.status.Status.TheVariants.{Done, Usage, WriteFault, DiskFault, Memory}
 use Rattle.ldar_cli.specs.declared.status.Status.TheVariants.{NotEmpty, NoSuch as HasNoSuch}
-use Rattle.ldar_cli.specs.Connection.{IsDocked, IsDrained}
+use Rattle.ldar_cli.specs.Connection.{IsDocked, IsDrained, IsImported}
 use Rattle.ldar_cli.specs.Statuses.{Said, refusal_of, status_of}
 
 -- ---- the journal
@@ -75,6 +75,7 @@ abbrev pub shown_by : Command → List Batch → Option Reply
 shown_by Init history = None
 shown_by Dock history = None
 shown_by Drain history = None
+shown_by (Import number sort) history = None
 shown_by (Show request) history = shown history request
 shown_by Check history = Some (Shown (check_text history))
 
@@ -123,24 +124,29 @@ pub record IsShown {D : Type 0} (content_of : D → Option (List ℕ)) (images_o
 abbrev pub Silent : Option (List ℕ) → Option (List ℕ) → Option (List Piece) → Option (List Piece) → Type 0
 Silent left left' pieces pieces' = (left' ≡ left) × (pieces' ≡ pieces)
 
--- How a command ends: what it takes, puts and leaves. Nothing is touched where the words are no command.
+-- How a command ends: what it takes, puts and leaves, and the counts of faults of the output before and after. Nothing is touched where the words are
+-- no command.
 abbrev pub Ends : {D : Type 0} (content_of : D → Option (List ℕ)) (images_of : D → List ℕ → Type 0) (left_of : D → ℕ → List ℕ → Type 0)
-    (clock_of faults_of : D → ℕ) → Option Command → Status → (left left' : Option (List ℕ)) (pieces pieces' : Option (List Piece)) (old new : D) → Type 0
-Ends content_of images_of left_of clock_of faults_of None status left left' pieces pieces' old new =
+    (clock_of faults_of : D → ℕ) → Option Command → Status → (counts : ℕ × ℕ) → (left left' : Option (List ℕ)) (pieces pieces' : Option (List Piece))
+    (old new : D) → Type 0
+Ends content_of images_of left_of clock_of faults_of None status counts left left' pieces pieces' old new =
     (status ≡ Usage) × Silent left left' pieces pieces' × (new ≡ old)
-Ends content_of images_of left_of clock_of faults_of (Some Init) status left left' pieces pieces' old new =
+Ends content_of images_of left_of clock_of faults_of (Some Init) status counts left left' pieces pieces' old new =
     Silent left left' pieces pieces' × IsMade content_of images_of left_of clock_of status old new
-Ends content_of images_of left_of clock_of faults_of (Some Dock) status left left' pieces pieces' old new =
+Ends content_of images_of left_of clock_of faults_of (Some Dock) status counts left left' pieces pieces' old new =
     (Silent left left' pieces pieces' × IsNotOpened content_of images_of left_of clock_of status old new)
     ⊎ ((ended : Ended) × (status ≡ status_of ended)
     × IsDocked content_of images_of left_of clock_of faults_of ended left left' pieces pieces' old new)
-Ends content_of images_of left_of clock_of faults_of (Some Drain) status left left' pieces pieces' old new =
+Ends content_of images_of left_of clock_of faults_of (Some Drain) status counts left left' pieces pieces' old new =
     (Silent left left' pieces pieces' × IsNotOpened content_of images_of left_of clock_of status old new)
     ⊎ ((ended : Ended) × (status ≡ status_of ended)
     × IsDrained content_of images_of left_of clock_of faults_of ended left left' pieces pieces' old new)
-Ends content_of images_of left_of clock_of faults_of (Some (Show request)) status left left' pieces pieces' old new =
+Ends content_of images_of left_of clock_of faults_of (Some (Import number sort)) status counts left left' pieces pieces' old new =
+    (Silent left left' pieces pieces' × IsNotOpened content_of images_of left_of clock_of status old new)
+    ⊎ IsImported content_of images_of left_of clock_of faults_of sort number counts status left left' pieces pieces' old new
+Ends content_of images_of left_of clock_of faults_of (Some (Show request)) status counts left left' pieces pieces' old new =
     (Silent left left' pieces pieces' × IsNotOpened content_of images_of left_of clock_of status old new)
     ⊎ ((left' ≡ left) × IsShown content_of images_of left_of clock_of (Show request) status pieces pieces' old new)
-Ends content_of images_of left_of clock_of faults_of (Some Check) status left left' pieces pieces' old new =
+Ends content_of images_of left_of clock_of faults_of (Some Check) status counts left left' pieces pieces' old new =
     (Silent left left' pieces pieces' × IsNotOpened content_of images_of left_of clock_of status old new)
     ⊎ ((left' ≡ left) × IsShown content_of images_of left_of clock_of Check status pieces pieces' old new)

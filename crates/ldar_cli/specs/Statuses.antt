@@ -2,15 +2,21 @@
 use Rattle.std.specs.Prelude.{◌≡◌, ◌⊎◌, ℕ, List, [], ◌++◌, Option, Result, OnOk, codes}
 use Rattle.std.specs.Fmt.{decimal}
 use Rattle.ldar_ports.specs.Sink.{Piece, Puts, bytes_of}
-use Rattle.ldar_law.specs.Replies.{what_text}
+use Rattle.ldar_law.specs.declared.reply.Reply.{Reply}
+use Rattle.ldar_law.specs.declared.reply.Reply.TheVariants as replies
+use Rattle.ldar_law.specs.Replies.{reply_text, what_text}
 use Rattle.ldar_law.specs.Texts.{end_of_line}
+use Rattle.ldar_law.specs.Verdicts.{paragraph_of}
 use Rattle.office_book.specs.declared.opening.BookWhy.{BookWhy}
 use Rattle.office_book.specs.declared.opening.BookWhy.TheVariants as reasons
 use Rattle.ldar_session.specs.declared.ended.Ended.{Ended}
 use Rattle.ldar_session.specs.declared.ended.Ended.TheVariants as ends
+use Rattle.batch_sending.specs.declared.sending.Sent.{Sent}
+use Rattle.batch_sending.specs.declared.sending.Sent.TheVariants as sends
 use Rattle.ldar_cli.specs.declared.status.Status.{Status}
 use Rattle.ldar_cli.specs.declared.status.Status.TheVariants.{Done, Usage, ReadFault, WriteFault, DiskFault, Memory}
-use Rattle.ldar_cli.specs.declared.status.Status.TheVariants.{NotAJournal, Damaged, Unruly, CutShort, BadInput, NotEmpty, NoSuch}
+use Rattle.ldar_cli.specs.declared.status.Status.TheVariants.{NotAJournal, Damaged, Unruly, CutShort, BadInput, TooLarge, NotEmpty}
+use Rattle.ldar_cli.specs.declared.status.Status.TheVariants.{BadRow, Conflict, Denied, Full, NoSuch}
 
 -- the number of a status
 abbrev pub status_number : Status → ℕ
@@ -25,7 +31,12 @@ status_number (Damaged at) = 7
 status_number (Unruly position rule) = 7
 status_number (CutShort got) = 8
 status_number (BadInput at) = 8
+status_number TooLarge = 8
 status_number NotEmpty = 9
+status_number (BadRow at) = 11
+status_number (Conflict position) = 11
+status_number (Denied fact rule) = 11
+status_number (Full facts) = 11
 status_number (NoSuch what) = 11
 
 -- the line that notes a status; that all went well is not noted
@@ -41,7 +52,12 @@ note_of (Damaged at) = codes "damaged journal at " ++ decimal at ++ end_of_line
 note_of (Unruly position rule) = codes "unruly batch " ++ decimal position ++ codes " " ++ (decimal rule ++ end_of_line)
 note_of (CutShort got) = codes "input cut: " ++ decimal got ++ codes " bytes left\n"
 note_of (BadInput at) = codes "bad input at " ++ decimal at ++ end_of_line
+note_of TooLarge = codes "input too large" ++ end_of_line
 note_of NotEmpty = codes "not empty" ++ end_of_line
+note_of (BadRow at) = codes "bad row " ++ decimal at ++ end_of_line
+note_of (Conflict position) = reply_text (replies.Conflict position)
+note_of (Denied fact rule) = codes "denied " ++ decimal fact ++ codes " " ++ (decimal rule ++ codes " " ++ (paragraph_of rule ++ end_of_line))
+note_of (Full facts) = reply_text (replies.Full facts)
 note_of (NoSuch what) = codes "no such " ++ what_text what ++ end_of_line
 
 -- the exit status where the note could not be written whole: a fault of writing, but want of memory stays
@@ -57,7 +73,12 @@ number_unnoted (Damaged at) = 4
 number_unnoted (Unruly position rule) = 4
 number_unnoted (CutShort got) = 4
 number_unnoted (BadInput at) = 4
+number_unnoted TooLarge = 4
 number_unnoted NotEmpty = 4
+number_unnoted (BadRow at) = 4
+number_unnoted (Conflict position) = 4
+number_unnoted (Denied fact rule) = 4
+number_unnoted (Full facts) = 4
 number_unnoted (NoSuch what) = 4
 
 -- behind the pieces that were there, pieces were put that say the text up to what is unsaid
@@ -93,3 +114,22 @@ status_of (ends.Refused at) = BadInput at
 status_of ends.ReadFault = ReadFault
 status_of ends.WriteFault = WriteFault
 status_of ends.Memory = Memory
+
+-- the status of a command that sent batches, of which the last was answered this and is not receipted; no batch is answered by a view, or with what
+-- there is none of
+abbrev pub status_replied : Reply → Status
+status_replied (replies.Receipt handheld number position) = Memory
+status_replied (replies.Conflict position) = Conflict position
+status_replied (replies.Denied fact rule) = Denied fact rule
+status_replied (replies.Full facts) = Full facts
+status_replied (replies.Shown text) = Memory
+status_replied (replies.NoSuch what) = Memory
+status_replied replies.Fault = DiskFault
+status_replied replies.Memory = Memory
+
+-- .. or whose sending ended so
+abbrev pub status_sent : Sent → Status
+status_sent sends.Done = Done
+status_sent (sends.Unreceipted reply) = status_replied reply
+status_sent sends.WriteFault = WriteFault
+status_sent sends.Memory = Memory

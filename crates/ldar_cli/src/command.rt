@@ -3,9 +3,17 @@ ghost use Rattle.std.specs.String.{string_bytes};
 ghost use Rattle.office_views.specs.Answers.{IsView};
 ghost use Rattle.ldar_cli.specs.Command as spec;
 
-use crate::number::number_in;
+use crate::number::{long_number_in, number_in};
 use ldar_days::Day;
 use ldar_law::Request;
+use register_import::LAST_NUMBER;
+
+/// What a file of the register lists.
+#[derive(Clone, Copy, Debug, PartialEq, Eq)]
+pub enum Sort {
+    Units,
+    Components,
+}
 
 /// What the words ask for.
 #[derive(Drop)]
@@ -16,6 +24,8 @@ pub enum Command {
     Dock,
     /// Answer HTTP requests.
     Drain,
+    /// Take a file of the register, as batches that are numbered from `number`.
+    Import { number: u32, sort: Sort },
     /// Show a view.
     Show(Request),
     /// Tell how many batches and facts the journal has.
@@ -25,10 +35,11 @@ pub enum Command {
 /// The command that the words are, if they are one.
 pub fn command_of(words: &[String]) -> Option<Command>
     ensures value { result ≡ spec.command_in (map string_bytes words.now) }
-    ensures view { IfSome result spec.ShowsView }
+    ensures range { IfSome result spec.IsInRange }
 {
     match words {
         [word] => alone(word.as_str()),
+        [word, number, sort] => importing(word.as_str(), number.as_str(), sort.as_str()),
         [word, name, unit, day] => {
             showing(
                 word.as_str(),
@@ -51,7 +62,7 @@ pub fn command_of(words: &[String]) -> Option<Command>
 /// The command of one word.
 fn alone(word: &str) -> Option<Command>
     ensures value { result ≡ spec.alone word.now }
-    ensures view { IfSome result spec.ShowsView }
+    ensures range { IfSome result spec.IsInRange }
 {
     match word {
         "init" => Some(Command::Init),
@@ -62,11 +73,43 @@ fn alone(word: &str) -> Option<Command>
     }
 }
 
+/// The command that takes a file of the register, if this is its word.
+fn importing(word: &str, number: &str, sort: &str) -> Option<Command>
+    ensures value { result ≡ spec.importing word.now number.now sort.now }
+    ensures range { IfSome result spec.IsInRange }
+{
+    if word != "import" {
+        return None;
+    }
+    import_of(number, sort)
+}
+
+/// The command that takes a file of this sort, as batches from NUMBER on.
+#[tactic(auto, unfolding(crate::specs::Command::import_of))]
+fn import_of(number: &str, sort: &str) -> Option<Command>
+    ensures value { result ≡ spec.import_of number.now sort.now }
+    ensures range { IfSome result spec.IsInRange }
+{
+    let number = long_number_in(LAST_NUMBER, number)?;
+    let sort = sort_named(sort)?;
+    Some(Command::Import { number, sort })
+}
+
+fn sort_named(word: &str) -> Option<Sort>
+    ensures value { result ≡ spec.sort_named word.now }
+{
+    match word {
+        "units" => Some(Sort::Units),
+        "components" => Some(Sort::Components),
+        _ => None,
+    }
+}
+
 /// The command that shows a view, if this is its word.
 fn showing(word: &str, view: Option<Request>) -> Option<Command>
     requires { IfSome view IsView }
     ensures value { result ≡ spec.showing word.now view }
-    ensures view { IfSome result spec.ShowsView }
+    ensures range { IfSome result spec.IsInRange }
 {
     if word != "show" {
         return None;

@@ -9,6 +9,9 @@ mod file_tests;
 mod held;
 #[cfg(test)]
 mod http_tests;
+#[cfg(test)]
+mod import_tests;
+mod importing;
 mod init;
 mod journal_file;
 #[cfg(test)]
@@ -40,6 +43,8 @@ JOURNAL  the path of a journal, or :memory: for one that is gone with the run
 COMMAND  init                           makes an empty journal
          dock                           reads batches from standard input, and prints the reply to each
          drain                          reads HTTP requests from standard input, and prints the response to each
+         import NUMBER units            reads process units (TOML) from standard input, as batches numbered from NUMBER
+         import NUMBER components       reads components (CSV), likewise
          show due|tags|delays UNIT DAY  shows what is due, the leak tags, or the delays of repair
          show route UNIT DAY STOPS      shows routes with at most so many stops
          show percent UNIT QUARTER DAY  shows the percent leaking in a quarter

@@ -1,11 +1,14 @@
 ghost use Rattle.std.specs.Prelude.{◌≡◌, ◌≤◌, ◌⊎◌, ◌++◌, codes, OnErr};
+ghost use Rattle.std.specs.Fmt.{decimal};
 ghost use Rattle.disk_model.specs.Faults.{Rose};
 ghost use Rattle.ldar_law.specs.Texts.{end_of_line};
+ghost use Rattle.ldar_law.specs.Verdicts.{paragraph_of};
 ghost use Rattle.ldar_cli.specs.Statuses.{IsPut, IsNoted, note_of};
 
 use crate::status::Status;
 use disk_model::Disk;
 use itoa::{Buffer, Integer};
+use ldar_law::paragraph;
 use ldar_ports::{Sink, SinkFault, put_all};
 
 /// Notes how a command ended, and answers the exit status. A fault of the notes is told as a fault of writing, but
@@ -39,7 +42,12 @@ fn put_note<E: Sink, D: Disk>(notes: &mut E, beside: &D, status: Status) -> Resu
         Status::Unruly { position, rule } => put_unruly(notes, beside, position, rule),
         Status::CutShort { got } => put_number(notes, beside, "input cut: ", got, " bytes left\n"),
         Status::BadInput { at } => put_number(notes, beside, "bad input at ", at, "\n"),
+        Status::TooLarge => put_text(notes, beside, "input too large\n"),
         Status::NotEmpty => put_text(notes, beside, "not empty\n"),
+        Status::BadRow { at } => put_number(notes, beside, "bad row ", at, "\n"),
+        Status::Conflict { position } => put_number(notes, beside, "conflict ", position, "\n"),
+        Status::Denied { fact, rule } => put_denied(notes, beside, fact, rule),
+        Status::Full { facts } => put_number(notes, beside, "full ", facts, "\n"),
         Status::NoSuch(what) => put_no_such(notes, beside, what.word()),
     }
 }
@@ -98,6 +106,41 @@ fn put_unruly<E: Sink, D: Disk>(
 {
     put_number(notes, beside, "unruly batch ", position, " ")?;
     put_number(notes, beside, "", rule, "\n")
+}
+
+/// Puts the note of a batch that was sent and is denied.
+fn put_denied<E: Sink, D: Disk>(
+    notes: &mut E,
+    beside: &D,
+    fact: u16,
+    rule: u8,
+) -> Result<(), SinkFault>
+    ensures said { IsPut (note_of (Status.Denied fact rule)) (E.pieces notes.old) (E.pieces notes.new) result }
+    ensures count { E.faults notes.old ≤ E.faults notes.new }
+    ensures cause { OnErr result (Rose (E.faults notes.old) (E.faults notes.new)) }
+{
+    put_number(notes, beside, "denied ", fact, " ")?;
+    put_rule(notes, beside, rule)
+}
+
+/// Puts a rule of denials and what it names.
+fn put_rule<E: Sink, D: Disk>(notes: &mut E, beside: &D, rule: u8) -> Result<(), SinkFault>
+    ensures said { IsPut (decimal rule ++ codes " " ++ (paragraph_of rule ++ end_of_line)) (E.pieces notes.old) (E.pieces notes.new) result }
+    ensures count { E.faults notes.old ≤ E.faults notes.new }
+    ensures cause { OnErr result (Rose (E.faults notes.old) (E.faults notes.new)) }
+{
+    put_number(notes, beside, "", rule, " ")?;
+    put_both(notes, beside, named_by(rule), "\n")
+}
+
+/// What a rule of denials names, if it is one.
+fn named_by(rule: u8) -> &'static str
+    ensures value { result.now ≡ paragraph_of rule }
+{
+    if (1..=21).contains(&rule) {
+        return paragraph(rule);
+    }
+    ""
 }
 
 /// Puts the note that there is none of what this word says.

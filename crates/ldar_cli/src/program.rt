@@ -9,6 +9,7 @@ ghost use Rattle.ldar_cli.specs.Statuses.{IsNoted};
 
 use crate::command::{Command, command_of};
 use crate::docking::{dock, drain};
+use crate::importing::import;
 use crate::init::init;
 use crate::noting::note;
 use crate::showing::{check, show};
@@ -27,10 +28,11 @@ pub fn run<S: Source, D: Disk, K: Sink, E: Sink>(
     notes: &mut E,
     disk: &mut D,
 ) -> u8
-    // What the command takes, puts and leaves, by its status, which is noted. For `dock` and `drain` see `IsDocked` and `IsDrained`.
+    // What the command takes, puts and leaves, by its status, which is noted. For `dock`, `drain` and `import` see `IsDocked`,
+    // `IsDrained` and `IsImported`.
     ensures ends { (status : Status) × IsNoted status (E.pieces notes.old) (E.pieces notes.new) result
         × Ends D.content D.images D.left D.clock D.faults (command_in (map string_bytes words.now)) status
-        (S.left input.old) (S.left input.new) (K.pieces output.old) (K.pieces output.new) disk.old disk.new }
+        (K.faults output.old, K.faults output.new) (S.left input.old) (S.left input.new) (K.pieces output.old) (K.pieces output.new) disk.old disk.new }
 
     // Words that are no command are answered before anything but the notes is asked.
     ensures unchanged { command_in (map string_bytes words.now) ≡ None
@@ -60,7 +62,7 @@ fn run_over<S: Source, D: Disk, K: Sink>(
     disk: D,
 ) -> (Status, D)
     ensures ends { Ends D.content D.images D.left D.clock D.faults (command_in (map string_bytes words.now)) result.0
-        (S.left input.old) (S.left input.new) (K.pieces output.old) (K.pieces output.new) disk result.1 }
+        (K.faults output.old, K.faults output.new) (S.left input.old) (S.left input.new) (K.pieces output.old) (K.pieces output.new) disk result.1 }
     ensures unchanged { command_in (map string_bytes words.now) ≡ None
         → (input.new ≡ input.old) × (output.new ≡ output.old) × (result.1 ≡ disk) }
     ensures read_fault { result.0 ≡ Status.ReadFault → Rose (S.faults input.old) (S.faults input.new) }
@@ -79,6 +81,9 @@ fn run_over<S: Source, D: Disk, K: Sink>(
         }
         Some(Command::Dock) => dock(alloc, input, output, disk),
         Some(Command::Drain) => drain(alloc, input, output, disk),
+        Some(Command::Import { number, sort }) => {
+            import(alloc, input, output, disk, number, sort)
+        }
         Some(Command::Show(request)) => show(alloc, output, disk, &request),
         Some(Command::Check) => check(alloc, output, disk),
     }

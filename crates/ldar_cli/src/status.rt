@@ -1,7 +1,8 @@
 ghost use Rattle.std.specs.Prelude.{◌≡◌};
 ghost use Rattle.ldar_cli.specs.Statuses as spec;
 
-use ldar_law::What;
+use batch_sending::Sent;
+use ldar_law::{Reply, What};
 use ldar_session::Ended;
 use office_book::BookWhy;
 
@@ -26,8 +27,18 @@ pub enum Status {
     CutShort { got: u64 },
     /// No batch goes on with the byte at this place of the input, counted from 0.
     BadInput { at: u64 },
+    /// The input has more bytes than a file that is imported.
+    TooLarge,
     /// A journal was to be made on a disk that is not empty.
     NotEmpty,
+    /// The first row of the imported file that says nothing of the register, from 1, or 0 where the file is no document of its form.
+    BadRow { at: u32 },
+    /// A batch was sent whose identity is kept at this position with other content.
+    Conflict { position: u32 },
+    /// A batch was sent that is denied for this fact, by this rule.
+    Denied { fact: u16, rule: u8 },
+    /// A batch was sent with which there would be so many facts.
+    Full { facts: u64 },
     /// There is none of what a view was asked for.
     NoSuch(What),
 }
@@ -45,9 +56,13 @@ impl Status {
             Status::DiskFault => 5,
             Status::Memory => 6,
             Status::NotAJournal | Status::Damaged { .. } | Status::Unruly { .. } => 7,
-            Status::CutShort { .. } | Status::BadInput { .. } => 8,
+            Status::CutShort { .. } | Status::BadInput { .. } | Status::TooLarge => 8,
             Status::NotEmpty => 9,
-            Status::NoSuch(_) => 11,
+            Status::BadRow { .. }
+            | Status::Conflict { .. }
+            | Status::Denied { .. }
+            | Status::Full { .. }
+            | Status::NoSuch(_) => 11,
         }
     }
 
@@ -67,7 +82,12 @@ impl Status {
             | Status::Unruly { .. }
             | Status::CutShort { .. }
             | Status::BadInput { .. }
+            | Status::TooLarge
             | Status::NotEmpty
+            | Status::BadRow { .. }
+            | Status::Conflict { .. }
+            | Status::Denied { .. }
+            | Status::Full { .. }
             | Status::NoSuch(_) => 4,
         }
     }
@@ -97,5 +117,38 @@ pub fn status_of(ended: Ended) -> Status
         Ended::ReadFault => Status::ReadFault,
         Ended::WriteFault => Status::WriteFault,
         Ended::Memory => Status::Memory,
+    }
+}
+
+/// How a command ends that sent batches.
+pub fn status_sent(sent: &Sent) -> Status
+    ensures value { result ≡ spec.status_sent sent.now }
+{
+    match sent {
+        Sent::Done => Status::Done,
+        Sent::Unreceipted(reply) => status_replied(reply),
+        Sent::WriteFault => Status::WriteFault,
+        Sent::Memory => Status::Memory,
+    }
+}
+
+/// How it ends where this was the reply to the last batch, and no receipt. A batch is answered by no view, and nothing that
+/// there is none of.
+fn status_replied(reply: &Reply) -> Status
+    ensures value { result ≡ spec.status_replied reply.now }
+{
+    match reply {
+        Reply::Conflict { position } => Status::Conflict {
+            position: *position,
+        },
+        Reply::Denied { fact, rule } => Status::Denied {
+            fact: *fact,
+            rule: *rule,
+        },
+        Reply::Full { facts } => Status::Full { facts: *facts },
+        Reply::Fault => Status::DiskFault,
+        Reply::Memory | Reply::Receipt { .. } | Reply::Shown(_) | Reply::NoSuch(_) => {
+            Status::Memory
+        }
     }
 }

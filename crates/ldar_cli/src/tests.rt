@@ -40,11 +40,11 @@ const UNIT: [u8; 43] = *b"\x42\0\0\0\0\0\x02\0\x02\x01\x4d\x19\0\0\x02\0COKER\0\
 // What a run is given beside its disk. The calls of its input and output with some numbers fail.
 #[derive(Drop)]
 pub struct Trial<'a> {
-    words: &'a [&'a str],
-    input: &'a [u8],
-    takes_that_fail: &'a [u64],
-    puts_that_fail: &'a [u64],
-    notes_that_fail: &'a [u64],
+    pub words: &'a [&'a str],
+    pub input: &'a [u8],
+    pub takes_that_fail: &'a [u64],
+    pub puts_that_fail: &'a [u64],
+    pub notes_that_fail: &'a [u64],
 }
 
 // A run that is to go well but for its disk.
@@ -164,6 +164,13 @@ fn words_outside_the_command_set_touch_nothing(rt: HostRuntime) -> Result<(), Fa
         &["DOCK"],
         &[""],
         &["--help"],
+        &["import", "1"],
+        &["import", "1", "unit"],
+        &["import", "01", "units"],
+        &["import", "4000000001", "units"],
+        &["import", "-1", "components"],
+        &["import", "1", "units", "units"],
+        &["imports", "1", "units"],
         &["show"],
         &["show", "due", "1"],
         &["show", "due", "256", "2024-02-28"],

@@ -11,7 +11,7 @@ returns-clause-ends g c =
     let over = c.run_over-status.ensures in (
       c.run_over-status.result.0,
       c.note.ensures.noted,
-      ends_at (λ (r : MutBor g.row.D.Denot). r.now) d.content d.images d.left d.clock d.faults _ c.run_over-status.result.0 _ _ _ _ _
+      ends_at (λ (r : MutBor g.row.D.Denot). r.now) d.content d.images d.left d.clock d.faults _ c.run_over-status.result.0 _ _ _ _ _ _
           c.run_over-status.result.1 c.disk-1.given.0 (c.disk-1.given.1 (sym over.keeps.name)) over.ends,
     )
 
