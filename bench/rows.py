@@ -106,9 +106,26 @@ def read_once(on, of, ppm):
 
 LATE = [f for on in ("2024-02-10", "2024-03-10", "2024-04-10", "2024-07-10") for f in read_once(on, 30, 10)]
 VALVE_30 = batch(0, 2, unit(2, "COKER", "2024-01-15"), component(30, 2, "valve", "gas", "2024-01-15"))
+NEW_VALVES = batch(0, 2, unit(2, "COKER", "2024-01-15"), *(component(n, 2, "valve", "gas", "2024-01-15") for n in (30, 31, 32)))
+PUMP_41 = batch(0, 2, unit(3, "FLARE", "2024-02-01"), component(41, 3, "pump", "light", "2024-02-18"))
 RELIEF_40 = batch(0, 2, unit(3, "FLARE", BEGIN), component(40, 3, "relief", "gas", BEGIN))
 ELECTED = batch(0, 2, fact("election", "2024-07-01", 0, unit=1, mode=1, notified=day("2024-04-02")))
 QUARTERS = batch(2, 1, *read_once("2024-02-20", 1, 20), *read_once("2024-05-20", 1, 20))
+THREE_QUARTERS = batch(2, 1, *(f for on in ("2024-02-20", "2024-05-20", "2024-11-20") for f in read_once(on, 1, 20)))
+SHUTDOWN_OF_JUNE = batch(0, 2, fact("shutdown", "2024-06-01", 0, unit=1, days=14))
+
+
+def seen(on, of, state):
+    return fact("visual", on, component=of, state=state)
+
+
+def drifted(value):
+    """A day on which three new valves were read, and the drift at its end."""
+    return batch(2, 1, precision("2024-02-01"), calibration("2024-02-20"), reading("2024-02-20", 30, 440), reading("2024-02-20", 31, 441),
+                 reading("2024-02-20", 32, 499), fact("drift", "2024-02-20", 900, instrument=1, value=500, readings=(value,) * 3))
+
+
+DRIPS = [seen("2024-02-19", 41, "drips"), calibration("2024-02-22"), reading("2024-02-22", 41, 1_999)]
 
 # The name of a case, its batches behind the base, the words, the reply lines but for the first two, and what is shown.
 TAGS = [
@@ -128,8 +145,18 @@ TAGS = [
     ("NO_SHUTDOWN", [batch(2, 1, *FIT_LEAK, delay("2024-03-01", 1, "a", 9, "2024-06-10"))],
      "tags 1 2024-03-20", "receipt 2 1 3\n", f"tags 1 2024-03-20\n{TAG_1} - repair shutdown - tagged\nend 1\n"),
     ("SHUTDOWN", [batch(2, 1, *FIT_LEAK, delay("2024-03-01", 1, "a", 9, "2024-06-10")),
-                  batch(0, 2, fact("shutdown", "2024-06-01", 0, unit=1, days=14))],
+                  SHUTDOWN_OF_JUNE],
      "tags 1 2024-07-01", "receipt 2 1 3\nreceipt 0 2 4\n", f"tags 1 2024-07-01\n{TAG_1} - repair 2024-06-14 - tagged\nend 1\n"),
+    ("TRIED_IN_SHUTDOWN", [batch(2, 1, *FIT_LEAK, delay("2024-03-01", 1, "a", 9, "2024-06-10"),
+                                 fact("attempt", "2024-06-05", component=1, complete=False)), SHUTDOWN_OF_JUNE],
+     "tags 1 2024-07-01", "receipt 2 1 3\nreceipt 0 2 4\n", f"tags 1 2024-07-01\n{TAG_1} 2024-06-05 repair 2024-06-30 - tagged\nend 1\n"),
+    ("DELAYED_TOO_LATE", [batch(2, 1, *FIT_LEAK, delay("2024-03-07", 1, "a", 9, "2024-06-10")), SHUTDOWN_OF_JUNE],
+     "tags 1 2024-07-01", "receipt 2 1 3\nreceipt 0 2 4\n", f"tags 1 2024-07-01\n{TAG_1} - repair 2024-03-06 - tagged\nend 1\n"),
+    ("DRIP_IS_A_LEAK", [batch(2, 1, seen("2024-03-04", 5, "leak"))], "tags 1 2024-03-05", "receipt 2 1 3\n",
+     "tags 1 2024-03-05\n5 detected 2024-03-04 attempt 2024-03-09 - repair 2024-03-19 - tagged\nend 1\n"),
+    ("DRY_AGAIN", [batch(2, 1, seen("2024-03-04", 5, "leak"), fact("attempt", "2024-03-06", component=5, complete=True),
+                         seen("2024-03-11", 5, "dry"))], "tags 1 2024-03-12", "receipt 2 1 3\n",
+     "tags 1 2024-03-12\n5 detected 2024-03-04 attempt 2024-03-09 2024-03-06 repair 2024-03-19 2024-03-11 removable\nend 1\n"),
     ("PUMP_DELAYED", [batch(2, 1, precision("2023-08-31"), calibration("2023-08-31"), reading("2023-08-31", 5, 2_000),
                             delay("2023-09-05", 5, "d", expected="2024-02-20"))],
      "tags 1 2024-02-20", "receipt 2 1 3\n",
@@ -147,6 +174,24 @@ OTHERS = [
     ("RELEASING", [RELIEF_40, batch(2, 1, fact("release", "2024-02-20", component=40), calibration("2024-02-24"),
                                     reading("2024-02-24", 40, 600, background=100))],
      "due 3 2024-02-24", "receipt 0 2 3\nreceipt 2 1 4\n", "due 3 2024-02-24\n40 release 2024-02-25 open\nend 1\n"),
+    ("DRIFTED", [NEW_VALVES, drifted(440)], "due 2 2024-02-21", "receipt 0 2 3\nreceipt 2 1 4\n",
+     "due 2 2024-02-21\n30 monthly 2024-02-29 done 2024-02-20\n31 monthly 2024-02-29 open\n32 monthly 2024-02-29 open\nend 3\n"),
+    ("DRIFTED_LESS", [NEW_VALVES, drifted(450)], "due 2 2024-02-21", "receipt 0 2 3\nreceipt 2 1 4\n",
+     "due 2 2024-02-21\n" + "".join(f"{n} monthly 2024-02-29 done 2024-02-20\n" for n in (30, 31, 32)) + "end 3\n"),
+    ("CLEAN_MONTHS", [VALVE_30, batch(2, 1, *read_once("2024-03-10", 30, 10), *read_once("2024-04-10", 30, 10))], "due 2 2024-08-20",
+     "receipt 0 2 3\nreceipt 2 1 4\n", "due 2 2024-08-20\n30 monthly 2024-02-29 missed\n30 monthly 2024-05-31 missed\n"
+     "30 monthly 2024-06-30 missed\n30 quarterly 2024-07-31 missed\nend 4\n"),
+    ("DRIPS", [PUMP_41, batch(2, 1, DRIPS[0])], "due 3 2024-02-21", "receipt 0 2 3\nreceipt 2 1 4\n",
+     "due 3 2024-02-21\n41 first 2024-03-19 open\n41 weekly 2024-02-25 done 2024-02-19\n41 drip 2024-02-24 open\nend 3\n"),
+    ("DRIPS_MET", [PUMP_41, batch(2, 1, *DRIPS)], "due 3 2024-02-23", "receipt 0 2 3\nreceipt 2 1 4\n",
+     "due 3 2024-02-23\n41 first 2024-03-19 done 2024-02-22\n41 weekly 2024-02-25 done 2024-02-19\n"
+     "41 drip 2024-02-24 done 2024-02-22\nend 3\n"),
+    ("DRIPS_AGAIN", [PUMP_41, batch(2, 1, *DRIPS, seen("2024-02-26", 41, "drips"))], "due 3 2024-02-27", "receipt 0 2 3\nreceipt 2 1 4\n",
+     "due 3 2024-02-27\n41 first 2024-03-19 done 2024-02-22\n41 weekly 2024-03-03 done 2024-02-26\nend 2\n"),
+    ("SKIPPED_AGAIN", [ELECTED, THREE_QUARTERS], "percent 1 20 2025-02-01", "receipt 0 2 3\nreceipt 2 1 4\n",
+     "percent 1 20 leaking 0 monitored 0 not good skipped\n"),
+    ("ONE_GOOD_QUARTER", [ELECTED, batch(2, 1, *read_once("2024-02-20", 1, 20))], "percent 1 18 2024-08-01", "receipt 0 2 3\nreceipt 2 1 4\n",
+     "percent 1 18 leaking 0 monitored 0 not good not skipped\n"),
     ("SKIPPED", [ELECTED, QUARTERS], "percent 1 18 2024-08-01", "receipt 0 2 3\nreceipt 2 1 4\n",
      "percent 1 18 leaking 0 monitored 0 not good skipped\n"),
     ("NOT_SKIPPED", [ELECTED, QUARTERS], "percent 1 19 2024-11-01", "receipt 0 2 3\nreceipt 2 1 4\n",
@@ -253,7 +298,7 @@ use std::test::Fail;
         sys.exit("the model denies the batch of every kind")
     constant("EVERY_KIND", EVERY_KIND)
     print("""// A disk with the base, and then these batches; and the lines of their replies.
-fn docked(alloc: Global, input: &[u8]) -> Result<(MemoryDisk, Vec<u8>), Fail> {
+pub fn docked(alloc: Global, input: &[u8]) -> Result<(MemoryDisk, Vec<u8>), Fail> {
     let mut disk = empty(alloc)?;
     ran(alloc, &mut disk, &untroubled(&["dock"], &BASE))?;
     let got = ran(alloc, &mut disk, &untroubled(&["dock"], input))?;

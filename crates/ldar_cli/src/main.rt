@@ -8,10 +8,14 @@ mod file_disk;
 mod file_tests;
 mod held;
 #[cfg(test)]
+mod http_tests;
+#[cfg(test)]
 mod import_tests;
 mod importing;
 mod init;
 mod journal_file;
+#[cfg(test)]
+mod large_tests;
 mod noting;
 mod number;
 mod program;
@@ -19,6 +23,8 @@ mod program;
 mod row_tests;
 mod showing;
 mod status;
+#[cfg(test)]
+mod stop_tests;
 mod streams;
 #[cfg(test)]
 mod tests;

@@ -47,6 +47,21 @@ const SHUTDOWN: [u8; 69] =
     \0\x02l\0\0\0\0\x0dMG\x02X\0\x01\x01\0\x09M\xacB\0\0\0\0\0\x02\0\x01\x06M\xa3\0\0\x01\0\
     \x0e";
 
+const TRIED_IN_SHUTDOWN: [u8; 77] =
+    *b"B\0\x02\0\0\0\x01\0\x04\x07M=\x01,\0\x01\0\0\x01\xf4\x0aM=\x02g\0\x01\0\x01\0\x01\x01\0\
+    \0\x02l\0\0\0\0\x0dMG\x02X\0\x01\x01\0\x09M\xac\x0cM\xa7\x02X\0\x01\0B\0\0\0\0\0\x02\0\
+    \x01\x06M\xa3\0\0\x01\0\x0e";
+
+const DELAYED_TOO_LATE: [u8; 69] =
+    *b"B\0\x02\0\0\0\x01\0\x03\x07M=\x01,\0\x01\0\0\x01\xf4\x0aM=\x02g\0\x01\0\x01\0\x01\x01\0\
+    \0\x02l\0\0\0\0\x0dMM\x02X\0\x01\x01\0\x09M\xacB\0\0\0\0\0\x02\0\x01\x06M\xa3\0\0\x01\0\
+    \x0e";
+
+const DRIP_IS_A_LEAK: [u8; 17] = *b"B\0\x02\0\0\0\x01\0\x01\x0bMJ\x02X\0\x05\x02";
+
+const DRY_AGAIN: [u8; 33] =
+    *b"B\0\x02\0\0\0\x01\0\x03\x0bMJ\x02X\0\x05\x02\x0cML\x02X\0\x05\x01\x0bMQ\x02X\0\x05\0";
+
 const PUMP_DELAYED: [u8; 75] =
     *b"B\0\x02\0\0\0\x01\0\x04\x08L\x90\0<\0\x01\0\0\x01\xf4\0\0\x01\xf4\0\0\x01\xf4\0\0\x01\
     \xf4\x07L\x90\x01,\0\x01\0\0\x01\xf4\x0aL\x90\x02X\0\x05\0\x01\0\x01\x01\0\0\x07\xd0\0\0\
@@ -89,6 +104,58 @@ const RELEASING: [u8; 90] =
     \0\x01B\0\x02\0\0\0\x01\0\x03\x0eM=\x02X\0(\x07MA\x01,\0\x01\0\0\x01\xf4\x0aMA\x02X\0(\0\
     \x01\0\x01\x01\0\0\x02X\0\0\0d";
 
+const DRIFTED: [u8; 199] =
+    *b"B\0\0\0\0\0\x02\0\x04\x01M\x19\0\0\x02\0COKER\0\0\0\0\0\0\0\x02M\x19\0\0\0\x1e\x02\x01\0\
+    \0\x01\0\0\x01\x02M\x19\0\0\0\x1f\x02\x01\0\0\x01\0\0\x01\x02M\x19\0\0\0\x20\x02\x01\0\0\
+    \x01\0\0\x01B\0\x02\0\0\0\x01\0\x06\x08M*\0<\0\x01\0\0\x01\xf4\0\0\x01\xf4\0\0\x01\xf4\0\
+    \0\x01\xf4\x07M=\x01,\0\x01\0\0\x01\xf4\x0aM=\x02X\0\x1e\0\x01\0\x01\x01\0\0\x01\xb8\0\0\
+    \0\0\x0aM=\x02X\0\x1f\0\x01\0\x01\x01\0\0\x01\xb9\0\0\0\0\x0aM=\x02X\0\x20\0\x01\0\x01\
+    \x01\0\0\x01\xf3\0\0\0\0\x09M=\x03\x84\0\x01\0\0\x01\xf4\0\0\x01\xb8\0\0\x01\xb8\0\0\x01\
+    \xb8";
+
+const DRIFTED_LESS: [u8; 199] =
+    *b"B\0\0\0\0\0\x02\0\x04\x01M\x19\0\0\x02\0COKER\0\0\0\0\0\0\0\x02M\x19\0\0\0\x1e\x02\x01\0\
+    \0\x01\0\0\x01\x02M\x19\0\0\0\x1f\x02\x01\0\0\x01\0\0\x01\x02M\x19\0\0\0\x20\x02\x01\0\0\
+    \x01\0\0\x01B\0\x02\0\0\0\x01\0\x06\x08M*\0<\0\x01\0\0\x01\xf4\0\0\x01\xf4\0\0\x01\xf4\0\
+    \0\x01\xf4\x07M=\x01,\0\x01\0\0\x01\xf4\x0aM=\x02X\0\x1e\0\x01\0\x01\x01\0\0\x01\xb8\0\0\
+    \0\0\x0aM=\x02X\0\x1f\0\x01\0\x01\x01\0\0\x01\xb9\0\0\0\0\x0aM=\x02X\0\x20\0\x01\0\x01\
+    \x01\0\0\x01\xf3\0\0\0\0\x09M=\x03\x84\0\x01\0\0\x01\xf4\0\0\x01\xc2\0\0\x01\xc2\0\0\x01\
+    \xc2";
+
+const CLEAN_MONTHS: [u8; 160] =
+    *b"B\0\0\0\0\0\x02\0\x02\x01M\x19\0\0\x02\0COKER\0\0\0\0\0\0\0\x02M\x19\0\0\0\x1e\x02\x01\0\
+    \0\x01\0\0\x01B\0\x02\0\0\0\x01\0\x06\x08MP\0<\0\x01\0\0\x01\xf4\0\0\x01\xf4\0\0\x01\xf4\
+    \0\0\x01\xf4\x07MP\x01,\0\x01\0\0\x01\xf4\x0aMP\x02X\0\x1e\0\x01\0\x01\x01\0\0\0\x0a\0\0\
+    \0\0\x08Mo\0<\0\x01\0\0\x01\xf4\0\0\x01\xf4\0\0\x01\xf4\0\0\x01\xf4\x07Mo\x01,\0\x01\0\0\
+    \x01\xf4\x0aMo\x02X\0\x1e\0\x01\0\x01\x01\0\0\0\x0a\0\0\0\0";
+
+const DRIPS: [u8; 60] =
+    *b"B\0\0\0\0\0\x02\0\x02\x01M*\0\0\x03\0FLARE\0\0\0\0\0\0\0\x02M;\0\0\0)\x03\x02\0\0\x02\0\
+    \0\x01B\0\x02\0\0\0\x01\0\x01\x0bM<\x02X\0)\x01";
+
+const DRIPS_MET: [u8; 91] =
+    *b"B\0\0\0\0\0\x02\0\x02\x01M*\0\0\x03\0FLARE\0\0\0\0\0\0\0\x02M;\0\0\0)\x03\x02\0\0\x02\0\
+    \0\x01B\0\x02\0\0\0\x01\0\x03\x0bM<\x02X\0)\x01\x07M?\x01,\0\x01\0\0\x01\xf4\x0aM?\x02X\
+    \0)\0\x01\0\x01\x01\0\0\x07\xcf\0\0\0\0";
+
+const DRIPS_AGAIN: [u8; 99] =
+    *b"B\0\0\0\0\0\x02\0\x02\x01M*\0\0\x03\0FLARE\0\0\0\0\0\0\0\x02M;\0\0\0)\x03\x02\0\0\x02\0\
+    \0\x01B\0\x02\0\0\0\x01\0\x04\x0bM<\x02X\0)\x01\x07M?\x01,\0\x01\0\0\x01\xf4\x0aM?\x02X\
+    \0)\0\x01\0\x01\x01\0\0\x07\xcf\0\0\0\0\x0bMC\x02X\0)\x01";
+
+const SKIPPED_AGAIN: [u8; 189] =
+    *b"B\0\0\0\0\0\x02\0\x01\x05M\xc1\0\0\x01\x01MgB\0\x02\0\0\0\x01\0\x09\x08M=\0<\0\x01\0\0\
+    \x01\xf4\0\0\x01\xf4\0\0\x01\xf4\0\0\x01\xf4\x07M=\x01,\0\x01\0\0\x01\xf4\x0aM=\x02X\0\
+    \x01\0\x01\0\x01\x01\0\0\0\x14\0\0\0\0\x08M\x97\0<\0\x01\0\0\x01\xf4\0\0\x01\xf4\0\0\x01\
+    \xf4\0\0\x01\xf4\x07M\x97\x01,\0\x01\0\0\x01\xf4\x0aM\x97\x02X\0\x01\0\x01\0\x01\x01\0\0\
+    \0\x14\0\0\0\0\x08NO\0<\0\x01\0\0\x01\xf4\0\0\x01\xf4\0\0\x01\xf4\0\0\x01\xf4\x07NO\x01,\
+    \0\x01\0\0\x01\xf4\x0aNO\x02X\0\x01\0\x01\0\x01\x01\0\0\0\x14\0\0\0\0";
+
+const ONE_GOOD_QUARTER: [u8; 81] =
+    *b"B\0\0\0\0\0\x02\0\x01\x05M\xc1\0\0\x01\x01MgB\0\x02\0\0\0\x01\0\x03\x08M=\0<\0\x01\0\0\
+    \x01\xf4\0\0\x01\xf4\0\0\x01\xf4\0\0\x01\xf4\x07M=\x01,\0\x01\0\0\x01\xf4\x0aM=\x02X\0\
+    \x01\0\x01\0\x01\x01\0\0\0\x14\0\0\0\0";
+
 const SKIPPED: [u8; 135] =
     *b"B\0\0\0\0\0\x02\0\x01\x05M\xc1\0\0\x01\x01MgB\0\x02\0\0\0\x01\0\x06\x08M=\0<\0\x01\0\0\
     \x01\xf4\0\0\x01\xf4\0\0\x01\xf4\0\0\x01\xf4\x07M=\x01,\0\x01\0\0\x01\xf4\x0aM=\x02X\0\
@@ -126,7 +193,7 @@ const EVERY_KIND: [u8; 214] =
     \x01";
 
 // A disk with the base, and then these batches; and the lines of their replies.
-fn docked(alloc: Global, input: &[u8]) -> Result<(MemoryDisk, Vec<u8>), Fail> {
+pub fn docked(alloc: Global, input: &[u8]) -> Result<(MemoryDisk, Vec<u8>), Fail> {
     let mut disk = empty(alloc)?;
     ran(alloc, &mut disk, &untroubled(&["dock"], &BASE))?;
     let got = ran(alloc, &mut disk, &untroubled(&["dock"], input))?;
@@ -179,6 +246,30 @@ fn tags_are_those_of_the_rule(rt: HostRuntime) -> Result<(), Fail> {
             "tags 1 2024-07-01\n1 detected 2024-02-20 attempt 2024-02-25 - repair 2024-06-14 - tagged\nend 1\n",
         ),
         (
+            TRIED_IN_SHUTDOWN.as_slice(),
+            ["show", "tags", "1", "2024-07-01"].as_slice(),
+            "receipt 2 1 3\nreceipt 0 2 4\n",
+            "tags 1 2024-07-01\n1 detected 2024-02-20 attempt 2024-02-25 2024-06-05 repair 2024-06-30 - tagged\nend 1\n",
+        ),
+        (
+            DELAYED_TOO_LATE.as_slice(),
+            ["show", "tags", "1", "2024-07-01"].as_slice(),
+            "receipt 2 1 3\nreceipt 0 2 4\n",
+            "tags 1 2024-07-01\n1 detected 2024-02-20 attempt 2024-02-25 - repair 2024-03-06 - tagged\nend 1\n",
+        ),
+        (
+            DRIP_IS_A_LEAK.as_slice(),
+            ["show", "tags", "1", "2024-03-05"].as_slice(),
+            "receipt 2 1 3\n",
+            "tags 1 2024-03-05\n5 detected 2024-03-04 attempt 2024-03-09 - repair 2024-03-19 - tagged\nend 1\n",
+        ),
+        (
+            DRY_AGAIN.as_slice(),
+            ["show", "tags", "1", "2024-03-12"].as_slice(),
+            "receipt 2 1 3\n",
+            "tags 1 2024-03-12\n5 detected 2024-03-04 attempt 2024-03-09 2024-03-06 repair 2024-03-19 2024-03-11 removable\nend 1\n",
+        ),
+        (
             PUMP_DELAYED.as_slice(),
             ["show", "tags", "1", "2024-02-20"].as_slice(),
             "receipt 2 1 3\n",
@@ -226,6 +317,54 @@ fn duties_percents_and_reports_are_those_of_the_rule(rt: HostRuntime) -> Result<
             ["show", "due", "3", "2024-02-24"].as_slice(),
             "receipt 0 2 3\nreceipt 2 1 4\n",
             "due 3 2024-02-24\n40 release 2024-02-25 open\nend 1\n",
+        ),
+        (
+            DRIFTED.as_slice(),
+            ["show", "due", "2", "2024-02-21"].as_slice(),
+            "receipt 0 2 3\nreceipt 2 1 4\n",
+            "due 2 2024-02-21\n30 monthly 2024-02-29 done 2024-02-20\n31 monthly 2024-02-29 open\n32 monthly 2024-02-29 open\nend 3\n",
+        ),
+        (
+            DRIFTED_LESS.as_slice(),
+            ["show", "due", "2", "2024-02-21"].as_slice(),
+            "receipt 0 2 3\nreceipt 2 1 4\n",
+            "due 2 2024-02-21\n30 monthly 2024-02-29 done 2024-02-20\n31 monthly 2024-02-29 done 2024-02-20\n32 monthly 2024-02-29 done 2024-02-20\nend 3\n",
+        ),
+        (
+            CLEAN_MONTHS.as_slice(),
+            ["show", "due", "2", "2024-08-20"].as_slice(),
+            "receipt 0 2 3\nreceipt 2 1 4\n",
+            "due 2 2024-08-20\n30 monthly 2024-02-29 missed\n30 monthly 2024-05-31 missed\n30 monthly 2024-06-30 missed\n30 quarterly 2024-07-31 missed\nend 4\n",
+        ),
+        (
+            DRIPS.as_slice(),
+            ["show", "due", "3", "2024-02-21"].as_slice(),
+            "receipt 0 2 3\nreceipt 2 1 4\n",
+            "due 3 2024-02-21\n41 first 2024-03-19 open\n41 weekly 2024-02-25 done 2024-02-19\n41 drip 2024-02-24 open\nend 3\n",
+        ),
+        (
+            DRIPS_MET.as_slice(),
+            ["show", "due", "3", "2024-02-23"].as_slice(),
+            "receipt 0 2 3\nreceipt 2 1 4\n",
+            "due 3 2024-02-23\n41 first 2024-03-19 done 2024-02-22\n41 weekly 2024-02-25 done 2024-02-19\n41 drip 2024-02-24 done 2024-02-22\nend 3\n",
+        ),
+        (
+            DRIPS_AGAIN.as_slice(),
+            ["show", "due", "3", "2024-02-27"].as_slice(),
+            "receipt 0 2 3\nreceipt 2 1 4\n",
+            "due 3 2024-02-27\n41 first 2024-03-19 done 2024-02-22\n41 weekly 2024-03-03 done 2024-02-26\nend 2\n",
+        ),
+        (
+            SKIPPED_AGAIN.as_slice(),
+            ["show", "percent", "1", "20", "2025-02-01"].as_slice(),
+            "receipt 0 2 3\nreceipt 2 1 4\n",
+            "percent 1 20 leaking 0 monitored 0 not good skipped\n",
+        ),
+        (
+            ONE_GOOD_QUARTER.as_slice(),
+            ["show", "percent", "1", "18", "2024-08-01"].as_slice(),
+            "receipt 0 2 3\nreceipt 2 1 4\n",
+            "percent 1 18 leaking 0 monitored 0 not good not skipped\n",
         ),
         (
             SKIPPED.as_slice(),

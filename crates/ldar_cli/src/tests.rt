@@ -5,12 +5,12 @@ use std::alloc::Global;
 use std::test::Fail;
 
 // Handheld 7, batch 12: one calibration on 2024-02-20 at 10:00, instrument 1, 500 ppm.
-const BATCH: [u8; 20] = *b"\x42\0\x07\0\0\0\x0c\0\x01\x07\x4d\x3d\x02\x58\0\x01\0\0\x01\xf4";
+pub const BATCH: [u8; 20] = *b"\x42\0\x07\0\0\0\x0c\0\x01\x07\x4d\x3d\x02\x58\0\x01\0\0\x01\xf4";
 
 // The same handheld and number with 501 ppm, and the same fact as batch 13.
 const OTHER: [u8; 20] = *b"\x42\0\x07\0\0\0\x0c\0\x01\x07\x4d\x3d\x02\x58\0\x01\0\0\x01\xf5";
 
-const NEXT: [u8; 20] = *b"\x42\0\x07\0\0\0\x0d\0\x01\x07\x4d\x3d\x02\x58\0\x01\0\0\x01\xf4";
+pub const NEXT: [u8; 20] = *b"\x42\0\x07\0\0\0\x0d\0\x01\x07\x4d\x3d\x02\x58\0\x01\0\0\x01\xf4";
 
 // Handheld 258, batch 16,909,060: one fact of each kind.
 const EVERY_KIND: [u8; 199] = *b"\x42\x01\x02\x01\x02\x03\x04\0\x0f\
@@ -67,12 +67,25 @@ pub struct Outcome {
     takes: u64,
 }
 
-pub fn ran(alloc: Global, disk: &mut MemoryDisk, trial: &Trial<'_>) -> Result<Outcome, Fail> {
+pub fn ran<D: Disk>(alloc: Global, disk: &mut D, trial: &Trial<'_>) -> Result<Outcome, Fail> {
+    ran_in_pieces(alloc, disk, trial, &[trial.input])
+}
+
+// A run whose input comes in these pieces, and not in the trial's own.
+pub fn ran_in_pieces<D: Disk>(
+    alloc: Global,
+    disk: &mut D,
+    trial: &Trial<'_>,
+    input: &[&[u8]],
+) -> Result<Outcome, Fail> {
     let mut words = Vec::new(alloc);
     for word in trial.words {
         words.push(String::from_str(alloc, word)?)?;
     }
-    let pieces = vec![in alloc; Vec::from_slice(alloc, trial.input)?]?;
+    let mut pieces = Vec::new(alloc);
+    for piece in input {
+        pieces.push(Vec::from_slice(alloc, piece)?)?;
+    }
     let mut source = ListSource::new(alloc, &pieces, trial.takes_that_fail)?;
     let mut output = StampedSink::new(alloc, trial.puts_that_fail)?;
     let mut notes = StampedSink::new(alloc, trial.notes_that_fail)?;
@@ -91,7 +104,7 @@ pub fn empty(alloc: Global) -> Result<MemoryDisk, Fail> {
 }
 
 // The image of a journal with one batch, and what follows it.
-fn image(alloc: Global, behind: &[u8]) -> Result<Vec<u8>, Fail> {
+pub fn image(alloc: Global, behind: &[u8]) -> Result<Vec<u8>, Fail> {
     let mut bytes = Vec::from_slice(alloc, &EMPTY[..16])?;
     bytes.extend_from_slice(&[1, 0, 0, 0, 20])?;
     bytes.extend_from_slice(&BATCH)?;
