@@ -293,7 +293,8 @@ fn ended(mut text: String, lines: usize) -> String {
 
 const CAUSES: [&str; 10] = ["", "first", "monthly", "quarterly", "yearly", "plan", "weekly", "drip", "release", "evidence"];
 
-fn due_text(office: &Office, unit: &UnitEntry, day: u16) -> String {
+/// Goes over what has to be done at the components of a unit, in their order.
+fn for_each_duty(office: &Office, unit: &UnitEntry, day: u16, mut told: impl FnMut(Duty)) {
     let elections = elections(office, unit.unit, day);
     let mut reader = Reader::new(office, unit.unit, day);
     let quarters = quarter_at(unit.startup, day);
@@ -303,24 +304,43 @@ fn due_text(office: &Office, unit: &UnitEntry, day: u16) -> String {
         let tallies = tallies_to(&mut reader, unit, quarters.saturating_sub(1));
         skipped_to(&tallies, &elections, unit.startup, quarters)
     };
-    let (mut text, mut lines) = (begun("due", unit.unit, day), 0);
     for component in &office.members[usize::from(unit.unit)] {
         let Some(known) = reader.known(*component) else { continue };
-        for duty in duties_of(&known.item, &known.classes, unit.startup, &known.events, &skipped, day) {
-            write!(text, "{} {} ", duty.component, CAUSES[usize::from(duty.cause)]).unwrap();
-            put_day(&mut text, duty.due);
-            match duty.met {
-                Some(key) => {
-                    text.push_str(" done ");
-                    put_day(&mut text, key.day);
-                }
-                None => text.push_str(if day <= duty.due { " open" } else { " missed" }),
-            }
-            text.push('\n');
-            lines += 1;
-        }
+        duties_of(&known.item, &known.classes, unit.startup, &known.events, &skipped, day).into_iter().for_each(&mut told);
     }
+}
+
+fn due_text(office: &Office, unit: &UnitEntry, day: u16) -> String {
+    let (mut text, mut lines) = (begun("due", unit.unit, day), 0);
+    for_each_duty(office, unit, day, |duty| {
+        write!(text, "{} {} ", duty.component, CAUSES[usize::from(duty.cause)]).unwrap();
+        put_day(&mut text, duty.due);
+        match duty.met {
+            Some(key) => {
+                text.push_str(" done ");
+                put_day(&mut text, key.day);
+            }
+            None => text.push_str(if day <= duty.due { " open" } else { " missed" }),
+        }
+        text.push('\n');
+        lines += 1;
+    });
     ended(text, lines)
+}
+
+fn route_text(office: &Office, unit: &UnitEntry, day: u16, stops: u16) -> String {
+    let mut duties = Vec::new();
+    for_each_duty(office, unit, day, |duty| duties.push(duty));
+    let routes = routes(&duties, stops);
+    let mut text = begun("route", unit.unit, day);
+    text.pop();
+    writeln!(text, " {stops}").unwrap();
+    for (place, route) in (1..).zip(&routes) {
+        write!(text, "route {place}:").unwrap();
+        for component in route { write!(text, " {component}").unwrap(); }
+        text.push('\n');
+    }
+    ended(text, routes.len())
 }
 
 fn tags_text(office: &Office, unit: &UnitEntry, day: u16) -> String {
@@ -453,6 +473,7 @@ fn view_text(office: &Office, view: &str, day: u16) -> String {
         "tags" => tags_text(office, unit, day),
         "delays" => delays_text(office, unit, day),
         "percent" => percent_text(office, unit, quarter, day),
+        "route" => route_text(office, unit, day, 50),
         _ => report_text(office, unit, quarter.div_ceil(2), day),
     }
 }

@@ -37,17 +37,29 @@ fn readings_that_a_drift_voids_meet_no_duty(rt: HostRuntime) -> Result<(), Fail>
     Ok(())
 }
 
-/// The base, where valve 1 is clean in March and April 2024.
-fn clean_twice(alloc: Global) -> Result<String, AllocError> {
-    let mut history = base(
-        alloc,
-        "7: 2024-03-10 300 calibration 500; 2024-03-10 600 reading 1 20 0\n",
-    )?;
-    history.push_str(
-        "7: 2024-04-10 200 precision 500 500 500 500; 2024-04-10 300 calibration 500",
-    )?;
-    history.push_str("; 2024-04-10 600 reading 1 20 0\n")?;
-    Ok(history)
+/// The base, where valve 1 is read in March and April 2024.
+fn read_twice(alloc: Global, ppm: u32) -> Result<String, AllocError> {
+    let march = "7: 2024-03-10 300 calibration 500; 2024-03-10 600 reading 1";
+    let tests = "7: 2024-04-10 200 precision 500 500 500 500; 2024-04-10 300 calibration 500";
+    let april = format!(in alloc; "{tests}; 2024-04-10 600 reading 1 {ppm} 0\n")?;
+    let more = format!(in alloc; "{march} {ppm} 0\n{april}")?;
+    base(alloc, more.as_str())
+}
+
+#[test]
+fn a_month_is_clean_below_the_limit(rt: HostRuntime) -> Result<(), Fail> {
+    let alloc = rt.alloc();
+    for (ppm, part, want) in [
+        (499, "1 quarterly", "1 quarterly 2024-07-31 open\n"),
+        (499, "1 monthly 2024-07", ""),
+        (500, "1 quarterly", ""),
+        (500, "1 monthly 2024-07", "1 monthly 2024-07-31 open\n"),
+    ] {
+        let history = read_twice(alloc, ppm)?;
+        let told = lines(alloc, history.as_str(), "due 1 2024-07-20", part)?;
+        assert_eq!(rt; told.as_str(), want, "{ppm} {part}");
+    }
+    Ok(())
 }
 
 #[test]
@@ -55,7 +67,7 @@ fn a_valve_is_quarterly_from_the_quarter_after_two_clean_months(
     rt: HostRuntime,
 ) -> Result<(), Fail> {
     let alloc = rt.alloc();
-    let history = clean_twice(alloc)?;
+    let history = read_twice(alloc, 20)?;
     for (view, part, want) in [
         (
             "due 1 2024-05-20",

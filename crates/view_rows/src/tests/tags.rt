@@ -148,9 +148,11 @@ fn a_delayed_repair_is_listed_while_its_tag_is_open(rt: HostRuntime) -> Result<(
 #[test]
 fn drips_are_closed_by_a_dry_look_after_an_attempt(rt: HostRuntime) -> Result<(), Fail> {
     let alloc = rt.alloc();
-    let drips =
-        "7: 2024-03-04 600 visual 5 designated\n7: 2024-03-06 600 attempt 5\n7: 2024-03-11 600 visual 5 dry";
-    let history = base(alloc, drips)?;
+    let earlier = "7: 2024-02-19 600 visual 5 drips\n7: 2024-02-22 300 calibration 500";
+    let again = "; 2024-02-22 600 reading 5 1999 0\n7: 2024-02-26 600 visual 5 drips\n";
+    let leak = "7: 2024-03-04 600 visual 5 designated\n7: 2024-03-06 600 attempt 5\n";
+    let more = format!(in alloc; "{earlier}{again}{leak}7: 2024-03-11 600 visual 5 dry")?;
+    let history = base(alloc, more.as_str())?;
     let told = lines(alloc, history.as_str(), "tags 1 2024-03-12", "detected")?;
     let want =
         "5 detected 2024-03-04 attempt 2024-03-09 2024-03-06 repair 2024-03-19 2024-03-11 removable\n";
