@@ -1,6 +1,7 @@
 //! The batches that are adopted, and the days of their facts.
 
 ghost use Rattle.std.specs.Prelude.{◌≤◌};
+ghost use Rattle.ldar_days.specs.declared.quarter.TheConstants.{LAST_STARTUP};
 
 use fact_kinds::{Batch, Class, Designation, Fact, FactBody, Kind, Memory, Name, Purpose, Service};
 use ldar_days::Day;
@@ -27,7 +28,9 @@ const ELECTION: u32 = 19_174;
 const NOTIFIED: u32 = 19_083;
 
 /// The day on which the unit starts up.
-pub fn startup() -> Day {
+pub fn startup() -> Day
+    ensures in_range { result ≤ LAST_STARTUP }
+{
     Day::at(STARTUP)
 }
 
