@@ -534,7 +534,7 @@ fn monthly_facts(month: u32, handheld: u32) -> Vec<Fact> {
 
 fn main() {
     let facts: u32 = std::env::args().nth(1).and_then(|word| word.parse().ok()).unwrap_or(0);
-    let months = (facts / (HANDHELDS * 512)).max(1);
+    let months = (facts.saturating_sub(ENTRIES) / (HANDHELDS * 512)).max(1);
     let mut office = Office::default();
     let mut adopted = 0;
     let entries: Vec<Fact> = (0..ENTRIES).map(entry).collect();

@@ -15,7 +15,7 @@ const READ: u32 = 500;
 /// How many valves there are; the register has the unit, an election and two shutdowns besides.
 const VALVES: u32 = 20_000;
 
-const ENTRIES: u32 = 20_004;
+pub const ENTRIES: u32 = 20_004;
 
 /// 2020-01-15, when the unit starts up, and 2020-02-10, from when on it is monitored.
 const STARTUP: u32 = 18_276;

@@ -1,8 +1,8 @@
 //! What `bench/views.py` measures.
 //!
-//! With a number of facts it makes a process unit of 20,000 valves and their monthly readings by 40 handhelds, about so many
-//! facts in batches of up to 512, and has each batch judged and adopted. Then it answers each line of its input, which names
-//! a view, by the length of its text and a sum over it. The views are of the days after the last readings.
+//! With a number of facts it makes a process unit of 20,000 valves and their monthly readings by 40 handhelds, so many facts at
+//! most but one month at least, in batches of up to 512, and has each batch judged and adopted. Then it answers each line of its
+//! input, which names a view, by the length of its text and a sum over it. The views are of the days after the last readings.
 #![tactic(auto)]
 
 mod asked;
@@ -10,7 +10,7 @@ mod made;
 
 use asked::said;
 use fact_kinds::Batch;
-use made::{HANDHELDS, monthly_batch, register_batch, view_day};
+use made::{ENTRIES, HANDHELDS, monthly_batch, register_batch, view_day};
 use std::alloc::Global;
 use std::env;
 use view_rows::Office;
@@ -25,7 +25,7 @@ fn main(rt: HostRuntime) -> Result<(), anyhow::Error> {
         [word] => word.parse().unwrap_or(0),
         _ => 0,
     };
-    let months = (facts / FACTS_A_MONTH).max(1);
+    let months = (facts.saturating_sub(ENTRIES) / FACTS_A_MONTH).max(1);
     let mut office = Office::new(alloc);
     let adopted = adopt_all(alloc, &mut office, months)?;
     println!(rt; "adopted {adopted} batches")?;
