@@ -1,0 +1,9 @@
+mod asked;
+mod duties;
+mod facts;
+mod histories;
+mod orders;
+mod quarters;
+mod reports;
+mod tags;
+mod words;
