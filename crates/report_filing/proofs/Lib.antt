@@ -1,0 +1,2 @@
+pub mod RevisionLemmas
+pub mod SameCells

@@ -1,0 +1,17 @@
+//! Semiannual reports on file: what a filing keeps, and how a report becomes the next revision of its half.
+#![tactic(auto)]
+
+mod amend;
+mod cells;
+mod file;
+mod filing;
+mod map_filing;
+
+pub use amend::amended_cells;
+pub use fact_kinds::Memory;
+pub use file::{FileError, file_report};
+pub use filing::{Filing, FilingFault};
+pub use map_filing::MapFiling;
+
+#[cfg(test)]
+mod tests;

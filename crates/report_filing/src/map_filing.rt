@@ -1,0 +1,103 @@
+ghost use Rattle.std.specs.Prelude.{◌≡◌, Some, [], ◌∷◌, ◌++◌, IfOk, OnOk, OnErr, option_map};
+ghost use Rattle.report_filing.specs.Revisions.{is_filed_for, latest_of, AreNumbered, IsNext};
+
+use crate::cells::copy_of;
+use crate::{Filing, FilingFault, Memory};
+use ldar_law::Filed;
+use std::alloc::Global;
+use std::marker::Model;
+
+/// Reports on file in memory, which never fail. Contracts see them in the order of filing.
+#[derive(Drop)]
+pub struct MapFiling {
+    all: Vec<Filed>,
+}
+
+impl Model for MapFiling {
+    ghost use Rattle.std.specs.Prelude.{List};
+    ghost use Rattle.ldar_law.specs.declared.report.Filed.{Filed};
+    ghost use Rattle.report_filing.specs.Revisions.{AreNumbered};
+
+    ghost Value = { List Filed };
+
+    ghost view = { λ f. f.all.items };
+
+    ghost invariant = { λ f. AreNumbered f.all.items };
+}
+
+impl MapFiling {
+    /// A filing with no report. Takes no memory.
+    pub fn new(alloc: Global) -> MapFiling
+        ensures value { result ≡ [] }
+    {
+        MapFiling {
+            all: Vec::new(alloc),
+        }
+    }
+
+    /// The reports, in the order of filing.
+    pub fn as_slice(&self) -> &[Filed]
+        ensures value { result.now ≡ self.now }
+        ensures numbered { AreNumbered result.now }
+    {
+        &self.all
+    }
+
+    /// Puts the next revision of its unit and half behind the others.
+    fn keep(&mut self, alloc: Global, filed: &Filed) -> Result<(), Memory>
+        requires next { IsNext filed.now self.old }
+        ensures put { OnOk result (self.new ≡ self.old ++ filed.now ∷ []) }
+        ensures unchanged { OnErr result (self.new ≡ self.old) }
+    {
+        let copy = copied(alloc, filed)?;
+        self.all.push(copy)?;
+        Ok(())
+    }
+}
+
+/// Whether a report was filed for this unit and half.
+fn is_filed_for(filed: &Filed, unit: u8, half: u16) -> bool
+    ensures value { result ≡ is_filed_for unit half filed.now }
+{
+    filed.unit == unit && filed.half == half
+}
+
+/// The last revision of a unit's half.
+fn latest_among(all: &[Filed], unit: u8, half: u16) -> Option<&Filed>
+    ensures value { option_map (λ filed. filed.now) result ≡ latest_of unit half all.now }
+{
+    all.iter()
+        .rev()
+        .find(|filed| is_filed_for(filed, unit, half))
+}
+
+/// The same report on file once more.
+fn copied(alloc: Global, filed: &Filed) -> Result<Filed, Memory>
+    ensures value { IfOk result (λ copy. copy ≡ filed.now) }
+{
+    Ok(Filed {
+        unit: filed.unit,
+        half: filed.half,
+        revision: filed.revision,
+        day: filed.day,
+        cells: copy_of(alloc, &filed.cells)?,
+    })
+}
+
+impl Filing for MapFiling {
+    ghost on_file = { λ f. Some f };
+
+    ghost faults = { λ f. 0 };
+
+    fn latest(&mut self, alloc: Global, unit: u8, half: u16) -> Result<Option<Filed>, FilingFault> {
+        match latest_among(&self.all, unit, half) {
+            Some(filed) => Ok(Some(copied(alloc, filed)?)),
+            None => Ok(None),
+        }
+    }
+
+    fn put(&mut self, alloc: Global, filed: &Filed) -> Result<(), FilingFault> {
+        self.keep(alloc, filed)?;
+        Ok(())
+    }
+}
