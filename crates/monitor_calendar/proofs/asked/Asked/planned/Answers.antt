@@ -61,11 +61,11 @@ returns-then-number-from c =
           (omega (arith, ends_before c.month.result (month + 1 - judged.class.plan) (omega (arith, c.month.ensures.in_range)) late, c.month.ensures.inside)));
     }
 
-pub at-requires-clause-in_range : goal.at-requires-clause-in_range
-at-requires-clause-in_range c =
+pub at-requires : goal.at-requires
+at-requires c =
     let asked = c.args.self.now in
     let fits = plan_fits asked c.judged-judged.result c.args.month c.requires.after (sym c.is_planned.ensures.value ∙ c.if-not-is_planned.false) in
-    omega (arith, fits)
+    record { in_range = omega (arith, fits) }
 
 pub returns : goal.returns
 returns c =
