@@ -30,7 +30,7 @@ LIVES = (
     ("1,000 drips of a year", "drips", 1, 1_000),
 )
 OTHERS = (
-    ("instrument, a calibration a day", "instrument", 5_840, 100),
+    ("instrument, a calibration a day", "instrument", 5_840, 800),
     ("a reading of it", "fit", 5_840, 100),
     ("a reading of a day, 256 calibrations", "day", 256, 2_000),
     ("routes by 40,000 duties", "routes", 40_000, 50),

@@ -3,13 +3,13 @@ use Rattle.std.proofs.Common.{◌≡◌, ℕ, zero, suc, ◌+◌, ◌-◌, ◌<�
 use Rattle.std.proofs.Common.{option_map, unwrap_or, refl, sym, ap, ◌∙◌, inl, inr, arith}
 use Rattle.std.specs.List.Sorted.{IsPartitionedBy, IsPartitionPoint}
 use Rattle.std.specs.Option.{option_map_or}
-use Rattle.std.proofs.lemmas.Bool.{cases_Bool, false≢true}
+use Rattle.std.proofs.lemmas.Bool.{cases_Bool, false≢true, le-leb, lt-leb}
 use Rattle.fact_kinds.specs.declared.class.Class.{Class}
 use Rattle.fact_kinds.specs.declared.key.Key.{Key}
 use Rattle.ldar_law.specs.declared.equipment.Equipment.{Equipment}
 use Rattle.ldar_law.specs.Force.{class_by, class_on}
 use Rattle.ldar_law.proofs.ClassLemmas.{class_in_front, no_class_in_front}
-use Rattle.method21_reading.specs.Walks.{IsBehind}
+use Rattle.method21_reading.specs.Standings.{IsBehind}
 
 -- what a test tells of the element at a place
 tells_at : {X : Type 0} (p : X → Bool) (xs : List X) (i : ℕ) (d : X) → i < length xs → option_map_or p (slice_get xs i) false ≡ p (get_or xs i d)
@@ -61,3 +61,13 @@ pub class_behind : (item : Equipment) (classes : List (Key × Class)) (day place
 class_behind item classes day place d some within behind =
     some_class (option_map (λ e. e.1) (class_by day classes)) (get_or classes (place - 1) d).1 item.class
     (class_in_front day classes place d some within behind)
+
+-- from the day of the class in front of a place to that of the class there, the place is behind the classes entered
+pub behind_between : (classes : List (Key × Class)) (place first end day : ℕ) → IsPartitionedBy (λ e. nat_le e.0.day day) classes →
+    (0 < place → option_map_or (λ e. nat_le e.0.day day) (slice_get classes (place - 1)) false ≡ nat_le first day) →
+    option_map_or (λ e. nat_le e.0.day day) (slice_get classes place) false ≡ nat_le end day → first ≤ day → day < end → IsBehind day classes place
+behind_between classes zero first end day parted last next low high =
+    at_front (λ (e : Key × Class). nat_le e.0.day day) classes parted (next ∙ lt-leb end day high)
+behind_between classes (suc place) first end day parted last next low high =
+    behind_front (λ (e : Key × Class). nat_le e.0.day day) classes parted (suc place) (omega arith) (next ∙ lt-leb end day high)
+    (last (omega arith) ∙ le-leb first day low)

@@ -1,5 +1,5 @@
 -- What of an instrument's facts judges readings, each sort apart, and readings judged by these sorts (40 CFR 60.485a(b)).
-use Rattle.std.specs.Prelude.{◌≡◌, ℕ, ◌+◌, Bool, true, false, not, nat_eq, if◌then◌else◌, Option, Some, None, List, filter, find}
+use Rattle.std.specs.Prelude.{◌≡◌, ℕ, ◌+◌, Bool, true, false, not, nat_eq, if◌then◌else◌, Option, Some, None, List, [], ◌∷◌, ◌++◌, filter, find}
 use Rattle.fact_kinds.specs.declared.body.FactBody.{FactBody}
 use Rattle.fact_kinds.specs.declared.body.FactBody.TheVariants.{Calibration, Precision, Drift}
 use Rattle.fact_kinds.specs.declared.key.Key.{Key}
@@ -55,3 +55,7 @@ refusal_apart calibrations tests limit key instrument =
     else if not (is_calibrated_within calibrations key instrument (limit + GAS_MARGIN)) then Some GasTooHigh
     else if not (is_tested tests key instrument) then Some NoPrecision
     else None
+
+-- a list with one fact more behind it, where its body passes a test
+abbrev pub added : (FactBody → Bool) → Entry → List Entry → List Entry
+added test e es = es ++ (if test e.1.body then e ∷ [] else [])

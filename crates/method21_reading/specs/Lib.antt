@@ -1,4 +1,3 @@
 pub mod Instruments
-pub mod Parts
 pub mod Readings
-pub mod Walks
+pub mod Standings

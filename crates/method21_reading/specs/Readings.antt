@@ -1,5 +1,5 @@
 -- What the bodies on readings speak of: the next calibration, the fitness and the events of a part of the facts.
-use Rattle.std.specs.Prelude.{◌≡◌, ℕ, Bool, false, not, ◌&&◌, ◌||◌, [], nat_eq, nat_lt, if◌then◌else◌, Option, Some, None, List, filter_map}
+use Rattle.std.specs.Prelude.{◌≡◌, ℕ, Bool, false, not, ◌&&◌, nat_eq, nat_lt, if◌then◌else◌, Option, Some, None, List, filter_map}
 use Rattle.fact_kinds.specs.declared.body.FactBody.{FactBody}
 use Rattle.fact_kinds.specs.declared.body.FactBody.TheVariants.{Reading}
 use Rattle.fact_kinds.specs.declared.body.VisualState.{VisualState}
@@ -16,7 +16,6 @@ use Rattle.ldar_law.specs.declared.fitness.Fitness.TheVariants.{NoCalibration}
 use Rattle.ldar_law.specs.Events.{drips_in, designated_in, is_drip_leak, events_in, fitness_in}
 use Rattle.ldar_law.specs.Fitness.{fitness_of, is_calibration, is_drift_past}
 use Rattle.ldar_law.specs.Slices.{facts_of_component, facts_of_instrument}
-use Rattle.ldar_law.specs.Standing.{is_under_valve_rules, is_under_pump_rules, is_under_heavy_liquid_rules}
 
 -- the fitness of a reading with this key by a leak definition, among facts in key order; what is no reading has no calibration
 abbrev pub fitness_by : ℕ → List Entry → Key → FactBody → Fitness
@@ -61,11 +60,6 @@ AreEventsAmongAll item classes facts fitness events =
     → fitness ≡ filter_map (fitness_in item classes all) facts
     → events ≡ events_in item classes all
 
--- readings of the component can be leaks (40 CFR 60.482-2a(b)(1), 60.482-7a(b), 60.482-8a(b))
-abbrev pub reading_can_leak : Equipment → ℕ → Bool
-reading_can_leak item day =
-    is_under_valve_rules item [] day || is_under_pump_rules item [] day || is_under_heavy_liquid_rules item [] day
-
 -- a visual inspection of the day, judged
-abbrev pub look_on : Equipment → ℕ → VisualState → Happening
-look_on item day state = Look (drips_in state) (designated_in state) (is_drip_leak item [] day state)
+abbrev pub look_on : Equipment → List (Key × Class) → ℕ → VisualState → Happening
+look_on item classes day state = Look (drips_in state) (designated_in state) (is_drip_leak item classes day state)

@@ -1,13 +1,16 @@
-ghost use Rattle.std.specs.Prelude.{◌≡◌, ◌≤◌, ◌++◌, length, OnOk, IfOk};
+ghost use Rattle.std.specs.Prelude.{◌≡◌, ◌++◌, List, OnOk, IfOk};
 ghost use Rattle.std.specs.Option.{option_to_list};
 ghost use Rattle.list_words.specs.Order.{Ascends};
+ghost use Rattle.fact_kinds.specs.declared.class.Class.{Class as SomeClass};
+ghost use Rattle.fact_kinds.specs.declared.key.Key.{Key as SomeKey};
 ghost use Rattle.fact_kinds.specs.Facts.{is_earlier};
 ghost use Rattle.ldar_law.specs.Events as law;
 ghost use Rattle.method21_reading.specs.Readings.{AreEventsAmongAll};
-ghost use Rattle.method21_reading.specs.Walks.{IsBehind};
+ghost use Rattle.method21_reading.specs.Standings.{rules_on};
 
-use crate::class_walk::{place_on, standing_at};
 use crate::happening::happening;
+use crate::rules::Rules;
+use crate::standing::Standing;
 use fact_kinds::{Class, Fact, FactBody, Key, Memory};
 use ldar_law::{Equipment, Event, Fitness, Happening};
 use std::alloc::Global;
@@ -28,14 +31,13 @@ pub fn events_of(
 {
     let mut events = Vec::with_capacity(alloc, facts.len())?;
     let mut left = fitness;
-    let mut place = 0;
+    let mut standing = Standing::on(equipment, classes, equipment.begin);
     for e in facts {
-        place = place_on(classes, place, e.0.day);
+        standing = standing.moved_to(equipment, classes, e.0.day);
         push_event(
             &mut events,
             equipment,
-            classes,
-            place,
+            &standing.rules,
             e,
             &next_fitness(left),
         )?;
@@ -55,45 +57,38 @@ pub fn event_of(
     requires ordered { Ascends (λ a b. is_earlier a.0 b.0) classes.now }
     ensures value { result ≡ law.event_of equipment.now classes.now e.now fitness.now }
 {
-    let place = place_on(classes, 0, e.0.day);
-    match judged(equipment, classes, place, e, fitness) {
+    let standing = Standing::on(equipment, classes, e.0.day);
+    match judged(equipment, &standing.rules, e, fitness) {
         Some(what) => Some(Event { key: e.0, what }),
         None => None,
     }
 }
 
-/// What a fact of the component is, judged on its own day by the place behind the classes entered by then; a reading by
-/// its fitness.
+/// What a fact of the component is, by what the rule makes of the component on its day; a reading by its fitness.
 fn judged(
     equipment: &Equipment,
-    classes: &[(Key, Class)],
-    place: usize,
+    rules: &Rules,
     e: &(Key, Fact),
     fitness: &Fitness,
 ) -> Option<Happening>
-    requires within { place ≤ length classes.now }
-    requires behind { IsBehind e.now.0.day classes.now place }
-    ensures value { result ≡ law.happening equipment.now classes.now e.now.0.day fitness.now e.now.1.body }
+    ensures value { (classes : List (SomeKey × SomeClass)) → rules.now ≡ rules_on equipment.now classes e.now.0.day
+        → result ≡ law.happening equipment.now classes e.now.0.day fitness.now e.now.1.body }
 {
-    let day = e.0.day;
-    let item = standing_at(equipment, classes, place, day);
-    happening(&item, day, fitness, &e.1.body)
+    happening(equipment, rules, e.0.day, fitness, &e.1.body)
 }
 
 /// Adds what a fact of the component is as an event, if it is one.
 fn push_event(
     events: &mut Vec<Event>,
     equipment: &Equipment,
-    classes: &[(Key, Class)],
-    place: usize,
+    rules: &Rules,
     e: &(Key, Fact),
     fitness: &Fitness,
 ) -> Result<(), Memory>
-    requires within { place ≤ length classes.now }
-    requires behind { IsBehind e.now.0.day classes.now place }
-    ensures taken { OnOk result (events.new.items ≡ events.old.items ++ option_to_list (law.event_of equipment.now classes.now e.now fitness.now)) }
+    ensures taken { OnOk result ((classes : List (SomeKey × SomeClass)) → rules.now ≡ rules_on equipment.now classes e.now.0.day
+        → events.new.items ≡ events.old.items ++ option_to_list (law.event_of equipment.now classes e.now fitness.now)) }
 {
-    if let Some(what) = judged(equipment, classes, place, e, fitness) {
+    if let Some(what) = judged(equipment, rules, e, fitness) {
         events.push(Event { key: e.0, what })?;
     }
     Ok(())

@@ -10,7 +10,7 @@ ghost use Rattle.method21_reading.specs.Readings.{fitness_by, IsFitnessAmongAll}
 use crate::day::facts_on;
 use crate::drift::voiding_drift;
 use crate::fitness::refused;
-use crate::part::{Part, part_of};
+use crate::part::keep_apart;
 use fact_kinds::{Fact, FactBody, Key, Memory};
 use ldar_days::Day;
 use ldar_law::Fitness;
@@ -46,10 +46,17 @@ impl Instrument {
         requires ordered { Ascends goes_first facts.now }
         ensures value { IfOk result (AreThoseOf facts.now) }
     {
+        // Most of them are calibrations.
+        let mut calibrations = Vec::with_capacity(alloc, facts.len())?;
+        let mut tests = Vec::new(alloc);
+        let mut drifts = Vec::new(alloc);
+        for e in facts {
+            keep_apart(&mut calibrations, &mut tests, &mut drifts, e)?;
+        }
         Ok(Instrument {
-            calibrations: part_of(alloc, facts, Part::Calibrations)?,
-            tests: part_of(alloc, facts, Part::PassedTests)?,
-            drifts: part_of(alloc, facts, Part::FailedDrifts)?,
+            calibrations,
+            tests,
+            drifts,
         })
     }
 
@@ -91,6 +98,10 @@ impl Instrument {
             return Fitness::Fit;
         }
         let drifts = self.drifts_on(key.day);
+        // On most days none is failed: no calibration after the reading is looked for.
+        if drifts.is_empty() {
+            return Fitness::Fit;
+        }
         match voiding_drift(calibrations, drifts, key, instrument, limit, ppm) {
             Some(drift) => Fitness::Voided { drift },
             None => Fitness::Fit,

@@ -2,7 +2,6 @@
 #![tactic(auto)]
 
 mod calibration;
-mod class_walk;
 mod day;
 mod drift;
 mod events;
@@ -11,6 +10,8 @@ mod happening;
 mod instrument;
 mod part;
 mod precision;
+mod rules;
+mod standing;
 
 pub use events::{event_of, events_of};
 pub use fitness::fit;

@@ -18,7 +18,7 @@ use Rattle.ldar_law.specs.declared.event.Event.{Event}
 use Rattle.ldar_law.specs.Duties as law
 use Rattle.ldar_law.specs.Force.{class_on, is_in_service}
 use Rattle.ldar_law.specs.Happenings.{has_undesignated_drips, is_release, has_evidence}
-use Rattle.ldar_law.specs.Kinds.{is_pump, is_compressor}
+use Rattle.ldar_law.specs.Kinds.{is_valve, is_pump, is_compressor}
 use Rattle.ldar_law.specs.Limits.{regime_of}
 use Rattle.ldar_law.specs.Months.{is_quarterly, month_in_quarter}
 use Rattle.ldar_law.specs.Standing.{are_pump_rules, are_relief_rules, are_heavy_liquid_rules, is_unsafe_designated, is_under_valve_rules, is_under_pump_rules, is_under_relief_rules, is_under_heavy_liquid_rules, is_plain, is_unsafe}
@@ -28,6 +28,7 @@ use Rattle.monitor_calendar.specs.Following.{after_event}
 use Rattle.monitor_calendar.specs.declared.after_event.After.{After}
 use Rattle.monitor_calendar.specs.declared.after_event.After.TheVariants.{Drips, Release, Evidence}
 use Rattle.monitor_calendar.specs.declared.asked.Asked.{Asked}
+use Rattle.monitor_calendar.proofs.Judging.{no_valve_rules}
 use Rattle.monitor_calendar.proofs.Listing.{unowed}
 
 -- ---- what gives nothing
@@ -150,6 +151,11 @@ second_fails a b c d e none = and_left (a && b && c && d) e (and_left (a && b &&
 fourth_fails : (a b c d e f : Bool) → d ≡ false → (a && b && c && d && e && f) ≡ false
 fourth_fails a b c d e f none = and_left (a && b && c && d && e) f (and_left (a && b && c && d) e (and_right (a && b && c) d none))
 
+-- .. or the third
+third_fails : (a b c d e f : Bool) → c ≡ false → (a && b && c && d && e && f) ≡ false
+third_fails a b c d e f none =
+    and_left (a && b && c && d && e) f (and_left (a && b && c && d) e (and_left (a && b && c) d (and_right (a && b) c none)))
+
 module _ (asked : Asked) where
   -- a month that is no quarterly one has no quarterly duty
   pub not_quarterly : (month : ℕ) → is_quarterly asked.startup asked.events.now month ≡ false → causes.quarterly asked month ≡ None
@@ -162,6 +168,18 @@ module _ (asked : Asked) where
       (fourth_fails (is_in_service item day) (is_plain item classes day) (is_under_valve_rules item classes day)
       (is_quarterly asked.startup asked.events.now month) (nat_eq (class_on item classes day).month (month_in_quarter asked.startup month))
       (not (causes.is_month_skipped asked month)) none)
+
+  -- what is no valve has no quarterly duty
+  pub never_quarterly : is_valve asked.item.now.kind ≡ false → (month : ℕ) → causes.quarterly asked month ≡ None
+  unfolding law.quarterly
+  never_quarterly none month =
+      let item = asked.item.now in
+      let classes = asked.classes.now in
+      let day = min (last_day month) asked.day in
+      unowed item classes asked.startup asked.events.now asked.skipped.now asked.day 3 _ _ _ _
+      (third_fails (is_in_service item day) (is_plain item classes day) (is_under_valve_rules item classes day)
+      (is_quarterly asked.startup asked.events.now month) (nat_eq (class_on item classes day).month (month_in_quarter asked.startup month))
+      (not (causes.is_month_skipped asked month)) (no_valve_rules item.kind (class_on item classes day).service none))
 
   -- what is never unsafe has no duty by a plan
   pub never_planned : has_unsafe_class asked.item.now asked.classes.now ≡ false → (month : ℕ) → causes.planned asked month ≡ None

@@ -27,7 +27,7 @@ use Rattle.monitor_calendar.specs.declared.after_event.After.{After}
 use Rattle.monitor_calendar.specs.declared.after_event.After.TheVariants.{Drips, Release, Evidence}
 use Rattle.monitor_calendar.specs.declared.asked.Asked.{Asked}
 use Rattle.monitor_calendar.specs.declared.drips.PastDrips.{PastDrips}
-use Rattle.monitor_calendar.proofs.Listing.{no_drip, no_release, no_evidence}
+use Rattle.monitor_calendar.proofs.Listing.{no_drip, no_release, no_evidence, unowed}
 
 -- ---- the first that meets
 
@@ -142,12 +142,27 @@ module _ (asked : Asked) where
 
   -- the duty that the next place gives is the one of the cause
   pub after_by_is : (after : After) (past : PastDrips) (place next : ℕ) (e : Event) → Ascends (λ a b. is_earlier a.key b.key) asked.events.now →
-      TellsFor after past (take place asked.events.now) → IsNext after asked.events.now (place + 1) next →
+      TellsFor after past (take place asked.events.now) → (is_asked_by asked after past.repeat e ≡ true → IsNext after asked.events.now (place + 1) next) →
       after_by asked after past.repeat e next ≡ after_event asked after (take place asked.events.now) e (drop (place + 1) asked.events.now)
   after_by_is after past place next e up tells is =
       let events = asked.events.now in
-      sym (in_one_form after (take place events) e (drop (place + 1) events)
-      ∙ rw (← (asked_alike after past (take place events) e tells), found_next after events (place + 1) next (end_by (e.key.day + 5)) e up is) refl)
+      let due = end_by (e.key.day + 5) in
+      let form : one_form after (take place events) e (drop (place + 1) events)
+      ≡ causes.duty asked (cause_of after) e.key.day due (is_asked_by asked after past.repeat e)
+      (find (λ x. meets after x.what && nat_le x.key.day due) (drop (place + 1) events)) = rw (← (asked_alike after past (take place events) e tells)) refl in
+      elim (cases_Bool (is_asked_by asked after past.repeat e)) [
+        | inl asks ↦ sym (in_one_form after (take place events) e (drop (place + 1) events) ∙ form
+            ∙ ap (causes.duty asked (cause_of after) e.key.day due (is_asked_by asked after past.repeat e))
+            (found_next after events (place + 1) next due e up (is asks)))
+        | inr none ↦
+            let no_duty : (met : Option Event) →
+            causes.duty asked (cause_of after) e.key.day due (is_asked_by asked after past.repeat e) met ≡ None =
+            λ met. unowed asked.item.now asked.classes.now asked.startup asked.events.now asked.skipped.now asked.day (cause_of after) e.key.day due
+            (is_asked_by asked after past.repeat e) met none in
+            no_duty (event_by events next due)
+            ∙ sym (in_one_form after (take place events) e (drop (place + 1) events) ∙ form
+            ∙ no_duty (find (λ x. meets after x.what && nat_le x.key.day due) (drop (place + 1) events)))
+      ]
 
 -- ---- events that give nothing
 
@@ -190,7 +205,8 @@ module _ (asked : Asked) (after : After) where
   -- an event more
   pub one_event_on : (past : PastDrips) (place next : ℕ) (e : Event) (done : List Duty) (given : Option Duty) →
       Ascends (λ a b. is_earlier a.key b.key) asked.events.now → place < length asked.events.now → get_or asked.events.now place e ≡ e →
-      TellsFor after past (take place asked.events.now) → IsNext after asked.events.now (place + 1) next → given ≡ after_by asked after past.repeat e next →
+      TellsFor after past (take place asked.events.now) → (is_asked_by asked after past.repeat e ≡ true → IsNext after asked.events.now (place + 1) next) →
+      given ≡ after_by asked after past.repeat e next →
       (done ++ option_to_list given) ++ each_from (after_event asked after) (take (place + 1) asked.events.now) (drop (place + 1) asked.events.now)
       ≡ done ++ each_from (after_event asked after) (take place asked.events.now) (drop place asked.events.now)
   one_event_on past place next e done given up within stands tells is by =

@@ -1,11 +1,17 @@
 -- What is owed, by what the component is on the day on which it is judged.
-use Rattle.std.proofs.Common.{◌≡◌, ℕ, ◌+◌, ◌-◌, ◌*◌, ◌%◌, ◌<◌, ◌≤◌, Bool, true, ◌&&◌, ◌||◌, nat_lt, nat_eq, min, refl, inl, inr, mod-eq_of_lt, arith}
-use Rattle.std.proofs.lemmas.Bool.{and_parts, eqb-true, cases_lt}
+use Rattle.std.proofs.Common.{◌≡◌, ℕ, ◌+◌, ◌-◌, ◌*◌, ◌%◌, ◌<◌, ◌≤◌, Bool, true, false, not, ◌&&◌, ◌||◌, nat_lt, nat_eq, min, refl, sym, ap, ◌∙◌, inl, inr, mod-eq_of_lt, arith}
+use Rattle.std.proofs.lemmas.Bool.{cases_Bool, and_parts, eqb-true, cases_lt}
 use Rattle.ldar_days.specs.Calendar.{first_day, last_day, end_by, month_of, week_first, week_last}
+use Rattle.fact_kinds.specs.declared.class.Kind.{Kind}
+use Rattle.fact_kinds.specs.declared.class.Kind.TheVariants.{Valve, Pump, Compressor, Relief}
+use Rattle.fact_kinds.specs.declared.class.Service.{Service}
+use Rattle.fact_kinds.specs.declared.class.Service.TheVariants.{Gas, Light, Heavy, Vacuum, Under300}
 use Rattle.ldar_law.specs.Duties as law
 use Rattle.ldar_law.specs.Force.{class_on, regime_on, is_in_service}
+use Rattle.ldar_law.specs.Kinds.{is_valve}
+use Rattle.ldar_law.specs.Limits.{regime_of}
 use Rattle.ldar_law.specs.Months.{is_quarterly}
-use Rattle.ldar_law.specs.Standing.{are_valve_rules, are_pump_rules, is_unsafe_designated}
+use Rattle.ldar_law.specs.Standing.{are_valve_rules, are_pump_rules, is_none_designated, is_unsafe_designated}
 use Rattle.monitor_calendar.specs.Causes as causes
 use Rattle.monitor_calendar.specs.declared.asked.Asked.{Asked}
 use Rattle.monitor_calendar.specs.declared.asked.Judged.{Judged}
@@ -17,6 +23,31 @@ one_window n p some whole =
       | inl short ↦ let small : n % p ≡ n = mod-eq_of_lt short in absurd (omega (arith, small))
       | inr long ↦ long
     ]
+
+-- only a valve is under the rules for valves
+pub no_valve_rules : (kind : Kind) (service : Service) → is_valve kind ≡ false → are_valve_rules (regime_of kind service) ≡ false
+no_valve_rules Valve service e = cc
+no_valve_rules Pump Gas e = refl
+no_valve_rules Pump Light e = refl
+no_valve_rules Pump Heavy e = refl
+no_valve_rules Pump Vacuum e = refl
+no_valve_rules Pump Under300 e = refl
+no_valve_rules Compressor Gas e = refl
+no_valve_rules Compressor Light e = refl
+no_valve_rules Compressor Heavy e = refl
+no_valve_rules Compressor Vacuum e = refl
+no_valve_rules Compressor Under300 e = refl
+no_valve_rules Relief Gas e = refl
+no_valve_rules Relief Light e = refl
+no_valve_rules Relief Heavy e = refl
+no_valve_rules Relief Vacuum e = refl
+no_valve_rules Relief Under300 e = refl
+
+-- what is under no rules for valves is owed in each month alike
+either_month : (judged : Judged) (a b : Bool) → are_valve_rules judged.regime ≡ false → causes.is_monthly_judged judged a ≡ causes.is_monthly_judged judged b
+either_month judged a b none =
+    ap (λ v. judged.serves && is_none_designated judged.class.designation && (are_pump_rules judged.regime || (v && not a))) none
+    ∙ sym (ap (λ v. judged.serves && is_none_designated judged.class.designation && (are_pump_rules judged.regime || (v && not b))) none)
 
 module _ (asked : Asked) where
   -- the judged component is that of a day
@@ -39,12 +70,32 @@ module _ (asked : Asked) where
       )
 
   -- the monthly duty, by what is judged
-  pub monthly_by : (judged : Judged) (month first due : ℕ) (quarterly : Bool) → first ≡ first_day month → due ≡ last_day month → quarterly
-      ≡ is_quarterly asked.startup asked.events.now month →
+  monthly_exact : (judged : Judged) (month first due : ℕ) → first ≡ first_day month → due ≡ last_day month → IsOf judged (min due asked.day) →
+      causes.monthly asked month
+      ≡ causes.duty asked 2 first due (causes.is_monthly_judged judged (is_quarterly asked.startup asked.events.now month))
+      (law.routine_in asked.events.now first due)
+  unfolding law.monthly
+  monthly_exact judged month first due from to is = rw (is.serves, is.regime, is.class, from, to) refl
+
+  -- .. of which a month that is a quarterly one or not is asked of a valve alone
+  monthly_alike : (judged : Judged) (month due : ℕ) (quarterly : Bool) → IsOf judged (min due asked.day) →
+      (is_valve asked.item.now.kind ≡ true → quarterly ≡ is_quarterly asked.startup asked.events.now month) →
+      causes.is_monthly_judged judged (is_quarterly asked.startup asked.events.now month) ≡ causes.is_monthly_judged judged quarterly
+  monthly_alike judged month due quarterly is says =
+      elim (cases_Bool (is_valve asked.item.now.kind)) [
+        | inl valve ↦ ap (causes.is_monthly_judged judged) (sym (says valve))
+        | inr other ↦
+            either_month judged (is_quarterly asked.startup asked.events.now month) quarterly
+            (ap are_valve_rules is.regime ∙ no_valve_rules asked.item.now.kind (class_on asked.item.now asked.classes.now (min due asked.day)).service other)
+      ]
+
+  pub monthly_by : (judged : Judged) (month first due : ℕ) (quarterly : Bool) → first ≡ first_day month → due ≡ last_day month →
+      (is_valve asked.item.now.kind ≡ true → quarterly ≡ is_quarterly asked.startup asked.events.now month) →
       IsOf judged (min due asked.day) →
       causes.monthly asked month ≡ causes.duty asked 2 first due (causes.is_monthly_judged judged quarterly) (law.routine_in asked.events.now first due)
-  unfolding law.monthly
-  monthly_by judged month first due quarterly from to same is = rw (is.serves, is.regime, is.class, same, from, to) refl
+  monthly_by judged month first due quarterly from to says is =
+      monthly_exact judged month first due from to is
+      ∙ ap (λ owed. causes.duty asked 2 first due owed (law.routine_in asked.events.now first due)) (monthly_alike judged month due quarterly is says)
 
   -- the quarterly one
   pub quarterly_by : (judged : Judged) (month first due : ℕ) (quarterly : Bool) → first ≡ first_day month → due ≡ last_day month → quarterly

@@ -1,6 +1,6 @@
 -- What the events of past months tell, with one event more.
-use Rattle.std.proofs.Common.{◌≡◌, ◌⊎◌, ℕ, ◌+◌, ◌-◌, ◌<◌, ◌≤◌, Bool, true, false, ◌&&◌, ◌||◌, nat_eq, nat_le, Option, Some, None, IfSome, List, [], ◌∷◌, ◌++◌}
-use Rattle.std.proofs.Common.{refl, sym, ap, ◌∙◌, inl, inr, arith}
+use Rattle.std.proofs.Common.{◌≡◌, ◌⊎◌, ℕ, ◌+◌, ◌-◌, ◌<◌, ◌≤◌, Bool, true, false, ◌&&◌, ◌||◌, nat_eq, nat_le, Option, Some, None, is_some, IfSome, List, [], ◌∷◌, ◌++◌}
+use Rattle.std.proofs.Common.{refl, sym, ap, subst, ◌∙◌, inl, inr, arith}
 use Rattle.std.specs.List.{AllByRecursion, list_any}
 use Rattle.std.proofs.lemmas.Bool.{cases_Bool, cases_lt, cases_eq, false≢true, and_parts, and_from, and_right, or_cases, or_parts, or_from, or_left, or_right}
 use Rattle.std.proofs.lemmas.Bool.{leb-true, leb-false, le-leb, lt-leb, eqb-true, eq-eqb}
@@ -70,6 +70,21 @@ if_some : {X : Type 0} (P Q : X → Type 0) (o : Option X) → ((x : X) → P x 
 if_some P Q None implies h = h
 if_some P Q (Some x) implies h = implies x h
 
+-- two months in a row that there are, with a month more
+keeps : (o : Option ℕ) (below month : ℕ) → is_some o ≡ true → pair_from o below month ≡ o
+keeps None below month e = absurd (false≢true e)
+keeps (Some p) below month e = refl
+
+-- .. and where there are none with it, there were none
+no_pair : (o : Option ℕ) (below month : ℕ) → pair_from o below month ≡ None → o ≡ None
+no_pair None below month e = refl
+no_pair (Some p) below month e = e
+
+-- there are none, or there are some
+not_both : (o : Option ℕ) → is_some o ≡ true → o ≡ None → (a b : Bool) → a ≡ b
+not_both None e none a b = absurd (false≢true e)
+not_both (Some p) e none a b = cc
+
 -- no events tell nothing
 pub told_nothing : Tells (record { leak = 0; below = 0; pair = None }) 0 []
 told_nothing = record {
@@ -77,7 +92,7 @@ told_nothing = record {
   leak_by = omega arith;
   below_by = omega arith;
   leak = λ low pos. sym (lt-leb low 0 pos);
-  below = λ low pos. sym (lt-leb low 0 pos);
+  below = λ low pos none. sym (lt-leb low 0 pos);
   since = λ h. absurd (omega (arith, h));
   first = λ k pos here next. absurd (false≢true here);
   pair = tt;
@@ -108,10 +123,10 @@ module _ (past : PastMonths) (last : ℕ) (front : List Event) (e : Event) (tell
       ∙ ap (λ b. b || (is_leak e.what && nat_le low month)) (tells.leak low pos)
 
   -- readings below from a month on, with it
-  reads_more : (low : ℕ) → past.leak < low → reads_from more low ≡ (nat_le low past.below || (is_routine_below e.what && nat_le low month))
-  reads_more low lt =
+  reads_more : (low : ℕ) → past.leak < low → past.pair ≡ None → reads_from more low ≡ (nat_le low past.below || (is_routine_below e.what && nat_le low month))
+  reads_more low lt none =
       one_more (λ x. is_routine_below x.what && nat_le low (month_of x.key.day)) front e
-      ∙ ap (λ b. b || (is_routine_below e.what && nat_le low month)) (tells.below low lt)
+      ∙ ap (λ b. b || (is_routine_below e.what && nat_le low month)) (tells.below low lt none)
 
   -- readings below in a month, with it
   read_more : (k : ℕ) → reads_in more k ≡ (reads_in front k || (is_routine_below e.what && nat_eq month k))
@@ -144,7 +159,7 @@ module _ (past : PastMonths) (last : ℕ) (front : List Event) (e : Event) (tell
     leak_by = omega arith;
     below_by = omega arith;
     leak = λ low pos. leaks_more low pos ∙ rw leaks (or_le past.leak month low (omega (arith, tells.leak_by, le)));
-    below = λ low lt. none_later (λ x. is_routine_below x.what) more month low up_to lt ∙ sym (lt-leb low 0 (omega (arith, lt)));
+    below = λ low lt none. none_later (λ x. is_routine_below x.what) more month low up_to lt ∙ sym (lt-leb low 0 (omega (arith, lt)));
     since = λ h. absurd (omega (arith, h));
     first = λ k lt here next. absurd (omega (arith, lt, by_month k here));
     pair = tt;
@@ -177,7 +192,7 @@ module _ (past : PastMonths) (last : ℕ) (front : List Event) (e : Event) (tell
     leak_by = omega (arith, tells.leak_by, le);
     below_by = omega (arith, tells.below_by, le);
     leak = λ low pos. leaks_more low pos ∙ rw sound (or_false (nat_le low past.leak));
-    below = λ low lt. reads_more low lt ∙ rw (nothing_below low lt none) (or_false (nat_le low past.below));
+    below = λ low lt unpaired. reads_more low lt unpaired ∙ rw (nothing_below low lt none) (or_false (nat_le low past.below));
     since = tells.since;
     first = λ k lt here next. tells.first k lt (nothing_read k lt none here) (nothing_read (k + 1) (omega (arith, lt)) none next);
     pair =
@@ -187,26 +202,52 @@ module _ (past : PastMonths) (last : ℕ) (front : List Event) (e : Event) (tell
   }
 
   -- the last month that was read is read
-  read_last : (k : ℕ) → past.leak < k → k ≡ past.below → reads_in front k ≡ true
-  read_last k lt e =
+  read_last : (k : ℕ) → past.pair ≡ None → past.leak < k → k ≡ past.below → reads_in front k ≡ true
+  read_last k none lt e =
       read_exactly front k
-      (tells.below k lt ∙ le-leb k past.below (omega (arith, e)))
-      (tells.below (k + 1) (omega (arith, lt)) ∙ lt-leb (k + 1) past.below (omega (arith, e)))
+      (tells.below k lt none ∙ le-leb k past.below (omega (arith, e)))
+      (tells.below (k + 1) (omega (arith, lt)) none ∙ lt-leb (k + 1) past.below (omega (arith, e)))
 
   -- the first two months, with a reading below in a month after the last leak
-  first_with : (o : Option ℕ) → past.leak < month
+  first_with : (o : Option ℕ) → past.pair ≡ o → past.leak < month
       → ((k : ℕ) → past.leak < k → reads_in front k ≡ true → reads_in front (k + 1) ≡ true → IsBy o k)
       → IfSome o (λ k. (past.leak < k) × (reads_in front k ≡ true) × (reads_in front (k + 1) ≡ true))
       → (k : ℕ) → past.leak < k → reads_in front k ≡ true → month ≡ k + 1 → IsBy (pair_from o past.below month) k
-  first_with (Some p) after old holds k lt here at = omega (arith, at, by_last (p + 1) holds.2, le)
-  first_with None after old holds k lt here at =
-      let from : nat_le k past.below ≡ true = sym (tells.below k lt) ∙ read_from front k here in
+  first_with (Some p) same after old holds k lt here at = omega (arith, at, by_last (p + 1) holds.2, le)
+  first_with None none after old holds k lt here at =
+      let from : nat_le k past.below ≡ true = sym (tells.below k lt none) ∙ read_from front k here in
       let low : k ≤ past.below = leb-true k past.below from in
       let high : past.below ≤ k + 1 = omega (arith, tells.below_by, le, at) in
       elim (cases_eq past.below k) [
         | inl same ↦ rw (eq-eqb (month - 1) past.below (omega (arith, same, at))) (omega (arith, same))
-        | inr other ↦ absurd (old k lt here (read_last (k + 1) (omega (arith, lt)) (omega (arith, low, high, other))))
+        | inr other ↦ absurd (old k lt here (read_last (k + 1) none (omega (arith, lt)) (omega (arith, low, high, other))))
       ]
+
+  -- .. and two that are there stay whatever follows, until a leak
+  pub told_paired : is_some past.pair ≡ true → is_leak e.what ≡ false → Tells past month more
+  told_paired paired sound = record {
+    up_to = up_to;
+    leak_by = omega (arith, tells.leak_by, le);
+    below_by = omega (arith, tells.below_by, le);
+    leak = λ low pos. leaks_more low pos ∙ rw sound (or_false (nat_le low past.leak));
+    below = λ low lt none. not_both past.pair paired none (reads_from more low) (nat_le low past.below);
+    since = tells.since;
+    first = λ k lt here next.
+        elim (or_cases (reads_in front k) (is_routine_below e.what && nat_eq month k) (sym (read_more k) ∙ here)) [
+          | inl was ↦ elim (or_cases (reads_in front (k + 1)) (is_routine_below e.what && nat_eq month (k + 1)) (sym (read_more (k + 1)) ∙ next)) [
+            | inl also ↦ tells.first k lt was also
+            | inr is ↦
+                let at : month ≡ k + 1 = eqb-true month (k + 1) (and_parts (is_routine_below e.what) (nat_eq month (k + 1)) is).1 in
+                subst (λ o. IsBy o k) (keeps past.pair past.below month paired)
+                (first_with past.pair refl (omega (arith, lt, at)) tells.first tells.pair k lt was at)
+          ]
+          | inr is ↦ absurd (omega (arith, by_month (k + 1) next, eqb-true month k (and_parts (is_routine_below e.what) (nat_eq month k) is).1))
+        ];
+    pair =
+        if_some (λ k. (past.leak < k) × (reads_in front k ≡ true) × (reads_in front (k + 1) ≡ true))
+        (λ k. (past.leak < k) × (reads_in more k ≡ true) × (reads_in more (k + 1) ≡ true)) past.pair
+        (λ k h. (h.0, stays k h.1, stays (k + 1) h.2)) tells.pair;
+  }
 
   -- two months that are there stay
   old_pair : (o : Option ℕ) (k : ℕ) → IsBy o k → IsBy (pair_from o past.below month) k
@@ -214,11 +255,11 @@ module _ (past : PastMonths) (last : ℕ) (front : List Event) (e : Event) (tell
   old_pair None k by = absurd by
 
   -- the first two months hold what they say
-  pair_holds : (o : Option ℕ) → past.leak < month → is_routine_below e.what ≡ true
+  pair_holds : (o : Option ℕ) → past.pair ≡ o → past.leak < month → is_routine_below e.what ≡ true
       → IfSome o (λ k. (past.leak < k) × (reads_in front k ≡ true) × (reads_in front (k + 1) ≡ true))
       → IfSome (pair_from o past.below month) (λ k. (past.leak < k) × (reads_in more k ≡ true) × (reads_in more (k + 1) ≡ true))
-  pair_holds (Some p) after read holds = (holds.0, stays p holds.1, stays (p + 1) holds.2)
-  pair_holds None after read holds =
+  pair_holds (Some p) same after read holds = (holds.0, stays p holds.1, stays (p + 1) holds.2)
+  pair_holds None none after read holds =
       elim (cases_Bool (nat_eq (month - 1) past.below)) [
         | inl next ↦
             let at : month - 1 ≡ past.below = eqb-true (month - 1) past.below next in
@@ -226,7 +267,7 @@ module _ (past : PastMonths) (last : ℕ) (front : List Event) (e : Event) (tell
             let since : past.leak < past.below = tells.since (omega (arith, at, low)) in
             rw next (
               since,
-              stays past.below (read_last past.below since refl),
+              stays past.below (read_last past.below none since refl),
               read_more (past.below + 1) ∙ or_right (reads_in front (past.below + 1)) (is_routine_below e.what && nat_eq month (past.below + 1))
                   (and_from (is_routine_below e.what) (nat_eq month (past.below + 1)) read (eq-eqb month (past.below + 1) (omega (arith, at, low)))),
             )
@@ -241,16 +282,16 @@ module _ (past : PastMonths) (last : ℕ) (front : List Event) (e : Event) (tell
     leak_by = omega (arith, tells.leak_by, le);
     below_by = omega arith;
     leak = λ low pos. leaks_more low pos ∙ rw sound (or_false (nat_le low past.leak));
-    below = λ low lt. reads_more low lt ∙ rw read (or_le past.below month low (omega (arith, tells.below_by, le)));
+    below = λ low lt none. reads_more low lt (no_pair past.pair past.below month none) ∙ rw read (or_le past.below month low (omega (arith, tells.below_by, le)));
     since = λ h. after;
     first = λ k lt here next.
         elim (or_cases (reads_in front k) (is_routine_below e.what && nat_eq month k) (sym (read_more k) ∙ here)) [
           | inl was ↦ elim (or_cases (reads_in front (k + 1)) (is_routine_below e.what && nat_eq month (k + 1)) (sym (read_more (k + 1)) ∙ next)) [
             | inl also ↦ old_pair past.pair k (tells.first k lt was also)
-            | inr is ↦ first_with past.pair after tells.first tells.pair k lt was
+            | inr is ↦ first_with past.pair refl after tells.first tells.pair k lt was
                 (eqb-true month (k + 1) (and_parts (is_routine_below e.what) (nat_eq month (k + 1)) is).1)
           ]
           | inr is ↦ absurd (omega (arith, by_month (k + 1) next, eqb-true month k (and_parts (is_routine_below e.what) (nat_eq month k) is).1))
         ];
-    pair = pair_holds past.pair after read tells.pair;
+    pair = pair_holds past.pair refl after read tells.pair;
   }

@@ -1,12 +1,18 @@
 -- The events of a period, as halving finds them.
-use Rattle.std.proofs.Common.{◌≡◌, ℕ, zero, suc, ◌≤◌, Bool, true, false, not, ◌&&◌, cond, nat_le, nat_lt, ◌-◌, Option, Some, None, option_map, List, [], ◌∷◌}
-use Rattle.std.proofs.Common.{length, take, drop, filter, find, refl, ap, ◌∙◌, inl, inr, arith}
+use Rattle.std.proofs.Common.{◌≡◌, ℕ, zero, suc, ◌≤◌, ◌<◌, Bool, true, false, not, ◌&&◌, ◌||◌, cond, nat_le, nat_lt, ◌-◌, Option, Some, None, option_map, List, [], ◌∷◌}
+use Rattle.std.proofs.Common.{length, take, drop, filter, find, refl, sym, ap, ◌∙◌, inl, inr, arith}
 use Rattle.std.specs.List.Sorted.{IsPartitionPoint}
-use Rattle.std.proofs.lemmas.Bool.{cases_Bool}
+use Rattle.std.specs.List.{AllByRecursion}
+use Rattle.std.proofs.lemmas.Bool.{cases_Bool, cases_lt, le-leb, lt-leb, lt-ltb, le-ltb}
 use Rattle.std.proofs.lemmas.Bool.Decides.{nat_tests}
 use Rattle.std.proofs.lemmas.List.Elements.{filter_agree}
 use Rattle.std.proofs.lemmas.List.{take_all, length-drop}
+use Rattle.list_words.specs.Order.{Ascends}
+use Rattle.list_words.proofs.Members.{all_weaker}
+use Rattle.fact_kinds.specs.Facts.{is_earlier}
+use Rattle.fact_kinds.proofs.Cuts.{earlier_day}
 use Rattle.ldar_law.specs.declared.event.Event.{Event}
+use Rattle.monitor_calendar.specs.Following.{comes_by}
 
 -- in front of a point stands what passes, and behind it what fails
 pub sides_of_point : {X : Type 0} (p : X → Bool) (xs : List X) (n : ℕ) → IsPartitionPoint (λ y. p y ≡ true) (λ y. p y ≡ false) xs n → n ≤ length xs →
@@ -64,3 +70,45 @@ same_mapped (Some x) = refl
 -- the part of a list from a place to its end
 pub to_end : {X : Type 0} (xs : List X) (n : ℕ) → take (length xs - n) (drop n xs) ≡ drop n xs
 to_end xs n = take_all (length xs - n) (drop n xs) (omega (arith, length-drop n xs))
+
+-- ---- the first by a day
+
+-- an event comes by a day, or it does not
+comes : (e : Event) (last : ℕ) → nat_le e.key.day last ≡ true → comes_by (Some e) last ≡ Some e
+comes e last by = rw by refl
+
+comes_late : (e : Event) (last : ℕ) → nat_le e.key.day last ≡ false → comes_by (Some e) last ≡ None
+comes_late e last late = rw late refl
+
+-- of events that are all later none is left
+none_by_day : (last : ℕ) (events : List Event) → AllByRecursion (λ e. last < e.key.day) events → filter (λ e. nat_le e.key.day last) events ≡ []
+none_by_day last [] all = refl
+none_by_day last (e ∷ es) all = rw (lt-leb e.key.day last all.0) (none_by_day last es all.1)
+
+-- the first that passes or is later tells of the first that passes by the day
+pub first_by : (p : Event → Bool) (last : ℕ) (events : List Event) → Ascends (λ a b. is_earlier a.key b.key) events →
+    comes_by (find (λ e. nat_lt last e.key.day || p e) events) last ≡ find p (filter (λ e. nat_le e.key.day last) events)
+first_by p last [] up = refl
+first_by p last (e ∷ es) up =
+    let q : Event → Bool = λ x. nat_lt last x.key.day || p x in
+    let by : Event → Bool = λ x. nat_le x.key.day last in
+    elim (cases_lt last e.key.day) [
+      | inl late ↦
+          let found : find q (e ∷ es) ≡ Some e = rw (lt-ltb last e.key.day late) refl in
+          let others = none_by_day last es (all_weaker (λ y. is_earlier e.key y.key ≡ true) (λ y. last < y.key.day)
+          (λ y earlier. omega (arith, late, earlier_day e.key y.key earlier)) es up.0) in
+          let left : filter by (e ∷ es) ≡ [] = rw (lt-leb e.key.day last late) others in
+          ap (λ o. comes_by o last) found ∙ comes_late e last (lt-leb e.key.day last late) ∙ sym (ap (find p) left)
+      | inr soon ↦
+          let left : filter by (e ∷ es) ≡ e ∷ filter by es = rw (le-leb e.key.day last soon) refl in
+          elim (cases_Bool (p e)) [
+            | inl passes ↦
+                let found : find q (e ∷ es) ≡ Some e = rw (le-ltb last e.key.day soon, passes) refl in
+                let first : find p (e ∷ filter by es) ≡ Some e = rw passes refl in
+                ap (λ o. comes_by o last) found ∙ comes e last (le-leb e.key.day last soon) ∙ sym (ap (find p) left ∙ first)
+            | inr fails ↦
+                let over : find q (e ∷ es) ≡ find q es = rw (le-ltb last e.key.day soon, fails) refl in
+                let first : find p (e ∷ filter by es) ≡ find p (filter by es) = rw fails refl in
+                ap (λ o. comes_by o last) over ∙ first_by p last es up.1 ∙ sym (ap (find p) left ∙ first)
+          ]
+    ]

@@ -1,11 +1,13 @@
 -- Events in key order stand by their days, and so by their months.
-use Rattle.std.proofs.Common.{◌≡◌, ℕ, zero, suc, ◌+◌, ◌<◌, ◌≤◌, true, List, [], ◌∷◌, length, drop, get_or, arith}
+use Rattle.std.proofs.Common.{◌≡◌, ℕ, zero, suc, ◌+◌, ◌<◌, ◌≤◌, true, List, [], ◌∷◌, length, drop, get_or, inl, inr, arith}
 use Rattle.std.specs.List.{AllByRecursion}
 use Rattle.std.specs.List.Sorted.{IsNonDecreasingBy}
 use Rattle.std.proofs.lemmas.Bool.Decides.{nat_tests}
 use Rattle.list_words.specs.Order.{Ascends}
 use Rattle.list_words.proofs.Members.{all_weaker}
-use Rattle.ldar_days.specs.Calendar.{month_of}
+use Rattle.std.proofs.lemmas.Bool.{cases_lt}
+use Rattle.ldar_days.specs.Calendar.{IsDay, first_day, month_of}
+use Rattle.ldar_days.proofs.Months.{first_day-le, first_day-lt, month_length_bounds, month_of-is}
 use Rattle.fact_kinds.specs.Facts.{is_earlier}
 use Rattle.fact_kinds.proofs.Cuts.{earlier_day}
 use Rattle.ldar_law.specs.declared.event.Event.{Event}
@@ -34,6 +36,22 @@ month_rises a b le = grind (arith, nat_tests)
 pub month_low : (n : ℕ) → 23_640 ≤ month_of n
 unfolding month_of
 month_low n = grind (arith, nat_tests)
+
+-- the day is of a month before one where it lies before its first day, and of no such month from there on
+pub before_first : (month day : ℕ) → IsDay day → 23_640 ≤ month → day < first_day month → month_of day < month
+before_first month day is low lt =
+    elim (cases_lt (month_of day) month) [
+      | inl before ↦ before
+      | inr late ↦ absurd (omega (arith, lt, (month_of-is day is).0, (first_day-le month (month_of day) low late).0))
+    ]
+
+pub from_first : (month day : ℕ) → IsDay day → first_day month ≤ day → month ≤ month_of day
+from_first month day is le =
+    elim (cases_lt (month_of day) month) [
+      | inl before ↦ absurd (omega
+          (arith, le, (month_of-is day is).1, month_length_bounds (month_of day), first_day-lt (month_of day) month (month_low day) before))
+      | inr late ↦ late
+    ]
 
 -- 366 days lie in fifteen months
 pub months_listed : (a b : ℕ) → b ≤ a + 366 → month_of b ≤ month_of a + 14

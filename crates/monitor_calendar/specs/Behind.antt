@@ -25,13 +25,13 @@ abbrev pub IsBy : Option ℕ → ℕ → Type 0
 IsBy None high = ⊥
 IsBy (Some n) high = n ≤ high
 
--- what events of months up to the last tell
+-- what events of months up to the last tell; once two months in a row are known, no later reading is told
 pub record Tells (past : PastMonths) (last : ℕ) (events : List Event) : Type 0 where
   pub up_to : AllByRecursion (λ e. month_of e.key.day ≤ last) events
   pub leak_by : past.leak ≤ last
   pub below_by : past.below ≤ last
   pub leak : (low : ℕ) → 0 < low → leaks_from events low ≡ nat_le low past.leak
-  pub below : (low : ℕ) → past.leak < low → reads_from events low ≡ nat_le low past.below
+  pub below : (low : ℕ) → past.leak < low → past.pair ≡ None → reads_from events low ≡ nat_le low past.below
   pub since : 0 < past.below → past.leak < past.below
   pub first : (k : ℕ) → past.leak < k → reads_in events k ≡ true → reads_in events (k + 1) ≡ true → IsBy past.pair k
   pub pair : IfSome past.pair (λ k. (past.leak < k) × (reads_in events k ≡ true) × (reads_in events (k + 1) ≡ true))

@@ -1,7 +1,8 @@
 -- The months that a list can hold.
-use Rattle.std.specs.Prelude.{◌≡◌, ℕ, ◌+◌, ◌<◌, ◌≤◌, false, filter_map, slice_index_or}
+use Rattle.std.specs.Prelude.{◌≡◌, ℕ, ◌+◌, ◌<◌, ◌≤◌, true, false, filter_map, slice_index_or}
 use Rattle.list_words.specs.Ranges.{until}
 use Rattle.ldar_days.specs.Calendar.{month_of}
+use Rattle.ldar_law.specs.Kinds.{is_valve}
 use Rattle.ldar_law.specs.Months.{is_quarterly}
 use Rattle.monitor_calendar.specs.Causes.{monthly, quarterly, months_after}
 use Rattle.monitor_calendar.specs.declared.asked.Asked.{Asked}
@@ -15,9 +16,9 @@ pub record IsFirstListed (asked : Asked) (low : ℕ) : Type 0 where
   pub monthly : filter_map (monthly asked) (until low (month_of asked.day + 1)) ≡ filter_map (monthly asked) (months_after asked)
   pub quarterly : filter_map (quarterly asked) (until low (month_of asked.day + 1)) ≡ filter_map (quarterly asked) (months_after asked)
 
--- these are the months that the list can hold
+-- these are the months that the list can hold, and of a valve which of them are quarterly ones
 pub record Covers (asked : Asked) (months : ListedMonths) : Type 0 where
   pub first : IsFirstListed asked months.low
   pub end : months.end ≡ month_of asked.day + 1
   pub within : months.end ≤ 25_200
-  pub quarterly : (k : ℕ) → k < 15 → slice_index_or months.quarterly k false ≡ is_quarterly asked.startup asked.events.now (months.low + k)
+  pub quarterly : is_valve asked.item.now.kind ≡ true → (k : ℕ) → k < 15 → months.low + k < months.end → slice_index_or months.quarterly k false ≡ is_quarterly asked.startup asked.events.now (months.low + k)

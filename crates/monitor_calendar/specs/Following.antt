@@ -34,6 +34,11 @@ pub record IsNext (after : After) (events : List Event) (from next : ℕ) : Type
   pub none : (k : ℕ) (d : Event) → from ≤ k → k < next → meets after (slice_index_or events k d).what ≡ false
   pub here : (d : Event) → next < length events → meets after (slice_index_or events next d).what ≡ true
 
+-- none from one place up to another would meet it
+pub record NoneMeets (after : After) (events : List Event) (from to : ℕ) : Type 0 where
+  pub within : to ≤ length events
+  pub none : (k : ℕ) (d : Event) → from ≤ k → k < to → meets after (slice_index_or events k d).what ≡ false
+
 -- an event, if there is one, and it comes by a day
 abbrev pub comes_by : Option Event → ℕ → Option Event
 comes_by None due = None

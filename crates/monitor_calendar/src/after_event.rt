@@ -1,7 +1,8 @@
 //! What follows drips, a pressure release or evidence of a potential leak (40 CFR 60.482-2a(b)(2), 60.482-4a(b)(2),
-//! 60.482-8a(a)). One walk over the events for each, with the next event that meets such a duty found once.
+//! 60.482-8a(a)). One walk over the events for each, in which the next event that meets such a duty is looked for where an
+//! event asks for it, and none is looked at twice.
 
-ghost use Rattle.std.specs.Prelude.{◌≡◌, ◌+◌, ◌<◌, ◌≤◌, ◌++◌, OnOk, true, false, length, take, nat_lt};
+ghost use Rattle.std.specs.Prelude.{◌≡◌, ◌+◌, ◌<◌, ◌≤◌, ◌++◌, Bool, OnOk, true, false, length, take, nat_lt};
 ghost use Rattle.std.specs.List.Sorted.{IsPartitionPoint};
 ghost use Rattle.list_words.specs.Order.{Ascends};
 ghost use Rattle.list_words.specs.Words.{each_where};
@@ -72,17 +73,19 @@ impl After {
         events.len()
     }
 
-    /// The same behind a place, by that from the place on.
-    fn next_after(self, events: &[Event], place: usize, next: usize) -> usize
+    /// The same behind a place, where the event there asks for it; else a place up to which none would meet it. None is
+    /// looked at twice.
+    fn next_after(self, events: &[Event], place: usize, next: usize, is_asked: bool) -> usize
         requires place { place < length events.now }
-        requires next { following.IsNext self events.now place next }
-        ensures value { following.IsNext self events.now (place + 1) result }
+        requires next { following.NoneMeets self events.now place next }
+        ensures none { following.NoneMeets self events.now (place + 1) result }
+        ensures value { is_asked ≡ true → following.IsNext self events.now (place + 1) result }
     {
-        if next == place {
-            self.next_place(events, place + 1)
-        } else {
-            next
+        if !is_asked {
+            return next;
         }
+        let from = next.max(place + 1);
+        self.next_place(events, from)
     }
 }
 
@@ -128,11 +131,12 @@ impl Asked<'_> {
         judged.serves && judged.regime.are_heavy_liquid_rules()
     }
 
-    /// The duty after an event, where the first later event that would meet it stands at a place.
-    fn after_event(&self, after: After, is_repeated: bool, e: &Event, next: usize) -> Option<Duty>
-        ensures value { result ≡ following.after_by self.now after is_repeated e.now next }
+    /// The duty after an event that asks for it, where the first later event that would meet it stands at a place.
+    fn after_event(&self, after: After, is_asked: bool, e: &Event, next: usize) -> Option<Duty>
+        ensures value { (is_repeated : Bool) → is_asked ≡ following.is_asked_by self.now after is_repeated e.now
+            → result ≡ following.after_by self.now after is_repeated e.now next }
     {
-        if !self.is_asked_by(after, is_repeated, e) {
+        if !is_asked {
             return None;
         }
         let due = e.key.day.plus_days(EVENT_DAYS);
@@ -177,11 +181,12 @@ impl Asked<'_> {
         }
         let from = self.first_listed();
         let mut past = self.drips_before(after, from);
-        let mut next = after.next_place(self.events, from);
+        let mut next = from;
         for place in from..self.events.len() {
             let e = &self.events[place];
-            next = after.next_after(self.events, place, next);
-            put(duties, &self.after_event(after, past.repeat, e, next))?;
+            let is_asked = self.is_asked_by(after, past.repeat, e);
+            next = after.next_after(self.events, place, next, is_asked);
+            put(duties, &self.after_event(after, is_asked, e, next))?;
             past = past.with(e);
         }
         Ok(())

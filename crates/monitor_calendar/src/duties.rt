@@ -40,7 +40,8 @@ pub fn duties_of(
         skipped,
         day,
     };
-    let mut duties = Vec::new(alloc);
+    // Those of a year of months, and what else a list has of most components.
+    let mut duties = Vec::with_capacity(alloc, 16)?;
     put(&mut duties, &asked.first_monitoring())?;
     let months = asked.listed_months();
     asked.put_monthly(&months, &mut duties)?;

@@ -1,10 +1,13 @@
-ghost use Rattle.std.specs.Prelude.{◌≡◌};
+ghost use Rattle.std.specs.Prelude.{◌≡◌, ◌+◌, ◌<◌, ◌≤◌, ℕ, true, false, slice_index_or};
+ghost use Rattle.ldar_law.specs.Kinds.{is_valve as says_valve};
+ghost use Rattle.ldar_law.specs.Months.{is_quarterly};
 ghost use Rattle.monitor_calendar.specs.Covering.{IsFirstListed, Covers};
 
 use crate::asked::Asked;
 use crate::quarterly_months::{MONTHS_LISTED, quarterly_months};
+use ldar_law::is_valve;
 
-/// The months that a list can hold, and which of them are quarterly ones of the component.
+/// The months that a list can hold, and which of them are quarterly ones of a component that is a valve.
 #[derive(Clone, Copy)]
 pub struct ListedMonths {
     /// The first of them.
@@ -28,6 +31,19 @@ impl Asked<'_> {
         }
     }
 
+    /// Which of the months from one on to another are quarterly ones of a valve; of what is none no event is looked at.
+    fn quarterly_from(&self, low: u32, end: u32) -> [bool; MONTHS_LISTED]
+        requires low { (24_096 ≤ low) × (low ≤ 25_200) }
+        requires end { end ≤ 25_200 }
+        ensures value { says_valve self.now.item.now.kind ≡ true → (k : ℕ) → k < MONTHS_LISTED → low + k < end
+            → slice_index_or result k false ≡ is_quarterly self.now.startup self.now.events.now (low + k) }
+    {
+        if !is_valve(self.item.kind) {
+            return [false; MONTHS_LISTED];
+        }
+        quarterly_months(self.startup, self.events, low, end)
+    }
+
     /// The months after the beginning whose duties the list can hold.
     pub fn listed_months(&self) -> ListedMonths
         ensures value { Covers self.now result }
@@ -37,7 +53,7 @@ impl Asked<'_> {
         ListedMonths {
             low,
             end,
-            quarterly: quarterly_months(self.startup, self.events, low),
+            quarterly: self.quarterly_from(low, end),
         }
     }
 }

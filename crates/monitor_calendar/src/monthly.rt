@@ -1,6 +1,7 @@
 //! Monthly and quarterly monitoring (40 CFR 60.482-2a(a)(1), 60.482-7a(a)(1), (c)(1)).
 
-ghost use Rattle.std.specs.Prelude.{◌≡◌, ◌++◌, OnOk, filter_map};
+ghost use Rattle.std.specs.Prelude.{◌≡◌, ◌++◌, true, OnOk, filter_map};
+ghost use Rattle.ldar_law.specs.Kinds.{is_valve as says_valve};
 ghost use Rattle.ldar_law.specs.Months.{is_quarterly as says_quarterly};
 ghost use Rattle.monitor_calendar.specs.Causes as causes;
 ghost use Rattle.monitor_calendar.specs.Covering.{Covers};
@@ -11,7 +12,7 @@ use crate::listed_months::ListedMonths;
 use crate::period::routine_in;
 use fact_kinds::Memory;
 use ldar_days::{Month, quarter_of};
-use ldar_law::{Duty, is_none_designated, month_in_quarter};
+use ldar_law::{Duty, is_none_designated, is_valve, month_in_quarter};
 
 /// Whether what is so judged is monitored in a month that is a quarterly one or not.
 fn is_monthly(judged: Judged, is_quarterly: bool) -> bool
@@ -51,7 +52,7 @@ impl Asked<'_> {
 
     /// The monthly monitoring of a month that is a quarterly one of a valve or not.
     fn monthly(&self, month: Month, is_quarterly: bool) -> Option<Duty>
-        requires quarterly { is_quarterly ≡ says_quarterly self.now.startup self.now.events.now month }
+        requires quarterly { says_valve self.now.item.now.kind ≡ true → is_quarterly ≡ says_quarterly self.now.startup self.now.events.now month }
         ensures value { result ≡ causes.monthly self.now month }
     {
         let first = month.first_day();
@@ -95,12 +96,15 @@ impl Asked<'_> {
         Ok(())
     }
 
-    /// Adds the quarterly monitorings.
+    /// Adds the quarterly monitorings. Of what is no valve no month is looked at.
     #[tactic(auto, using(list_words::proofs::RangeLemmas::ranges))]
     pub fn put_quarterly(&self, months: &ListedMonths, duties: &mut Vec<Duty>) -> Result<(), Memory>
         requires covered { Covers self.now months.now }
         ensures put { OnOk result (duties.new.items ≡ duties.old.items ++ filter_map (causes.quarterly self.now) (causes.months_after self.now)) }
     {
+        if !is_valve(self.item.kind) {
+            return Ok(());
+        }
         for number in months.low..months.end {
             let is_quarterly = months.quarterly[(number - months.low) as usize];
             put(duties, &self.quarterly(Month::at(number), is_quarterly))?;

@@ -13,7 +13,8 @@ use ldar_law::{Event, quarter_start};
 pub struct PastMonths {
     /// The month of the last leak, or 0 where there is none.
     pub leak: u32,
-    /// The last month after it with a counting routine reading below the leak definition, or 0 where there is none.
+    /// The last month after it with a counting routine reading below the leak definition, or 0 where there is none; what it is
+    /// does not matter once two months in a row are known.
     pub below: u32,
     /// The first month after it that has such a reading, as the next month has.
     pub pair: Option<u32>,
@@ -36,18 +37,22 @@ impl PastMonths {
         ensures value { (last : ℕ) (front : List SomeEvent) → Tells self last front → last ≤ month_of e.now.key.day
             → Tells result (month_of e.now.key.day) (front ++ e.now ∷ []) }
     {
-        let month = e.key.day.month().number();
         if e.what.is_leak() {
             return PastMonths {
-                leak: month,
+                leak: e.key.day.month().number(),
                 below: 0,
                 pair: None,
             };
         }
-        if month <= self.leak {
+        // The first two months in a row stay until a leak: no later reading is asked for its month.
+        if self.pair.is_some() {
             return self;
         }
         if !e.what.is_routine_below() {
+            return self;
+        }
+        let month = e.key.day.month().number();
+        if month <= self.leak {
             return self;
         }
         PastMonths {

@@ -1,11 +1,12 @@
-//! The events of a period, and what meets a duty in it. Events in key order stand by their days, so that those of a
-//! period are found by halving.
+//! The events of a period, and what meets a duty in it. Events in key order stand by their days, so that the first of a
+//! period is found by halving, and from there on they are few.
 
-ghost use Rattle.std.specs.Prelude.{◌≡◌, ◌&&◌, filter, find, nat_le, option_map};
+ghost use Rattle.std.specs.Prelude.{◌≡◌, ◌&&◌, ◌||◌, filter, find, nat_le, nat_lt, option_map};
 ghost use Rattle.list_words.specs.Order.{Ascends};
 ghost use Rattle.fact_kinds.specs.Facts.{is_earlier};
 ghost use Rattle.ldar_law.specs.Duties as law;
-ghost use Rattle.ldar_law.specs.Happenings.{is_from_to, is_look, is_near_background, is_routine};
+ghost use Rattle.ldar_law.specs.Happenings.{is_look, is_near_background, is_routine};
+ghost use Rattle.monitor_calendar.specs.Following.{comes_by};
 
 use ldar_days::Day;
 use ldar_law::Event;
@@ -20,45 +21,44 @@ pub fn events_from(events: &[Event], first: Day) -> &[Event]
     &events[count..]
 }
 
-/// The events up to a day.
-pub fn events_to(events: &[Event], last: Day) -> &[Event]
-    requires ordered { Ascends (λ a b. is_earlier a.key b.key) events.now }
-    ensures value { result.now ≡ filter (λ e. nat_le e.key.day last) events.now }
-{
-    let count = events.partition_point(|e| e.key.day <= last);
-    &events[..count]
-}
-
-/// The events of a period, from its first to its last day.
-pub fn events_on(events: &[Event], first: Day, last: Day) -> &[Event]
-    requires ordered { Ascends (λ a b. is_earlier a.key b.key) events.now }
-    ensures value { result.now ≡ filter (is_from_to first last) events.now }
-{
-    events_to(events_from(events, first), last)
-}
-
-/// The first counting routine reading.
-fn first_routine(events: &[Event]) -> Option<Event>
-    ensures value { result ≡ option_map (λ e. e) (find (λ e. is_routine e.what) events.now) }
-{
-    events.iter().find(|e| e.what.is_routine()).map(|e| *e)
-}
-
-/// The first counting routine reading that is less than 500 parts per million above the background.
-fn first_near_background(events: &[Event]) -> Option<Event>
-    ensures value { result ≡ option_map (λ e. e) (find (λ e. is_routine e.what && is_near_background e.what) events.now) }
+/// The first event that is a counting routine reading, or of a day after the last.
+fn routine_or_later(events: &[Event], last: Day) -> Option<Event>
+    ensures value { result ≡ option_map (λ e. e) (find (λ e. nat_lt last e.key.day || (is_routine e.what)) events.now) }
 {
     events
         .iter()
-        .find(|e| e.what.is_routine() && e.what.is_near_background())
+        .find(|e| last < e.key.day || e.what.is_routine())
         .map(|e| *e)
 }
 
-/// The first visual inspection.
-fn first_look(events: &[Event]) -> Option<Event>
-    ensures value { result ≡ option_map (λ e. e) (find (λ e. is_look e.what) events.now) }
+/// The first that is such a reading less than 500 parts per million above the background, or of a later day.
+fn near_background_or_later(events: &[Event], last: Day) -> Option<Event>
+    ensures value { result ≡ option_map (λ e. e) (find (λ e. nat_lt last e.key.day || (is_routine e.what && is_near_background e.what)) events.now) }
 {
-    events.iter().find(|e| e.what.is_look()).map(|e| *e)
+    events
+        .iter()
+        .find(|e| last < e.key.day || (e.what.is_routine() && e.what.is_near_background()))
+        .map(|e| *e)
+}
+
+/// The first that is a visual inspection, or of a later day.
+fn look_or_later(events: &[Event], last: Day) -> Option<Event>
+    ensures value { result ≡ option_map (λ e. e) (find (λ e. nat_lt last e.key.day || (is_look e.what)) events.now) }
+{
+    events
+        .iter()
+        .find(|e| last < e.key.day || e.what.is_look())
+        .map(|e| *e)
+}
+
+/// The event, if there is one, and it comes by a day.
+fn by_day(found: Option<Event>, last: Day) -> Option<Event>
+    ensures value { result ≡ comes_by found last }
+{
+    match found {
+        Some(e) => { if e.key.day <= last { Some(e) } else { None } }
+        None => None,
+    }
 }
 
 /// The first counting routine reading of a period.
@@ -66,7 +66,7 @@ pub fn routine_in(events: &[Event], first: Day, last: Day) -> Option<Event>
     requires ordered { Ascends (λ a b. is_earlier a.key b.key) events.now }
     ensures value { result ≡ law.routine_in events.now first last }
 {
-    first_routine(events_on(events, first, last))
+    by_day(routine_or_later(events_from(events, first), last), last)
 }
 
 /// .. that is less than 500 parts per million above the background.
@@ -74,7 +74,10 @@ pub fn routine_near_background(events: &[Event], first: Day, last: Day) -> Optio
     requires ordered { Ascends (λ a b. is_earlier a.key b.key) events.now }
     ensures value { result ≡ law.routine_near_background events.now first last }
 {
-    first_near_background(events_on(events, first, last))
+    by_day(
+        near_background_or_later(events_from(events, first), last),
+        last,
+    )
 }
 
 /// The first visual inspection of a period.
@@ -82,5 +85,5 @@ pub fn look_in(events: &[Event], first: Day, last: Day) -> Option<Event>
     requires ordered { Ascends (λ a b. is_earlier a.key b.key) events.now }
     ensures value { result ≡ law.look_in events.now first last }
 {
-    first_look(events_on(events, first, last))
+    by_day(look_or_later(events_from(events, first), last), last)
 }

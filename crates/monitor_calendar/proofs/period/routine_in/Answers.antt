@@ -1,14 +1,20 @@
-use Rattle.std.proofs.Common.{find, ap, ◌∙◌}
+use Rattle.std.proofs.Common.{◌||◌, nat_le, nat_lt, filter, find, ap, ◌∙◌}
 use Rattle.ldar_law.specs.declared.event.Event.{Event}
 use Rattle.ldar_law.specs.Happenings.{is_routine, is_from_to}
-use Rattle.monitor_calendar.proofs.PeriodLemmas.{find_among, same_mapped}
+use Rattle.monitor_calendar.specs.Following.{comes_by}
+use Rattle.monitor_calendar.proofs.PeriodLemmas.{find_among, filter_twice, first_by, same_mapped}
 use Rattle.monitor_calendar.proofs.period.routine_in.Goals as goal
 
 pub returns : goal.returns
 returns c =
     let a = c.args in
+    let p = λ (e : Event). is_routine e.what in
+    let rest = c.events_from.result.now in
     record {
-      value = c.first_routine.ensures.value ∙ same_mapped (find (λ (e : Event). is_routine e.what) c.events_on.result.now)
-          ∙ ap (find (λ (e : Event). is_routine e.what)) c.events_on.ensures.value
-          ∙ find_among (λ (e : Event). is_routine e.what) (is_from_to a.first a.last) a.events.now;
+      value = c.by_day.ensures.value
+          ∙ ap (λ o. comes_by o a.last) (c.routine_or_later.ensures.value ∙ same_mapped (find (λ (e : Event). nat_lt a.last e.key.day || p e) rest))
+          ∙ first_by p a.last rest c.events_from.ensures.ordered
+          ∙ ap (λ es. find p (filter (λ (e : Event). nat_le e.key.day a.last) es)) c.events_from.ensures.value
+          ∙ ap (find p) (filter_twice (λ (e : Event). nat_le a.first e.key.day) (λ (e : Event). nat_le e.key.day a.last) a.events.now)
+          ∙ find_among p (is_from_to a.first a.last) a.events.now;
     }

@@ -1,5 +1,6 @@
-use Rattle.std.proofs.Common.{◌+◌, ◌<◌, ◌≢◌, length, arith, ◌∙◌, get_or-set_other, get_or-set_same, below_more}
+use Rattle.std.proofs.Common.{◌+◌, ◌<◌, ◌≢◌, length, subst, arith, ◌∙◌, get_or-set_other, get_or-set_same, below_more}
 use Rattle.std.proofs.Common.{length-set}
+use Rattle.monitor_calendar.specs.Walks.{IsAt}
 use Rattle.monitor_calendar.proofs.QuarterlyLemmas.{quarterly_at}
 use Rattle.monitor_calendar.proofs.quarterly_months.quarterly_months.Goals as goal
 
@@ -7,7 +8,8 @@ pub loop-k-preserved : goal.loop-k-preserved
 loop-k-preserved c =
     let l = c.loop-k in
     let month = c.args.low + l.k in
-    let at = c.walked_to-walk.ensures.value in
+    let at : IsAt c.walked_to-walk.result.past c.args.events.now c.walked_to-walk.result.place month =
+    subst (IsAt c.walked_to-walk.result.past c.args.events.now c.walked_to-walk.result.place) c.at.ensures.value c.walked_to-walk.ensures.value in
     let told = c.let_be_quarterly.ensures.value
     ∙ quarterly_at c.args.startup month c.walked_to-walk.result.past at.on.last c.args.events.now c.walked_to-walk.result.place at.on.front at.rest
     at.on.tells in

@@ -65,7 +65,7 @@ pub at-requires : goal.at-requires
 at-requires c =
     let asked = c.args.self.now in
     let fits = plan_fits asked c.judged-judged.result c.args.month c.requires.after (sym c.is_planned.ensures.value ∙ c.if-not-is_planned.false) in
-    omega (arith, fits)
+    record { in_range = omega (arith, fits) }
 
 pub returns : goal.returns
 returns c =

@@ -1,7 +1,7 @@
 use Rattle.std.proofs.Common.{◌+◌, ◌++◌, List, [], ◌∷◌, subst, take, drop, sym, ap, ◌∙◌, arith}
 use Rattle.list_words.specs.Words.{each_from}
 use Rattle.list_words.proofs.WordLemmas.{each_done}
-use Rattle.monitor_calendar.specs.Following.{after_event, after_by}
+use Rattle.monitor_calendar.specs.Following.{after_event, after_by, is_asked_by}
 use Rattle.ldar_law.specs.declared.event.Event.{Event}
 use Rattle.monitor_calendar.specs.Dripping.{TellsOfDrips}
 use Rattle.monitor_calendar.proofs.FollowLemmas.{begins_at, one_event_on, tells_on}
@@ -15,7 +15,7 @@ loop-place-init c =
     record {
       done = ap (λ ds. c.args.duties.now.items ++ ds) (begins_at asked c.args.after from.result from.ensures.within from.ensures.value);
       tells = c.drips_before-past.ensures.value;
-      next = c.next_place-next.ensures.value;
+      next = record { within = from.ensures.within; none = λ k d low lt. absurd (omega (arith, low, lt)) };
     }
 
 pub loop-place-preserved : goal.loop-place-preserved
@@ -28,13 +28,15 @@ loop-place-preserved c =
       done = ap (λ ds. ds ++ each_from (after_event asked c.args.after) (take (l.place + 1) events) (drop (l.place + 1) events)) c.in_ok-put.ensures.put
           ∙ one_event_on asked c.args.after l.past l.place c.next_after-next.result e l.duties.items c.after_event.result asked.events_ordered
           c.loop-place-test.true
-          (sym c.index-self-place.is) l.invariant.tells c.next_after-next.ensures.value
-          (c.after_event.ensures.value ∙ ap (λ x. after_by asked c.args.after l.past.repeat x c.next_after-next.result) (sym c.index-self-place.is))
+          (sym c.index-self-place.is) l.invariant.tells (λ asks. c.next_after-next.ensures.value
+          (c.is_asked_by-is_asked.ensures.value ∙ ap (is_asked_by asked c.args.after l.past.repeat) (sym c.index-self-place.is) ∙ asks))
+          (c.after_event.ensures.value l.past.repeat c.is_asked_by-is_asked.ensures.value
+          ∙ ap (λ x. after_by asked c.args.after l.past.repeat x c.next_after-next.result) (sym c.index-self-place.is))
           ∙ l.invariant.done;
       tells = tells_on asked c.args.after l.past c.with-past.result events l.place e c.loop-place-test.true (sym c.index-self-place.is) l.invariant.tells
           (subst (λ x. (front : List Event) → TellsOfDrips l.past front → TellsOfDrips c.with-past.result (front ++ x ∷ []))
           (sym c.index-self-place.is) c.with-past.ensures.value);
-      next = c.next_after-next.ensures.value;
+      next = c.next_after-next.ensures.none;
     }
 
 pub returns : goal.returns

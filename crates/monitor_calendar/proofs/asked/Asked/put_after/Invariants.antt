@@ -9,5 +9,5 @@ invariant-loop-place l = record {
       l.duties.items ++ each_from (following.after_event l.self l.after) (take l.place l.self.events.now) (drop l.place l.self.events.now)
       ≡ l.initial.duties.items ++ each_where (following.after_event l.self l.after) l.self.events.now;
   tells : following.TellsFor l.after l.past (take l.place l.self.events.now);
-  next : following.IsNext l.after l.self.events.now l.place l.next;
+  next : following.NoneMeets l.after l.self.events.now l.place l.next;
 }

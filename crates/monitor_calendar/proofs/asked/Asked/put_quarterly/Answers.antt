@@ -1,10 +1,11 @@
-use Rattle.std.proofs.Common.{◌≡◌, ◌+◌, ◌++◌, ap, ◌∙◌, arith}
+use Rattle.std.proofs.Common.{◌≡◌, ◌+◌, ◌++◌, sym, ap, ◌∙◌, arith}
 use Rattle.std.specs.List.{filter_map}
 use Rattle.std.specs.Option.{option_to_list}
 use Rattle.list_words.specs.Ranges.{until}
 use Rattle.list_words.proofs.RangeLemmas.{filter_map_until, filter_map_done}
 use Rattle.ldar_days.specs.Calendar.{month_of}
 use Rattle.monitor_calendar.specs.Causes as causes
+use Rattle.monitor_calendar.proofs.Concerning.{left_so, never_quarterly}
 use Rattle.monitor_calendar.proofs.asked.Asked.put_quarterly.Goals as goal
 
 pub loop-number-init : goal.loop-number-init
@@ -28,4 +29,12 @@ returns c =
     record {
       put = filter_map_done (causes.quarterly c.args.self.now) l.duties.items _ l.number c.args.months.now.end (omega
           (arith, c.loop-number-test.false)) l.invariant;
+    }
+
+pub returns-then-not-is_valve : goal.returns-then-not-is_valve
+returns-then-not-is_valve c =
+    let asked = c.args.self.now in
+    record {
+      put = sym (left_so (causes.quarterly asked) (causes.months_after asked) c.args.duties.now.items
+          (never_quarterly asked (sym c.is_valve.ensures.value ∙ c.if-not-is_valve.true)));
     }

@@ -1,20 +1,34 @@
-use Rattle.std.proofs.Common.{◌≡◌, ◌<◌, ◌≤◌, true, false, [], ◌∷◌, ◌++◌, None, sym, subst, inl, inr, arith}
+use Rattle.std.proofs.Common.{◌≡◌, ◌<◌, ◌≤◌, true, false, [], ◌∷◌, ◌++◌, None, is_some, sym, subst, inl, inr, arith}
 use Rattle.ldar_days.specs.Calendar.{month_of}
 use Rattle.ldar_law.specs.Happenings.{is_leak, is_routine_below}
 use Rattle.monitor_calendar.specs.Behind.{Tells, pair_with}
-use Rattle.monitor_calendar.proofs.PastLemmas.{told_leak, told_same, told_below}
+use Rattle.monitor_calendar.proofs.PastLemmas.{told_leak, told_same, told_paired, told_below}
 use Rattle.monitor_calendar.proofs.past_months.PastMonths.with.Goals as goal
 
 pub returns-then-is_leak : goal.returns-then-is_leak
 returns-then-is_leak c =
     let e = c.args.e.now in
-    let at : c.number-month.result ≡ month_of e.key.day = omega arith in
+    let at : c.number.result ≡ month_of e.key.day = omega arith in
     let leaks : is_leak e.what ≡ true = cc in
     record {
       value = λ last front tells le.
           subst (λ m. Tells (record { leak = m; below = 0; pair = None }) (month_of e.key.day) (front ++ e ∷ [])) (sym at)
           (told_leak c.args.self last front e tells le leaks);
     }
+
+pub returns-then-is_some : goal.returns-then-is_some
+returns-then-is_some c =
+    let e = c.args.e.now in
+    let sound : is_leak e.what ≡ false = cc in
+    let paired : is_some c.args.self.pair ≡ true = cc in
+    record { value = λ last front tells le. told_paired c.args.self last front e tells le paired sound }
+
+pub returns-then-not-is_routine_below : goal.returns-then-not-is_routine_below
+returns-then-not-is_routine_below c =
+    let e = c.args.e.now in
+    let sound : is_leak e.what ≡ false = cc in
+    let fails : is_routine_below e.what ≡ false = cc in
+    record { value = λ last front tells le. told_same c.args.self last front e tells le sound (inr fails) }
 
 pub returns-then-month-self : goal.returns-then-month-self
 returns-then-month-self c =
@@ -23,13 +37,6 @@ returns-then-month-self c =
     let sound : is_leak e.what ≡ false = cc in
     let early : month_of e.key.day ≤ c.args.self.leak = omega arith in
     record { value = λ last front tells le. told_same c.args.self last front e tells le sound (inl early) }
-
-pub returns-then-not-is_routine_below : goal.returns-then-not-is_routine_below
-returns-then-not-is_routine_below c =
-    let e = c.args.e.now in
-    let sound : is_leak e.what ≡ false = cc in
-    let fails : is_routine_below e.what ≡ false = cc in
-    record { value = λ last front tells le. told_same c.args.self last front e tells le sound (inr fails) }
 
 pub returns : goal.returns
 returns c =

@@ -1,0 +1,42 @@
+//! What the rule makes of a component of a class: which of its facts count, and which of them are leaks.
+
+ghost use Rattle.std.specs.Prelude.{◌≡◌};
+ghost use Rattle.method21_reading.specs.Standings.{rules_of};
+
+use fact_kinds::Class;
+use ldar_law::{Equipment, Regime, is_nde_designated, limit};
+
+/// What the rule makes of a component of a class.
+#[derive(Clone, Copy)]
+pub struct Rules {
+    /// Its leak definition, in parts per million by volume.
+    pub limit: u32,
+    /// It is left out (40 CFR 60.482-1a(d), (e)).
+    pub left_out: bool,
+    /// Its readings can be leaks (40 CFR 60.482-2a(b)(1), 60.482-7a(b), 60.482-8a(b)).
+    pub readings_leak: bool,
+    /// Its designated drips are leaks (40 CFR 60.482-2a(b)(2)(ii)).
+    pub drips_leak: bool,
+    /// What its sensor indicates is a leak (40 CFR 60.482-3a(f)).
+    pub sensors_leak: bool,
+}
+
+impl Rules {
+    /// Those of a component of a class.
+    pub fn of(item: &Equipment, class: Class) -> Rules
+        ensures value { result ≡ rules_of item.now class }
+    {
+        let regime = Regime::of(item.kind, class.service);
+        let is_nde = is_nde_designated(class.designation);
+        Rules {
+            limit: limit(item.kind, item.monomer, class),
+            left_out: regime.leave_out(),
+            readings_leak: !is_nde
+                && (regime.are_valve_rules()
+                    || regime.are_pump_rules()
+                    || regime.are_heavy_liquid_rules()),
+            drips_leak: regime.are_pump_rules() && !is_nde,
+            sensors_leak: regime.are_compressor_rules() && !is_nde,
+        }
+    }
+}
