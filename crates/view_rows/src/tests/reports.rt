@@ -1,7 +1,8 @@
+use crate::Office;
 use crate::tests::asked::answer;
 use crate::tests::histories::{base, office};
 use ldar_days::Day;
-use ldar_law::What;
+use ldar_law::{Report, What};
 use office_views::AskError;
 use std::alloc::{AllocError, Global};
 use std::test::Fail;
@@ -40,20 +41,40 @@ fn a_report_counts_a_late_repair_in_the_month_of_its_due_day(rt: HostRuntime) ->
     Ok(())
 }
 
+/// What an office reports of a half on 2024-03-31.
+fn asked(office: &mut Office, unit: u16, half: u16) -> Result<Result<Report, AskError>, Fail> {
+    let day = Day::read(b"2024-03-31").ok_or("day")?;
+    Ok(office.report(unit, half, day))
+}
+
+/// How many valves leaked in the fifth month of a report, if that is all it has besides the numbers of its months.
+fn only_counted(report: &Report) -> Option<u32> {
+    let cells = &report.cells;
+    if cells.delays.as_slice().is_empty() && cells.stops.as_slice().is_empty() {
+        return Some(cells.months.as_slice()[24]);
+    }
+    None
+}
+
 #[test]
 fn components_are_counted_and_not_leaks(rt: HostRuntime) -> Result<(), Fail> {
     let alloc = rt.alloc();
     let mut history = repaired(alloc, "2024-03-06")?;
     history.push_str("7: 2024-02-27 300 calibration 500; 2024-02-27 600 reading 1 900 0\n")?;
     let mut office = office(alloc, history.as_str())?;
-    let day = Day::read(b"2024-03-31").ok_or("day")?;
-    let report = office.report(1, 8, day).ok().ok_or("report")?;
+    let report = asked(&mut office, 1, 8)?.ok().ok_or("report")?;
     assert_eq!(rt; report.half, 8);
-    assert_eq!(rt; report.cells.months.as_slice()[24], 1);
-    assert!(rt; report.cells.delays.as_slice().is_empty());
-    assert!(rt; report.cells.stops.as_slice().is_empty());
-    for (unit, half, what) in [(1, 9, What::Half), (9, 8, What::Unit)] {
-        let none = office.report(unit, half, day).err().ok_or("none")?;
+    assert_eq!(rt; only_counted(&report), Some(1));
+    Ok(())
+}
+
+#[test]
+fn what_there_is_no_report_of_is_told(rt: HostRuntime) -> Result<(), Fail> {
+    let alloc = rt.alloc();
+    let history = base(alloc, "")?;
+    let mut office = office(alloc, history.as_str())?;
+    for (unit, half, what) in [(1, 9, What::Half), (1, 0, What::Half), (9, 8, What::Unit)] {
+        let none = asked(&mut office, unit, half)?.err().ok_or("none")?;
         assert_eq!(rt; none, AskError::NoSuch(what));
     }
     Ok(())
