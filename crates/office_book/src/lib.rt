@@ -14,6 +14,8 @@ mod opening;
 mod settling;
 mod telling;
 mod viewing;
+#[cfg(test)]
+mod tests;
 mod writing;
 
 pub use book::Book;
