@@ -13,9 +13,9 @@ mod office;
 mod opening;
 mod settling;
 mod telling;
-mod viewing;
 #[cfg(test)]
 mod tests;
+mod viewing;
 mod writing;
 
 pub use book::Book;

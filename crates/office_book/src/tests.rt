@@ -1,60 +1,141 @@
-use crate::{Book, open_book};
-use disk_model::{Disk, MemoryDisk, SureDisk};
-use fact_kinds::Batch;
-use ldar_facts::{Read, read_batch};
-use ldar_journal::create;
+ghost use Rattle.std.specs.Prelude.{IfOk};
+ghost use Rattle.office_book.specs.Asking.{HasRule};
+
+use crate::{Book, Office, open_book};
+use disk_model::{Disk, MemoryDisk};
+use fact_kinds::{Batch, Fact, FactBody, Name};
+use ldar_days::Day;
+use ldar_law::{Reply, Request};
 use std::alloc::Global;
 use std::test::Fail;
 
 mod faults;
 mod groups;
 mod openings;
+mod receipts;
+mod rooms;
+mod stops;
 mod views;
 
-// Handheld 7: one calibration on 2024-02-20 at 10:00, instrument 1, 500 ppm; batches 12 and 13, and 12 with 501 ppm.
-const TWELVE: [u8; 20] = *b"\x42\0\x07\0\0\0\x0c\0\x01\x07\x4d\x3d\x02\x58\0\x01\0\0\x01\xf4";
+// What is sent: a batch of one fact. All but the unit come from handheld 7 with this number, and speak of 2024-02-20 at 10:00.
+#[derive(Clone, Copy)]
+enum Sent {
+    // A calibration of instrument 1 with 500 ppm.
+    Calibration(u32),
+    // .. with 501 ppm.
+    Changed(u32),
+    // An attempt at component 1, which is not in the register.
+    Unknown(u32),
+    // Handheld 0, batch 1: unit 1, CRUDE, which started up on 2020-01-15 and is not older.
+    Unit,
+}
 
-const THIRTEEN: [u8; 20] = *b"\x42\0\x07\0\0\0\x0d\0\x01\x07\x4d\x3d\x02\x58\0\x01\0\0\x01\xf4";
+const TWELVE: Sent = Sent::Calibration(12);
 
-const CHANGED: [u8; 20] = *b"\x42\0\x07\0\0\0\x0c\0\x01\x07\x4d\x3d\x02\x58\0\x01\0\0\x01\xf5";
+const CHANGED: Sent = Sent::Changed(12);
 
-// Handheld 7, batch 14: an attempt at component 1, which is not in the register.
-const UNKNOWN: [u8; 17] = *b"\x42\0\x07\0\0\0\x0e\0\x01\x0c\x4d\x3d\x02\x58\0\x01\x01";
+const THIRTEEN: Sent = Sent::Calibration(13);
+
+const FOURTEEN: Sent = Sent::Calibration(14);
+
+const UNKNOWN: Sent = Sent::Unknown(15);
 
 // The header of a journal and a closed gate.
 const EMPTY: [u8; 17] = *b"LDARJNL1\0\0\0\0\0\0\0\0\0";
 
-// The first batch behind the header, in a frame of its own.
+// The calibration with number 12 behind the header, in a frame of its own.
 const WITH_TWELVE: [u8; 42] = *b"LDARJNL1\0\0\0\0\0\0\0\0\
     \x01\0\0\0\x14\x42\0\x07\0\0\0\x0c\0\x01\x07\x4d\x3d\x02\x58\0\x01\0\0\x01\xf4\0";
 
-fn batch(alloc: Global, bytes: &[u8]) -> Result<Batch, Fail> {
-    match read_batch(alloc, bytes)? {
-        Read::Whole { batch, used: _ } => Ok(batch),
-        _ => Err(Fail::from("a batch")),
+// The batch that is sent.
+fn batch(alloc: Global, sent: Sent) -> Result<Batch, Fail> {
+    match sent {
+        Sent::Calibration(number) => of_one(alloc, 7, number, calibration(500)),
+        Sent::Changed(number) => of_one(alloc, 7, number, calibration(501)),
+        Sent::Unknown(number) => of_one(alloc, 7, number, attempt()),
+        Sent::Unit => of_one(alloc, 0, 1, unit()?),
     }
+}
+
+// A batch of this one fact.
+fn of_one(alloc: Global, handheld: u16, number: u32, fact: Fact) -> Result<Batch, Fail> {
+    let mut facts = Vec::new(alloc);
+    facts.push(fact)?;
+    Ok(Batch::new(handheld, number, facts).ok_or("a batch")?)
+}
+
+fn calibration(gas: u16) -> Fact
+    requires some { 0 < gas }
+{
+    Fact {
+        day: Day::at(19_773),
+        minute: 600,
+        body: FactBody::Calibration {
+            instrument: 1,
+            gas: u32::from(gas),
+        },
+    }
+}
+
+fn attempt() -> Fact {
+    Fact {
+        day: Day::at(19_773),
+        minute: 600,
+        body: FactBody::Attempt {
+            component: 1,
+            complete: true,
+        },
+    }
+}
+
+fn unit() -> Result<Fact, Fail> {
+    let name = Name::new(b"CRUDE").ok_or("a name")?;
+    Ok(Fact {
+        day: Day::at(18_276),
+        minute: 0,
+        body: FactBody::Unit {
+            unit: 1,
+            older: false,
+            name,
+        },
+    })
 }
 
 // An office over an empty journal, on a disk whose calls with these numbers fail.
 fn opened(alloc: Global, failing: &[u64]) -> Result<Book<MemoryDisk>, Fail> {
-    match open_book(alloc, MemoryDisk::new(alloc, &EMPTY, failing)?) {
+    reopened(MemoryDisk::new(alloc, &EMPTY, failing)?, alloc)
+}
+
+// The office over the journal of a disk.
+fn reopened<D: Disk>(disk: D, alloc: Global) -> Result<Book<D>, Fail> {
+    match open_book(alloc, disk) {
         Ok(book) => Ok(book),
         Err(_) => Err(Fail::from("an office")),
     }
 }
 
-// The line that is answered to a batch of these bytes.
-fn said<D: Disk>(alloc: Global, book: &mut Book<D>, bytes: &[u8]) -> Result<Vec<u8>, Fail> {
-    let batch = batch(alloc, bytes)?;
+// What is answered to a batch.
+fn answered<O: Office>(alloc: Global, office: &mut O, sent: Sent) -> Result<Reply, Fail>
+    ensures ruled { IfOk result HasRule }
+{
+    let request = Request::Sync(batch(alloc, sent)?);
+    Ok(office.ask(alloc, &request))
+}
+
+// The line of an answer.
+fn line_of(alloc: Global, reply: &Reply) -> Result<Vec<u8>, Fail>
+    requires ruled { HasRule reply.now }
+{
     let mut line = Vec::new(alloc);
-    book.sync(alloc, &batch).put_line(alloc, &mut line)?;
+    reply.put_line(alloc, &mut line)?;
     Ok(line)
 }
 
-// Sees that this line is answered to a batch of these bytes.
-fn says<D: Disk>(alloc: Global, book: &mut Book<D>, bytes: &[u8], want: &str) -> Result<(), Fail> {
-    let line = said(alloc, book, bytes)?;
-    is(line.as_slice() == want.as_bytes(), "the line")
+// Sees that this line is answered to a batch.
+fn says<O: Office>(alloc: Global, office: &mut O, sent: Sent, want: &str) -> Result<(), Fail> {
+    let reply = answered(alloc, office, sent)?;
+    let line = line_of(alloc, &reply)?;
+    is(line.as_slice() == want.as_bytes(), want)
 }
 
 // Sees how many batches are kept, of one fact each, and how many bytes the journal has.
@@ -69,53 +150,4 @@ fn holds(book: &Book<MemoryDisk>, batches: u32, bytes: usize) -> Result<(), Fail
 // A failure that names what is wrong, where something is not so.
 fn is(so: bool, what: &str) -> Result<(), Fail> {
     if so { Ok(()) } else { Err(Fail::from(what)) }
-}
-
-#[test]
-fn a_batch_acts_once(rt: HostRuntime) -> Result<(), Fail> {
-    let mut book = opened(rt.alloc(), &[])?;
-    says(rt.alloc(), &mut book, &TWELVE, "receipt 7 12 1\n")?;
-    assert_eq!(rt; book.disk().bytes(), WITH_TWELVE.as_slice());
-    says(rt.alloc(), &mut book, &TWELVE, "receipt 7 12 1\n")?;
-    says(rt.alloc(), &mut book, &CHANGED, "conflict 1\n")?;
-    holds(&book, 1, 42)?;
-    says(rt.alloc(), &mut book, &THIRTEEN, "receipt 7 13 2\n")?;
-    holds(&book, 2, 67)
-}
-
-#[test]
-fn a_batch_is_denied_by_the_register(rt: HostRuntime) -> Result<(), Fail> {
-    let mut book = opened(rt.alloc(), &[])?;
-    says(
-        rt.alloc(),
-        &mut book,
-        &UNKNOWN,
-        "denied 1 1 60.486a(e)(1)\n",
-    )?;
-    holds(&book, 0, 17)
-}
-
-// An office over an empty journal, on a disk that has room for 1,000 bytes.
-fn with_room(alloc: Global) -> Result<Book<SureDisk>, Fail> {
-    let mut disk = SureDisk::new(alloc, b"", 1_000)?;
-    if create(&mut disk).is_err() {
-        return Err(Fail::from("a journal"));
-    }
-    match open_book(alloc, disk) {
-        Ok(book) => Ok(book),
-        Err(_) => Err(Fail::from("an office")),
-    }
-}
-
-#[test]
-fn a_disk_with_room_does_not_fail(rt: HostRuntime) -> Result<(), Fail> {
-    let mut book = with_room(rt.alloc())?;
-    assert_eq!(rt; book.disk().bytes(), EMPTY.as_slice());
-    says(rt.alloc(), &mut book, &TWELVE, "receipt 7 12 1\n")?;
-    assert_eq!(rt; book.disk().bytes(), WITH_TWELVE.as_slice());
-    says(rt.alloc(), &mut book, &TWELVE, "receipt 7 12 1\n")?;
-    says(rt.alloc(), &mut book, &TWELVE, "receipt 7 12 1\n")?;
-    says(rt.alloc(), &mut book, &CHANGED, "conflict 1\n")?;
-    assert_eq!(rt; book.disk().bytes(), WITH_TWELVE.as_slice());
-    Ok(())
 }

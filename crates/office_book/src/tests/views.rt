@@ -1,35 +1,33 @@
-use crate::tests::{holds, is, opened, says};
-use crate::{Book, Office};
-use disk_model::MemoryDisk;
+use crate::Office;
+use crate::tests::{Sent, holds, is, line_of, opened, says};
 use ldar_days::Day;
 use ldar_law::{Request, What};
 use office_views::AskError;
 use std::alloc::Global;
 use std::test::Fail;
 
-// Handheld 0, batch 1: unit 1, CRUDE, which started on 2020-01-15 and is not older.
-const UNIT: [u8; 28] = *b"\x42\0\0\0\0\0\x01\0\x01\x01\x47\x64\0\0\x01\0CRUDE\0\0\0\0\0\0\0";
+// What the percent view of unit 1 in quarter 16 says of a unit without components, as known on 2024-03-31.
+const NONE_MONITORED: &str = "percent 1 16 leaking 0 monitored 0 not good not skipped\n";
 
-// Sees what the percent view of unit 1 in quarter 16 says, as known on 2024-03-31.
-fn shows(alloc: Global, book: &mut Book<MemoryDisk>, want: &str) -> Result<(), Fail> {
+// Sees what this view says.
+fn shows<O: Office>(alloc: Global, office: &mut O, want: &str) -> Result<(), Fail> {
     let request = Request::Percent {
         unit: 1,
         quarter: 16,
         day: Day::at(19_813),
     };
-    let mut text = Vec::new(alloc);
-    book.ask(alloc, &request).put_line(alloc, &mut text)?;
-    is(text.as_slice() == want.as_bytes(), "the text")
+    let reply = office.ask(alloc, &request);
+    let text = line_of(alloc, &reply)?;
+    is(text.as_slice() == want.as_bytes(), want)
 }
 
 #[test]
 fn a_view_shows_what_is_kept(rt: HostRuntime) -> Result<(), Fail> {
     let mut book = opened(rt.alloc(), &[])?;
     shows(rt.alloc(), &mut book, "no such unit\n")?;
-    says(rt.alloc(), &mut book, &UNIT, "receipt 0 1 1\n")?;
-    let want = "percent 1 16 leaking 0 monitored 0 not good not skipped\n";
-    shows(rt.alloc(), &mut book, want)?;
-    shows(rt.alloc(), &mut book, want)?;
+    says(rt.alloc(), &mut book, Sent::Unit, "receipt 0 1 1\n")?;
+    shows(rt.alloc(), &mut book, NONE_MONITORED)?;
+    shows(rt.alloc(), &mut &mut book, NONE_MONITORED)?;
     holds(&book, 1, 50)
 }
 
@@ -37,10 +35,20 @@ fn a_view_shows_what_is_kept(rt: HostRuntime) -> Result<(), Fail> {
 fn a_view_shows_a_batch_in_doubt_that_stands(rt: HostRuntime) -> Result<(), Fail> {
     let first = opened(rt.alloc(), &[])?.disk().calls();
     let mut book = opened(rt.alloc(), &[first.saturating_add(3)])?;
-    says(rt.alloc(), &mut book, &UNIT, "disk fault\n")?;
-    let want = "percent 1 16 leaking 0 monitored 0 not good not skipped\n";
-    shows(rt.alloc(), &mut book, want)?;
+    says(rt.alloc(), &mut book, Sent::Unit, "disk fault\n")?;
+    shows(rt.alloc(), &mut book, NONE_MONITORED)?;
     holds(&book, 1, 50)
+}
+
+#[test]
+fn a_view_is_a_fault_where_the_settling_fails(rt: HostRuntime) -> Result<(), Fail> {
+    let first = opened(rt.alloc(), &[])?.disk().calls();
+    let failing = [first.saturating_add(2), first.saturating_add(3)];
+    let mut book = opened(rt.alloc(), &failing)?;
+    says(rt.alloc(), &mut book, Sent::Unit, "disk fault\n")?;
+    shows(rt.alloc(), &mut book, "disk fault\n")?;
+    is(book.beside().faults() == 2, "the count of faults")?;
+    shows(rt.alloc(), &mut book, "no such unit\n")
 }
 
 #[test]
@@ -48,7 +56,7 @@ fn a_report_speaks_of_what_is_kept(rt: HostRuntime) -> Result<(), Fail> {
     let mut book = opened(rt.alloc(), &[])?;
     let none = book.report(rt.alloc(), 1, 8, Day::at(19_813)).err();
     assert!(rt; matches!(none, Some(AskError::NoSuch(What::Unit))));
-    says(rt.alloc(), &mut book, &UNIT, "receipt 0 1 1\n")?;
+    says(rt.alloc(), &mut book, Sent::Unit, "receipt 0 1 1\n")?;
     let report = book.report(rt.alloc(), 1, 8, Day::at(19_813));
     assert!(rt; report.is_ok());
     Ok(())
