@@ -2,6 +2,7 @@ ghost use Rattle.std.specs.Prelude.{◌<◌, IfOk};
 ghost use Rattle.office_book.specs.Asking.{HasRule};
 
 use crate::{Book, Office, open_book};
+use at_once::says_at_once;
 use disk_model::{Disk, MemoryDisk};
 use fact_kinds::{Batch, Fact, FactBody, Name};
 use ldar_days::Day;
@@ -9,6 +10,7 @@ use ldar_law::{Reply, Request};
 use std::alloc::Global;
 use std::test::Fail;
 
+mod at_once;
 mod faults;
 mod groups;
 mod openings;
@@ -39,6 +41,20 @@ const THIRTEEN: Sent = Sent::Calibration(13);
 const FOURTEEN: Sent = Sent::Calibration(14);
 
 const UNKNOWN: Sent = Sent::Unknown(15);
+
+// What is answered to it.
+const DENIED: &str = "denied 1 1 60.486a(e)(1)\n";
+
+const FAULT: &str = "disk fault\n";
+
+// The calls of the disk behind the two that open an office: a frame, its sync, its gate, and the sync behind the gate.
+const BODY: u64 = 2;
+
+const BODY_SYNC: u64 = 3;
+
+const GATE: u64 = 4;
+
+const GATE_SYNC: u64 = 5;
 
 // The header of a journal and a closed gate.
 const EMPTY: [u8; 17] = *b"LDARJNL1\0\0\0\0\0\0\0\0\0";
@@ -103,11 +119,11 @@ fn unit() -> Result<Fact, Fail> {
 
 // An office over an empty journal, on a disk whose calls with these numbers fail.
 fn opened(alloc: Global, failing: &[u64]) -> Result<Book<MemoryDisk>, Fail> {
-    reopened(MemoryDisk::new(alloc, &EMPTY, failing)?, alloc)
+    reopened(alloc, MemoryDisk::new(alloc, &EMPTY, failing)?)
 }
 
 // The office over the journal of a disk.
-fn reopened<D: Disk>(disk: D, alloc: Global) -> Result<Book<D>, Fail> {
+fn reopened<D: Disk>(alloc: Global, disk: D) -> Result<Book<D>, Fail> {
     match open_book(alloc, disk) {
         Ok(book) => Ok(book),
         Err(_) => Err(Fail::from("an office")),
@@ -136,6 +152,41 @@ fn says<O: Office>(alloc: Global, office: &mut O, sent: Sent, want: &str) -> Res
     let reply = answered(alloc, office, sent)?;
     let line = line_of(alloc, &reply)?;
     is(line.as_slice() == want.as_bytes(), want)
+}
+
+// Sees that these lines are answered to batches, one after the other.
+fn says_each<O: Office>(alloc: Global, office: &mut O, lines: &[(Sent, &str)]) -> Result<(), Fail> {
+    for (sent, want) in lines {
+        says(alloc, office, *sent, want)?;
+    }
+    Ok(())
+}
+
+// Batches that are sent, alone or at once, the lines that are answered, and how many batches, of one fact each, and bytes the
+// journal has then.
+type Row<'a> = (&'a [Sent], &'a str, u32, usize);
+
+// Sees that an office over an empty journal, on a disk whose calls with these numbers fail, answers so.
+fn runs(alloc: Global, failing: &[u64], rows: &[Row]) -> Result<(), Fail> {
+    let mut book = opened(alloc, failing)?;
+    goes_on(alloc, &mut book, rows)
+}
+
+// .. that an office does. Each fault that it answers is one of its disk.
+fn goes_on(alloc: Global, book: &mut Book<MemoryDisk>, rows: &[Row]) -> Result<(), Fail> {
+    let mut faults = book.disk().faults();
+    for (sent, want, batches, bytes) in rows {
+        match sent {
+            [one] => says(alloc, book, *one, want)?,
+            _ => says_at_once(alloc, book, sent, want)?,
+        }
+        if want.ends_with(FAULT) {
+            faults = faults.saturating_add(1);
+        }
+        is(book.disk().faults() == faults, "the count of faults")?;
+        holds(book, *batches, *bytes)?;
+    }
+    Ok(())
 }
 
 // Sees how many batches are kept, of one fact each, and how many bytes the journal has.

@@ -1,4 +1,4 @@
-use crate::tests::{CHANGED, EMPTY, TWELVE, WITH_TWELVE, holds, is, opened, reopened, says};
+use crate::tests::{CHANGED, EMPTY, Row, TWELVE, WITH_TWELVE, goes_on, is, opened, reopened, says};
 use crate::{BookError, BookWhy, open_book};
 use disk_model::MemoryDisk;
 use std::alloc::Global;
@@ -92,22 +92,28 @@ fn a_disk_that_fails_is_handed_back(rt: HostRuntime) -> Result<(), Fail> {
     is_refused(rt.alloc(), &EMPTY, &[1], BookWhy::Disk)
 }
 
+// The disk of an office that keeps the calibration with number 12.
+fn kept(alloc: Global) -> Result<MemoryDisk, Fail> {
+    let mut book = opened(alloc, &[])?;
+    says(alloc, &mut book, TWELVE, "receipt 7 12 1\n")?;
+    Ok(book.into_disk())
+}
+
 #[test]
 fn an_opened_office_knows_its_batches(rt: HostRuntime) -> Result<(), Fail> {
-    let mut book = opened(rt.alloc(), &[])?;
-    says(rt.alloc(), &mut book, TWELVE, "receipt 7 12 1\n")?;
-    let mut again = reopened(book.into_disk(), rt.alloc())?;
-    says(rt.alloc(), &mut again, TWELVE, "receipt 7 12 1\n")?;
-    says(rt.alloc(), &mut again, CHANGED, "conflict 1\n")?;
-    holds(&again, 1, 42)
+    let mut book = reopened(rt.alloc(), kept(rt.alloc())?)?;
+    let rows: [Row; 2] = [
+        (&[TWELVE], "receipt 7 12 1\n", 1, 42),
+        (&[CHANGED], "conflict 1\n", 1, 42),
+    ];
+    goes_on(rt.alloc(), &mut book, &rows)
 }
 
 #[test]
 fn what_stands_behind_a_closed_gate_does_not_count(rt: HostRuntime) -> Result<(), Fail> {
     let image = image(rt.alloc(), &[], &[0, 0, 0, 0, 17, 0x42, 0, 7])?;
-    let mut book = reopened(MemoryDisk::new(rt.alloc(), &image, &[])?, rt.alloc())?;
-    holds(&book, 0, 24)?;
-    says(rt.alloc(), &mut book, TWELVE, "receipt 7 12 1\n")?;
-    assert_eq!(rt; book.disk().bytes(), WITH_TWELVE.as_slice());
-    Ok(())
+    let disk = MemoryDisk::new(rt.alloc(), &image, &[])?;
+    let mut book = reopened(rt.alloc(), disk)?;
+    let rows: [Row; 1] = [(&[TWELVE], "receipt 7 12 1\n", 1, 42)];
+    goes_on(rt.alloc(), &mut book, &rows)
 }

@@ -1,5 +1,8 @@
 use crate::Book;
-use crate::tests::{CHANGED, EMPTY, THIRTEEN, TWELVE, UNKNOWN, WITH_TWELVE, is, reopened, says};
+use crate::tests::{
+    CHANGED, DENIED, EMPTY, FAULT, Sent, THIRTEEN, TWELVE, UNKNOWN, WITH_TWELVE, is, reopened,
+    says_each,
+};
 use disk_model::SureDisk;
 use ldar_journal::create;
 use std::alloc::Global;
@@ -12,39 +15,44 @@ fn with_room(alloc: Global, room: usize) -> Result<Book<SureDisk>, Fail> {
         return Err(Fail::from("a journal"));
     }
     is(disk.bytes() == EMPTY.as_slice(), "an empty journal")?;
-    reopened(disk, alloc)
+    reopened(alloc, disk)
 }
 
-// Sees what the journal holds, and how many calls of its disk failed.
-fn stands(book: &Book<SureDisk>, bytes: &[u8], faults: u64) -> Result<(), Fail> {
-    is(book.disk().bytes() == bytes, "the journal")?;
-    is(book.disk().faults() == faults, "the count of faults")
+// Sees that an office with room for so many bytes answers these lines, what its journal holds then, and how many calls failed.
+fn answers(
+    alloc: Global,
+    room: usize,
+    lines: &[(Sent, &str)],
+    bytes: &[u8],
+    faults: u64,
+) -> Result<(), Fail> {
+    let mut book = with_room(alloc, room)?;
+    says_each(alloc, &mut book, lines)?;
+    is(
+        book.disk().bytes() == bytes && book.disk().faults() == faults,
+        "the journal",
+    )
 }
 
 #[test]
 fn a_disk_with_room_does_not_fail(rt: HostRuntime) -> Result<(), Fail> {
-    let mut book = with_room(rt.alloc(), 1_000)?;
-    says(rt.alloc(), &mut book, TWELVE, "receipt 7 12 1\n")?;
-    stands(&book, &WITH_TWELVE, 0)?;
-    says(rt.alloc(), &mut book, TWELVE, "receipt 7 12 1\n")?;
-    says(rt.alloc(), &mut book, TWELVE, "receipt 7 12 1\n")?;
-    says(rt.alloc(), &mut book, CHANGED, "conflict 1\n")?;
-    stands(&book, &WITH_TWELVE, 0)
+    let lines = [
+        (TWELVE, "receipt 7 12 1\n"),
+        (TWELVE, "receipt 7 12 1\n"),
+        (TWELVE, "receipt 7 12 1\n"),
+        (CHANGED, "conflict 1\n"),
+    ];
+    answers(rt.alloc(), 1_000, &lines, &WITH_TWELVE, 0)
 }
 
 #[test]
 fn a_batch_that_fills_the_room_is_the_last(rt: HostRuntime) -> Result<(), Fail> {
-    let mut book = with_room(rt.alloc(), 42)?;
-    says(rt.alloc(), &mut book, TWELVE, "receipt 7 12 1\n")?;
-    says(rt.alloc(), &mut book, THIRTEEN, "disk fault\n")?;
-    stands(&book, &WITH_TWELVE, 1)
+    let lines = [(TWELVE, "receipt 7 12 1\n"), (THIRTEEN, FAULT)];
+    answers(rt.alloc(), 42, &lines, &WITH_TWELVE, 1)
 }
 
 #[test]
 fn a_batch_without_room_is_a_fault(rt: HostRuntime) -> Result<(), Fail> {
-    let mut book = with_room(rt.alloc(), 41)?;
-    says(rt.alloc(), &mut book, TWELVE, "disk fault\n")?;
-    says(rt.alloc(), &mut book, TWELVE, "disk fault\n")?;
-    says(rt.alloc(), &mut book, UNKNOWN, "denied 1 1 60.486a(e)(1)\n")?;
-    stands(&book, &EMPTY, 2)
+    let lines = [(TWELVE, FAULT), (TWELVE, FAULT), (UNKNOWN, DENIED)];
+    answers(rt.alloc(), 41, &lines, &EMPTY, 2)
 }
