@@ -13,6 +13,8 @@ mod office;
 mod opening;
 mod settling;
 mod telling;
+#[cfg(test)]
+mod tests;
 mod viewing;
 mod writing;
 

@@ -1,0 +1,204 @@
+ghost use Rattle.std.specs.Prelude.{◌<◌, IfOk};
+ghost use Rattle.office_book.specs.Asking.{HasRule};
+
+use crate::{Book, Office, open_book};
+use at_once::says_at_once;
+use disk_model::{Disk, MemoryDisk};
+use fact_kinds::{Batch, Fact, FactBody, Name};
+use ldar_days::Day;
+use ldar_law::{Reply, Request};
+use std::alloc::Global;
+use std::test::Fail;
+
+mod at_once;
+mod faults;
+mod groups;
+mod openings;
+mod receipts;
+mod rooms;
+mod stops;
+mod views;
+
+// What is sent: a batch of one fact. All but the unit come from handheld 7 with this number, and speak of 2024-02-20 at 10:00.
+#[derive(Clone, Copy)]
+enum Sent {
+    // A calibration of instrument 1 with 500 ppm.
+    Calibration(u32),
+    // .. with 501 ppm.
+    Changed(u32),
+    // An attempt at component 1, which is not in the register.
+    Unknown(u32),
+    // Handheld 0, batch 1: unit 1, CRUDE, which started up on 2020-01-15 and is not older.
+    Unit,
+}
+
+const TWELVE: Sent = Sent::Calibration(12);
+
+const CHANGED: Sent = Sent::Changed(12);
+
+const THIRTEEN: Sent = Sent::Calibration(13);
+
+const FOURTEEN: Sent = Sent::Calibration(14);
+
+const UNKNOWN: Sent = Sent::Unknown(15);
+
+// What is answered to it.
+const DENIED: &str = "denied 1 1 60.486a(e)(1)\n";
+
+const FAULT: &str = "disk fault\n";
+
+// The calls of the disk behind the two that open an office: a frame, its sync, its gate, and the sync behind the gate.
+const BODY: u64 = 2;
+
+const BODY_SYNC: u64 = 3;
+
+const GATE: u64 = 4;
+
+const GATE_SYNC: u64 = 5;
+
+// The header of a journal and a closed gate.
+const EMPTY: [u8; 17] = *b"LDARJNL1\0\0\0\0\0\0\0\0\0";
+
+// The calibration with number 12 behind the header, in a frame of its own.
+const WITH_TWELVE: [u8; 42] = *b"LDARJNL1\0\0\0\0\0\0\0\0\
+    \x01\0\0\0\x14\x42\0\x07\0\0\0\x0c\0\x01\x07\x4d\x3d\x02\x58\0\x01\0\0\x01\xf4\0";
+
+// The batch that is sent.
+fn batch(alloc: Global, sent: Sent) -> Result<Batch, Fail> {
+    match sent {
+        Sent::Calibration(number) => of_one(alloc, 7, number, calibration(500)),
+        Sent::Changed(number) => of_one(alloc, 7, number, calibration(501)),
+        Sent::Unknown(number) => of_one(alloc, 7, number, attempt()),
+        Sent::Unit => of_one(alloc, 0, 1, unit()?),
+    }
+}
+
+// A batch of this one fact.
+fn of_one(alloc: Global, handheld: u16, number: u32, fact: Fact) -> Result<Batch, Fail> {
+    let mut facts = Vec::new(alloc);
+    facts.push(fact)?;
+    Ok(Batch::new(handheld, number, facts).ok_or("a batch")?)
+}
+
+fn calibration(gas: u16) -> Fact
+    requires some { 0 < gas }
+{
+    Fact {
+        day: Day::at(19_773),
+        minute: 600,
+        body: FactBody::Calibration {
+            instrument: 1,
+            gas: u32::from(gas),
+        },
+    }
+}
+
+fn attempt() -> Fact {
+    Fact {
+        day: Day::at(19_773),
+        minute: 600,
+        body: FactBody::Attempt {
+            component: 1,
+            complete: true,
+        },
+    }
+}
+
+fn unit() -> Result<Fact, Fail> {
+    let name = Name::new(b"CRUDE").ok_or("a name")?;
+    Ok(Fact {
+        day: Day::at(18_276),
+        minute: 0,
+        body: FactBody::Unit {
+            unit: 1,
+            older: false,
+            name,
+        },
+    })
+}
+
+// An office over an empty journal, on a disk whose calls with these numbers fail.
+fn opened(alloc: Global, failing: &[u64]) -> Result<Book<MemoryDisk>, Fail> {
+    reopened(alloc, MemoryDisk::new(alloc, &EMPTY, failing)?)
+}
+
+// The office over the journal of a disk.
+fn reopened<D: Disk>(alloc: Global, disk: D) -> Result<Book<D>, Fail> {
+    match open_book(alloc, disk) {
+        Ok(book) => Ok(book),
+        Err(_) => Err(Fail::from("an office")),
+    }
+}
+
+// What is answered to a batch.
+fn answered<O: Office>(alloc: Global, office: &mut O, sent: Sent) -> Result<Reply, Fail>
+    ensures ruled { IfOk result HasRule }
+{
+    let request = Request::Sync(batch(alloc, sent)?);
+    Ok(office.ask(alloc, &request))
+}
+
+// The line of an answer.
+fn line_of(alloc: Global, reply: &Reply) -> Result<Vec<u8>, Fail>
+    requires ruled { HasRule reply.now }
+{
+    let mut line = Vec::new(alloc);
+    reply.put_line(alloc, &mut line)?;
+    Ok(line)
+}
+
+// Sees that this line is answered to a batch.
+fn says<O: Office>(alloc: Global, office: &mut O, sent: Sent, want: &str) -> Result<(), Fail> {
+    let reply = answered(alloc, office, sent)?;
+    let line = line_of(alloc, &reply)?;
+    is(line.as_slice() == want.as_bytes(), want)
+}
+
+// Sees that these lines are answered to batches, one after the other.
+fn says_each<O: Office>(alloc: Global, office: &mut O, lines: &[(Sent, &str)]) -> Result<(), Fail> {
+    for (sent, want) in lines {
+        says(alloc, office, *sent, want)?;
+    }
+    Ok(())
+}
+
+// Batches that are sent, alone or at once, the lines that are answered, and how many batches, of one fact each, and bytes the
+// journal has then.
+type Row<'a> = (&'a [Sent], &'a str, u32, usize);
+
+// Sees that an office over an empty journal, on a disk whose calls with these numbers fail, answers so.
+fn runs(alloc: Global, failing: &[u64], rows: &[Row]) -> Result<(), Fail> {
+    let mut book = opened(alloc, failing)?;
+    goes_on(alloc, &mut book, rows)
+}
+
+// .. that an office does. Each fault that it answers is one of its disk.
+fn goes_on(alloc: Global, book: &mut Book<MemoryDisk>, rows: &[Row]) -> Result<(), Fail> {
+    let mut faults = book.disk().faults();
+    for (sent, want, batches, bytes) in rows {
+        match sent {
+            [one] => says(alloc, book, *one, want)?,
+            _ => says_at_once(alloc, book, sent, want)?,
+        }
+        if want.ends_with(FAULT) {
+            faults = faults.saturating_add(1);
+        }
+        is(book.disk().faults() == faults, "the count of faults")?;
+        holds(book, *batches, *bytes)?;
+    }
+    Ok(())
+}
+
+// Sees how many batches are kept, of one fact each, and how many bytes the journal has.
+fn holds(book: &Book<MemoryDisk>, batches: u32, bytes: usize) -> Result<(), Fail> {
+    is(
+        book.counts() == (batches, u64::from(batches)),
+        "what is kept",
+    )?;
+    is(book.disk().bytes().len() == bytes, "the journal's length")
+}
+
+// A failure that names what is wrong, where something is not so.
+fn is(so: bool, what: &str) -> Result<(), Fail> {
+    if so { Ok(()) } else { Err(Fail::from(what)) }
+}

@@ -1,0 +1,31 @@
+use crate::tests::{
+    CHANGED, DENIED, FOURTEEN, Row, THIRTEEN, TWELVE, UNKNOWN, WITH_TWELVE, is, opened, runs, says,
+};
+use std::test::Fail;
+
+#[test]
+fn a_batch_stands_in_a_frame(rt: HostRuntime) -> Result<(), Fail> {
+    let mut book = opened(rt.alloc(), &[])?;
+    says(rt.alloc(), &mut book, TWELVE, "receipt 7 12 1\n")?;
+    is(book.disk().bytes() == WITH_TWELVE.as_slice(), "the frame")
+}
+
+#[test]
+fn a_batch_acts_once(rt: HostRuntime) -> Result<(), Fail> {
+    let rows: [Row; 7] = [
+        (&[TWELVE], "receipt 7 12 1\n", 1, 42),
+        (&[TWELVE], "receipt 7 12 1\n", 1, 42),
+        (&[TWELVE], "receipt 7 12 1\n", 1, 42),
+        (&[CHANGED], "conflict 1\n", 1, 42),
+        (&[THIRTEEN], "receipt 7 13 2\n", 2, 67),
+        (&[FOURTEEN], "receipt 7 14 3\n", 3, 92),
+        (&[THIRTEEN], "receipt 7 13 2\n", 3, 92),
+    ];
+    runs(rt.alloc(), &[], &rows)
+}
+
+#[test]
+fn a_batch_is_denied_by_the_register(rt: HostRuntime) -> Result<(), Fail> {
+    let rows: [Row; 1] = [(&[UNKNOWN], DENIED, 0, 17)];
+    runs(rt.alloc(), &[], &rows)
+}
