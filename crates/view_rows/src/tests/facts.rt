@@ -294,7 +294,7 @@ fn attempt(at: Moment, numbers: &[&str]) -> Result<Fact, Fail> {
 
 /// The letter of a ground as a number, 0 for a delay that is withdrawn.
 fn ground(word: &str) -> Result<u8, Fail>
-    ensures in_range { IfOk result (λ ground. ground ≤ 5) }
+    ensures in_range { IfOk result (λ number. number ≤ 5) }
 {
     match word {
         "withdrawn" => Ok(0),
