@@ -1,5 +1,6 @@
 -- What is owed, by what the component is on the day on which it is judged.
-use Rattle.std.proofs.Common.{◌≡◌, ℕ, ◌+◌, ◌-◌, ◌*◌, ◌%◌, ◌<◌, ◌≤◌, Bool, true, false, not, ◌&&◌, ◌||◌, nat_lt, nat_eq, min, refl, sym, ap, ◌∙◌, inl, inr, mod-eq_of_lt, arith}
+use Rattle.std.proofs.Common.{◌≡◌, ℕ, ◌+◌, ◌-◌, ◌*◌, ◌%◌, ◌<◌, ◌≤◌, Bool, true, false, not}
+use Rattle.std.proofs.Common.{◌&&◌, ◌||◌, nat_lt, nat_eq, min, refl, sym, ap, ◌∙◌, inl, inr, mod-eq_of_lt, arith}
 use Rattle.std.proofs.lemmas.Bool.{cases_Bool, and_parts, eqb-true, cases_lt}
 use Rattle.ldar_days.specs.Calendar.{first_day, last_day, end_by, month_of, week_first, week_last}
 use Rattle.fact_kinds.specs.declared.class.Kind.{Kind}

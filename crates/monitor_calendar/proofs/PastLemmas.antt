@@ -1,5 +1,6 @@
 -- What the events of past months tell, with one event more.
-use Rattle.std.proofs.Common.{◌≡◌, ◌⊎◌, ℕ, ◌+◌, ◌-◌, ◌<◌, ◌≤◌, Bool, true, false, ◌&&◌, ◌||◌, nat_eq, nat_le, Option, Some, None, is_some, IfSome, List, [], ◌∷◌, ◌++◌}
+use Rattle.std.proofs.Common.{◌≡◌, ◌⊎◌, ℕ, ◌+◌, ◌-◌, ◌<◌, ◌≤◌, Bool, true, false, ◌&&◌}
+use Rattle.std.proofs.Common.{◌||◌, nat_eq, nat_le, Option, Some, None, is_some, IfSome, List, [], ◌∷◌, ◌++◌}
 use Rattle.std.proofs.Common.{refl, sym, ap, subst, ◌∙◌, inl, inr, arith}
 use Rattle.std.specs.List.{AllByRecursion, list_any}
 use Rattle.std.proofs.lemmas.Bool.{cases_Bool, cases_lt, cases_eq, false≢true, and_parts, and_from, and_right, or_cases, or_parts, or_from, or_left, or_right}
@@ -282,7 +283,8 @@ module _ (past : PastMonths) (last : ℕ) (front : List Event) (e : Event) (tell
     leak_by = omega (arith, tells.leak_by, le);
     below_by = omega arith;
     leak = λ low pos. leaks_more low pos ∙ rw sound (or_false (nat_le low past.leak));
-    below = λ low lt none. reads_more low lt (no_pair past.pair past.below month none) ∙ rw read (or_le past.below month low (omega (arith, tells.below_by, le)));
+    below = λ low lt none.
+        reads_more low lt (no_pair past.pair past.below month none) ∙ rw read (or_le past.below month low (omega (arith, tells.below_by, le)));
     since = λ h. after;
     first = λ k lt here next.
         elim (or_cases (reads_in front k) (is_routine_below e.what && nat_eq month k) (sym (read_more k) ∙ here)) [

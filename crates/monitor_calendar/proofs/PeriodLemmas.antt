@@ -1,5 +1,6 @@
 -- The events of a period, as halving finds them.
-use Rattle.std.proofs.Common.{◌≡◌, ℕ, zero, suc, ◌≤◌, ◌<◌, Bool, true, false, not, ◌&&◌, ◌||◌, cond, nat_le, nat_lt, ◌-◌, Option, Some, None, option_map, List, [], ◌∷◌}
+use Rattle.std.proofs.Common.{◌≡◌, ℕ, zero, suc, ◌≤◌, ◌<◌, Bool, true, false, not, ◌&&◌}
+use Rattle.std.proofs.Common.{◌||◌, cond, nat_le, nat_lt, ◌-◌, Option, Some, None, option_map, List, [], ◌∷◌}
 use Rattle.std.proofs.Common.{length, take, drop, filter, find, refl, sym, ap, ◌∙◌, inl, inr, arith}
 use Rattle.std.specs.List.Sorted.{IsPartitionPoint}
 use Rattle.std.specs.List.{AllByRecursion}

@@ -21,4 +21,5 @@ pub record Covers (asked : Asked) (months : ListedMonths) : Type 0 where
   pub first : IsFirstListed asked months.low
   pub end : months.end ≡ month_of asked.day + 1
   pub within : months.end ≤ 25_200
-  pub quarterly : is_valve asked.item.now.kind ≡ true → (k : ℕ) → k < 15 → months.low + k < months.end → slice_index_or months.quarterly k false ≡ is_quarterly asked.startup asked.events.now (months.low + k)
+  pub quarterly : is_valve asked.item.now.kind ≡ true → (k : ℕ) → k < 15 → months.low + k < months.end
+      → slice_index_or months.quarterly k false ≡ is_quarterly asked.startup asked.events.now (months.low + k)

@@ -26,7 +26,8 @@ pub loop-place-preserved : goal.loop-place-preserved
 loop-place-preserved c =
     let l = c.loop-place in
     let e = c.index-events-place.result in
-    let early : month_of e.key.day < c.args.month = before_first c.args.month e.key.day (subst IsDay c.number-day.ensures.value c.number-day.ensures.in_range) (omega arith) (omega arith) in
+    let early : month_of e.key.day < c.args.month = before_first c.args.month e.key.day
+    (subst IsDay c.number-day.ensures.value c.number-day.ensures.in_range) (omega arith) (omega arith) in
     on_next c.args.events.now l.place c.args.month c.index-events-place.result c.requires.ordered c.loop-place-test.true (sym c.index-events-place.is)
     l.past c.with-past.result l.invariant early c.with-past.ensures.value
 
