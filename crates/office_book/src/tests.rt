@@ -19,28 +19,30 @@ mod rooms;
 mod stops;
 mod views;
 
-// What is sent: a batch of one fact. All but the unit come from handheld 7 with this number, and speak of 2024-02-20 at 10:00.
+// What is asked: that a batch of one fact be kept, or a view.
 #[derive(Clone, Copy)]
-enum Sent {
-    // A calibration of instrument 1 with 500 ppm.
+enum Asked {
+    // Of handheld 7 with this number: a calibration of instrument 1 on 2024-02-20 at 10:00 with 500 ppm.
     Calibration(u32),
     // .. with 501 ppm.
     Changed(u32),
-    // An attempt at component 1, which is not in the register.
+    // .. an attempt at component 1, which is not in the register.
     Unknown(u32),
-    // Handheld 0, batch 1: unit 1, CRUDE, which started up on 2020-01-15 and is not older.
+    // Of handheld 0 with number 1: unit 1, CRUDE, which started up on 2020-01-15 and is not older.
     Unit,
+    // The percent view of unit 1 in quarter 16, as known on 2024-03-31.
+    Percent,
 }
 
-const TWELVE: Sent = Sent::Calibration(12);
+const TWELVE: Asked = Asked::Calibration(12);
 
-const CHANGED: Sent = Sent::Changed(12);
+const CHANGED: Asked = Asked::Changed(12);
 
-const THIRTEEN: Sent = Sent::Calibration(13);
+const THIRTEEN: Asked = Asked::Calibration(13);
 
-const FOURTEEN: Sent = Sent::Calibration(14);
+const FOURTEEN: Asked = Asked::Calibration(14);
 
-const UNKNOWN: Sent = Sent::Unknown(15);
+const UNKNOWN: Asked = Asked::Unknown(15);
 
 // What is answered to it.
 const DENIED: &str = "denied 1 1 60.486a(e)(1)\n";
@@ -63,21 +65,27 @@ const EMPTY: [u8; 17] = *b"LDARJNL1\0\0\0\0\0\0\0\0\0";
 const WITH_TWELVE: [u8; 42] = *b"LDARJNL1\0\0\0\0\0\0\0\0\
     \x01\0\0\0\x14\x42\0\x07\0\0\0\x0c\0\x01\x07\x4d\x3d\x02\x58\0\x01\0\0\x01\xf4\0";
 
-// The batch that is sent.
-fn batch(alloc: Global, sent: Sent) -> Result<Batch, Fail> {
-    match sent {
-        Sent::Calibration(number) => of_one(alloc, 7, number, calibration(500)),
-        Sent::Changed(number) => of_one(alloc, 7, number, calibration(501)),
-        Sent::Unknown(number) => of_one(alloc, 7, number, attempt()),
-        Sent::Unit => of_one(alloc, 0, 1, unit()?),
+// The request.
+fn request(alloc: Global, asked: Asked) -> Result<Request, Fail> {
+    match asked {
+        Asked::Calibration(number) => of_one(alloc, 7, number, calibration(500)),
+        Asked::Changed(number) => of_one(alloc, 7, number, calibration(501)),
+        Asked::Unknown(number) => of_one(alloc, 7, number, attempt()),
+        Asked::Unit => of_one(alloc, 0, 1, unit()?),
+        Asked::Percent => Ok(Request::Percent {
+            unit: 1,
+            quarter: 16,
+            day: Day::at(19_813),
+        }),
     }
 }
 
-// A batch of this one fact.
-fn of_one(alloc: Global, handheld: u16, number: u32, fact: Fact) -> Result<Batch, Fail> {
+// That a batch of this one fact be kept.
+fn of_one(alloc: Global, handheld: u16, number: u32, fact: Fact) -> Result<Request, Fail> {
     let mut facts = Vec::new(alloc);
     facts.push(fact)?;
-    Ok(Batch::new(handheld, number, facts).ok_or("a batch")?)
+    let batch = Batch::new(handheld, number, facts).ok_or("a batch")?;
+    Ok(Request::Sync(batch))
 }
 
 fn calibration(gas: u16) -> Fact
@@ -130,11 +138,11 @@ fn reopened<D: Disk>(alloc: Global, disk: D) -> Result<Book<D>, Fail> {
     }
 }
 
-// What is answered to a batch.
-fn answered<O: Office>(alloc: Global, office: &mut O, sent: Sent) -> Result<Reply, Fail>
+// What is answered.
+fn answered<O: Office>(alloc: Global, office: &mut O, asked: Asked) -> Result<Reply, Fail>
     ensures ruled { IfOk result HasRule }
 {
-    let request = Request::Sync(batch(alloc, sent)?);
+    let request = request(alloc, asked)?;
     Ok(office.ask(alloc, &request))
 }
 
@@ -147,24 +155,28 @@ fn line_of(alloc: Global, reply: &Reply) -> Result<Vec<u8>, Fail>
     Ok(line)
 }
 
-// Sees that this line is answered to a batch.
-fn says<O: Office>(alloc: Global, office: &mut O, sent: Sent, want: &str) -> Result<(), Fail> {
-    let reply = answered(alloc, office, sent)?;
+// Sees that this line is answered.
+fn says<O: Office>(alloc: Global, office: &mut O, asked: Asked, want: &str) -> Result<(), Fail> {
+    let reply = answered(alloc, office, asked)?;
     let line = line_of(alloc, &reply)?;
     is(line.as_slice() == want.as_bytes(), want)
 }
 
-// Sees that these lines are answered to batches, one after the other.
-fn says_each<O: Office>(alloc: Global, office: &mut O, lines: &[(Sent, &str)]) -> Result<(), Fail> {
-    for (sent, want) in lines {
-        says(alloc, office, *sent, want)?;
+// Sees that these lines are answered, one after the other.
+fn says_each<O: Office>(
+    alloc: Global,
+    office: &mut O,
+    lines: &[(Asked, &str)],
+) -> Result<(), Fail> {
+    for (asked, want) in lines {
+        says(alloc, office, *asked, want)?;
     }
     Ok(())
 }
 
-// Batches that are sent, alone or at once, the lines that are answered, and how many batches, of one fact each, and bytes the
-// journal has then.
-type Row<'a> = (&'a [Sent], &'a str, u32, usize);
+// What is asked, alone or at once, the lines that are answered, and how many batches, of one fact each, are kept then and how
+// many bytes the journal has.
+type Row<'a> = (&'a [Asked], &'a str, u32, usize);
 
 // Sees that an office over an empty journal, on a disk whose calls with these numbers fail, answers so.
 fn runs(alloc: Global, failing: &[u64], rows: &[Row]) -> Result<(), Fail> {
@@ -172,13 +184,20 @@ fn runs(alloc: Global, failing: &[u64], rows: &[Row]) -> Result<(), Fail> {
     goes_on(alloc, &mut book, rows)
 }
 
-// .. that an office does. Each fault that it answers is one of its disk.
+// The disk of an office over an empty journal that answered so.
+fn disk_of(alloc: Global, rows: &[Row]) -> Result<MemoryDisk, Fail> {
+    let mut book = opened(alloc, &[])?;
+    goes_on(alloc, &mut book, rows)?;
+    Ok(book.into_disk())
+}
+
+// Sees that an office answers so. Each fault that it answers is one of its disk.
 fn goes_on(alloc: Global, book: &mut Book<MemoryDisk>, rows: &[Row]) -> Result<(), Fail> {
     let mut faults = book.disk().faults();
-    for (sent, want, batches, bytes) in rows {
-        match sent {
+    for (asked, want, batches, bytes) in rows {
+        match asked {
             [one] => says(alloc, book, *one, want)?,
-            _ => says_at_once(alloc, book, sent, want)?,
+            _ => says_at_once(alloc, book, asked, want)?,
         }
         if want.ends_with(FAULT) {
             faults = faults.saturating_add(1);

@@ -3,7 +3,7 @@ ghost use Rattle.std.specs.List.{AllByRecursion};
 ghost use Rattle.office_book.specs.Asking.{IsFromHandheld, HasRule};
 
 use crate::Office;
-use crate::tests::{Sent, batch, is};
+use crate::tests::{Asked, is, request};
 use fact_kinds::FRAME_BATCHES;
 use ldar_law::{Reply, Request};
 use std::alloc::Global;
@@ -29,11 +29,11 @@ fn are_from_handhelds(requests: &[Request]) -> bool
     }
 }
 
-// Requests to keep batches.
-fn requests(alloc: Global, group: &[Sent]) -> Result<Vec<Request>, Fail> {
+// The requests.
+fn requests(alloc: Global, group: &[Asked]) -> Result<Vec<Request>, Fail> {
     let mut requests = Vec::new(alloc);
-    for sent in group {
-        requests.push(Request::Sync(batch(alloc, *sent)?))?;
+    for asked in group {
+        requests.push(request(alloc, *asked)?)?;
     }
     Ok(requests)
 }
@@ -71,7 +71,7 @@ fn put_lines(alloc: Global, replies: &[Reply], out: &mut Vec<u8>) -> Result<(), 
 pub fn says_at_once<O: Office>(
     alloc: Global,
     office: &mut O,
-    group: &[Sent],
+    group: &[Asked],
     want: &str,
 ) -> Result<(), Fail> {
     let requests = requests(alloc, group)?;

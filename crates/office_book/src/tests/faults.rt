@@ -1,6 +1,6 @@
 use crate::tests::{
-    BODY, BODY_SYNC, CHANGED, DENIED, EMPTY, FAULT, FOURTEEN, GATE, GATE_SYNC, Row, Sent, THIRTEEN,
-    TWELVE, UNKNOWN, answered, holds, is, runs,
+    Asked, BODY, BODY_SYNC, CHANGED, DENIED, EMPTY, FAULT, FOURTEEN, GATE, GATE_SYNC, Row,
+    THIRTEEN, TWELVE, UNKNOWN, answered, holds, is, runs,
 };
 use crate::{Book, BookWhy, open_book};
 use disk_model::MemoryDisk;
@@ -54,8 +54,8 @@ fn a_fault_leaves_what_is_kept(rt: HostRuntime) -> Result<(), Fail> {
 }
 
 // Sees that a batch is receipted, or that a call of the disk failed.
-fn may_fail(alloc: Global, book: &mut Book<MemoryDisk>, sent: Sent) -> Result<(), Fail> {
-    match answered(alloc, book, sent)? {
+fn may_fail(alloc: Global, book: &mut Book<MemoryDisk>, asked: Asked) -> Result<(), Fail> {
+    match answered(alloc, book, asked)? {
         Reply::Receipt { .. } => Ok(()),
         Reply::Fault => is(book.disk().faults() == 1, "a fault"),
         _ => Err(Fail::from("a receipt or a fault")),
@@ -63,8 +63,8 @@ fn may_fail(alloc: Global, book: &mut Book<MemoryDisk>, sent: Sent) -> Result<()
 }
 
 // At which position a batch is receipted.
-fn position(alloc: Global, book: &mut Book<MemoryDisk>, sent: Sent) -> Result<u32, Fail> {
-    match answered(alloc, book, sent)? {
+fn position(alloc: Global, book: &mut Book<MemoryDisk>, asked: Asked) -> Result<u32, Fail> {
+    match answered(alloc, book, asked)? {
         Reply::Receipt { position, .. } => Ok(position),
         _ => Err(Fail::from("a receipt")),
     }
@@ -72,12 +72,12 @@ fn position(alloc: Global, book: &mut Book<MemoryDisk>, sent: Sent) -> Result<u3
 
 // Sees that three batches, one of them sent twice, pass over a fault: sent once more they are receipted at the positions 1 to 3.
 fn all_pass(alloc: Global, book: &mut Book<MemoryDisk>) -> Result<(), Fail> {
-    for sent in [TWELVE, TWELVE, THIRTEEN, FOURTEEN] {
-        may_fail(alloc, book, sent)?;
+    for asked in [TWELVE, TWELVE, THIRTEEN, FOURTEEN] {
+        may_fail(alloc, book, asked)?;
     }
     let mut found: u32 = 0;
-    for sent in [TWELVE, THIRTEEN, FOURTEEN] {
-        found |= 1u32.wrapping_shl(position(alloc, book, sent)?);
+    for asked in [TWELVE, THIRTEEN, FOURTEEN] {
+        found |= 1u32.wrapping_shl(position(alloc, book, asked)?);
     }
     is(found == 0b1110, "the positions 1 to 3")?;
     holds(book, 3, 92)

@@ -1,8 +1,7 @@
-use crate::Office;
 use crate::tests::at_once::says_at_once;
 use crate::tests::{
-    BODY, BODY_SYNC, CHANGED, DENIED, FAULT, FOURTEEN, GATE, GATE_SYNC, Row, Sent, THIRTEEN,
-    TWELVE, UNKNOWN, is, opened, runs,
+    Asked, BODY, BODY_SYNC, CHANGED, FAULT, FOURTEEN, GATE, GATE_SYNC, Row, THIRTEEN, TWELVE,
+    UNKNOWN, disk_of, is, opened, runs,
 };
 use std::test::Fail;
 
@@ -17,11 +16,10 @@ const WITH_THREE: [u8; 82] = *b"LDARJNL1\0\0\0\0\0\0\0\0\x01\0\0\0\x3c\
 
 #[test]
 fn batches_share_a_frame(rt: HostRuntime) -> Result<(), Fail> {
-    let mut book = opened(rt.alloc(), &[])?;
-    let group = [TWELVE, THIRTEEN, FOURTEEN];
     let want = "receipt 7 12 1\nreceipt 7 13 2\nreceipt 7 14 3\n";
-    says_at_once(rt.alloc(), &mut book, &group, want)?;
-    is(book.disk().bytes() == WITH_THREE.as_slice(), "one frame")
+    let rows: [Row; 1] = [(&[TWELVE, THIRTEEN, FOURTEEN], want, 3, 82)];
+    let disk = disk_of(rt.alloc(), &rows)?;
+    is(disk.bytes() == WITH_THREE.as_slice(), "one frame")
 }
 
 #[test]
@@ -43,10 +41,10 @@ fn a_changed_batch_is_in_conflict_with_one_of_its_group(rt: HostRuntime) -> Resu
 }
 
 // The calibrations with numbers 1 to 16.
-fn sixteen() -> [Sent; 16] {
+fn sixteen() -> [Asked; 16] {
     let mut group = [TWELVE; 16];
     for index in 0..16 {
-        group[index] = Sent::Calibration(index as u32 + 1);
+        group[index] = Asked::Calibration(index as u32 + 1);
     }
     group
 }
@@ -60,7 +58,7 @@ fn sixteen_batches_share_a_frame(rt: HostRuntime) -> Result<(), Fail> {
     // One frame of 320 bytes, and then one of 20.
     let rows: [Row; 2] = [
         (&sixteen(), want, 16, 342),
-        (&[Sent::Calibration(17)], "receipt 7 17 17\n", 17, 367),
+        (&[Asked::Calibration(17)], "receipt 7 17 17\n", 17, 367),
     ];
     runs(rt.alloc(), &[], &rows)
 }
@@ -81,7 +79,6 @@ fn one_of_sixteen_batches_may_be_denied(rt: HostRuntime) -> Result<(), Fail> {
 #[test]
 fn a_group_may_be_one_batch(rt: HostRuntime) -> Result<(), Fail> {
     let mut book = opened(rt.alloc(), &[])?;
-    says_at_once(rt.alloc(), &mut book, &[UNKNOWN], DENIED)?;
     says_at_once(rt.alloc(), &mut &mut book, &[TWELVE], "receipt 7 12 1\n")
 }
 

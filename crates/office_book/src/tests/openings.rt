@@ -1,4 +1,4 @@
-use crate::tests::{CHANGED, EMPTY, Row, TWELVE, WITH_TWELVE, goes_on, is, opened, reopened, says};
+use crate::tests::{CHANGED, EMPTY, Row, TWELVE, WITH_TWELVE, disk_of, goes_on, is, reopened};
 use crate::{BookError, BookWhy, open_book};
 use disk_model::MemoryDisk;
 use std::alloc::Global;
@@ -92,20 +92,13 @@ fn a_disk_that_fails_is_handed_back(rt: HostRuntime) -> Result<(), Fail> {
     is_refused(rt.alloc(), &EMPTY, &[1], BookWhy::Disk)
 }
 
-// The disk of an office that keeps the calibration with number 12.
-fn kept(alloc: Global) -> Result<MemoryDisk, Fail> {
-    let mut book = opened(alloc, &[])?;
-    says(alloc, &mut book, TWELVE, "receipt 7 12 1\n")?;
-    Ok(book.into_disk())
-}
-
 #[test]
 fn an_opened_office_knows_its_batches(rt: HostRuntime) -> Result<(), Fail> {
-    let mut book = reopened(rt.alloc(), kept(rt.alloc())?)?;
     let rows: [Row; 2] = [
         (&[TWELVE], "receipt 7 12 1\n", 1, 42),
         (&[CHANGED], "conflict 1\n", 1, 42),
     ];
+    let mut book = reopened(rt.alloc(), disk_of(rt.alloc(), &rows)?)?;
     goes_on(rt.alloc(), &mut book, &rows)
 }
 

@@ -1,13 +1,12 @@
 use crate::tests::{
-    CHANGED, DENIED, FOURTEEN, Row, THIRTEEN, TWELVE, UNKNOWN, WITH_TWELVE, is, opened, runs, says,
+    CHANGED, DENIED, FOURTEEN, Row, THIRTEEN, TWELVE, UNKNOWN, WITH_TWELVE, disk_of, is, runs,
 };
 use std::test::Fail;
 
 #[test]
 fn a_batch_stands_in_a_frame(rt: HostRuntime) -> Result<(), Fail> {
-    let mut book = opened(rt.alloc(), &[])?;
-    says(rt.alloc(), &mut book, TWELVE, "receipt 7 12 1\n")?;
-    is(book.disk().bytes() == WITH_TWELVE.as_slice(), "the frame")
+    let disk = disk_of(rt.alloc(), &[(&[TWELVE], "receipt 7 12 1\n", 1, 42)])?;
+    is(disk.bytes() == WITH_TWELVE.as_slice(), "the frame")
 }
 
 #[test]

@@ -1,6 +1,6 @@
 use crate::Book;
 use crate::tests::{
-    CHANGED, DENIED, EMPTY, FAULT, Sent, THIRTEEN, TWELVE, UNKNOWN, WITH_TWELVE, is, reopened,
+    Asked, CHANGED, DENIED, EMPTY, FAULT, THIRTEEN, TWELVE, UNKNOWN, WITH_TWELVE, is, reopened,
     says_each,
 };
 use disk_model::SureDisk;
@@ -22,7 +22,7 @@ fn with_room(alloc: Global, room: usize) -> Result<Book<SureDisk>, Fail> {
 fn answers(
     alloc: Global,
     room: usize,
-    lines: &[(Sent, &str)],
+    lines: &[(Asked, &str)],
     bytes: &[u8],
     faults: u64,
 ) -> Result<(), Fail> {

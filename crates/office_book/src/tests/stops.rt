@@ -1,6 +1,6 @@
 use crate::Book;
 use crate::tests::{
-    BODY, BODY_SYNC, GATE, GATE_SYNC, Row, THIRTEEN, TWELVE, goes_on, holds, is, opened, reopened,
+    BODY, BODY_SYNC, GATE, GATE_SYNC, Row, THIRTEEN, TWELVE, disk_of, holds, is, reopened,
     says_each,
 };
 use disk_model::MemoryDisk;
@@ -16,13 +16,11 @@ const BEHIND: [u8; 25] =
 
 // A disk on which an office kept the calibrations with numbers 12 and 13.
 fn written(alloc: Global) -> Result<MemoryDisk, Fail> {
-    let mut book = opened(alloc, &[])?;
     let rows: [Row; 2] = [
         (&[TWELVE], "receipt 7 12 1\n", 1, 42),
         (&[THIRTEEN], "receipt 7 13 2\n", 2, 67),
     ];
-    goes_on(alloc, &mut book, &rows)?;
-    Ok(book.into_disk())
+    disk_of(alloc, &rows)
 }
 
 // Sees that so many batches are kept, and that both are receipted once they are sent again.

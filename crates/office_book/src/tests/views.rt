@@ -1,55 +1,44 @@
-use crate::tests::{FAULT, GATE, GATE_SYNC, Sent, holds, is, line_of, opened, says};
-use crate::{Book, Office};
+use crate::Book;
+use crate::tests::{Asked, FAULT, GATE, GATE_SYNC, Row, is, opened, runs, says};
 use disk_model::MemoryDisk;
 use ldar_days::Day;
-use ldar_law::{Request, What};
+use ldar_law::What;
 use office_views::AskError;
 use std::alloc::Global;
 use std::test::Fail;
 
+const VIEW: [Asked; 1] = [Asked::Percent];
+
+const UNIT: [Asked; 1] = [Asked::Unit];
+
 const NO_UNIT: &str = "no such unit\n";
 
-// What the percent view of unit 1 in quarter 16 says of a unit without components.
-const NONE_MONITORED: &str = "percent 1 16 leaking 0 monitored 0 not good not skipped\n";
+// What the view says of a unit without components.
+const SHOWN: &str = "percent 1 16 leaking 0 monitored 0 not good not skipped\n";
 
-// Sees what this view says, as known on 2024-03-31.
-fn shows<O: Office>(alloc: Global, office: &mut O, want: &str) -> Result<(), Fail> {
-    let request = Request::Percent {
-        unit: 1,
-        quarter: 16,
-        day: Day::at(19_813),
-    };
-    let reply = office.ask(alloc, &request);
-    let text = line_of(alloc, &reply)?;
-    is(text.as_slice() == want.as_bytes(), want)
-}
-
-// Sees that there is no unit, then what is answered to it, and then what the view says, twice.
-fn comes<O: Office>(alloc: Global, office: &mut O, lines: (&str, &str, &str)) -> Result<(), Fail> {
-    let (said, shown, again) = lines;
-    shows(alloc, office, NO_UNIT)?;
-    says(alloc, office, Sent::Unit, said)?;
-    shows(alloc, office, shown)?;
-    shows(alloc, office, again)
+#[test]
+fn a_view_shows_what_is_kept(rt: HostRuntime) -> Result<(), Fail> {
+    let rows: [Row; 4] = [
+        (&VIEW, NO_UNIT, 0, 17),
+        (&UNIT, "receipt 0 1 1\n", 1, 50),
+        (&VIEW, SHOWN, 1, 50),
+        (&VIEW, SHOWN, 1, 50),
+    ];
+    runs(rt.alloc(), &[], &rows)
 }
 
 #[test]
-fn a_view_shows_what_stands(rt: HostRuntime) -> Result<(), Fail> {
-    // The calls that fail, what is answered to the unit, what the view says then, and how many batches are kept.
-    let cases: [(&[u64], (&str, &str, &str), u32); 4] = [
-        (&[], ("receipt 0 1 1\n", NONE_MONITORED, NONE_MONITORED), 1),
-        (&[GATE_SYNC], (FAULT, NONE_MONITORED, NONE_MONITORED), 1),
-        (&[GATE, GATE + 1], (FAULT, FAULT, NO_UNIT), 0),
-        (
-            &[GATE_SYNC, GATE_SYNC + 1],
-            (FAULT, FAULT, NONE_MONITORED),
-            1,
-        ),
-    ];
-    for (failing, lines, batches) in cases {
-        let mut book = opened(rt.alloc(), failing)?;
-        comes(rt.alloc(), &mut book, lines)?;
-        holds(&book, batches, 50)?;
+fn a_view_settles_first(rt: HostRuntime) -> Result<(), Fail> {
+    let rows: [Row; 2] = [(&UNIT, FAULT, 0, 50), (&VIEW, SHOWN, 1, 50)];
+    runs(rt.alloc(), &[GATE_SYNC], &rows)?;
+    // The settling fails too.
+    for (gate, then, batches) in [(GATE, NO_UNIT, 0), (GATE_SYNC, SHOWN, 1)] {
+        let rows: [Row; 3] = [
+            (&UNIT, FAULT, 0, 50),
+            (&VIEW, FAULT, 0, 50),
+            (&VIEW, then, batches, 50),
+        ];
+        runs(rt.alloc(), &[gate, gate + 1], &rows)?;
     }
     Ok(())
 }
@@ -61,7 +50,7 @@ fn reports(alloc: Global, book: &mut Book<MemoryDisk>) -> Result<(), Fail> {
         matches!(none, Some(AskError::NoSuch(What::Unit))),
         "no such unit",
     )?;
-    says(alloc, book, Sent::Unit, "receipt 0 1 1\n")?;
+    says(alloc, book, Asked::Unit, "receipt 0 1 1\n")?;
     is(
         book.report(alloc, 1, 8, Day::at(19_813)).is_ok(),
         "a report",
