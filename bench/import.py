@@ -31,7 +31,7 @@ def components(count):
         kind = "pump" if number % 10 == 0 else "valve"
         service = "light" if number % 2 else "gas" if kind == "valve" else "light"
         designation = "difficult" if number % 50 == 1 else "none"
-        rows.append(f"{number},1,{kind},{service},{designation},0,{number % 12 + 1},0,0,20{20 + number % 4}-{number % 12 + 1:02}-15")
+        rows.append(f"{number},1,{kind},{service},{designation},0,{number % 3 + 1},0,0,20{20 + number % 4}-{number % 12 + 1:02}-15")
     return "\n".join(rows) + "\n"
 
 
