@@ -1,6 +1,5 @@
 -- A word that begins with a hyphen is in no command.
-use Rattle.std.proofs.Common.{◌≡◌, ◌∙◌, ◌==◌, ◌&&◌, ◌+◌, ◌/◌, ◌%◌, ℕ, Bool, true, false, not, nat_eq}
-use Rattle.std.proofs.Common.{nat_le, Option, Some, None, List, [], ◌∷◌, length, refl, sym, ap, arith, codes, if◌then◌else◌}
+use Rattle.std.proofs.Common.{◌≡◌, ◌∙◌, ◌==◌, ◌&&◌, ◌+◌, ◌/◌, ◌%◌, ℕ, Bool, true, false, not, nat_eq, nat_le, Option, Some, None, List, [], ◌∷◌, length, refl, sym, ap, arith, codes, if◌then◌else◌}
 use Rattle.std.proofs.lemmas.Grind.{common_steps}
 use Rattle.std.specs.List.{list_all}
 use Rattle.std.specs.Char.{is_ascii_digit}
@@ -15,8 +14,7 @@ use Rattle.command_words.specs.Parsing.{name_in}
 use Rattle.command_words.specs.Positionals.{is_option, positionals_of}
 use Rattle.ldar_cli.specs.declared.command.Command.{Command}
 use Rattle.ldar_cli.specs.declared.command.Sort.{Sort}
-use Rattle.ldar_cli.specs.Command.{command_in, command_with, import_of, is_word, numbered_view, route_on}
-use Rattle.ldar_cli.specs.Command.{showing, sort_named, view_named, view_of_four, view_of_number, view_on}
+use Rattle.ldar_cli.specs.Command.{command_in, command_with, import_of, is_word, numbered_view, route_on, showing, sort_named, view_named, view_of_four, view_of_number, view_on}
 
 -- such a word is a hyphen and the rest
 hyphen_first : (x : ℕ) → (x == 45) ≡ true → x ≡ 45
