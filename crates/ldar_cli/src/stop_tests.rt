@@ -1,5 +1,5 @@
 use crate::tests::{BATCH, NEXT, empty, image, ran, ran_in_pieces, untroubled};
-use disk_model::{Disk, MemoryDisk, SureDisk};
+use disk_model::{Disk, MemoryDisk};
 use std::alloc::Global;
 use std::test::Fail;
 
@@ -108,34 +108,6 @@ fn numbered(number: u8) -> [u8; 20] {
 }
 
 #[test]
-fn batches_in_one_piece_share_a_frame(rt: HostRuntime) -> Result<(), Fail> {
-    let (twelve, thirteen, fourteen) = (numbered(12), numbered(13), numbered(14));
-    let mut together = Vec::from_slice(rt.alloc(), &twelve)?;
-    together.extend_from_slice(&thirteen)?;
-    together.extend_from_slice(&fourteen)?;
-    let said = "receipt 7 12 1\nreceipt 7 13 2\nreceipt 7 14 3\n";
-    let mut twice = Vec::from_slice(rt.alloc(), &twelve)?;
-    twice.extend_from_slice(&twelve)?;
-    twice.extend_from_slice(&thirteen)?;
-    let once = "receipt 7 12 1\nreceipt 7 12 1\nreceipt 7 13 2\n";
-    let one_piece = [together.as_slice()];
-    let three_pieces = [twelve.as_slice(), thirteen.as_slice(), fourteen.as_slice()];
-    let resent = [twice.as_slice()];
-    let cases = [
-        (one_piece.as_slice(), said, 82),
-        (three_pieces.as_slice(), said, 92),
-        (resent.as_slice(), once, 62),
-    ];
-    for (pieces, said, length) in cases {
-        let mut disk = empty(rt.alloc())?;
-        let got = ran_in_pieces(rt.alloc(), &mut disk, &untroubled(&["dock"], &[]), pieces)?;
-        assert_eq!(rt; (got.status, disk.bytes().len()), (0, length));
-        assert_eq!(rt; got.output.as_slice(), said.as_bytes());
-    }
-    Ok(())
-}
-
-#[test]
 fn a_frame_has_at_most_sixteen_batches(rt: HostRuntime) -> Result<(), Fail> {
     let mut input = Vec::new(rt.alloc());
     for number in 1..18 {
@@ -166,30 +138,5 @@ fn a_fault_is_answered_to_a_whole_group(rt: HostRuntime) -> Result<(), Fail> {
         checked(rt.alloc(), disk)?.as_slice(),
         b"journal 1 batches 1 facts\n".as_slice()
     );
-    Ok(())
-}
-
-#[test]
-fn a_disk_of_told_room_is_used_up_to_its_end(rt: HostRuntime) -> Result<(), Fail> {
-    // A journal with one batch has 42 bytes, and each further batch of one fact adds 25.
-    let cases = [
-        (
-            1_000,
-            "receipt 7 12 1\n",
-            "receipt 7 12 1\nreceipt 7 13 2\n",
-        ),
-        (42, "receipt 7 12 1\n", "receipt 7 12 1\ndisk fault\n"),
-        (41, "disk fault\n", "disk fault\ndisk fault\n"),
-    ];
-    for (room, first, second) in cases {
-        let mut disk = SureDisk::new(rt.alloc(), &[], room)?;
-        let made = ran(rt.alloc(), &mut disk, &untroubled(&["init"], &[]))?;
-        assert_eq!(rt; (made.status, disk.bytes().len()), (0, 17));
-        let got = ran(rt.alloc(), &mut disk, &untroubled(&["dock"], &BATCH))?;
-        assert_eq!(rt; (got.status, got.output.as_slice()), (0, first.as_bytes()));
-        let pieces = [BATCH.as_slice(), NEXT.as_slice()];
-        let got = ran_in_pieces(rt.alloc(), &mut disk, &untroubled(&["dock"], &[]), &pieces)?;
-        assert_eq!(rt; (got.status, got.output.as_slice()), (0, second.as_bytes()));
-    }
     Ok(())
 }
