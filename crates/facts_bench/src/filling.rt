@@ -3,7 +3,7 @@ ghost use Rattle.facts_bench.specs.Numbered.{AreNumbered};
 
 use crate::sort::{Sort, fact_at};
 use fact_kinds::{Fact, Key, MOST_FACTS, Memory};
-use fact_store::{Arrivals, FactStore};
+use fact_store::{FactStore, Facts};
 use std::alloc::{AllocError, Global};
 
 /// How many facts room is made for at once: as many as a batch may have.
@@ -22,7 +22,7 @@ pub fn filled(alloc: Global, places: &[u32], sort: Sort) -> Result<FactStore, Me
 
 /// A store of the facts of these places, which came one after the other and were then listed at once.
 pub fn filled_at_once(alloc: Global, places: &[u32], sort: Sort) -> Result<FactStore, Memory> {
-    let mut arrivals = Arrivals::new(alloc);
+    let mut arrivals = Facts::new(alloc);
     let mut came = 0;
     for some in places.chunks(AT_ONCE) {
         let facts = facts_at(alloc, some, sort)?;
@@ -56,7 +56,7 @@ fn add_facts(store: &mut FactStore, before: u32, facts: &[Fact]) -> Result<u32, 
 }
 
 /// Adds facts that are not listed, numbered in the same way.
-fn add_arrivals(arrivals: &mut Arrivals, before: u32, facts: &[Fact]) -> Result<u32, Memory>
+fn add_arrivals(arrivals: &mut Facts, before: u32, facts: &[Fact]) -> Result<u32, Memory>
     requires numbered { AreNumbered before arrivals.old.arrived }
     ensures numbered { IfOk result (λ came. AreNumbered came arrivals.new.arrived) }
 {
