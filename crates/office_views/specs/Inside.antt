@@ -2,6 +2,7 @@
 use Rattle.std.specs.Prelude.{◌≡◌, ℕ, ◌<◌, ◌≤◌, IsTrue, List, ◌++◌, length, take, drop, filter}
 use Rattle.std.specs.List.{AllByRecursion, flat_map}
 use Rattle.fact_kinds.specs.declared.batch.Batch.{Batch}
+use Rattle.fact_kinds.specs.declared.limits.TheConstants.{MOST_FACTS}
 use Rattle.fact_kinds.specs.Facts.{entries_of}
 use Rattle.fact_kinds.specs.Fields.{IsFact}
 use Rattle.fact_kinds.specs.Identity.{identities_differ}
@@ -23,7 +24,7 @@ pub record AreOf (batches : List Batch) (store register : Kept) (headers : List 
   pub filled : AllByRecursion (λ batch. (0 < length batch.facts) × (length batch.facts ≤ 512)) batches
   -- the facts of the adopted batches came to the store, and the entries among them to the register
   pub arrived : store.arrived ≡ flat_map entries_of (take count batches)
-  pub few : length store.arrived ≤ 8_000_000
+  pub few : length store.arrived ≤ MOST_FACTS
   pub entered : register.arrived ≡ register_facts (flat_map entries_of (take count batches))
   -- there is room for the facts of the other batches, and it may be for more
   pub more : List Stated

@@ -1,4 +1,5 @@
 ghost use Rattle.std.specs.Prelude.{◌≡◌, ◌+◌, ◌≤◌, ◌↔◌, IsTrue, length, take, drop, map};
+ghost use Rattle.fact_kinds.specs.declared.limits.TheConstants.{MOST_FACTS};
 ghost use Rattle.office_views.specs.Headers.{batch_by, facts_kept};
 
 use crate::facts::Facts;
@@ -22,7 +23,7 @@ fn are_facts_at<L: Ledger>(
     steps: &mut Steps<L>,
 ) -> bool
     requires held { first + length facts.now ≤ length store.now.arrived }
-    requires few { length store.now.arrived ≤ 8_000_000 }
+    requires few { length store.now.arrived ≤ MOST_FACTS }
     ensures value { IsTrue result ↔ (take (length facts.now) (drop first (map (λ e. e.1) store.now.arrived)) ≡ facts.now) }
 {
     for index in 0..facts.len() {
@@ -44,7 +45,7 @@ pub fn is_batch_of<L: Ledger>(
     steps: &mut Steps<L>,
 ) -> bool
     requires held { header.now.first + header.now.count ≤ length store.now.arrived }
-    requires few { length store.now.arrived ≤ 8_000_000 }
+    requires few { length store.now.arrived ≤ MOST_FACTS }
     ensures value { IsTrue result ↔ (batch_by (facts_kept store.now) header.now ≡ batch.now) }
 {
     let facts = batch.facts.as_slice();

@@ -1,5 +1,6 @@
 ghost use Rattle.std.specs.Prelude.{◌≡◌, ℕ, ◌+◌, ◌≤◌, ◌↔◌, Some, None, IsTrue, [], ◌∷◌, ◌++◌, length, drop, slice_get, OnOk, OnErr};
 ghost use Rattle.fact_kinds.specs.Facts.{facts_of, facts_to};
+ghost use Rattle.fact_kinds.specs.declared.limits.TheConstants.{MOST_FACTS};
 ghost use Rattle.fact_store.specs.Kept.{facts_in};
 ghost use Rattle.ldar_law.specs.declared.verdict.Verdict.TheVariants.{Pass};
 ghost use Rattle.ldar_law.specs.Machine.{batch_at, IsNew};
@@ -83,7 +84,7 @@ impl Views {
     pub fn counts(&self) -> (u32, u64)
         ensures batches { result.0 ≡ length self.now.adopted }
         ensures facts { result.1 ≡ length (facts_of self.now.adopted) }
-        ensures in_range { result.1 ≤ 8_000_000 }
+        ensures in_range { result.1 ≤ MOST_FACTS }
     {
         (self.adopted as u32, self.facts as u64)
     }
