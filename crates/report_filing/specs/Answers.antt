@@ -7,9 +7,6 @@ use Rattle.report_filing.specs.declared.file.FileError.TheVariants as answer
 use Rattle.report_filing.specs.declared.filing.FilingFault.{FilingFault}
 use Rattle.report_filing.specs.declared.filing.FilingFault.TheVariants.{Failed, Memory}
 use Rattle.report_filing.specs.declared.file.TheConstants.{LAST_REVISION}
-use Rattle.sqlite.specs.declared.error.Error.{Error}
-use Rattle.sqlite.specs.declared.error.Error.TheVariants.{SqliteFailure}
-use Rattle.sqlite.specs.declared.error.ErrorCode.TheVariants.{OutOfMemory}
 
 -- the report as it is filed under a revision
 abbrev pub filed_as : ℕ → Report → Filed
@@ -34,8 +31,3 @@ HasNoNumberLeft report (Some last) = (last.cells ≢ report.cells) × (last.revi
 abbrev pub IsFaultOf : FilingFault → FileError → Type 0
 IsFaultOf Failed why = why ≡ answer.Fault
 IsFaultOf Memory why = why ≡ answer.Memory
-
--- a statement that was refused is a fault, unless memory was wanting
-abbrev pub fault_of : Error → FilingFault
-fault_of (SqliteFailure OutOfMemory) = Memory
-fault_of _ = Failed

@@ -1,7 +1,7 @@
-ghost use Rattle.std.specs.Prelude.{◌≡◌, ◌<◌, length, IfOk};
+ghost use Rattle.std.specs.Prelude.{◌≡◌, ◌<◌, ◌++◌, length, IfOk, OnOk};
+ghost use Rattle.std.specs.Option.{option_to_list};
 ghost use Rattle.ldar_law.specs.Reports as law;
 
-use crate::item::put;
 use fact_kinds::Memory;
 use ldar_law::{Amended, Cells};
 use std::alloc::Global;
@@ -26,6 +26,16 @@ fn amended_at(old: &[u32], new: &[u32], place: usize) -> Option<Amended>
         old: old[place],
         new: new[place],
     })
+}
+
+/// Adds a change, if there is one.
+fn put(changes: &mut Vec<Amended>, change: Option<Amended>) -> Result<(), Memory>
+    ensures put { OnOk result (changes.new.items ≡ changes.old.items ++ option_to_list change) }
+{
+    if let Some(change) = change {
+        changes.push(change)?;
+    }
+    Ok(())
 }
 
 /// The numbers that differ between two reports, by their places: what the later one amends (40 CFR 60.487a(c)(2)).

@@ -6,7 +6,6 @@ ghost use Rattle.report_filing.specs.Revisions.{latest_of, AreNumbered, IsNext};
 
 use fact_kinds::Memory;
 use ldar_law::Filed;
-use sqlite::{Error, ErrorCode};
 use std::alloc::Global;
 
 /// Why a call of a filing did not go through.
@@ -25,20 +24,6 @@ impl From<Memory> for FilingFault {
 
     fn from(_e: Memory) -> FilingFault {
         FilingFault::Memory
-    }
-}
-
-impl From<Error> for FilingFault {
-    ghost use Rattle.std.specs.Prelude.{◌≡◌};
-    ghost use Rattle.report_filing.specs.Answers.{fault_of};
-
-    ghost from_gives = { λ error fault. fault ≡ fault_of error };
-
-    fn from(error: Error) -> FilingFault {
-        match error {
-            Error::SqliteFailure(ErrorCode::OutOfMemory) => FilingFault::Memory,
-            _ => FilingFault::Failed,
-        }
     }
 }
 

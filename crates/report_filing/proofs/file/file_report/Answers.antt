@@ -1,4 +1,4 @@
-use Rattle.std.proofs.Common.{◌≡◌, sym, subst}
+use Rattle.std.proofs.Common.{sym, subst}
 use Rattle.disk_model.specs.Told.{Told}
 use Rattle.report_filing.specs.Answers.{filed_as}
 use Rattle.report_filing.specs.Revisions.{IsNext}

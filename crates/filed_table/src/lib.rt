@@ -1,0 +1,7 @@
+//! Reports on file in a table of a store.
+#![tactic(auto)]
+
+mod table;
+mod table_filing;
+
+pub use table_filing::TableFiling;

@@ -1,8 +1,0 @@
-use Rattle.std.proofs.Common.{arith}
-use Rattle.report_filing.proofs.CellLemmas.{two_spelled}
-use Rattle.report_filing.proofs.cell_reading.two_at.Goals as goal
-
-pub returns : goal.returns
-returns c = record {
-  value = two_spelled c.args.bytes.now c.args.at c.from_be_bytes.result (omega arith) (λ i. omega (arith, c.type_inv.bytes i)) (omega arith);
-}
