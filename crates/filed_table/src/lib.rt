@@ -1,6 +1,7 @@
 //! Reports on file in a table of a store.
 #![tactic(auto)]
 
+mod fault;
 mod table;
 mod table_filing;
 

@@ -1,10 +1,11 @@
 //! The table of reports on file: its form, and one function for each statement on it.
 
-use report_filing::FilingFault;
+use crate::fault::fault_of;
 use cell_bytes::{delays_bytes, delays_of, months_bytes, months_of, stops_bytes, stops_of};
 use ldar_days::Day;
 use ldar_law::{Cells, Filed, Items};
-use sqlite::{Alter, Connection, Error, Row, params};
+use report_filing::FilingFault;
+use sqlite::{Alter, Connection, Row, params};
 use std::alloc::Global;
 
 const MAKE: &str =
@@ -18,8 +19,8 @@ const LATEST: &str =
     "SELECT revision, day, months, delays, stops FROM filed WHERE unit = ?1 AND half = ?2 ORDER BY revision DESC LIMIT 1";
 
 /// Makes the table, where there is none.
-pub(crate) fn make<S: Alter>(conn: &mut Connection<S>) -> Result<(), Error> {
-    conn.execute(MAKE, &[])?;
+pub(crate) fn make<S: Alter>(conn: &mut Connection<S>) -> Result<(), FilingFault> {
+    conn.execute(MAKE, &[]).map_err(fault_of)?;
     Ok(())
 }
 
@@ -43,7 +44,8 @@ pub(crate) fn insert<S: Alter>(
             &delays,
             &stops
         ],
-    )?;
+    )
+    .map_err(fault_of)?;
     Ok(())
 }
 
@@ -54,7 +56,9 @@ pub(crate) fn latest<S: Alter>(
     unit: u8,
     half: u16,
 ) -> Result<Option<Filed>, FilingFault> {
-    let rows = conn.query_all(LATEST, params![u32::from(unit), u32::from(half)])?;
+    let rows = conn
+        .query_all(LATEST, params![u32::from(unit), u32::from(half)])
+        .map_err(fault_of)?;
     match rows.first() {
         Some(row) => Ok(Some(filed_of(alloc, unit, half, row)?)),
         None => Ok(None),
@@ -81,11 +85,11 @@ fn filed_of(alloc: Global, unit: u8, half: u16, row: &Row) -> Result<Filed, Fili
 }
 
 fn number_at(row: &Row, at: usize) -> Result<u32, FilingFault> {
-    Ok(row.get::<u32>(at)?)
+    row.get::<u32>(at).map_err(fault_of)
 }
 
 fn bytes_at(row: &Row, at: usize) -> Result<Vec<u8>, FilingFault> {
-    Ok(row.get::<Vec<u8>>(at)?)
+    row.get::<Vec<u8>>(at).map_err(fault_of)
 }
 
 /// The cells of a row.

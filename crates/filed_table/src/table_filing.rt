@@ -3,7 +3,7 @@ ghost use Rattle.disk_model.specs.Faults.{Rose};
 
 use crate::{Filing, FilingFault, table};
 use ldar_law::Filed;
-use sqlite::{Connection, Error, File, FileStore, MemStore};
+use sqlite::{Connection, File, FileStore, MemStore};
 use std::alloc::Global;
 use std::marker::Model;
 
@@ -140,7 +140,7 @@ impl TableFiling {
 }
 
 /// The store of a place, with its table.
-fn store_of(alloc: Global, place: &Place) -> Result<Opened, Error> {
+fn store_of(alloc: Global, place: &Place) -> Result<Opened, FilingFault> {
     match place {
         Place::Memory => {
             let mut conn = Connection::open_in_memory(alloc)?;
@@ -148,7 +148,7 @@ fn store_of(alloc: Global, place: &Place) -> Result<Opened, Error> {
             Ok(Opened::Memory(conn))
         }
         Place::Path(rt, path) => {
-            let mut conn = Connection::open(rt, path.as_str())?;
+            let mut conn = Connection::open(rt, path.as_str()).map_err(fault_of)?;
             table::make(&mut conn)?;
             Ok(Opened::OnDisk(conn))
         }
