@@ -1,5 +1,6 @@
 use crate::row_tests::docked;
-use crate::tests::{ran, ran_in_pieces, untroubled};
+use crate::tests::{image, in_pieces, ran, ran_in_pieces, untroubled};
+use disk_model::{Disk, MemoryDisk};
 use std::alloc::Global;
 use std::test::Fail;
 
@@ -13,6 +14,12 @@ const SYNC: &str =
 const CHANGED: &str =
     "POST /sync HTTP/1.1\r\nHost: office\r\nContent-Length: 116\r\n\r\n{\"handheld\":7,\"number\":12,\"fa\
     cts\":[{\"kind\":\"calibration\",\"day\":\"2024-02-20\",\"minute\":600,\"instrument\":1,\"gas\":501}\
+    ]}";
+
+// Batch 13 of handheld 7.
+const NEXT_SYNC: &str =
+    "POST /sync HTTP/1.1\r\nHost: office\r\nContent-Length: 116\r\n\r\n{\"handheld\":7,\"number\":13,\"fa\
+    cts\":[{\"kind\":\"calibration\",\"day\":\"2024-02-20\",\"minute\":600,\"instrument\":1,\"gas\":500}\
     ]}";
 
 // A delay for a dual mechanical seal, of a valve.
@@ -210,15 +217,36 @@ fn requests_byte_by_byte_have_the_same_answers(rt: HostRuntime) -> Result<(), Fa
     let shown = "HTTP/1.1 200 OK\r\nContent-Type: text/plain\r\nContent-Length: 56\r\n\r\n\
         percent 1 16 leaking 0 monitored 0 not good not skipped\n";
     let (mut disk, _) = docked(rt.alloc(), &[])?;
-    let mut pieces: Vec<&[u8]> = Vec::new(rt.alloc());
-    for byte in input.chunks(1) {
-        pieces.push(byte)?;
-    }
+    let pieces = in_pieces(rt.alloc(), &input, 1)?;
     let got = ran_in_pieces(rt.alloc(), &mut disk, &untroubled(&["drain"], &[]), &pieces)?;
     assert_eq!(rt; got.status, 0);
     assert_eq!(rt;
         got.output.as_slice(),
         joined(rt.alloc(), &[RECEIPT, shown])?.as_slice()
     );
+    Ok(())
+}
+
+#[test]
+fn a_fault_of_the_disk_is_answered_and_settled(rt: HostRuntime) -> Result<(), Fail> {
+    let fault =
+        "HTTP/1.1 503 Service Unavailable\r\nContent-Type: text/plain\r\nContent-Length: 11\r\n\r\ndisk fault\n";
+    let receipt =
+        "HTTP/1.1 200 OK\r\nContent-Type: text/plain\r\nContent-Length: 15\r\n\r\nreceipt 7 13 2\n";
+    let mut calm = MemoryDisk::new(rt.alloc(), &image(rt.alloc(), &[])?, &[])?;
+    ran(rt.alloc(), &mut calm, &untroubled(&["drain"], &[]))?;
+    let opening = calm.calls();
+    assert!(rt; opening < 1_000);
+    let second_sync = opening + 3;
+    let mut disk = MemoryDisk::new(rt.alloc(), &image(rt.alloc(), &[])?, &[second_sync])?;
+    let input = joined(rt.alloc(), &[NEXT_SYNC, NEXT_SYNC, NEXT_SYNC])?;
+    let pieces = in_pieces(rt.alloc(), &input, NEXT_SYNC.len())?;
+    let got = ran_in_pieces(rt.alloc(), &mut disk, &untroubled(&["drain"], &[]), &pieces)?;
+    assert_eq!(rt; got.status, 0);
+    assert_eq!(rt;
+        got.output.as_slice(),
+        joined(rt.alloc(), &[fault, receipt, receipt])?.as_slice()
+    );
+    assert_eq!(rt; disk.bytes().len(), 67);
     Ok(())
 }

@@ -233,6 +233,26 @@ fn an_import_that_was_cut_off_is_completed(rt: HostRuntime) -> Result<(), Fail> 
 }
 
 #[test]
+fn a_fault_of_the_disk_ends_an_import(rt: HostRuntime) -> Result<(), Fail> {
+    // The calls of an import on an empty journal: it syncs and reads as it opens, and what fails behind that is answered.
+    let words = ["import", "1", "units"];
+    for call in 0..10 {
+        let mut disk = MemoryDisk::new(rt.alloc(), b"LDARJNL1\0\0\0\0\0\0\0\0\0", &[call])?;
+        let got = ran(rt.alloc(), &mut disk, &untroubled(&words, UNIT.as_bytes()))?;
+        if disk.faults() > 0 {
+            assert_eq!(rt; got.status, 5);
+            assert_eq!(rt; got.noted.as_slice(), b"disk fault\n".as_slice());
+            assert!(rt; got.output.is_empty() || got.output.as_slice() == got.noted.as_slice());
+            let again = ran(rt.alloc(), &mut disk, &untroubled(&words, UNIT.as_bytes()))?;
+            assert_eq!(rt; again.output.as_slice(), b"receipt 0 1 1\n".as_slice());
+        } else {
+            assert_eq!(rt; got.output.as_slice(), b"receipt 0 1 1\n".as_slice());
+        }
+    }
+    Ok(())
+}
+
+#[test]
 fn an_input_that_is_too_large_is_not_imported(rt: HostRuntime) -> Result<(), Fail> {
     // A comment of so many bytes: it is a document without an array, and with one byte more it is too large.
     for (length, status, noted) in [

@@ -1,5 +1,5 @@
-use crate::tests::{BATCH, NEXT, empty, image, ran, ran_in_pieces, untroubled};
-use disk_model::{Disk, MemoryDisk};
+use crate::tests::{BATCH, NEXT, empty, image, in_pieces, ran, ran_in_pieces, untroubled};
+use disk_model::{Disk, MemoryDisk, SureDisk};
 use std::alloc::Global;
 use std::test::Fail;
 
@@ -85,7 +85,10 @@ fn a_batch_in_doubt_is_settled_before_it_is_receipted(rt: HostRuntime) -> Result
         ),
         ([gate, settling], "disk fault\ndisk fault\nreceipt 7 13 2\n"),
     ];
-    let pieces = [NEXT.as_slice(), NEXT.as_slice(), NEXT.as_slice()];
+    let mut input = Vec::from_slice(rt.alloc(), &NEXT)?;
+    input.extend_from_slice(&NEXT)?;
+    input.extend_from_slice(&NEXT)?;
+    let pieces = in_pieces(rt.alloc(), &input, NEXT.len())?;
     for (faults, said) in cases {
         let mut disk = MemoryDisk::new(rt.alloc(), &image(rt.alloc(), &[])?, &faults)?;
         let got = ran_in_pieces(rt.alloc(), &mut disk, &untroubled(&["dock"], &[]), &pieces)?;
@@ -105,6 +108,43 @@ fn numbered(number: u8) -> [u8; 20] {
     let mut bytes = BATCH;
     bytes[6] = number;
     bytes
+}
+
+#[test]
+fn batches_in_one_piece_share_a_frame(rt: HostRuntime) -> Result<(), Fail> {
+    // The numbers of three batches, the size of the pieces in which they come, the lines, and the length of the journal.
+    let cases = [
+        (
+            [12, 13, 14],
+            60,
+            "receipt 7 12 1\nreceipt 7 13 2\nreceipt 7 14 3\n",
+            82,
+        ),
+        (
+            [12, 13, 14],
+            20,
+            "receipt 7 12 1\nreceipt 7 13 2\nreceipt 7 14 3\n",
+            92,
+        ),
+        (
+            [12, 12, 13],
+            60,
+            "receipt 7 12 1\nreceipt 7 12 1\nreceipt 7 13 2\n",
+            62,
+        ),
+    ];
+    for (numbers, size, said, length) in cases {
+        let mut input = Vec::new(rt.alloc());
+        for number in numbers {
+            input.extend_from_slice(&numbered(number))?;
+        }
+        let pieces = in_pieces(rt.alloc(), &input, size)?;
+        let mut disk = empty(rt.alloc())?;
+        let got = ran_in_pieces(rt.alloc(), &mut disk, &untroubled(&["dock"], &[]), &pieces)?;
+        assert_eq!(rt; (got.status, disk.bytes().len()), (0, length));
+        assert_eq!(rt; got.output.as_slice(), said.as_bytes());
+    }
+    Ok(())
 }
 
 #[test]
@@ -138,5 +178,34 @@ fn a_fault_is_answered_to_a_whole_group(rt: HostRuntime) -> Result<(), Fail> {
         checked(rt.alloc(), disk)?.as_slice(),
         b"journal 1 batches 1 facts\n".as_slice()
     );
+    Ok(())
+}
+
+#[test]
+fn a_disk_of_told_room_is_used_up_to_its_end(rt: HostRuntime) -> Result<(), Fail> {
+    // A journal with one batch has 42 bytes, and each further batch of one fact adds 25.
+    let cases = [
+        (
+            1_000,
+            "receipt 7 12 1\n",
+            "receipt 7 12 1\nreceipt 7 13 2\n",
+        ),
+        (42, "receipt 7 12 1\n", "receipt 7 12 1\ndisk fault\n"),
+        (41, "disk fault\n", "disk fault\ndisk fault\n"),
+    ];
+    let mut both = Vec::from_slice(rt.alloc(), &BATCH)?;
+    both.extend_from_slice(&NEXT)?;
+    let pieces = in_pieces(rt.alloc(), &both, BATCH.len())?;
+    for (room, first, second) in cases {
+        let mut disk = SureDisk::new(rt.alloc(), &[], room)?;
+        let made = ran(rt.alloc(), &mut disk, &untroubled(&["init"], &[]))?;
+        assert_eq!(rt; (made.status, disk.bytes().len()), (0, 17));
+        let got = ran(rt.alloc(), &mut disk, &untroubled(&["dock"], &BATCH))?;
+        assert_eq!(rt; got.status, 0);
+        assert_eq!(rt; got.output.as_slice(), first.as_bytes());
+        let got = ran_in_pieces(rt.alloc(), &mut disk, &untroubled(&["dock"], &[]), &pieces)?;
+        assert_eq!(rt; got.status, 0);
+        assert_eq!(rt; got.output.as_slice(), second.as_bytes());
+    }
     Ok(())
 }

@@ -68,7 +68,8 @@ pub struct Outcome {
 }
 
 pub fn ran<D: Disk>(alloc: Global, disk: &mut D, trial: &Trial<'_>) -> Result<Outcome, Fail> {
-    ran_in_pieces(alloc, disk, trial, &[trial.input])
+    let pieces = vec![in alloc; Vec::from_slice(alloc, trial.input)?]?;
+    ran_in_pieces(alloc, disk, trial, &pieces)
 }
 
 // A run whose input comes in these pieces, and not in the trial's own.
@@ -76,17 +77,13 @@ pub fn ran_in_pieces<D: Disk>(
     alloc: Global,
     disk: &mut D,
     trial: &Trial<'_>,
-    input: &[&[u8]],
+    pieces: &[Vec<u8>],
 ) -> Result<Outcome, Fail> {
     let mut words = Vec::new(alloc);
     for word in trial.words {
         words.push(String::from_str(alloc, word)?)?;
     }
-    let mut pieces = Vec::new(alloc);
-    for piece in input {
-        pieces.push(Vec::from_slice(alloc, piece)?)?;
-    }
-    let mut source = ListSource::new(alloc, &pieces, trial.takes_that_fail)?;
+    let mut source = ListSource::new(alloc, pieces, trial.takes_that_fail)?;
     let mut output = StampedSink::new(alloc, trial.puts_that_fail)?;
     let mut notes = StampedSink::new(alloc, trial.notes_that_fail)?;
     let status = run(alloc, &words, &mut source, &mut output, &mut notes, disk);
@@ -96,6 +93,15 @@ pub fn ran_in_pieces<D: Disk>(
         noted: notes.bytes(alloc)?,
         takes: source.calls(),
     })
+}
+
+// These bytes in pieces of so many.
+pub fn in_pieces(alloc: Global, bytes: &[u8], size: usize) -> Result<Vec<Vec<u8>>, Fail> {
+    let mut pieces = Vec::new(alloc);
+    for piece in bytes.chunks(size.max(1)) {
+        pieces.push(Vec::from_slice(alloc, piece)?)?;
+    }
+    Ok(pieces)
 }
 
 // A disk with an empty journal.
