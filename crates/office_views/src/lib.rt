@@ -7,7 +7,6 @@ mod asking;
 mod comparing;
 mod due;
 mod entered;
-mod facts;
 mod header;
 mod instruments;
 mod judged;

@@ -13,7 +13,6 @@ ghost use Rattle.office_views.specs.Answers.{IsShown, IsView, Tells};
 use crate::asked::unit_asked;
 use crate::asking::answer;
 use crate::comparing::is_batch_of;
-use crate::facts::Facts;
 use crate::header::{Header, facts_of_all, push_headers};
 use crate::lists::Lists;
 use crate::reporting::report_on;
@@ -21,7 +20,7 @@ use crate::shown::{AskError, Shown};
 use crate::taking::{put_entries, put_facts};
 use component_register::Register;
 use fact_kinds::{Batch, Memory};
-use fact_store::Steps;
+use fact_store::{Facts, Steps};
 use ldar_days::Day;
 use ldar_law::{Report, Request};
 use std::alloc::Global;
@@ -132,7 +131,7 @@ impl Views {
             Ok(entry) => entry,
             Err(what) => return Ok(Shown::NoSuch(what)),
         };
-        let store = self.store.list(self.alloc)?;
+        let store = self.store.list()?;
         let shown = answer(self.alloc, &store, &self.register, &entry, request, steps);
         self.store = Facts::of(store);
         shown
@@ -154,7 +153,7 @@ impl Views {
             Ok(entry) => entry,
             Err(what) => return Err(AskError::NoSuch(what)),
         };
-        let store = self.store.list(self.alloc)?;
+        let store = self.store.list()?;
         let lists = Lists {
             alloc: self.alloc,
             store: &store,

@@ -1,5 +1,5 @@
 use Rattle.facts_bench.specs.Numbered.{AreNumbered}
-use Rattle.facts_bench.proofs.filling.filled_at_once.Given as goal
+use Rattle.facts_bench.proofs.filling.arrive.Given as goal
 
 abbrev pub invariant-loop-some : goal.invariant-loop-some
 invariant-loop-some l =
