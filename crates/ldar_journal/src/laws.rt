@@ -7,37 +7,37 @@ ghost use Rattle.ldar_journal.specs.Shelf.{OpensToEither};
 
 /// Bytes open to at most one row of frames.
 pub fn one_row_of_frames()
-    ensures { (image : List ℕ) (one other : List (List Batch)) → OpensTo image one → OpensTo image other → one ≡ other }
+    ensures law { (image : List ℕ) (one other : List (List Batch)) → OpensTo image one → OpensTo image other → one ≡ other }
 {}
 
 /// How long a journal is: its frames say where its gate stands.
 pub fn gate_behind_the_frames()
-    ensures { (image : List ℕ) (place : ℕ) (frames : List (List Batch)) → EndsAt image place frames → place ≡ end_of frames }
+    ensures law { (image : List ℕ) (place : ℕ) (frames : List (List Batch)) → EndsAt image place frames → place ≡ end_of frames }
 {}
 
 /// Where each frame stands: at the end of those before it.
 pub fn frame_behind_those_before()
-    ensures { (image : List ℕ) (before : List (List Batch)) (batches : List Batch) (after : List (List Batch))
+    ensures law { (image : List ℕ) (before : List (List Batch)) (batches : List Batch) (after : List (List Batch))
         → OpensTo image (before ++ batches ∷ after) → (rest : List ℕ) × (drop (end_of before) image ≡ frame batches ++ rest) }
 {}
 
 /// Bytes open to at most one history.
 pub fn one_history()
-    ensures { (image : List ℕ) (one other : List Batch) → Opens image one → Opens image other → one ≡ other }
+    ensures law { (image : List ℕ) (one other : List Batch) → Opens image one → Opens image other → one ≡ other }
 {}
 
 /// Bytes with a bad frame open to no history.
 pub fn damaged_opens_to_none()
-    ensures { (image : List ℕ) (place : ℕ) (history : List Batch) → IsDamagedAt image place → ¬ (Opens image history) }
+    ensures law { (image : List ℕ) (place : ℕ) (history : List Batch) → IsDamagedAt image place → ¬ (Opens image history) }
 {}
 
 /// Bytes without the header open to no history.
 pub fn no_header_opens_to_none()
-    ensures { (image : List ℕ) (history : List Batch) → take 16 image ≢ header → ¬ (Opens image history) }
+    ensures law { (image : List ℕ) (history : List Batch) → take 16 image ≢ header → ¬ (Opens image history) }
 {}
 
 /// What a crash leaves in the midst of an append has no bad frame: it opens.
 pub fn torn_append_is_not_damaged()
-    ensures { (image : List ℕ) (place : ℕ) (frames : List (List Batch)) (batches : List Batch)
+    ensures law { (image : List ℕ) (place : ℕ) (frames : List (List Batch)) (batches : List Batch)
         → OpensToEither image frames batches → ¬ (IsDamagedAt image place) }
 {}

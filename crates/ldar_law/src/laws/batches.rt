@@ -17,10 +17,10 @@ pub fn first_entry()
 
 /// Where facts come to others in order, a component is retired by a day where it was, or where one of them retires it.
 pub fn retired_after_facts()
-    ensures { RetiredAfterFacts }
+    ensures law { RetiredAfterFacts }
 {}
 
 /// A history with one batch more is ruly where it was, and the batch passes after it.
 pub fn one_more_batch()
-    ensures { RulyByOneMore }
+    ensures law { RulyByOneMore }
 {}

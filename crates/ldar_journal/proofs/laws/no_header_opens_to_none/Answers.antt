@@ -2,4 +2,4 @@ use Rattle.ldar_journal.proofs.Histories.{no_header_opens_to_none}
 use Rattle.ldar_journal.proofs.laws.no_header_opens_to_none.Goals as goal
 
 pub returns : goal.returns
-returns c = no_header_opens_to_none
+returns c = record { law = no_header_opens_to_none }

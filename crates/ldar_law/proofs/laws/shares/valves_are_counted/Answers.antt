@@ -2,4 +2,4 @@ use Rattle.ldar_law.proofs.ShareLemmas.{valves_are_counted}
 use Rattle.ldar_law.proofs.laws.shares.valves_are_counted.Goals as goal
 
 pub returns : goal.returns
-returns c = valves_are_counted
+returns c = record { law = valves_are_counted }
