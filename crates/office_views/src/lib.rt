@@ -26,4 +26,4 @@ mod unit_lists;
 mod views;
 
 pub use shown::{AskError, Shown};
-pub use views::Views;
+pub use views::{Views, ask_views, report_views};
