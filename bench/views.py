@@ -3,8 +3,9 @@
 by 40 handhelds, beside a plain Rust office that shows the same (views.rs).
 
 Each program adopts its facts and is then asked for a view again and again. The processor time is that of asking, and the memory
-is what the process takes at most while it is asked, beyond what it had before. The texts, of which the two programs tell the
-length and a sum, have to be the same. The program crates/views_bench is proved and built first, so rt and rustc have to be on
+is what the process takes at most while it is asked, beyond what it had before. Then so many batches of readings of the first day are
+adopted before the due list of a unit of one valve is asked: for this the time is that of adopting and asking, and what the list
+takes alone is next to nothing. The texts, of which the two programs tell the length and a sum, have to be the same. The program crates/views_bench is proved and built first, so rt and rustc have to be on
 the path, and /proc has to tell of processes.
 usage: views.py [FACTS ..]     1000000 8000000 if left out
 """
@@ -15,6 +16,7 @@ import tempfile
 
 SIZES = [int(word) for word in sys.argv[1:]] or [1_000_000, 8_000_000]
 VIEWS = ("percent", "due", "tags", "report")
+LATE = ((1, 1), (1, 512), (40, 512))  # batches between two views, and their readings
 RUNS = 5
 
 here = pathlib.Path(__file__).parent
@@ -74,6 +76,14 @@ def measured(programs, facts):
             for times, (time, memory, _) in zip(took, answers):
                 times.append((time, memory))
         figures[view] = [(min(time for time, _ in times), max(memory for _, memory in times)) for times in took]
+    for batches, readings in LATE:
+        lines = [f"late {readings}"] * batches + ["other"]
+        took = [[] for _ in offices]
+        for _ in range(RUNS):
+            for office, times in zip(offices, took):
+                asked = [office.ask(line) for line in lines]
+                times.append((sum(time for time, _, _ in asked), max(memory for _, memory, _ in asked)))
+        figures[f"{batches}x{readings}"] = [(min(time for time, _ in times), max(memory for _, memory in times)) for times in took]
     kept = [office.memory("VmRSS") for office in offices]
     adopting = [office.adopting for office in offices]
     for office in offices:
@@ -94,7 +104,7 @@ def main():
             for view, ((ours, memory), (plain, other)) in figures.items():
                 grown = [now / before for now, before in zip((ours, plain), earlier.get(view, (ours, plain)))]
                 earlier[view] = (ours, plain)
-                print(f"{facts:<10} {view:9} {ours * 1e3:16.0f} {plain * 1e3:8.0f} {ours / plain:6.2f} {grown[0]:7.2f} {grown[1]:6.2f}"
+                print(f"{facts:<10} {view:9} {ours * 1e3:16.1f} {plain * 1e3:8.1f} {ours / plain:6.2f} {grown[0]:7.2f} {grown[1]:6.2f}"
                       f" {memory / 1e6:14.1f} {other / 1e6:6.1f}", flush=True)
             print(f"{facts:<10} {'adopted':9} {adopting[0] * 1e3:16.0f} {adopting[1] * 1e3:8.0f} {'':6} {'':7} {'':6}"
                   f" {kept[0] / 1e6:14.1f} {kept[1] / 1e6:6.1f}", flush=True)
