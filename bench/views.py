@@ -15,8 +15,9 @@ import sys
 import tempfile
 
 SIZES = [int(word) for word in sys.argv[1:]] or [1_000_000, 8_000_000]
-VIEWS = ("percent", "due", "tags", "report")
-LATE = ((1, 1), (1, 512), (40, 512))  # batches between two views, and their readings
+ROWS = {view: [view] for view in ("percent", "due", "tags", "report")}
+for batches, readings in ((1, 1), (1, 512), (40, 512)):
+    ROWS[f"{batches} x {readings}"] = [f"late {readings}"] * batches + ["other"]
 RUNS = 5
 
 here = pathlib.Path(__file__).parent
@@ -47,14 +48,16 @@ class Office:
         """Forgets the greatest memory."""
         pathlib.Path(f"/proc/{self.process.pid}/clear_refs").write_text("5")
 
-    def ask(self, view):
-        """The processor time of a view, the memory that it took, and what was said."""
+    def ask_all(self, lines):
+        """The processor time of some lines, the memory that they took, and what was said."""
         self.forget()
         before, kept = self.time(), self.memory("VmRSS")
-        self.process.stdin.write(view + "\n")
-        self.process.stdin.flush()
-        said = self.process.stdout.readline()
-        return self.time() - before, self.memory("VmHWM") - kept, said
+        said = []
+        for line in lines:
+            self.process.stdin.write(line + "\n")
+            self.process.stdin.flush()
+            said.append(self.process.stdout.readline())
+        return self.time() - before, self.memory("VmHWM") - kept, tuple(said)
 
     def close(self):
         self.process.stdin.close()
@@ -62,28 +65,20 @@ class Office:
 
 
 def measured(programs, facts):
-    """For each program and view the least time and the most memory, run after run, the programs in turn."""
+    """For each program and row the least time and the most memory, run after run, the programs in turn."""
     offices = [Office(program, facts) for program in programs]
     if len({office.adopted for office in offices}) > 1:
         sys.exit(f"they adopt otherwise: {[office.adopted for office in offices]}")
     figures = {}
-    for view in VIEWS:
+    for row, lines in ROWS.items():
         took = [[] for _ in offices]
         for _ in range(RUNS):
-            answers = [office.ask(view) for office in offices]
+            answers = [office.ask_all(lines) for office in offices]
             if len({said for _, _, said in answers}) > 1:
                 sys.exit(f"they answer otherwise: {[said for _, _, said in answers]}")
             for times, (time, memory, _) in zip(took, answers):
                 times.append((time, memory))
-        figures[view] = [(min(time for time, _ in times), max(memory for _, memory in times)) for times in took]
-    for batches, readings in LATE:
-        lines = [f"late {readings}"] * batches + ["other"]
-        took = [[] for _ in offices]
-        for _ in range(RUNS):
-            for office, times in zip(offices, took):
-                asked = [office.ask(line) for line in lines]
-                times.append((sum(time for time, _, _ in asked), max(memory for _, memory, _ in asked)))
-        figures[f"{batches}x{readings}"] = [(min(time for time, _ in times), max(memory for _, memory in times)) for times in took]
+        figures[row] = [(min(time for time, _ in times), max(memory for _, memory in times)) for times in took]
     kept = [office.memory("VmRSS") for office in offices]
     adopting = [office.adopting for office in offices]
     for office in offices:
@@ -98,7 +93,7 @@ def main():
         subprocess.run(["rustc", "-O", "--edition", "2021", "-o", rust, here / "views.rs"], check=True)
         programs = (crate / "out/views_bench", rust)
         earlier = {}
-        print(f"{'':20} {'ms a view: ours':>16} {'Rust':>8} {'ratio':>6} {'growth':>7} {'Rust':>6} {'MB more: ours':>14} {'Rust':>6}")
+        print(f"{'':20} {'ms: ours':>16} {'Rust':>8} {'ratio':>6} {'growth':>7} {'Rust':>6} {'MB more: ours':>14} {'Rust':>6}")
         for facts in SIZES:
             figures, kept, adopting = measured(programs, facts)
             for view, ((ours, memory), (plain, other)) in figures.items():
