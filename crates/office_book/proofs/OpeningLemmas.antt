@@ -129,3 +129,16 @@ pub taken_all : (history : List Batch) (views : Held) (denied : Option (ℕ × �
     → (views ≡ record { adopted = history; spare = [] }) × IsTrue (is_ruly history)
 taken_all history views None none taken = taken
 taken_all history views (Some denied) none taken = absurd (false≢true (sym none))
+
+-- what views hold
+held_is : (views : Held) (adopted spare : List Batch) → views.adopted ≡ adopted → views.spare ≡ spare → views ≡ record { adopted = adopted; spare = spare }
+held_is views adopted spare first second = rw (sym first, sym second) refl
+
+-- .. all of a history, where the batches have come to their end
+pub all_taken : (history batches : List Batch) (i : ℕ) (views : Held) → ¬ (i < length batches) → views.adopted ≡ history ++ take i batches
+    → views.spare ≡ drop i batches → IsTrue (is_ruly (history ++ take i batches)) → HasTaken (history ++ batches) views None
+all_taken history batches i views past adopted spare ruly =
+    let whole : take i batches ≡ batches = take_all i batches (omega (arith, past)) in
+    let none : drop i batches ≡ [] = drop_all i batches (omega (arith, past)) in
+    let all : history ++ take i batches ≡ history ++ batches = ap (λ (l : List Batch). history ++ l) whole in
+    (held_is views (history ++ batches) [] (adopted ∙ all) (spare ∙ none), subst (λ (l : List Batch). IsTrue (is_ruly l)) all ruly)
