@@ -235,7 +235,10 @@ fn each_bad_frame_is_told_with_its_place(rt: HostRuntime) -> Result<(), Fail> {
         } else {
             Err(OpenWhy::Damaged { at: 86 })
         };
-        assert_eq!(rt; opens_to(rt.alloc(), &[(1, 1, 1), (2, 1, 2)], 1, behind)?, want);
+        assert_eq!(rt;
+            opens_to(rt.alloc(), &[(1, 1, 1), (2, 1, 2)], 1, behind)?,
+            want
+        );
     }
     Ok(())
 }
@@ -250,7 +253,10 @@ fn frames_that_may_not_be_kept_are_bad(rt: HostRuntime) -> Result<(), Fail> {
         (&[], 16),
     ];
     for (frames, at) in cases {
-        assert_eq!(rt; opens_to(rt.alloc(), frames, 1, &[])?, Err(OpenWhy::Damaged { at }));
+        assert_eq!(rt;
+            opens_to(rt.alloc(), frames, 1, &[])?,
+            Err(OpenWhy::Damaged { at })
+        );
     }
     for length in 0..16 {
         let disk = MemoryDisk::new(rt.alloc(), &HEADER[..length], &[])?;

@@ -62,10 +62,7 @@ pub fn empty_journal<D: Disk>(alloc: Global, disk: D) -> Result<Journal<D>, Fail
 }
 
 // Adds the batch to the empty journal on a disk, and gives the journal and what the call answered.
-pub fn appended<D: Disk>(
-    alloc: Global,
-    disk: D,
-) -> Result<(Journal<D>, Result<(), Torn>), Fail> {
+pub fn appended<D: Disk>(alloc: Global, disk: D) -> Result<(Journal<D>, Result<(), Torn>), Fail> {
     let mut journal = empty_journal(alloc, disk)?;
     let batch = batch(alloc)?;
     if batch.facts.as_slice().len() > 512 {

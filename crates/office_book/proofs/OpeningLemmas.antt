@@ -9,7 +9,8 @@ use Rattle.list_words.proofs.WordLaws.{first_given_is_first}
 use Rattle.fact_kinds.specs.declared.batch.Batch.{Batch}
 use Rattle.fact_kinds.specs.Facts.{Entry, entries_of, facts_of}
 use Rattle.fact_kinds.proofs.OrderFree.{facts_count}
-use Rattle.ldar_journal.specs.Image.{IsKept}
+use Rattle.ldar_journal.specs.Image.{batches_of, IsKept}
+use Rattle.ldar_journal.proofs.Histories.{batches_of-push}
 use Rattle.ldar_journal.proofs.KeepingLemmas.{next_one}
 use Rattle.ldar_journal.proofs.Positions.{fact_count-push}
 use Rattle.ldar_law.specs.declared.verdict.Verdict.TheVariants.{Pass, Denied}
@@ -142,3 +143,9 @@ all_taken history batches i views past adopted spare ruly =
     let none : drop i batches ≡ [] = drop_all i batches (omega (arith, past)) in
     let all : history ++ take i batches ≡ history ++ batches = ap (λ (l : List Batch). history ++ l) whole in
     (held_is views (history ++ batches) [] (adopted ∙ all) (spare ∙ none), subst (λ (l : List Batch). IsTrue (is_ruly l)) all ruly)
+
+-- the batches of a frame behind all that were taken in
+pub frame_behind : (old new : List (List Batch)) (batches : List Batch) (views : Held) → new ≡ old ++ batches ∷ []
+    → views ≡ record { adopted = batches_of old; spare = [] } → views.adopted ++ batches ≡ batches_of new
+frame_behind old new batches views frames is =
+    ap (λ (h : Held). h.adopted ++ batches) is ∙ sym (ap batches_of frames ∙ batches_of-push old batches)
