@@ -83,9 +83,10 @@ fn put_batch(bytes: &mut Vec<u8>, number: u32, facts: u16) -> Result<(), Fail> {
 fn put_frame(
     alloc: Global,
     image: &mut Vec<u8>,
-    (first, step, count): (u32, u32, u32),
+    frame: (u32, u32, u32),
     facts: u16,
 ) -> Result<(), Fail> {
+    let (first, step, count) = frame;
     let mut payload = Vec::new(alloc);
     let mut number = first;
     for _ in 0..count {
@@ -128,16 +129,16 @@ fn opens_to(
 #[test]
 fn a_long_journal_opens(rt: HostRuntime) -> Result<(), Fail> {
     // Frames of 16 batches and one of 6 or 3: 70 batches in over 64 KiB, and of 512 facts in over 400 KiB; 243 of those in over 1 MiB.
-    for (frames, last, facts) in [(4, 6, 90), (4, 6, 512), (15, 3, 512)] {
+    let cases: [(u32, u32, u16, usize); 3] = [(4, 6, 90, 70), (4, 6, 512, 70), (15, 3, 512, 243)];
+    for (frames, last, facts, want) in cases {
         let mut rows = Vec::new(rt.alloc());
-        for frame in 0..frames {
-            rows.push((frame * 16 + 1, 1, 16))?;
+        let mut first: u32 = 1;
+        for _ in 0..frames {
+            rows.push((first, 1, 16))?;
+            first = first.wrapping_add(16);
         }
-        rows.push((frames * 16 + 1, 1, last))?;
-        assert_eq!(rt;
-            opens_to(rt.alloc(), &rows, facts, &[0])?,
-            Ok((frames * 16 + last) as usize)
-        );
+        rows.push((first, 1, last))?;
+        assert_eq!(rt; opens_to(rt.alloc(), &rows, facts, &[0])?, Ok(want));
     }
     Ok(())
 }
