@@ -2,12 +2,13 @@ use Rattle.std.proofs.Common.{◌≡◌, ◌-◌, ◌≤◌}
 use Rattle.disk_model.specs.Keeps.{Keeps}
 use Rattle.ldar_journal.specs.Image.{batches_of, fact_count}
 use Rattle.ldar_journal.specs.Window.{OnlyReads}
-use Rattle.ldar_journal.proofs.opening.collect.Given as goal
+use Rattle.office_book.specs.Opened.{HasTaken}
+use Rattle.office_book.proofs.opening.read_frames.Given as goal
 
--- the batches of the frames so far were collected
+-- the batches of the frames so far were taken in
 abbrev pub invariant-loop-frame : goal.invariant-loop-frame
 invariant-loop-frame g l = record {
-  batches : l.all.items ≡ batches_of l.opening.frames;
+  taken : HasTaken (batches_of l.opening.frames) l.intake.views l.intake.denied;
   few : fact_count (batches_of l.opening.frames) ≤ 8_000_000;
   reads : OnlyReads g.D.Disk.content g.D.Disk.images g.D.Disk.left g.D.Disk.clock l.fn.opening.disk l.opening.disk;
   room : g.D.Disk.room l.opening.disk ≡ g.D.Disk.room l.fn.opening.disk;
