@@ -9,7 +9,7 @@ use Rattle.fact_kinds.specs.declared.key.Key.{Key}
 use Rattle.ldar_law.specs.declared.equipment.Equipment.{Equipment}
 use Rattle.ldar_law.specs.Force.{class_by, class_on}
 use Rattle.ldar_law.proofs.ClassLemmas.{class_in_front, no_class_in_front}
-use Rattle.method21_reading.specs.Standings.{IsBehind}
+use Rattle.class_standing.specs.Standings.{IsBehind}
 
 -- what a test tells of the element at a place
 tells_at : {X : Type 0} (p : X → Bool) (xs : List X) (i : ℕ) (d : X) → i < length xs → option_map_or p (slice_get xs i) false ≡ p (get_or xs i d)

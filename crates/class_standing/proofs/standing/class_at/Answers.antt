@@ -1,7 +1,7 @@
 use Rattle.std.proofs.Common.{subst, arith}
-use Rattle.method21_reading.specs.Standings.{IsBehind}
-use Rattle.method21_reading.proofs.WalkLemmas.{class_at_front, class_behind}
-use Rattle.method21_reading.proofs.standing.class_at.Goals as goal
+use Rattle.class_standing.specs.Standings.{IsBehind}
+use Rattle.class_standing.proofs.PlaceLemmas.{class_at_front, class_behind}
+use Rattle.class_standing.proofs.standing.class_at.Goals as goal
 
 pub returns-then-place-eq0 : goal.returns-then-place-eq0
 returns-then-place-eq0 c =
