@@ -10,3 +10,6 @@ pub use filed_row::FiledRow;
 pub use place::{AtPath, InMemory, Place};
 pub use sqlite::{Error, ErrorCode};
 pub use table::Table;
+
+#[cfg(test)]
+mod tests;

@@ -1,8 +1,8 @@
 ghost use Rattle.std.specs.Prelude.{◌≡◌};
 ghost use Rattle.filed_table.specs.Faults as spec;
 
+use filed_rows::{Error, ErrorCode};
 use report_filing::FilingFault;
-use sqlite::{Error, ErrorCode};
 
 /// What a statement that was refused is: a fault of the filing, unless memory was wanting.
 pub(crate) fn fault_of(error: Error) -> FilingFault

@@ -2,7 +2,11 @@
 #![tactic(auto)]
 
 mod fault;
-mod table;
+mod row;
 mod table_filing;
 
+pub use filed_rows::{AtPath, InMemory, Place};
 pub use table_filing::TableFiling;
+
+#[cfg(test)]
+mod tests;

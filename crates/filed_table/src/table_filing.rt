@@ -1,39 +1,24 @@
 ghost use Rattle.std.specs.Prelude.{◌≡◌, ◌≤◌, None};
 ghost use Rattle.disk_model.specs.Faults.{Rose};
 
-use crate::{Filing, FilingFault, table};
+use crate::fault::fault_of;
+use crate::row::{filed_of, row_of};
+use filed_rows::{Place, Table};
 use ldar_law::Filed;
-use sqlite::{Connection, File, FileStore, MemStore};
+use report_filing::{Filing, FilingFault};
 use std::alloc::Global;
 use std::marker::Model;
 
-/// Where a table is kept.
-#[derive(Drop)]
-enum Place {
-    Memory,
-    Path(HostRuntime, String),
-}
-
-/// The store of a table, from the first call on.
-#[derive(Drop)]
-enum Opened {
-    No,
-    Memory(Connection<MemStore>),
-    OnDisk(Connection<FileStore<File>>),
-}
-
 /// Reports on file in a table of a store, which is opened at the first call. A store that cannot be opened, a statement
 /// that is refused and a row that does not read back are faults, unless memory was wanting. Contracts see the count of
-/// faults.
+/// faults: what stands in a file is not told.
 #[derive(Drop)]
-pub struct TableFiling {
-    place: Place,
-    opened: Opened,
-    steps: Option<u64>,
+pub struct TableFiling<P: Place> {
+    table: Table<P>,
     faults: u64,
 }
 
-impl Model for TableFiling {
+impl<P: Place> Model for TableFiling<P> {
     ghost use Rattle.std.specs.Prelude.{ℕ};
 
     ghost Value = { ℕ };
@@ -41,89 +26,41 @@ impl Model for TableFiling {
     ghost view = { λ f. f.faults };
 }
 
-impl TableFiling {
-    /// A table in memory, which has no report yet. Takes no memory.
-    pub fn in_memory() -> TableFiling
-        ensures value { result ≡ 0 }
-    {
-        TableFiling::over(Place::Memory)
-    }
-
-    /// The table in the file at a path, which is made where there is none.
-    pub fn at(rt: HostRuntime, path: String) -> TableFiling
-        ensures value { result ≡ 0 }
-    {
-        TableFiling::over(Place::Path(rt, path))
-    }
-
-    fn over(place: Place) -> TableFiling
+impl<P: Place> TableFiling<P> {
+    /// The reports on file at a place. Takes no memory and opens nothing.
+    pub fn new(place: P) -> TableFiling<P>
         ensures value { result ≡ 0 }
     {
         TableFiling {
-            place,
-            opened: Opened::No,
-            steps: None,
+            table: Table::new(place),
             faults: 0,
         }
     }
 
-    /// Limits the steps of each later call of the filing; a row that is visited is a step. A call that would take more
-    /// fails.
+    /// Limits the steps of each later call; a row that is visited is a step. A call that would take more fails.
     pub fn set_step_limit(&mut self, steps: Option<u64>)
-        ensures value { self.new ≡ self.old }
+        ensures unchanged { self.new ≡ self.old }
     {
-        self.steps = steps;
+        self.table.set_step_limit(steps);
     }
 
-    /// Opens the store where it is not open yet.
-    fn open(&mut self, alloc: Global) -> Result<(), FilingFault>
-        ensures value { self.new ≡ self.old }
+    /// The report of the row with the greatest revision, if there is one.
+    fn found(&mut self, alloc: Global, unit: u8, half: u16) -> Result<Option<Filed>, FilingFault>
+        ensures unchanged { self.new ≡ self.old }
     {
-        if matches!(self.opened, Opened::No) {
-            self.opened = store_of(alloc, &self.place)?;
-        }
-        Ok(())
-    }
-
-    fn latest_row(
-        &mut self,
-        alloc: Global,
-        unit: u8,
-        half: u16,
-    ) -> Result<Option<Filed>, FilingFault>
-        ensures value { self.new ≡ self.old }
-    {
-        self.open(alloc)?;
-        let steps = self.steps;
-        match &mut self.opened {
-            Opened::Memory(conn) => {
-                conn.set_step_limit(steps);
-                table::latest(alloc, conn, unit, half)
-            }
-            Opened::OnDisk(conn) => {
-                conn.set_step_limit(steps);
-                table::latest(alloc, conn, unit, half)
-            }
-            Opened::No => Err(FilingFault::Failed),
+        match self.table.latest(alloc, unit, half) {
+            Ok(Some(row)) => Ok(Some(filed_of(alloc, &row)?)),
+            Ok(None) => Ok(None),
+            Err(error) => Err(fault_of(error)),
         }
     }
 
-    fn put_row(&mut self, alloc: Global, filed: &Filed) -> Result<(), FilingFault>
-        ensures value { self.new ≡ self.old }
+    /// Puts a row for the report.
+    fn keep(&mut self, alloc: Global, filed: &Filed) -> Result<(), FilingFault>
+        ensures unchanged { self.new ≡ self.old }
     {
-        self.open(alloc)?;
-        let steps = self.steps;
-        match &mut self.opened {
-            Opened::Memory(conn) => {
-                conn.set_step_limit(steps);
-                table::insert(alloc, conn, filed)
-            }
-            Opened::OnDisk(conn) => {
-                conn.set_step_limit(steps);
-                table::insert(alloc, conn, filed)
-            }
-            Opened::No => Err(FilingFault::Failed),
-        }
+        let row = row_of(alloc, filed)?;
+        self.table.insert(alloc, &row).map_err(fault_of)
     }
 
     /// Counts what has failed.
@@ -139,36 +76,20 @@ impl TableFiling {
     }
 }
 
-/// The store of a place, with its table.
-fn store_of(alloc: Global, place: &Place) -> Result<Opened, FilingFault> {
-    match place {
-        Place::Memory => {
-            let mut conn = Connection::open_in_memory(alloc)?;
-            table::make(&mut conn)?;
-            Ok(Opened::Memory(conn))
-        }
-        Place::Path(rt, path) => {
-            let mut conn = Connection::open(rt, path.as_str()).map_err(fault_of)?;
-            table::make(&mut conn)?;
-            Ok(Opened::OnDisk(conn))
-        }
-    }
-}
-
-impl Filing for TableFiling {
+impl<P: Place> Filing for TableFiling<P> {
     ghost on_file = { λ f. None };
 
     ghost faults = { λ f. f };
 
     fn latest(&mut self, alloc: Global, unit: u8, half: u16) -> Result<Option<Filed>, FilingFault> {
-        match self.latest_row(alloc, unit, half) {
+        match self.found(alloc, unit, half) {
             Ok(found) => Ok(found),
             Err(fault) => Err(self.counted(fault)),
         }
     }
 
     fn put(&mut self, alloc: Global, filed: &Filed) -> Result<(), FilingFault> {
-        match self.put_row(alloc, filed) {
+        match self.keep(alloc, filed) {
             Ok(()) => Ok(()),
             Err(fault) => Err(self.counted(fault)),
         }
