@@ -75,25 +75,23 @@ fn add_line(lines: &mut Vec<DelayLine>, bytes: &[u8], at: usize) -> Result<bool,
     let Some(detected) = day_at(bytes, at + 2) else {
         return Ok(false);
     };
-    let line = line_at(bytes, at, detected);
-    let stands = line.is_some();
-    put(lines, line)?;
-    Ok(stands)
-}
-
-/// The line on a leak detected on this day that stands at a place, if one does.
-fn line_at(bytes: &[u8], at: usize, detected: Day) -> Option<DelayLine>
-    requires within { at + 26 ≤ length bytes.now }
-    requires detected { take 2 (drop (at + 2) bytes.now) ≡ big_endian 2 detected }
-    ensures value { IfSome result (λ line. take 26 (drop at bytes.now) ≡ spell.line_bytes line) }
-{
-    Some(DelayLine {
+    let Some(delay) = delay_at(bytes, at + 4) else {
+        return Ok(false);
+    };
+    let Some(until) = until_at(bytes, at + 21) else {
+        return Ok(false);
+    };
+    let Some(closed) = day_or_none_at(bytes, at + 24) else {
+        return Ok(false);
+    };
+    lines.push(DelayLine {
         component: two_at(bytes, at),
         detected,
-        delay: delay_at(bytes, at + 4)?,
-        until: until_at(bytes, at + 21)?,
-        closed: day_or_none_at(bytes, at + 24)?,
-    })
+        delay,
+        until,
+        closed,
+    })?;
+    Ok(true)
 }
 
 fn delay_at(bytes: &[u8], at: usize) -> Option<DelayEntry>
