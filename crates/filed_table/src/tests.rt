@@ -46,9 +46,14 @@ fn report(alloc: Global, half: u16, late_in_march: u32) -> Result<Report, Fail> 
         line(Until::Date(last), Some(last))?,
         line(Until::Shutdown, None)?,
         line(Until::WhileIsolated, None)?,
-        line(Until::NoDate, None)?
+        line(Until::NoDate, None)?,
     ]?;
-    let stops = vec![in alloc; Stop { first: day("2024-03-01")?, last }]?;
+    let stops = vec![in alloc;
+        Stop {
+            first: day("2024-03-01")?,
+            last
+        },
+    ]?;
     Ok(Report {
         unit: 1,
         name: Name::new(b"CRUDE").ok_or("name")?,
@@ -118,9 +123,15 @@ fn nothing_is_filed_where_the_store_fails(rt: HostRuntime) -> Result<(), Fail> {
     let spoiled = report(alloc, 8, 1)?;
     let other = report(alloc, 9, 1)?;
     let mut filing = TableFiling::new(Spoiled);
-    assert_eq!(rt; file_report(alloc, &mut filing, &spoiled), Err(FileError::Fault));
+    assert_eq!(rt;
+        file_report(alloc, &mut filing, &spoiled),
+        Err(FileError::Fault)
+    );
     assert_eq!(rt; file_report(alloc, &mut filing, &other), Ok(1));
     let mut filing = TableFiling::new(Nowhere);
-    assert_eq!(rt; file_report(alloc, &mut filing, &other), Err(FileError::Fault));
+    assert_eq!(rt;
+        file_report(alloc, &mut filing, &other),
+        Err(FileError::Fault)
+    );
     Ok(())
 }
