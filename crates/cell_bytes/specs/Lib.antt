@@ -1,2 +1,1 @@
 pub mod CellBytes
-pub mod Kept
