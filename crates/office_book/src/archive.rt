@@ -19,7 +19,6 @@ use fact_store::Steps;
 use ldar_days::Day;
 use ldar_law::{Report, Request, Verdict};
 use office_views::{AskError, Shown, Views, ask_views, report_views};
-use std::alloc::Global;
 use std::marker::{Brand, Model};
 use std::sync::ledger::{Blank, Ledger};
 

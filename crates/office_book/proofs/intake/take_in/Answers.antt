@@ -38,18 +38,23 @@ loop-batch-preserved g c =
       ruly = ruly_next history batches i batch old.adopted within c.batch-item.is was.adopted was.ruly passes;
     }
 
-pub returns-in-Some-clause-value : goal.returns-in-Some-clause-value
-returns-in-Some-clause-value g c =
+pub returns-in-Some : goal.returns-in-Some
+returns-in-Some g c =
     let batches = c.args.batches.now in
     let i = c.loop-batch.batch-index in
     let batch = c.batch-item.result in
     let was = c.loop-batch.invariant in
     let denied = c.in-Some.ensures.denied in
-    first_at c.args.views.now.adopted batches i batch denied.0 c.in-Some.rule c.loop-batch-test.true c.batch-item.is was.ruly
-    (subst (λ (l : List Batch). verdict_on l batch ≡ verdicts.Denied denied.0 c.in-Some.rule) was.adopted denied.1)
-    ∙ ap (λ (n : ℕ). Some (n + 1, c.in-Some.rule)) (sym (c.counts-count.ensures.batches ∙ ap length was.adopted))
+    record {
+      value = first_at c.args.views.now.adopted batches i batch denied.0 c.in-Some.rule c.loop-batch-test.true c.batch-item.is was.ruly
+          (subst (λ (l : List Batch). verdict_on l batch ≡ verdicts.Denied denied.0 c.in-Some.rule) was.adopted denied.1)
+          ∙ ap (λ (n : ℕ). Some (n + 1, c.in-Some.rule)) (sym (c.counts-count.ensures.batches ∙ ap length was.adopted));
+    }
 
-pub returns-clause-value : goal.returns-clause-value
-returns-clause-value g c =
+pub returns : goal.returns
+returns g c =
     let was = c.loop-batch.invariant in
-    all_taken c.args.views.now.adopted c.args.batches.now c.loop-batch.batch-index c.loop-batch.views c.loop-batch-test.false was.adopted was.spare was.ruly
+    record {
+      value = all_taken c.args.views.now.adopted c.args.batches.now c.loop-batch.batch-index c.loop-batch.views c.loop-batch-test.false was.adopted was.spare
+          was.ruly;
+    }
