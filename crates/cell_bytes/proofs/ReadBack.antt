@@ -1,5 +1,5 @@
 -- Bytes at a place of others, taken apart again: what they were put together from.
-use Rattle.std.proofs.Common.{◌≡◌, ℕ, ◌+◌, ◌*◌, ◌/◌, ◌%◌, ◌^◌, ◌<◌, ◌≤◌, List, [], ◌∷◌, ◌++◌, zero, suc, take, drop, length, get_or, Option, Some, None, refl, sym, ap, ◌∙◌, take-take, take_at, drop_at, drop-drop, arith}
+use Rattle.std.proofs.Common.{◌≡◌, ℕ, ◌+◌, ◌*◌, ◌/◌, ◌%◌, ◌^◌, ◌<◌, ◌≤◌, List, [], ◌∷◌, ◌++◌, zero, suc, take, drop, length, get_or, Option, Some, None, is_none, true, false, refl, sym, ap, ◌∙◌, take-take, take_at, drop_at, drop-drop, arith}
 use Rattle.std.proofs.lemmas.List.{drop_more, drop-take, length-append}
 use Rattle.std.specs.List.{flat_map, AllByRecursion}
 use Rattle.fact_kinds.specs.declared.key.Key.{Key}
@@ -200,3 +200,42 @@ stops_long given bytes is = ap length is ∙ pieces_long stop_bytes 4 (λ _. ref
 -- so are the numbers
 pub months_long : (given : List ℕ) (bytes : List ℕ) → AreMonths given → bytes ≡ months_bytes given → length bytes ≡ 144
 months_long given bytes are is = ap length is ∙ pieces_long (big_endian 4) 4 (λ _. refl) given ∙ omega (arith, are.places)
+
+-- ---- what reads back is the same
+
+-- the item, or another where there is none
+abbrev item_or : {X : Type 0} → X → Option X → X
+item_or other None = other
+item_or other (Some item) = item
+
+-- two items of one answer are the same
+pub same_item : {X : Type 0} (a b : X) → Some a ≡ Some b → a ≡ b
+same_item a b is = ap (item_or a) is
+
+-- no answer is no item
+pub no_item : {X Y : Type 0} (x : X) → None ≡ Some x → Y
+no_item x is = let none : true ≡ false = ap is_none is in absurd cc
+
+-- four bytes are two numbers of two
+pub four_halves : (xs : List ℕ) (at n : ℕ) → n < 2 ^ 32 → take 4 (drop at xs) ≡ big_endian 4 n
+    → (take 2 (drop at xs) ≡ big_endian 2 (n / 65_536)) × (take 2 (drop (at + 2) xs) ≡ big_endian 2 (n % 65_536))
+four_halves xs at n small is =
+    parted xs (big_endian 2 (n / 65_536)) (big_endian 2 (n % 65_536)) at 2 2 (at + 2) refl refl (is ∙ four_parts n small)
+
+-- keys whose parts are the same
+pub same_key : (a b : Key) → a.day ≡ b.day → a.minute ≡ b.minute → a.handheld ≡ b.handheld → a.number ≡ b.number → a.index ≡ b.index → a ≡ b
+same_key a b day minute handheld number index =
+    λ i. record { day = day i; minute = minute i; handheld = handheld i; number = number i; index = index i }
+
+-- delays whose parts are the same
+pub same_delay : (a b : DelayEntry) → a.key ≡ b.key → a.ground ≡ b.ground → a.signer ≡ b.signer → a.expected ≡ b.expected → a ≡ b
+same_delay a b key ground signer expected = λ i. record { key = key i; ground = ground i; signer = signer i; expected = expected i }
+
+-- lines whose parts are the same
+pub same_line : (a b : DelayLine) → a.component ≡ b.component → a.detected ≡ b.detected → a.delay ≡ b.delay → a.until ≡ b.until → a.closed ≡ b.closed → a ≡ b
+same_line a b component detected delay until closed =
+    λ i. record { component = component i; detected = detected i; delay = delay i; until = until i; closed = closed i }
+
+-- shutdowns whose days are the same
+pub same_stop : (a b : Stop) → a.first ≡ b.first → a.last ≡ b.last → a ≡ b
+same_stop a b first last = λ i. record { first = first i; last = last i }
