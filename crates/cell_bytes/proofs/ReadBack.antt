@@ -1,5 +1,5 @@
 -- Bytes at a place of others, taken apart again: what they were put together from.
-use Rattle.std.proofs.Common.{◌≡◌, ℕ, ◌+◌, ◌*◌, ◌/◌, ◌%◌, ◌^◌, ◌<◌, ◌≤◌, List, [], ◌∷◌, ◌++◌, zero, suc, take, drop, length, get_or, Option, Some, None, is_none, true, false, refl, sym, ap, ◌∙◌, take-take, take_at, drop_at, drop-drop, arith}
+use Rattle.std.proofs.Common.{◌≡◌, ℕ, ◌+◌, ◌*◌, ◌/◌, ◌%◌, ◌^◌, ◌<◌, ◌≤◌, List, [], ◌∷◌, ◌++◌, zero, suc, take, drop, length, get_or, Option, Some, None, IfSome, is_none, true, false, refl, sym, ap, ◌∙◌, take-take, take_at, drop_at, drop-drop, arith}
 use Rattle.std.proofs.lemmas.List.{drop_more, drop-take, length-append}
 use Rattle.std.specs.List.{flat_map, AllByRecursion}
 use Rattle.fact_kinds.specs.declared.key.Key.{Key}
@@ -239,3 +239,8 @@ same_line a b component detected delay until closed =
 -- shutdowns whose days are the same
 pub same_stop : (a b : Stop) → a.first ≡ b.first → a.last ≡ b.last → a ≡ b
 same_stop a b first last = λ i. record { first = first i; last = last i }
+
+-- what holds of an item, if there is one, holds of it in other words
+pub if_some_then : {X : Type 0} (P Q : X → Type 0) (found : Option X) → ((x : X) → P x → Q x) → IfSome found P → IfSome found Q
+if_some_then P Q None step holds = holds
+if_some_then P Q (Some x) step holds = step x holds

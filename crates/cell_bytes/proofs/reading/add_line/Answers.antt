@@ -49,13 +49,14 @@ returns c =
           (record { component = c.two_at.result; detected = c.in-Some.detected; delay = c.in-Some-delay_at.delay; until = c.in-Some-until_at.until; closed = c.in-Some-day_or_none_at.closed }) whole
           ∙ ap (flat_map line_bytes) (sym c.in_ok-push.ensures.items);
       reads_back = λ line fits is.
-          let parts = line_parts bytes at line is in
-          (search rules,
-          c.in_ok-push.ensures.items
-          ∙ ap (λ item. c.args.lines.now.items ++ item ∷ []) (same_line _ line
-              (c.two_at.ensures.reads_back line.component fits.component parts.component)
-              (same_item _ _ (sym c.in-Some.is ∙ c.day_at.ensures.reads_back line.detected fits.detected parts.detected))
-              (same_item _ _ (sym c.in-Some-delay_at.is ∙ c.delay_at.ensures.reads_back line.delay fits.delay parts.delay))
-              (same_item _ _ (sym c.in-Some-until_at.is ∙ c.until_at.ensures.reads_back line.until fits.until parts.until))
-              (same_item _ _ (sym c.in-Some-day_or_none_at.is ∙ c.day_or_none_at.ensures.reads_back line.closed fits.closed parts.closed))));
+          let parts = line_parts bytes at line is in (
+            search rules,
+            c.in_ok-push.ensures.items
+                ∙ ap (λ item. c.args.lines.now.items ++ item ∷ []) (same_line _ line
+                (c.two_at.ensures.reads_back line.component fits.component parts.component)
+                (same_item _ _ (sym c.in-Some.is ∙ c.day_at.ensures.reads_back line.detected fits.detected parts.detected))
+                (same_item _ _ (sym c.in-Some-delay_at.is ∙ c.delay_at.ensures.reads_back line.delay fits.delay parts.delay))
+                (same_item _ _ (sym c.in-Some-until_at.is ∙ c.until_at.ensures.reads_back line.until fits.until parts.until))
+                (same_item _ _ (sym c.in-Some-day_or_none_at.is ∙ c.day_or_none_at.ensures.reads_back line.closed fits.closed parts.closed))),
+          );
     }

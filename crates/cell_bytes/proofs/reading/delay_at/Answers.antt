@@ -22,8 +22,8 @@ returns c =
       reads_back = λ given fits is.
           let parts = delay_parts bytes at given is in
           ap Some (same_delay _ given
-              (same_item _ _ (c.in_ok-key_at.ensures.reads_back given.key fits.key parts.key))
-              (c.one_at.ensures.reads_back given.ground fits.ground parts.ground)
-              (c.two_at.ensures.reads_back given.signer fits.signer parts.signer)
-              (same_item _ _ (c.in_ok-day_or_none_at.ensures.reads_back given.expected fits.expected parts.expected)));
+          (same_item _ _ (c.in_ok-key_at.ensures.reads_back given.key fits.key parts.key))
+          (c.one_at.ensures.reads_back given.ground fits.ground parts.ground)
+          (c.two_at.ensures.reads_back given.signer fits.signer parts.signer)
+          (same_item _ _ (c.in_ok-day_or_none_at.ensures.reads_back given.expected fits.expected parts.expected)));
     }

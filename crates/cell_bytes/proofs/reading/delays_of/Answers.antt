@@ -14,12 +14,13 @@ returns-then-not-branch-clause-reads_back c =
     absurd cc
 
 pub loop-at-preserved : goal.loop-at-preserved
-loop-at-preserved c =
-    (search rules,
-    λ given all is.
-        let next = next_line given c.args.bytes.now c.loop-at.at all is (omega arith) in
-        let added = c.in_ok-add_line.ensures.reads_back next.item next.fits next.stands in
-        added.1 ∙ ap (λ front. front ++ next.item ∷ []) (c.loop-at.invariant.1 given all is) ∙ sym next.follows)
+loop-at-preserved c = (
+  search rules,
+  λ given all is.
+      let next = next_line given c.args.bytes.now c.loop-at.at all is (omega arith) in
+      let added = c.in_ok-add_line.ensures.reads_back next.item next.fits next.stands in
+      added.1 ∙ ap (λ front. front ++ next.item ∷ []) (c.loop-at.invariant.1 given all is) ∙ sym next.follows,
+)
 
 pub returns-clause-reads_back : goal.returns-clause-reads_back
 returns-clause-reads_back c =

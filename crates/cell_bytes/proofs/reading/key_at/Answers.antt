@@ -17,9 +17,9 @@ returns c =
       reads_back = λ given fits is.
           let parts = key_parts bytes at given is in
           ap Some (same_key _ given
-              (same_item _ _ (c.in_ok-day_at.ensures.reads_back given.day fits.day parts.day))
-              (c.two_at.ensures.reads_back given.minute fits.minute parts.minute)
-              (c.two_at-2.ensures.reads_back given.handheld fits.handheld parts.handheld)
-              (c.four_at.ensures.reads_back given.number fits.number parts.number)
-              (c.two_at-3.ensures.reads_back given.index fits.index parts.index));
+          (same_item _ _ (c.in_ok-day_at.ensures.reads_back given.day fits.day parts.day))
+          (c.two_at.ensures.reads_back given.minute fits.minute parts.minute)
+          (c.two_at-2.ensures.reads_back given.handheld fits.handheld parts.handheld)
+          (c.four_at.ensures.reads_back given.number fits.number parts.number)
+          (c.two_at-3.ensures.reads_back given.index fits.index parts.index));
     }

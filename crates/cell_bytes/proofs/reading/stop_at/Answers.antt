@@ -18,6 +18,6 @@ returns c =
       reads_back = λ given fits is.
           let parts = stop_parts bytes at given is in
           ap Some (same_stop _ given
-              (same_item _ _ (c.in_ok-day_at.ensures.reads_back given.first fits.first parts.0))
-              (same_item _ _ (c.in_ok-day_at-2.ensures.reads_back given.last fits.last parts.1)));
+          (same_item _ _ (c.in_ok-day_at.ensures.reads_back given.first fits.first parts.0))
+          (same_item _ _ (c.in_ok-day_at-2.ensures.reads_back given.last fits.last parts.1)));
     }
