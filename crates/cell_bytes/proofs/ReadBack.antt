@@ -244,3 +244,7 @@ same_stop a b first last = λ i. record { first = first i; last = last i }
 pub if_some_then : {X : Type 0} (P Q : X → Type 0) (found : Option X) → ((x : X) → P x → Q x) → IfSome found P → IfSome found Q
 if_some_then P Q None step holds = holds
 if_some_then P Q (Some x) step holds = step x holds
+
+-- what is an item is not none
+pub given_is_given : {X Y : Type 0} (found : Option X) (item : X) → found ≡ Some item → is_none found ≡ true → Y
+given_is_given found item is none = let both : false ≡ true = sym (ap is_none is) ∙ none in absurd cc

@@ -7,7 +7,7 @@ use Rattle.cell_bytes.proofs.ReadBack.{next_number, months_long}
 use Rattle.cell_bytes.proofs.reading.months_of.Goals as goal
 
 pub returns-then-bytes-clause-reads_back : goal.returns-then-bytes-clause-reads_back
-returns-then-bytes-clause-reads_back c = λ given are is. let long = months_long given c.args.bytes.now are is in absurd cc
+returns-then-bytes-clause-reads_back c = λ given are is. let long = months_long given c.args.bytes.now are is in absurd (omega (arith, long))
 
 pub loop-place-preserved : goal.loop-place-preserved
 loop-place-preserved c =

@@ -3,7 +3,7 @@ use Rattle.std.specs.List.{flat_map}
 use Rattle.std.specs.Option.{option_to_list}
 use Rattle.cell_bytes.specs.CellBytes.{stop_bytes}
 use Rattle.cell_bytes.proofs.CellLemmas.{one_given}
-use Rattle.cell_bytes.proofs.ReadBack.{next_stop, stops_long}
+use Rattle.cell_bytes.proofs.ReadBack.{next_stop, stops_long, given_is_given}
 use Rattle.cell_bytes.proofs.reading.stops_of.Goals as goal
 
 pub loop-at-preserved : goal.loop-at-preserved
@@ -28,7 +28,7 @@ returns-then-is_none-clause-reads_back c =
     λ given all is.
     let next = next_stop given c.args.bytes.now c.loop-at.at all is (omega arith) in
     let found = c.stop_at-stop.ensures.reads_back next.item next.fits next.stands in
-    absurd cc
+    given_is_given c.stop_at-stop.result next.item found (search rules)
 
 pub returns-clause-reads_back : goal.returns-clause-reads_back
 returns-clause-reads_back c =
