@@ -3,7 +3,7 @@ use Rattle.std.specs.List.{flat_map}
 use Rattle.fact_kinds.specs.Fields.{big_endian}
 use Rattle.cell_bytes.specs.CellBytes.{line_bytes, delay_bytes, until_bytes}
 use Rattle.cell_bytes.proofs.CellLemmas.{one_more, joined}
-use Rattle.cell_bytes.proofs.ReadBack.{line_parts, same_item, same_line, no_item}
+use Rattle.cell_bytes.proofs.ReadBack.{line_parts, same_item, same_line}
 use Rattle.cell_bytes.proofs.reading.add_line.Goals as goal
 
 pub returns-in_default-clause-reads_back : goal.returns-in_default-clause-reads_back

@@ -1,4 +1,4 @@
-use Rattle.std.proofs.Common.{rules, ◌+◌, ◌*◌, ◌++◌, ◌∷◌, [], Some, sym, ap, ◌∙◌, arith, take_all}
+use Rattle.std.proofs.Common.{rules, ◌++◌, ◌∷◌, [], Some, sym, ap, ◌∙◌, arith, take_all}
 use Rattle.cell_bytes.proofs.ReadBack.{next_line, lines_long}
 use Rattle.cell_bytes.proofs.reading.delays_of.Goals as goal
 
