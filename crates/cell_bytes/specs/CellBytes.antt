@@ -1,5 +1,5 @@
 -- The bytes in which a table keeps the cells of a report. Numbers have the greatest byte first.
-use Rattle.std.specs.Prelude.{ℕ, List, [], ◌∷◌, ◌++◌, Option, Some, None}
+use Rattle.std.specs.Prelude.{ℕ, List, ◌++◌, Option, Some, None}
 use Rattle.std.specs.List.{flat_map}
 use Rattle.fact_kinds.specs.Fields.{big_endian}
 use Rattle.fact_kinds.specs.declared.key.Key.{Key}

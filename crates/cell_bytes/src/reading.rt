@@ -1,6 +1,14 @@
-ghost use Rattle.std.specs.Prelude.{◌≡◌, ◌≤◌, ◌+◌, ◌++◌, length, take, drop, IfOk, IfSome, IsTrue};
+ghost use Rattle.std.specs.Prelude.{◌≡◌, ◌≤◌, ◌<◌, ◌^◌, ◌+◌, ◌++◌, [], ◌∷◌, List, ℕ, Option, length, take, drop, IfOk, IfSome, IsTrue, Some, option_map};
+ghost use Rattle.std.specs.List.{AllByRecursion};
+ghost use Rattle.ldar_days.specs.Calendar.{IsDay};
+ghost use Rattle.fact_kinds.specs.declared.key.Key.{Key};
 ghost use Rattle.fact_kinds.specs.Fields.{big_endian};
+ghost use Rattle.ldar_law.specs.declared.delay.DelayEntry.{DelayEntry};
+ghost use Rattle.ldar_law.specs.declared.delay.DelayLine.{DelayLine};
+ghost use Rattle.ldar_law.specs.declared.delay.Stop.{Stop};
+ghost use Rattle.ldar_law.specs.declared.delay.Until.{Until};
 ghost use Rattle.cell_bytes.specs.CellBytes as spell;
+ghost use Rattle.cell_bytes.specs.Kept.{IsDayOrNone, IsKey, IsDelay, IsUntil, IsLine, IsStop, AreMonths};
 
 use crate::Memory;
 use crate::item::put;
@@ -21,6 +29,7 @@ const STOP: usize = 4;
 /// The 36 numbers that these bytes spell, if they are so many.
 pub fn months_of(bytes: &[u8]) -> Option<MonthCells>
     ensures value { IfSome result (λ months. bytes.now ≡ spell.months_bytes months) }
+    ensures reads_back { (months : List ℕ) → AreMonths months → bytes.now ≡ spell.months_bytes months → result ≡ Some months }
 {
     if bytes.len() != 4 * PLACES {
         return None;
@@ -35,6 +44,8 @@ pub fn months_of(bytes: &[u8]) -> Option<MonthCells>
 /// The lines on delayed repairs that these bytes spell, if they spell some.
 pub fn delays_of(alloc: Global, bytes: &[u8]) -> Result<Option<Vec<DelayLine>>, Memory>
     ensures value { IfOk result (λ found. IfSome found (λ lines. bytes.now ≡ spell.delays_bytes lines.items)) }
+    ensures reads_back { (lines : List DelayLine) → AllByRecursion IsLine lines → bytes.now ≡ spell.delays_bytes lines
+        → IfOk result (λ found. option_map (λ read. read.items) found ≡ Some lines) }
 {
     if bytes.len() % LINE != 0 {
         return Ok(None);
@@ -51,6 +62,8 @@ pub fn delays_of(alloc: Global, bytes: &[u8]) -> Result<Option<Vec<DelayLine>>, 
 /// The shutdowns that these bytes spell, if they spell some.
 pub fn stops_of(alloc: Global, bytes: &[u8]) -> Result<Option<Vec<Stop>>, Memory>
     ensures value { IfOk result (λ found. IfSome found (λ stops. bytes.now ≡ spell.stops_bytes stops.items)) }
+    ensures reads_back { (stops : List Stop) → AllByRecursion IsStop stops → bytes.now ≡ spell.stops_bytes stops
+        → IfOk result (λ found. option_map (λ read. read.items) found ≡ Some stops) }
 {
     if bytes.len() % STOP != 0 {
         return Ok(None);
@@ -71,6 +84,8 @@ fn add_line(lines: &mut Vec<DelayLine>, bytes: &[u8], at: usize) -> Result<bool,
     requires within { at + 26 ≤ length bytes.now }
     requires so_far { take at bytes.now ≡ spell.delays_bytes lines.old.items }
     ensures more { IfOk result (λ added. IsTrue added → take (at + 26) bytes.now ≡ spell.delays_bytes lines.new.items) }
+    ensures reads_back { (line : DelayLine) → IsLine line → take 26 (drop at bytes.now) ≡ spell.line_bytes line
+        → IfOk result (λ added. IsTrue added × (lines.new.items ≡ lines.old.items ++ line ∷ [])) }
 {
     let Some(detected) = day_at(bytes, at + 2) else {
         return Ok(false);
@@ -97,6 +112,7 @@ fn add_line(lines: &mut Vec<DelayLine>, bytes: &[u8], at: usize) -> Result<bool,
 fn delay_at(bytes: &[u8], at: usize) -> Option<DelayEntry>
     requires within { at + 17 ≤ length bytes.now }
     ensures value { IfSome result (λ delay. take 17 (drop at bytes.now) ≡ spell.delay_bytes delay) }
+    ensures reads_back { (given : DelayEntry) → IsDelay given → take 17 (drop at bytes.now) ≡ spell.delay_bytes given → result ≡ Some given }
 {
     Some(DelayEntry {
         key: key_at(bytes, at)?,
@@ -110,6 +126,7 @@ fn delay_at(bytes: &[u8], at: usize) -> Option<DelayEntry>
 fn stop_at(bytes: &[u8], at: usize) -> Option<Stop>
     requires within { at + 4 ≤ length bytes.now }
     ensures value { IfSome result (λ stop. take 4 (drop at bytes.now) ≡ spell.stop_bytes stop) }
+    ensures reads_back { (given : Stop) → IsStop given → take 4 (drop at bytes.now) ≡ spell.stop_bytes given → result ≡ Some given }
 {
     Some(Stop {
         first: day_at(bytes, at)?,
@@ -120,6 +137,7 @@ fn stop_at(bytes: &[u8], at: usize) -> Option<Stop>
 fn one_at(bytes: &[u8], at: usize) -> u8
     requires within { at + 1 ≤ length bytes.now }
     ensures value { take 1 (drop at bytes.now) ≡ big_endian 1 result }
+    ensures reads_back { (given : ℕ) → given < 2 ^ 8 → take 1 (drop at bytes.now) ≡ big_endian 1 given → result ≡ given }
 {
     bytes[at]
 }
@@ -127,6 +145,7 @@ fn one_at(bytes: &[u8], at: usize) -> u8
 fn two_at(bytes: &[u8], at: usize) -> u16
     requires within { at + 2 ≤ length bytes.now }
     ensures value { take 2 (drop at bytes.now) ≡ big_endian 2 result }
+    ensures reads_back { (given : ℕ) → given < 2 ^ 16 → take 2 (drop at bytes.now) ≡ big_endian 2 given → result ≡ given }
 {
     u16::from_be_bytes([bytes[at], bytes[at + 1]])
 }
@@ -134,6 +153,7 @@ fn two_at(bytes: &[u8], at: usize) -> u16
 fn four_at(bytes: &[u8], at: usize) -> u32
     requires within { at + 4 ≤ length bytes.now }
     ensures value { take 4 (drop at bytes.now) ≡ big_endian 4 result }
+    ensures reads_back { (given : ℕ) → given < 2 ^ 32 → take 4 (drop at bytes.now) ≡ big_endian 4 given → result ≡ given }
 {
     let high = two_at(bytes, at);
     let low = two_at(bytes, at + 2);
@@ -143,6 +163,7 @@ fn four_at(bytes: &[u8], at: usize) -> u32
 fn day_at(bytes: &[u8], at: usize) -> Option<Day>
     requires within { at + 2 ≤ length bytes.now }
     ensures value { IfSome result (λ day. take 2 (drop at bytes.now) ≡ big_endian 2 day) }
+    ensures reads_back { (given : ℕ) → IsDay given → take 2 (drop at bytes.now) ≡ big_endian 2 given → result ≡ Some given }
 {
     Day::of_number(u32::from(two_at(bytes, at)))
 }
@@ -151,6 +172,7 @@ fn day_at(bytes: &[u8], at: usize) -> Option<Day>
 fn day_or_none_at(bytes: &[u8], at: usize) -> Option<Option<Day>>
     requires within { at + 2 ≤ length bytes.now }
     ensures value { IfSome result (λ day. take 2 (drop at bytes.now) ≡ spell.day_bytes day) }
+    ensures reads_back { (given : Option ℕ) → IsDayOrNone given → take 2 (drop at bytes.now) ≡ spell.day_bytes given → result ≡ Some given }
 {
     if two_at(bytes, at) == 0 {
         return Some(None);
@@ -161,6 +183,7 @@ fn day_or_none_at(bytes: &[u8], at: usize) -> Option<Option<Day>>
 fn key_at(bytes: &[u8], at: usize) -> Option<Key>
     requires within { at + 12 ≤ length bytes.now }
     ensures value { IfSome result (λ key. take 12 (drop at bytes.now) ≡ spell.key_bytes key) }
+    ensures reads_back { (given : Key) → IsKey given → take 12 (drop at bytes.now) ≡ spell.key_bytes given → result ≡ Some given }
 {
     Some(Key {
         day: day_at(bytes, at)?,
@@ -175,6 +198,7 @@ fn key_at(bytes: &[u8], at: usize) -> Option<Key>
 fn until_at(bytes: &[u8], at: usize) -> Option<Until>
     requires within { at + 3 ≤ length bytes.now }
     ensures value { IfSome result (λ until. take 3 (drop at bytes.now) ≡ spell.until_bytes until) }
+    ensures reads_back { (given : Until) → IsUntil given → take 3 (drop at bytes.now) ≡ spell.until_bytes given → result ≡ Some given }
 {
     if bytes[at] == 0 {
         return Some(Until::Date(day_at(bytes, at + 1)?));
