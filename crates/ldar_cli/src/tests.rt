@@ -1,6 +1,7 @@
 use crate::run;
 use disk_model::{Disk, MemoryDisk};
 use ldar_ports::{ListSource, StampedSink};
+use report_filing::{Filing, MapFiling};
 use std::alloc::Global;
 use std::test::Fail;
 
@@ -78,6 +79,17 @@ pub fn ran_in_pieces<D: Disk>(
     trial: &Trial<'_>,
     input: &[&[u8]],
 ) -> Result<Outcome, Fail> {
+    ran_with(alloc, disk, &mut MapFiling::new(alloc), trial, input)
+}
+
+// .. and that has these reports on file.
+pub fn ran_with<D: Disk, F: Filing>(
+    alloc: Global,
+    disk: &mut D,
+    filing: &mut F,
+    trial: &Trial<'_>,
+    input: &[&[u8]],
+) -> Result<Outcome, Fail> {
     let mut words = Vec::new(alloc);
     for word in trial.words {
         words.push(String::from_str(alloc, word)?)?;
@@ -89,7 +101,15 @@ pub fn ran_in_pieces<D: Disk>(
     let mut source = ListSource::new(alloc, &pieces, trial.takes_that_fail)?;
     let mut output = StampedSink::new(alloc, trial.puts_that_fail)?;
     let mut notes = StampedSink::new(alloc, trial.notes_that_fail)?;
-    let status = run(alloc, &words, &mut source, &mut output, &mut notes, disk);
+    let status = run(
+        alloc,
+        &words,
+        &mut source,
+        &mut output,
+        &mut notes,
+        disk,
+        filing,
+    );
     Ok(Outcome {
         status,
         output: output.bytes(alloc)?,
