@@ -1,7 +1,7 @@
 use crate::run;
 use disk_model::{Disk, MemoryDisk};
 use ldar_ports::{ListSource, StampedSink};
-use report_filing::{Filing, MapFiling};
+use report_filing::MapFiling;
 use std::alloc::Global;
 use std::test::Fail;
 
@@ -79,17 +79,6 @@ pub fn ran_in_pieces<D: Disk>(
     trial: &Trial<'_>,
     input: &[&[u8]],
 ) -> Result<Outcome, Fail> {
-    ran_with(alloc, disk, &mut MapFiling::new(alloc), trial, input)
-}
-
-// .. and that has these reports on file.
-pub fn ran_with<D: Disk, F: Filing>(
-    alloc: Global,
-    disk: &mut D,
-    filing: &mut F,
-    trial: &Trial<'_>,
-    input: &[&[u8]],
-) -> Result<Outcome, Fail> {
     let mut words = Vec::new(alloc);
     for word in trial.words {
         words.push(String::from_str(alloc, word)?)?;
@@ -108,7 +97,7 @@ pub fn ran_with<D: Disk, F: Filing>(
         &mut output,
         &mut notes,
         disk,
-        filing,
+        &mut MapFiling::new(alloc),
     );
     Ok(Outcome {
         status,
