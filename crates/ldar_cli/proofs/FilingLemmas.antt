@@ -8,7 +8,7 @@ use Rattle.report_filing.specs.Answers.{filed_as, Follows}
 use Rattle.report_filing.specs.Revisions.{latest_of}
 use Rattle.ldar_cli.specs.declared.status.Status.{Status}
 use Rattle.ldar_cli.specs.declared.status.Status.TheVariants.{Done, WriteFault}
-use Rattle.ldar_cli.specs.Filing.{IsFiledAs, ReportEnds, filed_text}
+use Rattle.ldar_cli.specs.Filing.{ReportEnds, filed_text}
 use Rattle.ldar_cli.specs.Statuses.{TextEnds}
 
 -- a report that was put on file, by the status of the line that tells it
