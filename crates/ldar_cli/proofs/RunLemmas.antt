@@ -1,5 +1,5 @@
 -- How a run ends, carried over from a reference to a disk to the disk.
-use Rattle.std.proofs.Common.{◌≡◌, ◌∙◌, ◌⊎◌, inl, inr, ℕ, Option, List, ap}
+use Rattle.std.proofs.Common.{◌≡◌, ◌∙◌, inl, inr, ℕ, Option, List, ap}
 use Rattle.ldar_law.specs.declared.report.Filed.{Filed}
 use Rattle.ldar_ports.specs.Sink.{Piece}
 use Rattle.ldar_cli.specs.declared.command.Command.{Command}

@@ -1,5 +1,5 @@
 -- A word that begins with a hyphen is in no command.
-use Rattle.std.proofs.Common.{◌≡◌, ◌∙◌, ◌==◌, ◌&&◌, ◌+◌, ◌/◌, ◌%◌, ℕ, Bool, true, false, not, nat_eq, nat_le, Option, Some, None, List, [], ◌∷◌, length, refl, sym, ap, arith, codes, if◌then◌else◌}
+use Rattle.std.proofs.Common.{◌≡◌, ◌∙◌, ◌==◌, ◌&&◌, ◌+◌, ◌/◌, ℕ, Bool, true, false, not, nat_eq, nat_le, Option, Some, None, List, [], ◌∷◌, length, refl, sym, ap, arith, codes, if◌then◌else◌}
 use Rattle.std.proofs.lemmas.Grind.{common_steps}
 use Rattle.std.specs.List.{list_all}
 use Rattle.std.specs.Char.{is_ascii_digit}
@@ -7,13 +7,10 @@ use Rattle.std.specs.Str.{bytes_eq}
 use Rattle.ldar_days.specs.Calendar.{month_of}
 use Rattle.ldar_days.specs.Texts.{day_named, day_of, day_text}
 use Rattle.ldar_law.specs.declared.request.Request.{Request}
-use Rattle.handheld_http.specs.Heads.{is_number}
-use Rattle.handheld_http.specs.Requests.{decimal_in, has_leading_zero, is_decimal}
+use Rattle.handheld_http.specs.Requests.{decimal_in}
 use Rattle.register_import.specs.declared.limits.TheConstants.{LAST_NUMBER}
 use Rattle.command_words.specs.Parsing.{name_in}
 use Rattle.command_words.specs.Positionals.{is_option, positionals_of}
-use Rattle.ldar_cli.specs.declared.command.Command.{Command}
-use Rattle.ldar_cli.specs.declared.command.Sort.{Sort}
 use Rattle.ldar_cli.specs.Command.{command_in, command_with, filing_of, import_of, is_word, numbered_view, route_on, showing, sort_named, view_named, view_of_four, view_of_number, view_on}
 
 -- such a word is a hyphen and the rest
