@@ -3,24 +3,25 @@ use Rattle.std.proofs.Common.{◌≡◌, ◌⊎◌, inl, inr, ℕ, ◌<◌, Opti
 use Rattle.disk_model.proofs.ToldLemmas.{Told-weaker}
 use Rattle.ldar_ports.specs.Sink.{Piece}
 use Rattle.ldar_journal.specs.Crash.{LeavesOnly}
+use Rattle.ldar_law.specs.declared.report.Filed.{Filed}
 use Rattle.ldar_law.specs.Machine.{Call, Moment}
 use Rattle.office_book.specs.Safe.{StandsInRun}
 use Rattle.ldar_session.specs.Served.{Served}
 use Rattle.ldar_cli.specs.declared.command.Command.{Command}
-use Rattle.ldar_cli.specs.declared.command.Command.TheVariants.{Init, Dock, Drain, Import, Show, Check}
+use Rattle.ldar_cli.specs.declared.command.Command.TheVariants.{Init, Dock, Drain, Import, Show, File, Check}
 use Rattle.ldar_cli.specs.declared.status.Status.{Status}
 use Rattle.ldar_cli.specs.Connection.{IsCrashSafe, IsConnection}
-use Rattle.ldar_cli.specs.Run.{LeavesAlone, IsNotOpened, IsMade, IsShown, Ends}
+use Rattle.ldar_cli.specs.Run.{LeavesAlone, IsNotOpened, IsMade, IsShown, IsFiled, Ends}
 
 module _ {D : Type 0} (content_of : D → Option (List ℕ)) (images_of : D → List ℕ → Type 0) (left_of : D → ℕ → List ℕ → Type 0)
     (clock_of faults_of : D → ℕ) where
   -- words that are the command end as it does
-  pub ends_for : (command other : Option Command) (status : Status) (counts : ℕ × ℕ) (left left' : Option (List ℕ))
-      (pieces pieces' : Option (List Piece)) (old new : D)
-      → command ≡ other → Ends content_of images_of left_of clock_of faults_of command status counts left left' pieces pieces' old new
-      → Ends content_of images_of left_of clock_of faults_of other status counts left left' pieces pieces' old new
-  ends_for command other status counts left left' pieces pieces' old new same ends =
-      subst (λ (c : Option Command). Ends content_of images_of left_of clock_of faults_of c status counts left left' pieces pieces' old new) same ends
+  pub ends_for : (command other : Option Command) (status : Status) (counts : ℕ × ℕ) (filed filed' : Option (List Filed))
+      (left left' : Option (List ℕ)) (pieces pieces' : Option (List Piece)) (old new : D)
+      → command ≡ other → Ends content_of images_of left_of clock_of faults_of command status counts filed filed' left left' pieces pieces' old new
+      → Ends content_of images_of left_of clock_of faults_of other status counts filed filed' left left' pieces pieces' old new
+  ends_for command other status counts filed filed' left left' pieces pieces' old new same ends =
+      subst (λ (c : Option Command). Ends content_of images_of left_of clock_of faults_of c status counts filed filed' left left' pieces pieces' old new) same ends
 
 module _ {A D : Type 0} (f : A → D) (content_of : D → Option (List ℕ)) (images_of : D → List ℕ → Type 0) (left_of : D → ℕ → List ℕ → Type 0)
     (clock_of faults_of : D → ℕ) where
@@ -67,6 +68,18 @@ module _ {A D : Type 0} (f : A → D) (content_of : D → Option (List ℕ)) (im
     is = shown.is;
     ends = shown.ends;
     alone = alone_along old new shown.alone;
+  }
+
+  -- .. of which a report was filed
+  filed_along : (unit half day : ℕ) (status : Status) (filed filed' : Option (List Filed)) (pieces pieces' : Option (List Piece)) (old new : A)
+      → IsFiled (λ (a : A). content_of (f a)) (λ (a : A). images_of (f a)) (λ (a : A). left_of (f a)) (λ (a : A). clock_of (f a)) unit half day status
+      filed filed' pieces pieces' old new
+      → IsFiled content_of images_of left_of clock_of unit half day status filed filed' pieces pieces' (f old) (f new)
+  filed_along unit half day status filed filed' pieces pieces' old new filing = record {
+    history = filing.history;
+    opened = filing.opened;
+    ends = filing.ends;
+    alone = alone_along old new filing.alone;
   }
 
   -- a run that is safe at every crash
@@ -121,40 +134,45 @@ module _ {A D : Type 0} (f : A → D) (content_of : D → Option (List ℕ)) (im
   }
 
   -- each command
-  ends_along : (command : Option Command) (status : Status) (counts : ℕ × ℕ) (left left' : Option (List ℕ)) (pieces pieces' : Option (List Piece)) (old new : A)
+  ends_along : (command : Option Command) (status : Status) (counts : ℕ × ℕ) (filed filed' : Option (List Filed))
+      (left left' : Option (List ℕ)) (pieces pieces' : Option (List Piece)) (old new : A)
       → Ends (λ (a : A). content_of (f a)) (λ (a : A). images_of (f a)) (λ (a : A). left_of (f a)) (λ (a : A). clock_of (f a)) (λ (a : A). faults_of (f a))
-      command status counts left left' pieces pieces' old new
-      → Ends content_of images_of left_of clock_of faults_of command status counts left left' pieces pieces' (f old) (f new)
-  ends_along None status counts left left' pieces pieces' old new ends = (ends.0, ends.1, ap f ends.2)
-  ends_along (Some Init) status counts left left' pieces pieces' old new ends = (ends.0, made_along status old new ends.1)
-  ends_along (Some Dock) status counts left left' pieces pieces' old new ends = elim ends [
+      command status counts filed filed' left left' pieces pieces' old new
+      → Ends content_of images_of left_of clock_of faults_of command status counts filed filed' left left' pieces pieces' (f old) (f new)
+  ends_along None status counts filed filed' left left' pieces pieces' old new ends = (ends.0, ends.1, ap f ends.2)
+  ends_along (Some Init) status counts filed filed' left left' pieces pieces' old new ends = (ends.0, made_along status old new ends.1)
+  ends_along (Some Dock) status counts filed filed' left left' pieces pieces' old new ends = elim ends [
     | inl shut ↦ inl (shut.0, shut_along status old new shut.1)
     | inr talk ↦ inr (talk.0, talk.1, connection_along _ _ talk.0 left left' pieces pieces' old new talk.2)
   ]
-  ends_along (Some Drain) status counts left left' pieces pieces' old new ends = elim ends [
+  ends_along (Some Drain) status counts filed filed' left left' pieces pieces' old new ends = elim ends [
     | inl shut ↦ inl (shut.0, shut_along status old new shut.1)
     | inr talk ↦ inr (talk.0, talk.1, connection_along _ _ talk.0 left left' pieces pieces' old new talk.2)
   ]
-  ends_along (Some (Import number sort)) status counts left left' pieces pieces' old new ends = elim ends [
+  ends_along (Some (Import number sort)) status counts filed filed' left left' pieces pieces' old new ends = elim ends [
     | inl shut ↦ inl (shut.0, shut_along status old new shut.1)
     | inr sent ↦ inr (connection_along _ _ status left left' pieces pieces' old new sent)
   ]
-  ends_along (Some (Show request)) status counts left left' pieces pieces' old new ends = elim ends [
+  ends_along (Some (Show request)) status counts filed filed' left left' pieces pieces' old new ends = elim ends [
     | inl shut ↦ inl (shut.0, shut_along status old new shut.1)
     | inr shown ↦ inr (shown.0, shown_along (Show request) status pieces pieces' old new shown.1)
   ]
-  ends_along (Some Check) status counts left left' pieces pieces' old new ends = elim ends [
+  ends_along (Some (File unit half day)) status counts filed filed' left left' pieces pieces' old new ends = elim ends [
+    | inl shut ↦ inl (shut.0, shut.1, shut_along status old new shut.2)
+    | inr filing ↦ inr (filing.0, filed_along unit half day status filed filed' pieces pieces' old new filing.1)
+  ]
+  ends_along (Some Check) status counts filed filed' left left' pieces pieces' old new ends = elim ends [
     | inl shut ↦ inl (shut.0, shut_along status old new shut.1)
     | inr shown ↦ inr (shown.0, shown_along Check status pieces pieces' old new shown.1)
   ]
 
   -- .. for a disk that is what the reference then refers to
-  pub ends_at : (command : Option Command) (status : Status) (counts : ℕ × ℕ) (left left' : Option (List ℕ))
-      (pieces pieces' : Option (List Piece)) (old new : A) (now : D)
+  pub ends_at : (command : Option Command) (status : Status) (counts : ℕ × ℕ) (filed filed' : Option (List Filed))
+      (left left' : Option (List ℕ)) (pieces pieces' : Option (List Piece)) (old new : A) (now : D)
       → now ≡ f new
       → Ends (λ (a : A). content_of (f a)) (λ (a : A). images_of (f a)) (λ (a : A). left_of (f a)) (λ (a : A). clock_of (f a)) (λ (a : A). faults_of (f a))
-      command status counts left left' pieces pieces' old new
-      → Ends content_of images_of left_of clock_of faults_of command status counts left left' pieces pieces' (f old) now
-  ends_at command status counts left left' pieces pieces' old new now same ends =
-      subst (λ (d : D). Ends content_of images_of left_of clock_of faults_of command status counts left left' pieces pieces' (f old) d) (sym same)
-      (ends_along command status counts left left' pieces pieces' old new ends)
+      command status counts filed filed' left left' pieces pieces' old new
+      → Ends content_of images_of left_of clock_of faults_of command status counts filed filed' left left' pieces pieces' (f old) now
+  ends_at command status counts filed filed' left left' pieces pieces' old new now same ends =
+      subst (λ (d : D). Ends content_of images_of left_of clock_of faults_of command status counts filed filed' left left' pieces pieces' (f old) d) (sym same)
+      (ends_along command status counts filed filed' left left' pieces pieces' old new ends)

@@ -3,6 +3,7 @@ use Rattle.std.proofs.Common.{◌≡◌, ◌≢◌, ℕ, Option, Some, List, [],
 use Rattle.disk_model.specs.Told.{BothTold}
 use Rattle.disk_model.proofs.ToldLemmas.{BothTold-weaker}
 use Rattle.fact_kinds.specs.declared.batch.Batch.{Batch}
+use Rattle.fact_kinds.specs.Facts.{facts_to}
 use Rattle.ldar_journal.specs.Crash.{LeavesOnly, OnDisk}
 use Rattle.ldar_journal.specs.Image.{header, batches_of, Opens, OpensTo}
 use Rattle.ldar_journal.specs.Opening.{IsOpened as HasFrames}
@@ -11,10 +12,12 @@ use Rattle.ldar_journal.proofs.CrashLemmas.{OnDisk-weaker}
 use Rattle.ldar_journal.proofs.CreationLemmas.{empty_opens}
 use Rattle.ldar_law.specs.declared.reply.Reply.{Reply}
 use Rattle.ldar_law.specs.declared.reply.Reply.TheVariants.{Receipt, Conflict, Denied, Full, Shown, NoSuch, Fault, Memory}
+use Rattle.ldar_law.specs.declared.report.Filed.{Filed}
 use Rattle.ldar_law.specs.declared.request.Request.{Request}
 use Rattle.ldar_law.specs.Shown.{shown}
 use Rattle.ldar_law.specs.Verdicts.{is_ruly}
 use Rattle.ldar_ports.specs.Sink.{Piece}
+use Rattle.office_views.specs.Answers.{report_asked}
 use Rattle.office_book.specs.declared.opening.BookWhy.{BookWhy}
 use Rattle.office_book.specs.declared.opening.BookWhy.TheVariants as reasons
 use Rattle.office_book.specs.Opened.{IsNoBook}
@@ -22,9 +25,10 @@ use Rattle.ldar_session.specs.declared.ended.Ended.{Ended}
 use Rattle.ldar_session.specs.declared.ended.Ended.TheVariants as ends
 use Rattle.ldar_cli.specs.declared.command.Command.{Command}
 use Rattle.ldar_cli.specs.declared.status.Status.{Status}
-use Rattle.ldar_cli.specs.declared.status.Status.TheVariants.{ReadFault, WriteFault, DiskFault}
-use Rattle.ldar_cli.specs.Run.{LeavesAlone, IsNotOpened, IsShown, TextEnds, ReplyEnds, PutEnds, shown_by}
-use Rattle.ldar_cli.specs.Statuses.{refusal_of, status_of}
+use Rattle.ldar_cli.specs.declared.status.Status.TheVariants.{ReadFault, WriteFault, DiskFault, FilingFault}
+use Rattle.ldar_cli.specs.Filing.{AskedEnds}
+use Rattle.ldar_cli.specs.Run.{LeavesAlone, IsNotOpened, IsShown, IsFiled, ReplyEnds, PutEnds, shown_by}
+use Rattle.ldar_cli.specs.Statuses.{TextEnds, refusal_of, status_of}
 use Rattle.ldar_cli.proofs.ConnectionLemmas.{opens_history, opened_stays}
 use Rattle.ldar_cli.proofs.KindLemmas.{shown_kind}
 use Rattle.ldar_cli.proofs.ViewLemmas.{IsViewed}
@@ -53,6 +57,13 @@ refused_no_write reasons.NotAJournal status is told = let clash = sym is ∙ tol
 refused_no_write (reasons.Damaged at) status is told = let clash = sym is ∙ told in absurd cc
 refused_no_write (reasons.Unruly position rule) status is told = let clash = sym is ∙ told in absurd cc
 refused_no_write reasons.Memory status is told = let clash = sym is ∙ told in absurd cc
+
+pub refused_no_filing : (why : BookWhy) (status : Status) → status ≡ refusal_of why → status ≢ FilingFault
+refused_no_filing reasons.Disk status is told = let clash = sym is ∙ told in absurd cc
+refused_no_filing reasons.NotAJournal status is told = let clash = sym is ∙ told in absurd cc
+refused_no_filing (reasons.Damaged at) status is told = let clash = sym is ∙ told in absurd cc
+refused_no_filing (reasons.Unruly position rule) status is told = let clash = sym is ∙ told in absurd cc
+refused_no_filing reasons.Memory status is told = let clash = sym is ∙ told in absurd cc
 
 -- a command whose connection ended tells a fault of reading only for one
 pub ended_read : (ended : Ended) (status : Status) → status ≡ status_of ended → status ≡ ReadFault → ended ≡ ends.ReadFault
@@ -96,7 +107,27 @@ module _ {D : Type 0} (content_of : D → Option (List ℕ)) (images_of : D → 
     alone = record { unchanged = refused.unchanged; leaves = leaves };
   }
 
-  -- a text of a journal that was opened and handed back
+  -- a journal that was opened and handed back was left alone
+  handed_back : (old new : D) (start : Shelf D) → HasFrames (content_of old) (content_of start.disk) start.frames
+      → LeavesOnly clock_of left_of old start.disk (images_of old) → new ≡ start.disk → LeavesAlone content_of images_of left_of clock_of old new
+  handed_back old new start opened leaves same =
+      subst (λ (d : D). LeavesAlone content_of images_of left_of clock_of old d) (sym same)
+      (record { unchanged = opened_stays (content_of old) (content_of start.disk) start.frames opened; leaves = leaves })
+
+  -- the report of such a journal was filed
+  pub is_filed : (unit half day : ℕ) (status : Status) (filed filed' : Option (List Filed)) (pieces pieces' : Option (List Piece)) (old new : D)
+      (start : Shelf D) → HasFrames (content_of old) (content_of start.disk) start.frames → IsTrue (is_ruly (batches_of start.frames))
+      → LeavesOnly clock_of left_of old start.disk (images_of old) → new ≡ start.disk
+      → AskedEnds (report_asked unit half day (facts_to day (batches_of start.frames))) status filed filed' pieces pieces'
+      → IsFiled content_of images_of left_of clock_of unit half day status filed filed' pieces pieces' old new
+  is_filed unit half day status filed filed' pieces pieces' old new start opened ruly leaves same ends = record {
+    history = batches_of start.frames;
+    opened = record { opens = opens_history (content_of old) (content_of start.disk) start.frames opened; ruly = ruly };
+    ends = ends;
+    alone = handed_back old new start opened leaves same;
+  }
+
+  -- a text of it was shown
   pub is_shown : (command : Command) (reply : Reply) (status : Status) (pieces pieces' : Option (List Piece)) (old new : D) (start : Shelf D)
       → HasFrames (content_of old) (content_of start.disk) start.frames → IsTrue (is_ruly (batches_of start.frames))
       → LeavesOnly clock_of left_of old start.disk (images_of old) → new ≡ start.disk
@@ -108,8 +139,7 @@ module _ {D : Type 0} (content_of : D → Option (List ℕ)) (images_of : D → 
     reply = reply;
     is = is;
     ends = said;
-    alone = subst (λ (d : D). LeavesAlone content_of images_of left_of clock_of old d) (sym same)
-        (record { unchanged = opened_stays (content_of old) (content_of start.disk) start.frames opened; leaves = leaves });
+    alone = handed_back old new start opened leaves same;
   }
 
 -- an image that opens to no frames opens to no history

@@ -2,6 +2,7 @@ pub mod CommandLemmas
 pub mod ConnectionLemmas
 pub mod EndLemmas
 pub mod FaultLemmas
+pub mod FilingLemmas
 pub mod ImportLemmas
 pub mod KindLemmas
 pub mod NoteLemmas

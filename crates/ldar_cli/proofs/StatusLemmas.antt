@@ -4,7 +4,7 @@ use Rattle.ldar_ports.specs.Sink.{Piece}
 use Rattle.ldar_cli.specs.declared.status.Status.{Status}
 use Rattle.ldar_cli.specs.declared.status.Status.TheVariants.{Done, Usage, ReadFault, WriteFault, DiskFault, Memory}
 use Rattle.ldar_cli.specs.declared.status.Status.TheVariants.{NotAJournal, Damaged, Unruly, CutShort, BadInput, TooLarge, NotEmpty}
-use Rattle.ldar_cli.specs.declared.status.Status.TheVariants.{BadRow, Conflict, Denied, Full, NoSuch}
+use Rattle.ldar_cli.specs.declared.status.Status.TheVariants.{BadRow, Conflict, Denied, Full, NoSuch, FilingFault, SameReport, NoRevisionLeft}
 use Rattle.ldar_cli.specs.Statuses.{status_number, number_unnoted, IsNoted}
 
 -- 3 is the number of a fault of reading alone
@@ -27,6 +27,9 @@ number_read (Conflict position) is = absurd (omega (arith, is))
 number_read (Denied fact rule) is = absurd (omega (arith, is))
 number_read (Full facts) is = absurd (omega (arith, is))
 number_read (NoSuch what) is = absurd (omega (arith, is))
+number_read FilingFault is = absurd (omega (arith, is))
+number_read (SameReport revision) is = absurd (omega (arith, is))
+number_read NoRevisionLeft is = absurd (omega (arith, is))
 
 -- 4 is that of a fault of writing alone
 pub number_write : (status : Status) → status_number status ≡ 4 → status ≡ WriteFault
@@ -48,6 +51,9 @@ number_write (Conflict position) is = absurd (omega (arith, is))
 number_write (Denied fact rule) is = absurd (omega (arith, is))
 number_write (Full facts) is = absurd (omega (arith, is))
 number_write (NoSuch what) is = absurd (omega (arith, is))
+number_write FilingFault is = absurd (omega (arith, is))
+number_write (SameReport revision) is = absurd (omega (arith, is))
+number_write NoRevisionLeft is = absurd (omega (arith, is))
 
 -- 5 is that of a fault of the disk alone
 pub number_disk : (status : Status) → status_number status ≡ 5 → status ≡ DiskFault
@@ -69,6 +75,33 @@ number_disk (Conflict position) is = absurd (omega (arith, is))
 number_disk (Denied fact rule) is = absurd (omega (arith, is))
 number_disk (Full facts) is = absurd (omega (arith, is))
 number_disk (NoSuch what) is = absurd (omega (arith, is))
+number_disk FilingFault is = absurd (omega (arith, is))
+number_disk (SameReport revision) is = absurd (omega (arith, is))
+number_disk NoRevisionLeft is = absurd (omega (arith, is))
+
+-- 10 is that of a fault of the filing alone
+pub number_filing : (status : Status) → status_number status ≡ 10 → status ≡ FilingFault
+number_filing Done is = absurd (omega (arith, is))
+number_filing Usage is = absurd (omega (arith, is))
+number_filing ReadFault is = absurd (omega (arith, is))
+number_filing WriteFault is = absurd (omega (arith, is))
+number_filing DiskFault is = absurd (omega (arith, is))
+number_filing Memory is = absurd (omega (arith, is))
+number_filing NotAJournal is = absurd (omega (arith, is))
+number_filing (Damaged at) is = absurd (omega (arith, is))
+number_filing (Unruly position rule) is = absurd (omega (arith, is))
+number_filing (CutShort got) is = absurd (omega (arith, is))
+number_filing (BadInput at) is = absurd (omega (arith, is))
+number_filing TooLarge is = absurd (omega (arith, is))
+number_filing NotEmpty is = absurd (omega (arith, is))
+number_filing (BadRow at) is = absurd (omega (arith, is))
+number_filing (Conflict position) is = absurd (omega (arith, is))
+number_filing (Denied fact rule) is = absurd (omega (arith, is))
+number_filing (Full facts) is = absurd (omega (arith, is))
+number_filing (NoSuch what) is = absurd (omega (arith, is))
+number_filing FilingFault is = refl
+number_filing (SameReport revision) is = absurd (omega (arith, is))
+number_filing NoRevisionLeft is = absurd (omega (arith, is))
 
 -- a note that could not be written is told by no 3
 unnoted_no_read : (status : Status) → number_unnoted status ≡ 3 → ⊥
@@ -90,8 +123,11 @@ unnoted_no_read (Conflict position) is = omega (arith, is)
 unnoted_no_read (Denied fact rule) is = omega (arith, is)
 unnoted_no_read (Full facts) is = omega (arith, is)
 unnoted_no_read (NoSuch what) is = omega (arith, is)
+unnoted_no_read FilingFault is = omega (arith, is)
+unnoted_no_read (SameReport revision) is = omega (arith, is)
+unnoted_no_read NoRevisionLeft is = omega (arith, is)
 
--- .. and by no 5
+-- .. by no 5
 unnoted_no_disk : (status : Status) → number_unnoted status ≡ 5 → ⊥
 unnoted_no_disk Done is = omega (arith, is)
 unnoted_no_disk Usage is = omega (arith, is)
@@ -111,6 +147,33 @@ unnoted_no_disk (Conflict position) is = omega (arith, is)
 unnoted_no_disk (Denied fact rule) is = omega (arith, is)
 unnoted_no_disk (Full facts) is = omega (arith, is)
 unnoted_no_disk (NoSuch what) is = omega (arith, is)
+unnoted_no_disk FilingFault is = omega (arith, is)
+unnoted_no_disk (SameReport revision) is = omega (arith, is)
+unnoted_no_disk NoRevisionLeft is = omega (arith, is)
+
+-- .. and by no 10
+unnoted_no_filing : (status : Status) → number_unnoted status ≡ 10 → ⊥
+unnoted_no_filing Done is = omega (arith, is)
+unnoted_no_filing Usage is = omega (arith, is)
+unnoted_no_filing ReadFault is = omega (arith, is)
+unnoted_no_filing WriteFault is = omega (arith, is)
+unnoted_no_filing DiskFault is = omega (arith, is)
+unnoted_no_filing Memory is = omega (arith, is)
+unnoted_no_filing NotAJournal is = omega (arith, is)
+unnoted_no_filing (Damaged at) is = omega (arith, is)
+unnoted_no_filing (Unruly position rule) is = omega (arith, is)
+unnoted_no_filing (CutShort got) is = omega (arith, is)
+unnoted_no_filing (BadInput at) is = omega (arith, is)
+unnoted_no_filing TooLarge is = omega (arith, is)
+unnoted_no_filing NotEmpty is = omega (arith, is)
+unnoted_no_filing (BadRow at) is = omega (arith, is)
+unnoted_no_filing (Conflict position) is = omega (arith, is)
+unnoted_no_filing (Denied fact rule) is = omega (arith, is)
+unnoted_no_filing (Full facts) is = omega (arith, is)
+unnoted_no_filing (NoSuch what) is = omega (arith, is)
+unnoted_no_filing FilingFault is = omega (arith, is)
+unnoted_no_filing (SameReport revision) is = omega (arith, is)
+unnoted_no_filing NoRevisionLeft is = omega (arith, is)
 
 -- an exit status of 3 tells a fault of reading
 pub exit_read : (status : Status) (old new : Option (List Piece)) (exit : ℕ) → IsNoted status old new exit → exit ≡ 3 → status ≡ ReadFault
@@ -119,9 +182,16 @@ exit_read status old new exit noted is = elim noted.exits [
   | inr unnoted ↦ absurd (unnoted_no_read status (sym unnoted ∙ is))
 ]
 
--- .. and one of 5 a fault of the disk
+-- .. one of 5 a fault of the disk
 pub exit_disk : (status : Status) (old new : Option (List Piece)) (exit : ℕ) → IsNoted status old new exit → exit ≡ 5 → status ≡ DiskFault
 exit_disk status old new exit noted is = elim noted.exits [
   | inl told ↦ number_disk status (sym told.1 ∙ is)
   | inr unnoted ↦ absurd (unnoted_no_disk status (sym unnoted ∙ is))
+]
+
+-- .. and one of 10 a fault of the filing
+pub exit_filing : (status : Status) (old new : Option (List Piece)) (exit : ℕ) → IsNoted status old new exit → exit ≡ 10 → status ≡ FilingFault
+exit_filing status old new exit noted is = elim noted.exits [
+  | inl told ↦ number_filing status (sym told.1 ∙ is)
+  | inr unnoted ↦ absurd (unnoted_no_filing status (sym unnoted ∙ is))
 ]

@@ -1,5 +1,5 @@
 -- A word that begins with a hyphen is in no command.
-use Rattle.std.proofs.Common.{◌≡◌, ◌∙◌, ◌==◌, ◌&&◌, ◌+◌, ◌/◌, ◌%◌, ℕ, Bool, true, false, not, nat_eq, nat_le, Option, Some, None, List, [], ◌∷◌, length, refl, sym, ap, arith, codes, if◌then◌else◌}
+use Rattle.std.proofs.Common.{◌≡◌, ◌∙◌, ◌==◌, ◌&&◌, ◌+◌, ◌/◌, ℕ, Bool, true, false, not, nat_eq, nat_le, Option, Some, None, List, [], ◌∷◌, length, refl, sym, ap, arith, codes, if◌then◌else◌}
 use Rattle.std.proofs.lemmas.Grind.{common_steps}
 use Rattle.std.specs.List.{list_all}
 use Rattle.std.specs.Char.{is_ascii_digit}
@@ -7,14 +7,11 @@ use Rattle.std.specs.Str.{bytes_eq}
 use Rattle.ldar_days.specs.Calendar.{month_of}
 use Rattle.ldar_days.specs.Texts.{day_named, day_of, day_text}
 use Rattle.ldar_law.specs.declared.request.Request.{Request}
-use Rattle.handheld_http.specs.Heads.{is_number}
-use Rattle.handheld_http.specs.Requests.{decimal_in, has_leading_zero, is_decimal}
+use Rattle.handheld_http.specs.Requests.{decimal_in}
 use Rattle.register_import.specs.declared.limits.TheConstants.{LAST_NUMBER}
 use Rattle.command_words.specs.Parsing.{name_in}
 use Rattle.command_words.specs.Positionals.{is_option, positionals_of}
-use Rattle.ldar_cli.specs.declared.command.Command.{Command}
-use Rattle.ldar_cli.specs.declared.command.Sort.{Sort}
-use Rattle.ldar_cli.specs.Command.{command_in, command_with, import_of, is_word, numbered_view, route_on, showing, sort_named, view_named, view_of_four, view_of_number, view_on}
+use Rattle.ldar_cli.specs.Command.{command_in, command_with, filing_of, import_of, is_word, numbered_view, route_on, showing, sort_named, view_named, view_of_four, view_of_number, view_on}
 
 -- such a word is a hyphen and the rest
 hyphen_first : (x : ℕ) → (x == 45) ≡ true → x ≡ 45
@@ -103,6 +100,27 @@ view_on-third name unit day is = go (decimal_in 255 unit) refl
     go : (o : Option ℕ) → decimal_in 255 unit ≡ o → view_on name unit day ≡ None
     go None e = rw (e, view_on) refl
     go (Some n) e = rw (e, day_of-option day is, view_on) refl
+
+filing_of-first : (unit half day : List ℕ) → is_option unit ≡ true → filing_of unit half day ≡ None
+unfolding filing_of
+filing_of-first unit half day is = rw (decimal_in-option 255 unit is, filing_of) refl
+
+filing_of-second : (unit half day : List ℕ) → is_option half ≡ true → filing_of unit half day ≡ None
+unfolding filing_of
+filing_of-second unit half day is = go (decimal_in 255 unit) refl
+  where
+    go : (o : Option ℕ) → decimal_in 255 unit ≡ o → filing_of unit half day ≡ None
+    go None e = rw (e, filing_of) refl
+    go (Some n) e = rw (e, decimal_in-option 65_535 half is, filing_of) refl
+
+filing_of-third : (unit half day : List ℕ) → is_option day ≡ true → filing_of unit half day ≡ None
+unfolding filing_of
+filing_of-third unit half day is = go (decimal_in 255 unit) refl (decimal_in 65_535 half) refl
+  where
+    go : (o : Option ℕ) → decimal_in 255 unit ≡ o → (p : Option ℕ) → decimal_in 65_535 half ≡ p → filing_of unit half day ≡ None
+    go None e p f = rw (e, filing_of) refl
+    go (Some n) e None f = rw (e, f, filing_of) refl
+    go (Some n) e (Some m) f = rw (e, f, day_of-option day is, filing_of) refl
 
 -- ---- of four
 
@@ -206,14 +224,15 @@ command_of_four : (name a b c : List ℕ)
     → command_with name (positionals_of 3 (name ∷ a ∷ b ∷ c ∷ [])) ≡ command_in (name ∷ a ∷ b ∷ c ∷ [])
 command_of_four name a b c = go (is_option a) refl (is_option b) refl (is_option c) refl
   where
-    none : view_on a b c ≡ None → None ≡ command_in (name ∷ a ∷ b ∷ c ∷ [])
-    none is = sym (showing_none name (view_on a b c) is)
+    none : filing_of a b c ≡ None → view_on a b c ≡ None → None ≡ command_in (name ∷ a ∷ b ∷ c ∷ [])
+    none unfiled is =
+        sym (neither (is_word name (codes "file")) (filing_of a b c) (showing name (view_on a b c)) unfiled (showing_none name (view_on a b c) is))
 
     go : (p : Bool) → is_option a ≡ p → (q : Bool) → is_option b ≡ q → (r : Bool) → is_option c ≡ r
         → command_with name (positionals_of 3 (name ∷ a ∷ b ∷ c ∷ [])) ≡ command_in (name ∷ a ∷ b ∷ c ∷ [])
-    go true e q f r g = rw e (none (view_on-first a b c e))
-    go false e true f r g = rw (e, f) (none (view_on-second a b c f))
-    go false e false f true g = rw (e, f, g) (none (view_on-third a b c g))
+    go true e q f r g = rw e (none (filing_of-first a b c e) (view_on-first a b c e))
+    go false e true f r g = rw (e, f) (none (filing_of-second a b c f) (view_on-second a b c f))
+    go false e false f true g = rw (e, f, g) (none (filing_of-third a b c g) (view_on-third a b c g))
     go false e false f false g = rw (e, f, g) refl
 
 command_of_five : (name a b c d : List ℕ)

@@ -7,7 +7,7 @@ use Rattle.ldar_law.specs.declared.request.Request.TheVariants.{Due, Tags, Delay
 use Rattle.handheld_http.specs.Requests.{decimal_in}
 use Rattle.office_views.specs.Answers.{IsView}
 use Rattle.ldar_cli.specs.declared.command.Command.{Command}
-use Rattle.ldar_cli.specs.declared.command.Command.TheVariants.{Init, Dock, Drain, Import, Show, Check}
+use Rattle.ldar_cli.specs.declared.command.Command.TheVariants.{Init, Dock, Drain, Import, Show, File, Check}
 use Rattle.ldar_cli.specs.declared.command.Sort.{Sort}
 use Rattle.ldar_cli.specs.declared.command.Sort.TheVariants.{Units, Components}
 use Rattle.register_import.specs.declared.limits.TheConstants.{LAST_NUMBER}
@@ -19,6 +19,7 @@ IsInRange Dock = Unit {0}
 IsInRange Drain = Unit {0}
 IsInRange (Import number sort) = number ≤ LAST_NUMBER
 IsInRange (Show request) = IsView request
+IsInRange (File unit half day) = Unit {0}
 IsInRange Check = Unit {0}
 
 -- a word is just this text
@@ -103,11 +104,26 @@ view_of_four name unit second third =
 abbrev pub showing : List ℕ → Option Request → Option Command
 showing word view = if is_word word (codes "show") then option_map Show view else None
 
+-- the command that files the report that UNIT, HALF and DAY are
+unfoldable pub filing_of : List ℕ → List ℕ → List ℕ → Option Command
+filing_of unit half day = elim (decimal_in 255 unit) [
+  | None ↦ None
+  | Some unit ↦ elim (decimal_in 65_535 half) [
+    | None ↦ None
+    | Some half ↦ elim (day_of day) [ None ↦ None | Some day ↦ Some (File unit half day) ]
+  ]
+]
+
+-- the command that a word and three further words are
+abbrev pub of_three_further : List ℕ → List ℕ → List ℕ → List ℕ → Option Command
+of_three_further word first second third =
+    if is_word word (codes "file") then filing_of first second third else showing word (view_on first second third)
+
 -- the command that words are, if they are in the command set
 abbrev pub command_in : List (List ℕ) → Option Command
 command_in (word ∷ []) = alone word
 command_in (word ∷ number ∷ sort ∷ []) = importing word number sort
-command_in (word ∷ name ∷ unit ∷ day ∷ []) = showing word (view_on name unit day)
+command_in (word ∷ first ∷ second ∷ third ∷ []) = of_three_further word first second third
 command_in (word ∷ name ∷ unit ∷ second ∷ third ∷ []) = showing word (view_of_four name unit second third)
 command_in _ = None
 

@@ -1,5 +1,6 @@
 pub mod Command
 pub mod Connection
+pub mod Filing
 pub mod Imports
 pub mod Run
 pub mod Statuses

@@ -3,24 +3,27 @@ use Rattle.std.specs.Prelude.{◌≡◌, ◌<◌, ◌≤◌, ◌⊎◌, ℕ, Opt
 use Rattle.std.specs.Fmt.{decimal}
 use Rattle.disk_model.specs.Told.{Told, BothTold}
 use Rattle.fact_kinds.specs.declared.batch.Batch.{Batch}
-use Rattle.fact_kinds.specs.Facts.{facts_of}
+use Rattle.fact_kinds.specs.Facts.{facts_of, facts_to}
 use Rattle.ldar_ports.specs.Sink.{Piece}
 use Rattle.ldar_journal.specs.Crash.{LeavesOnly, OnDisk}
 use Rattle.ldar_journal.specs.Image.{Opens}
 use Rattle.ldar_law.specs.declared.reply.Reply.{Reply}
 use Rattle.ldar_law.specs.declared.reply.Reply.TheVariants.{Receipt, Conflict, Denied, Full, Shown, NoSuch, Fault, Memory as WantsMemory}
+use Rattle.ldar_law.specs.declared.report.Filed.{Filed}
 use Rattle.ldar_law.specs.Shown.{shown}
 use Rattle.ldar_law.specs.Verdicts.{is_ruly}
+use Rattle.office_views.specs.Answers.{report_asked}
 use Rattle.office_book.specs.declared.opening.BookWhy.{BookWhy}
 use Rattle.office_book.specs.Opened.{IsReason}
 use Rattle.ldar_session.specs.declared.ended.Ended.{Ended}
 use Rattle.ldar_cli.specs.declared.command.Command.{Command}
-use Rattle.ldar_cli.specs.declared.command.Command.TheVariants.{Init, Dock, Drain, Import, Show, Check}
+use Rattle.ldar_cli.specs.declared.command.Command.TheVariants.{Init, Dock, Drain, Import, Show, File, Check}
 use Rattle.ldar_cli.specs.declared.status.Status.{Status}
-use Rattle.ldar_cli.specs.declared.status.Status.TheVariants.{Done, Usage, WriteFault, DiskFault, Memory}
+use Rattle.ldar_cli.specs.declared.status.Status.TheVariants.{Done, Usage, DiskFault, Memory}
 use Rattle.ldar_cli.specs.declared.status.Status.TheVariants.{NotEmpty, NoSuch as HasNoSuch}
 use Rattle.ldar_cli.specs.Connection.{IsDocked, IsDrained, IsImported}
-use Rattle.ldar_cli.specs.Statuses.{Said, refusal_of, status_of}
+use Rattle.ldar_cli.specs.Filing.{AskedEnds}
+use Rattle.ldar_cli.specs.Statuses.{TextEnds, refusal_of, status_of}
 
 -- ---- the journal
 
@@ -77,16 +80,10 @@ shown_by Dock history = None
 shown_by Drain history = None
 shown_by (Import number sort) history = None
 shown_by (Show request) history = shown history request
+shown_by (File unit half day) history = None
 shown_by Check history = Some (Shown (check_text history))
 
--- how the writing of a text ends: it is said whole, or a write failed and a front of it is said, or memory was wanting and nothing is said
-abbrev pub TextEnds : List ℕ → Status → Option (List Piece) → Option (List Piece) → Type 0
-TextEnds text Done old new = Said text old new []
-TextEnds text WriteFault old new = (unsaid : List ℕ) × Said text old new unsaid
-TextEnds text Memory old new = new ≡ old
-TextEnds text _ old new = ⊥
-
--- .. or there is none of what was asked for, and nothing is said
+-- how the writing of what is shown ends: there may be none of what was asked for, and nothing is said
 abbrev pub ReplyEnds : Reply → Status → Option (List Piece) → Option (List Piece) → Type 0
 ReplyEnds (Receipt handheld number position) status old new = ⊥
 ReplyEnds (Conflict position) status old new = ⊥
@@ -118,43 +115,68 @@ pub record IsShown {D : Type 0} (content_of : D → Option (List ℕ)) (images_o
   pub ends : ReplyEnds reply status pieces pieces'
   pub alone : LeavesAlone content_of images_of left_of clock_of old new
 
+-- ---- file
+
+-- the report of a half, as known on this day, was filed of the history of the journal, and the journal left alone
+pub record IsFiled {D : Type 0} (content_of : D → Option (List ℕ)) (images_of : D → List ℕ → Type 0) (left_of : D → ℕ → List ℕ → Type 0)
+    (clock_of : D → ℕ) (unit half day : ℕ) (status : Status) (filed filed' : Option (List Filed)) (pieces pieces' : Option (List Piece))
+    (old new : D) : Type 0 where
+  pub history : List Batch
+  pub opened : IsOpened (content_of old) history
+  pub ends : AskedEnds (report_asked unit half day (facts_to day history)) status filed filed' pieces pieces'
+  pub alone : LeavesAlone content_of images_of left_of clock_of old new
+
 -- ---- each command
 
 -- nothing was taken, and nothing put
 abbrev pub Silent : Option (List ℕ) → Option (List ℕ) → Option (List Piece) → Option (List Piece) → Type 0
 Silent left left' pieces pieces' = (left' ≡ left) × (pieces' ≡ pieces)
 
--- How a command ends: what it takes, puts and leaves, and the counts of faults of the output before and after. Nothing is touched where the words are
--- no command.
+-- How a command ends: what it takes, puts and leaves, the counts of faults of the output before and after, and the reports on file before and after.
+-- Nothing is touched where the words are no command.
 abbrev pub Ends : {D : Type 0} (content_of : D → Option (List ℕ)) (images_of : D → List ℕ → Type 0) (left_of : D → ℕ → List ℕ → Type 0)
-    (clock_of faults_of : D → ℕ) → Option Command → Status → (counts : ℕ × ℕ) → (left left' : Option (List ℕ)) (pieces pieces' : Option (List Piece))
-    (old new : D) → Type 0
-Ends content_of images_of left_of clock_of faults_of None status counts left left' pieces pieces' old new =
+    (clock_of faults_of : D → ℕ) → Option Command → Status → (counts : ℕ × ℕ) → (filed filed' : Option (List Filed)) (left left' : Option (List ℕ))
+    (pieces pieces' : Option (List Piece)) (old new : D) → Type 0
+Ends content_of images_of left_of clock_of faults_of None status counts filed filed' left left' pieces pieces' old new =
     (status ≡ Usage) × Silent left left' pieces pieces' × (new ≡ old)
-Ends content_of images_of left_of clock_of faults_of (Some Init) status counts left left' pieces pieces' old new =
+Ends content_of images_of left_of clock_of faults_of (Some Init) status counts filed filed' left left' pieces pieces' old new =
     Silent left left' pieces pieces' × IsMade content_of images_of left_of clock_of status old new
-Ends content_of images_of left_of clock_of faults_of (Some Dock) status counts left left' pieces pieces' old new =
+Ends content_of images_of left_of clock_of faults_of (Some Dock) status counts filed filed' left left' pieces pieces' old new =
     (Silent left left' pieces pieces' × IsNotOpened content_of images_of left_of clock_of status old new)
     ⊎ ((ended : Ended) × (status ≡ status_of ended)
     × IsDocked content_of images_of left_of clock_of faults_of ended left left' pieces pieces' old new)
-Ends content_of images_of left_of clock_of faults_of (Some Drain) status counts left left' pieces pieces' old new =
+Ends content_of images_of left_of clock_of faults_of (Some Drain) status counts filed filed' left left' pieces pieces' old new =
     (Silent left left' pieces pieces' × IsNotOpened content_of images_of left_of clock_of status old new)
     ⊎ ((ended : Ended) × (status ≡ status_of ended)
     × IsDrained content_of images_of left_of clock_of faults_of ended left left' pieces pieces' old new)
-Ends content_of images_of left_of clock_of faults_of (Some (Import number sort)) status counts left left' pieces pieces' old new =
+Ends content_of images_of left_of clock_of faults_of (Some (Import number sort)) status counts filed filed' left left' pieces pieces' old new =
     (Silent left left' pieces pieces' × IsNotOpened content_of images_of left_of clock_of status old new)
     ⊎ IsImported content_of images_of left_of clock_of faults_of sort number counts status left left' pieces pieces' old new
-Ends content_of images_of left_of clock_of faults_of (Some (Show request)) status counts left left' pieces pieces' old new =
+Ends content_of images_of left_of clock_of faults_of (Some (Show request)) status counts filed filed' left left' pieces pieces' old new =
     (Silent left left' pieces pieces' × IsNotOpened content_of images_of left_of clock_of status old new)
     ⊎ ((left' ≡ left) × IsShown content_of images_of left_of clock_of (Show request) status pieces pieces' old new)
-Ends content_of images_of left_of clock_of faults_of (Some Check) status counts left left' pieces pieces' old new =
+Ends content_of images_of left_of clock_of faults_of (Some (File unit half day)) status counts filed filed' left left' pieces pieces' old new =
+    (Silent left left' pieces pieces' × (filed' ≡ filed) × IsNotOpened content_of images_of left_of clock_of status old new)
+    ⊎ ((left' ≡ left) × IsFiled content_of images_of left_of clock_of unit half day status filed filed' pieces pieces' old new)
+Ends content_of images_of left_of clock_of faults_of (Some Check) status counts filed filed' left left' pieces pieces' old new =
     (Silent left left' pieces pieces' × IsNotOpened content_of images_of left_of clock_of status old new)
     ⊎ ((left' ≡ left) × IsShown content_of images_of left_of clock_of Check status pieces pieces' old new)
 
 -- how a run ends: as its command does, or memory was wanted to read the words, and nothing is touched
 abbrev pub RunEnds : {D : Type 0} (content_of : D → Option (List ℕ)) (images_of : D → List ℕ → Type 0) (left_of : D → ℕ → List ℕ → Type 0)
-    (clock_of faults_of : D → ℕ) → Option Command → Status → (counts : ℕ × ℕ) → (left left' : Option (List ℕ)) (pieces pieces' : Option (List Piece))
-    (old new : D) → Type 0
-RunEnds content_of images_of left_of clock_of faults_of command status counts left left' pieces pieces' old new =
-    ((status ≡ Memory) × Silent left left' pieces pieces' × (new ≡ old))
-    ⊎ Ends content_of images_of left_of clock_of faults_of command status counts left left' pieces pieces' old new
+    (clock_of faults_of : D → ℕ) → Option Command → Status → (counts : ℕ × ℕ) → (filed filed' : Option (List Filed)) (left left' : Option (List ℕ))
+    (pieces pieces' : Option (List Piece)) (old new : D) → Type 0
+RunEnds content_of images_of left_of clock_of faults_of command status counts filed filed' left left' pieces pieces' old new =
+    ((status ≡ Memory) × Silent left left' pieces pieces' × (filed' ≡ filed) × (new ≡ old))
+    ⊎ Ends content_of images_of left_of clock_of faults_of command status counts filed filed' left left' pieces pieces' old new
+
+-- the words are not `file` with its words: they are another command, or none
+abbrev pub IsNoFile : Option Command → Type 0
+IsNoFile None = Unit {0}
+IsNoFile (Some Init) = Unit {0}
+IsNoFile (Some Dock) = Unit {0}
+IsNoFile (Some Drain) = Unit {0}
+IsNoFile (Some (Import number sort)) = Unit {0}
+IsNoFile (Some (Show request)) = Unit {0}
+IsNoFile (Some (File unit half day)) = ⊥
+IsNoFile (Some Check) = Unit {0}

@@ -16,7 +16,7 @@ use Rattle.batch_sending.specs.declared.sending.Sent.TheVariants as sends
 use Rattle.ldar_cli.specs.declared.status.Status.{Status}
 use Rattle.ldar_cli.specs.declared.status.Status.TheVariants.{Done, Usage, ReadFault, WriteFault, DiskFault, Memory}
 use Rattle.ldar_cli.specs.declared.status.Status.TheVariants.{NotAJournal, Damaged, Unruly, CutShort, BadInput, TooLarge, NotEmpty}
-use Rattle.ldar_cli.specs.declared.status.Status.TheVariants.{BadRow, Conflict, Denied, Full, NoSuch}
+use Rattle.ldar_cli.specs.declared.status.Status.TheVariants.{BadRow, Conflict, Denied, Full, NoSuch, FilingFault, SameReport, NoRevisionLeft}
 
 -- the number of a status
 abbrev pub status_number : Status → ℕ
@@ -38,6 +38,9 @@ status_number (Conflict position) = 11
 status_number (Denied fact rule) = 11
 status_number (Full facts) = 11
 status_number (NoSuch what) = 11
+status_number FilingFault = 10
+status_number (SameReport revision) = 11
+status_number NoRevisionLeft = 11
 
 -- the line that notes a status; that all went well is not noted
 abbrev pub note_of : Status → List ℕ
@@ -59,6 +62,9 @@ note_of (Conflict position) = reply_text (replies.Conflict position)
 note_of (Denied fact rule) = codes "denied " ++ decimal fact ++ codes " " ++ (decimal rule ++ codes " " ++ (paragraph_of rule ++ end_of_line))
 note_of (Full facts) = reply_text (replies.Full facts)
 note_of (NoSuch what) = codes "no such " ++ what_text what ++ end_of_line
+note_of FilingFault = codes "filing fault" ++ end_of_line
+note_of (SameReport revision) = codes "same as revision " ++ decimal revision ++ end_of_line
+note_of NoRevisionLeft = codes "no revision left" ++ end_of_line
 
 -- the exit status where the note could not be written whole: a fault of writing, but want of memory stays
 abbrev pub number_unnoted : Status → ℕ
@@ -80,6 +86,9 @@ number_unnoted (Conflict position) = 4
 number_unnoted (Denied fact rule) = 4
 number_unnoted (Full facts) = 4
 number_unnoted (NoSuch what) = 4
+number_unnoted FilingFault = 4
+number_unnoted (SameReport revision) = 4
+number_unnoted NoRevisionLeft = 4
 
 -- behind the pieces that were there, pieces were put that say the text up to what is unsaid
 pub record Said (text : List ℕ) (old new : Option (List Piece)) (unsaid : List ℕ) : Type 0 where
@@ -90,6 +99,13 @@ pub record Said (text : List ℕ) (old new : Option (List Piece)) (unsaid : List
 -- .. all of it where the putting went well
 abbrev pub IsPut : {T E : Type 0} → List ℕ → Option (List Piece) → Option (List Piece) → Result T E → Type 0
 IsPut text old new result = (unsaid : List ℕ) × Said text old new unsaid × OnOk result (unsaid ≡ [])
+
+-- how the writing of a text ends: it is said whole, or a write failed and a front of it is said, or memory was wanting and nothing is said
+abbrev pub TextEnds : List ℕ → Status → Option (List Piece) → Option (List Piece) → Type 0
+TextEnds text Done old new = Said text old new []
+TextEnds text WriteFault old new = (unsaid : List ℕ) × Said text old new unsaid
+TextEnds text Memory old new = new ≡ old
+TextEnds text _ old new = ⊥
 
 -- the status was noted whole, and the exit status is its number; or in part, and it is that of a note that could not be written
 pub record IsNoted (status : Status) (old new : Option (List Piece)) (exit : ℕ) : Type 0 where

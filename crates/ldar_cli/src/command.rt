@@ -32,6 +32,8 @@ pub enum Command {
     Import { number: u32, sort: Sort },
     /// Show a view.
     Show(Request),
+    /// Put the report of a half year on file, as known on a day.
+    File { unit: u16, half: u16, day: Day },
     /// Tell how many batches and facts the journal has.
     Check,
 }
@@ -83,7 +85,7 @@ fn of_four_words(alloc: Global, word: &str, words: &[String]) -> Result<Option<C
     ensures memory { IfErr result IsWantOfMemory }
 {
     match three_positionals(alloc, words) {
-        Ok(Some((name, unit, day))) => Ok(showing(word, view_on(name, unit, day))),
+        Ok(Some((first, second, third))) => Ok(of_three_further(word, first, second, third)),
         Ok(None) => Ok(None),
         Err(error) => Err(error),
     }
@@ -148,6 +150,29 @@ fn sort_named(word: &str) -> Option<Sort>
         "components" => Some(Sort::Components),
         _ => None,
     }
+}
+
+/// The command that a word and three further words are.
+fn of_three_further(word: &str, first: &str, second: &str, third: &str) -> Option<Command>
+    ensures value { result ≡ spec.of_three_further word.now first.now second.now third.now }
+    ensures range { IfSome result spec.IsInRange }
+{
+    if word == "file" {
+        return filing_of(first, second, third);
+    }
+    showing(word, view_on(first, second, third))
+}
+
+/// The command that files the report that UNIT, HALF and DAY are.
+#[tactic(auto, unfolding(crate::specs::Command::filing_of))]
+fn filing_of(unit: &str, half: &str, day: &str) -> Option<Command>
+    ensures value { result ≡ spec.filing_of unit.now half.now day.now }
+    ensures range { IfSome result spec.IsInRange }
+{
+    let unit = number_in(255, unit)?;
+    let half = number_in(65_535, half)?;
+    let day = Day::read(day.as_bytes())?;
+    Some(Command::File { unit, half, day })
 }
 
 /// The command that shows a view, if this is its word.

@@ -6,6 +6,9 @@ mod docking;
 mod file_disk;
 #[cfg(test)]
 mod file_tests;
+mod filing;
+#[cfg(test)]
+mod filing_tests;
 mod held;
 #[cfg(test)]
 mod http_tests;
@@ -31,8 +34,10 @@ mod tests;
 
 use disk_model::{Disk, MemoryDisk};
 pub use file_disk::FileDisk;
+use filed_table::{AtPath, TableFiling};
 pub use program::run;
-use status::Status;
+use report_filing::{Filing, MapFiling};
+pub use status::Status;
 use std::process::ExitCode;
 use std::{env, io};
 pub use streams::{StdSink, StdSource};
@@ -53,16 +58,18 @@ COMMAND  init                           makes an empty journal
          show route UNIT DAY STOPS      shows routes with at most so many stops
          show percent UNIT QUARTER DAY  shows the percent leaking in a quarter
          show report UNIT HALF DAY      shows the report of a half year
+         file UNIT HALF DAY             puts the report of a half year on file
          check                          prints how many batches and facts the journal has
 
 UNIT is 0 to 255, a DAY as 2024-02-29; QUARTER and HALF count from 1, from the unit's first.
 The batches of an import are numbered from NUMBER. No word of a command begins with a hyphen.
 
-STATUS   0  done                        6  memory was wanted
-         2  the words are no command    7  no journal, or a damaged or unruly one
-         3  a fault of the input        8  the input is cut short, bad or too large
-         4  a fault of the output       9  a journal was to be made where bytes stand
-         5  a fault of the disk        11  no such thing, a bad row, or a batch not kept
+STATUS   0  done                        7  no journal, or a damaged or unruly one
+         2  the words are no command    8  the input is cut short, bad or too large
+         3  a fault of the input        9  a journal was to be made where bytes stand
+         4  a fault of the output      10  a fault of the reports on file
+         5  a fault of the disk        11  no such thing, a bad row, a batch not kept,
+         6  memory was wanted              or a report that is on file
 
 A line on standard error tells more. docs/ldar.1 is the manual, docs/FORMATS.md has what is
 read and printed, docs/HANDHELDS.md is for who writes a handheld.
@@ -113,8 +120,18 @@ fn office(rt: &HostRuntime, words: &[String]) -> u8 {
         "--help" => shown(rt, HELP),
         "--version" => shown(rt, VERSION),
         ":memory:" => in_memory(rt, &words[2..]),
-        path => with_disk(rt, &words[2..], &mut FileDisk::new(rt, path)),
+        path => at_path(rt, &words[2..], path),
     }
+}
+
+/// Answers words over the journal of a path. The reports on file stand beside it, under its path with `.filed` behind; the file is
+/// made by the first call that asks for a report on file, so by no other command than `file`.
+fn at_path(rt: &HostRuntime, words: &[String], path: &str) -> u8 {
+    let Ok(filed) = format!(in rt.alloc(); "{path}.filed") else {
+        return Status::Memory.number();
+    };
+    let mut filing = TableFiling::new(AtPath::new(*rt, filed));
+    with_disk(rt, words, &mut FileDisk::new(rt, path), &mut filing)
 }
 
 /// Prints a text of the program itself.
@@ -127,14 +144,27 @@ fn shown(rt: &HostRuntime, text: &str) -> u8 {
 
 fn in_memory(rt: &HostRuntime, words: &[String]) -> u8 {
     match MemoryDisk::new(rt.alloc(), &[], &[]) {
-        Ok(mut disk) => with_disk(rt, words, &mut disk),
+        Ok(mut disk) => with_disk(rt, words, &mut disk, &mut MapFiling::new(rt.alloc())),
         Err(_) => 6,
     }
 }
 
-fn with_disk<D: Disk>(rt: &HostRuntime, words: &[String], disk: &mut D) -> u8 {
+fn with_disk<D: Disk, F: Filing>(
+    rt: &HostRuntime,
+    words: &[String],
+    disk: &mut D,
+    filing: &mut F,
+) -> u8 {
     let mut input = StdSource::new(rt.stdin(), rt);
     let mut output = StdSink::new(rt.stdout(), rt);
     let mut notes = StdSink::new(rt.stderr(), rt);
-    run(rt.alloc(), words, &mut input, &mut output, &mut notes, disk)
+    run(
+        rt.alloc(),
+        words,
+        &mut input,
+        &mut output,
+        &mut notes,
+        disk,
+        filing,
+    )
 }

@@ -49,6 +49,11 @@ fn put_note<E: Sink, D: Disk>(notes: &mut E, beside: &D, status: Status) -> Resu
         Status::Denied { fact, rule } => put_denied(notes, beside, fact, rule),
         Status::Full { facts } => put_number(notes, beside, "full ", facts, "\n"),
         Status::NoSuch(what) => put_no_such(notes, beside, what.word()),
+        Status::FilingFault => put_text(notes, beside, "filing fault\n"),
+        Status::SameReport { revision } => {
+            put_number(notes, beside, "same as revision ", revision, "\n")
+        }
+        Status::NoRevisionLeft => put_text(notes, beside, "no revision left\n"),
     }
 }
 
@@ -77,7 +82,7 @@ fn put_both<E: Sink, D: Disk>(
 }
 
 /// Puts a text, a number and a text.
-fn put_number<E: Sink, D: Disk, I: Integer>(
+pub fn put_number<E: Sink, D: Disk, I: Integer>(
     notes: &mut E,
     beside: &D,
     before: &str,

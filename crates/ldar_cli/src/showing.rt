@@ -8,7 +8,8 @@ ghost use Rattle.ldar_law.specs.declared.reply.Reply.{Reply};
 ghost use Rattle.ldar_law.specs.Shown.{shown};
 ghost use Rattle.office_views.specs.Answers.{IsView};
 ghost use Rattle.ldar_cli.specs.declared.command.Command.TheVariants as commands;
-ghost use Rattle.ldar_cli.specs.Run.{IsNotOpened, IsShown, TextEnds, ReplyEnds, PutEnds, check_text, counts_text};
+ghost use Rattle.ldar_cli.specs.Run.{IsNotOpened, IsShown, ReplyEnds, PutEnds, check_text, counts_text};
+ghost use Rattle.ldar_cli.specs.Statuses.{TextEnds};
 
 use crate::status::{Status, refusal};
 use disk_model::Disk;

@@ -39,8 +39,14 @@ pub enum Status {
     Denied { fact: u16, rule: u8 },
     /// A batch was sent with which there would be so many facts.
     Full { facts: u64 },
-    /// There is none of what a view was asked for.
+    /// There is none of what a view was asked for, or a report.
     NoSuch(What),
+    /// A call of the filing failed.
+    FilingFault,
+    /// A report was to be filed that says the same as the last revision on file, which has this number.
+    SameReport { revision: u32 },
+    /// A report was to be filed behind the revision with the greatest number.
+    NoRevisionLeft,
 }
 
 impl Status {
@@ -58,11 +64,14 @@ impl Status {
             Status::NotAJournal | Status::Damaged { .. } | Status::Unruly { .. } => 7,
             Status::CutShort { .. } | Status::BadInput { .. } | Status::TooLarge => 8,
             Status::NotEmpty => 9,
+            Status::FilingFault => 10,
             Status::BadRow { .. }
             | Status::Conflict { .. }
             | Status::Denied { .. }
             | Status::Full { .. }
-            | Status::NoSuch(_) => 11,
+            | Status::NoSuch(_)
+            | Status::SameReport { .. }
+            | Status::NoRevisionLeft => 11,
         }
     }
 
@@ -88,7 +97,10 @@ impl Status {
             | Status::Conflict { .. }
             | Status::Denied { .. }
             | Status::Full { .. }
-            | Status::NoSuch(_) => 4,
+            | Status::NoSuch(_)
+            | Status::FilingFault
+            | Status::SameReport { .. }
+            | Status::NoRevisionLeft => 4,
         }
     }
 }

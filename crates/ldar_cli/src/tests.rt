@@ -1,6 +1,7 @@
 use crate::run;
 use disk_model::{Disk, MemoryDisk};
 use ldar_ports::{ListSource, StampedSink};
+use report_filing::MapFiling;
 use std::alloc::Global;
 use std::test::Fail;
 
@@ -89,7 +90,15 @@ pub fn ran_in_pieces<D: Disk>(
     let mut source = ListSource::new(alloc, &pieces, trial.takes_that_fail)?;
     let mut output = StampedSink::new(alloc, trial.puts_that_fail)?;
     let mut notes = StampedSink::new(alloc, trial.notes_that_fail)?;
-    let status = run(alloc, &words, &mut source, &mut output, &mut notes, disk);
+    let status = run(
+        alloc,
+        &words,
+        &mut source,
+        &mut output,
+        &mut notes,
+        disk,
+        &mut MapFiling::new(alloc),
+    );
     Ok(Outcome {
         status,
         output: output.bytes(alloc)?,
