@@ -243,7 +243,7 @@ def literal(data):
 
 def constant(name, batches):
     data = b"".join(map(spelled, batches))
-    print(f"const {name}: [u8; {len(data)}] = *{literal(data)};\n")
+    print(f"const {name}: &[u8] = {literal(data)};\n")
 
 
 def quoted(text):
@@ -253,39 +253,13 @@ def quoted(text):
 def case_of_view(case):
     name, batches, words, said, shown = case
     check(batches, words, shown)
-    view, *numbers = words.split()
-    numbers = ", ".join(f'"{n}"' for n in numbers)
-    return f'''        (
-            {name}.as_slice(),
-            ["show", "{view}", {numbers}].as_slice(),
-            {quoted(said)},
-            {quoted(shown)},
-        ),
+    return f'''    ({name}, "show {words}", {quoted(said)}, {quoted(shown)}),
 '''
-
-
-REQUESTS = """// A batch over HTTP, and a view behind it.
-const REQUESTS: &str = "POST /sync HTTP/1.1\\r\\nHost: office\\r\\nContent-Length: 116\\r\\n\\r\\n\\
-    {\\"handheld\\":7,\\"number\\":12,\\"facts\\":[{\\"kind\\":\\"calibration\\",\\"day\\":\\"2024-02-20\\",\\
-    \\"minute\\":600,\\"instrument\\":1,\\"gas\\":500}]}GET /percent/1/16/2024-03-31 HTTP/1.1\\r\\nHost: office\\r\\n\\r\\n";
-
-const ANSWERS: &str = "HTTP/1.1 200 OK\\r\\nContent-Type: text/plain\\r\\nContent-Length: 15\\r\\n\\r\\nreceipt 7 12 3\\n\\
-    HTTP/1.1 200 OK\\r\\nContent-Type: text/plain\\r\\nContent-Length: 56\\r\\n\\r\\n\\
-    percent 1 16 leaking 0 monitored 0 not good not skipped\\n";
-
-#[test]
-fn requests_are_answered_in_order(rt: HostRuntime) -> Result<(), Fail> {
-    let (mut disk, _) = docked(rt.alloc(), &[])?;
-    let got = ran(rt.alloc(), &mut disk, &untroubled(&["drain"], REQUESTS.as_bytes()))?;
-    assert_eq!(rt; (got.status, got.output.as_slice()), (0, ANSWERS.as_bytes()));
-    Ok(())
-}
-"""
 
 
 def main():
     print("""// bench/rows.py writes this file.
-use crate::tests::{empty, ran, untroubled};
+use crate::tests::{EMPTY, is, says};
 use disk_model::MemoryDisk;
 use std::alloc::Global;
 use std::test::Fail;
@@ -297,46 +271,54 @@ use std::test::Fail;
     if rule_model.denial(BASE, EVERY_KIND[0]):
         sys.exit("the model denies the batch of every kind")
     constant("EVERY_KIND", EVERY_KIND)
-    print("""// A disk with the base, and then these batches; and the lines of their replies.
-pub fn docked(alloc: Global, input: &[u8]) -> Result<(MemoryDisk, Vec<u8>), Fail> {
-    let mut disk = empty(alloc)?;
-    ran(alloc, &mut disk, &untroubled(&["dock"], &BASE))?;
-    let got = ran(alloc, &mut disk, &untroubled(&["dock"], input))?;
-    Ok((disk, got.output))
+    print("""// A disk with the base, and then these batches, to which these lines are the replies.
+pub fn docked(alloc: Global, input: &[u8], said: &str) -> Result<MemoryDisk, Fail> {
+    let mut disk = MemoryDisk::new(alloc, EMPTY, &[])?;
+    says(alloc, &mut disk, "dock", BASE, "receipt 0 1 1\\nreceipt 1 1 2\\n")?;
+    says(alloc, &mut disk, "dock", input, said)?;
+    Ok(disk)
+}
+
+// Batches, words, the replies to the batches, and what is shown then.
+type View<'a> = (&'a [u8], &'a str, &'a str, &'a str);
+
+// Sees that this is shown.
+fn shows(alloc: Global, view: &View) -> Result<(), Fail> {
+    let mut disk = docked(alloc, view.0, view.2)?;
+    says(alloc, &mut disk, view.1, &[], view.3)
 }
 """)
-    for test, cases in (("tags_are_those_of_the_rule", TAGS), ("duties_percents_and_reports_are_those_of_the_rule", OTHERS)):
-        print(f"#[test]\nfn {test}(rt: HostRuntime) -> Result<(), Fail> {{\n    let cases = [")
+    for table, test, cases in (("TAGS", "tags_are_those_of_the_rule", TAGS), ("VIEWS", "duties_percents_and_reports_are_those_of_the_rule", OTHERS)):
+        print(f"const {table}: [View; {len(cases)}] = [")
         print("".join(map(case_of_view, cases)), end="")
-        print("""    ];
-    for (input, words, said, shown) in cases {
-        let (mut disk, lines) = docked(rt.alloc(), input)?;
-        assert_eq!(rt; lines.as_slice(), said.as_bytes());
-        let got = ran(rt.alloc(), &mut disk, &untroubled(words, &[]))?;
-        assert_eq!(rt; got.output.as_slice(), shown.as_bytes());
-    }
+        print(f"""];
+
+#[test]
+fn {test}(rt: HostRuntime) -> Result<(), Fail> {{
+    for view in &{table} {{
+        shows(rt.alloc(), view)?;
+    }}
     Ok(())
-}
+}}
 """)
-    print(REQUESTS)
     print("""#[test]
 fn a_batch_of_every_kind_is_kept(rt: HostRuntime) -> Result<(), Fail> {
-    let (disk, lines) = docked(rt.alloc(), &EVERY_KIND)?;
-    assert_eq!(rt; lines.as_slice(), b"receipt 0 2 3\\n".as_slice());
-    assert_eq!(rt; disk.bytes().len(), 17 + 5 + 163 + 5 + 32 + 5 + EVERY_KIND.len());
-    Ok(())
+    let disk = docked(rt.alloc(), EVERY_KIND, "receipt 0 2 3\\n")?;
+    is(disk.bytes().len() == 17 + 5 + 163 + 5 + 32 + 5 + EVERY_KIND.len(), "the journal's length")
 }
 """)
-    print("#[test]\nfn a_denied_batch_is_told_its_rule(rt: HostRuntime) -> Result<(), Fail> {\n    let cases = [")
+    print(f"const DENIED: [(&[u8], &str); {len(DENIED)}] = [")
     for name, batches, said in DENIED:
         place, rule = rule_model.denial(BASE, batches[0])
         if not said.startswith(f"denied {place} {rule} "):
             sys.exit(f"the model denies by {place} {rule}, not {said}")
-        print(f"        ({name}.as_slice(), {quoted(said)}),")
-    print("""    ];
-    for (input, said) in cases {
-        let (_, lines) = docked(rt.alloc(), input)?;
-        assert_eq!(rt; lines.as_slice(), said.as_bytes());
+        print(f"    ({name}, {quoted(said)}),")
+    print("""];
+
+#[test]
+fn a_denied_batch_is_told_its_rule(rt: HostRuntime) -> Result<(), Fail> {
+    for (input, said) in DENIED {
+        docked(rt.alloc(), input, said)?;
     }
     Ok(())
 }""")

@@ -1,5 +1,5 @@
 use crate::row_tests::docked;
-use crate::tests::{ran, untroubled};
+use crate::tests::says;
 use std::alloc::Global;
 use std::test::Fail;
 
@@ -32,55 +32,54 @@ fn readings(alloc: Global, count: u8, leaking: u8) -> Result<Vec<u8>, Fail> {
     Ok(bytes)
 }
 
-// Batch of handheld 0 that makes a valve of unit 2 difficult to monitor.
-fn difficult(number: u8, valve: u8) -> [u8; 20] {
-    [
-        66, 0, 0, 0, 0, 0, number, 0, 1, 3, 0x4d, 0x3d, 0, 0, 3, valve, 1, 3, 0, 1,
-    ]
+// Batches 3 to 5 of handheld 0, each of which makes a valve of unit 2 difficult to monitor.
+const DIFFICULT: &[u8] = b"B\0\0\0\0\0\x03\0\x01\x03M=\0\0\x03\xe8\x01\x03\0\x01\
+    B\0\0\0\0\0\x04\0\x01\x03M=\0\0\x03\xe9\x01\x03\0\x01\
+    B\0\0\0\0\0\x05\0\x01\x03M=\0\0\x03\xea\x01\x03\0\x01";
+
+// Sees what is shown of a quarter in which so many valves were monitored, and so many leaked.
+fn counts(alloc: Global, monitored: u8, leaking: u8, shown: &str) -> Result<(), Fail> {
+    let mut input = valves(alloc, monitored)?;
+    input.extend_from_slice(&readings(alloc, monitored, leaking)?)?;
+    let mut disk = docked(alloc, &input, "receipt 0 2 3\nreceipt 2 1 4\n")?;
+    says(alloc, &mut disk, "show percent 2 16 2024-03-31", &[], shown)
 }
+
+// How many valves were monitored and how many leaked, and what is shown.
+const QUARTERS: [(u8, u8, &str); 3] = [
+    (
+        150,
+        3,
+        "percent 2 16 leaking 3 monitored 150 good not skipped\n",
+    ),
+    (
+        200,
+        4,
+        "percent 2 16 leaking 4 monitored 200 good not skipped\n",
+    ),
+    (
+        199,
+        4,
+        "percent 2 16 leaking 4 monitored 199 not good not skipped\n",
+    ),
+];
 
 #[test]
 fn a_quarter_is_good_where_few_valves_leak(rt: HostRuntime) -> Result<(), Fail> {
-    let cases = [
-        (
-            150,
-            3,
-            "percent 2 16 leaking 3 monitored 150 good not skipped\n",
-        ),
-        (
-            200,
-            4,
-            "percent 2 16 leaking 4 monitored 200 good not skipped\n",
-        ),
-        (
-            199,
-            4,
-            "percent 2 16 leaking 4 monitored 199 not good not skipped\n",
-        ),
-    ];
-    for (monitored, leaking, shown) in cases {
-        let mut input = valves(rt.alloc(), monitored)?;
-        input.extend_from_slice(&readings(rt.alloc(), monitored, leaking)?)?;
-        let (mut disk, lines) = docked(rt.alloc(), &input)?;
-        assert_eq!(rt;
-            lines.as_slice(),
-            b"receipt 0 2 3\nreceipt 2 1 4\n".as_slice()
-        );
-        let words = ["show", "percent", "2", "16", "2024-03-31"];
-        let got = ran(rt.alloc(), &mut disk, &untroubled(&words, &[]))?;
-        assert_eq!(rt; got.output.as_slice(), shown.as_bytes());
+    for (monitored, leaking, shown) in QUARTERS {
+        counts(rt.alloc(), monitored, leaking, shown)?;
     }
     Ok(())
 }
 
+// What is answered to the valves of unit 2, and to three of them that are made difficult to monitor.
+const DENIED: &str =
+    "receipt 0 2 3\nreceipt 0 3 4\nreceipt 0 4 5\ndenied 1 15 60.482-7a(h)(2)(ii)\n";
+
 #[test]
 fn three_in_a_hundred_valves_are_not_difficult(rt: HostRuntime) -> Result<(), Fail> {
     let mut input = valves(rt.alloc(), 100)?;
-    for (number, valve) in [(3, 0xe8), (4, 0xe9), (5, 0xea)] {
-        input.extend_from_slice(&difficult(number, valve))?;
-    }
-    let (_, lines) = docked(rt.alloc(), &input)?;
-    let said = b"receipt 0 2 3\nreceipt 0 3 4\nreceipt 0 4 5\ndenied 1 15 60.482-7a(h)(2)(ii)\n";
-    assert_eq!(rt; lines.as_slice(), said.as_slice());
+    input.extend_from_slice(DIFFICULT)?;
+    docked(rt.alloc(), &input, DENIED)?;
     Ok(())
 }

@@ -1,142 +1,272 @@
-use crate::tests::{BATCH, NEXT, empty, image, ran, ran_in_pieces, untroubled};
-use disk_model::{Disk, MemoryDisk};
+use crate::tests::{BATCH, EMPTY, NEXT, OF_A_BATCH, ONE, ends, in_pieces, is, says};
+use disk_model::{Disk, MemoryDisk, SureDisk};
 use std::alloc::Global;
 use std::test::Fail;
 
 // The calls with which `dock` ends where one batch is appended: the frame is written, synced, its gate is written, and synced.
 const APPEND: u64 = 4;
 
+const ONE_BATCH: &str = "journal 1 batches 1 facts\n";
+
+const BOTH: &str = "journal 2 batches 2 facts\n";
+
+// Batches of handheld 7, each with the calibration of batch 12: 13 three times, 12 and 13, 12 to 14, 12 twice and 13, and 13 to 15.
+const NEXT_THRICE: &[u8] = b"\x42\0\x07\0\0\0\x0d\0\x01\x07\x4d\x3d\x02\x58\0\x01\0\0\x01\xf4\
+    \x42\0\x07\0\0\0\x0d\0\x01\x07\x4d\x3d\x02\x58\0\x01\0\0\x01\xf4\
+    \x42\0\x07\0\0\0\x0d\0\x01\x07\x4d\x3d\x02\x58\0\x01\0\0\x01\xf4";
+
+const TWO: &[u8] = b"\x42\0\x07\0\0\0\x0c\0\x01\x07\x4d\x3d\x02\x58\0\x01\0\0\x01\xf4\
+    \x42\0\x07\0\0\0\x0d\0\x01\x07\x4d\x3d\x02\x58\0\x01\0\0\x01\xf4";
+
+const THREE: &[u8] = b"\x42\0\x07\0\0\0\x0c\0\x01\x07\x4d\x3d\x02\x58\0\x01\0\0\x01\xf4\
+    \x42\0\x07\0\0\0\x0d\0\x01\x07\x4d\x3d\x02\x58\0\x01\0\0\x01\xf4\
+    \x42\0\x07\0\0\0\x0e\0\x01\x07\x4d\x3d\x02\x58\0\x01\0\0\x01\xf4";
+
+const ONE_TWICE: &[u8] = b"\x42\0\x07\0\0\0\x0c\0\x01\x07\x4d\x3d\x02\x58\0\x01\0\0\x01\xf4\
+    \x42\0\x07\0\0\0\x0c\0\x01\x07\x4d\x3d\x02\x58\0\x01\0\0\x01\xf4\
+    \x42\0\x07\0\0\0\x0d\0\x01\x07\x4d\x3d\x02\x58\0\x01\0\0\x01\xf4";
+
+const BEHIND: &[u8] = b"\x42\0\x07\0\0\0\x0d\0\x01\x07\x4d\x3d\x02\x58\0\x01\0\0\x01\xf4\
+    \x42\0\x07\0\0\0\x0e\0\x01\x07\x4d\x3d\x02\x58\0\x01\0\0\x01\xf4\
+    \x42\0\x07\0\0\0\x0f\0\x01\x07\x4d\x3d\x02\x58\0\x01\0\0\x01\xf4";
+
 // A disk whose journal has one batch, and to which a second was docked.
 fn docked_next(alloc: Global) -> Result<MemoryDisk, Fail> {
-    let mut disk = MemoryDisk::new(alloc, &image(alloc, &[])?, &[])?;
-    ran(alloc, &mut disk, &untroubled(&["dock"], &NEXT))?;
+    let mut disk = MemoryDisk::new(alloc, ONE, &[])?;
+    says(alloc, &mut disk, "dock", NEXT, "receipt 7 13 2\n")?;
     Ok(disk)
 }
 
-// What `check` says of a disk.
-fn checked(alloc: Global, mut disk: MemoryDisk) -> Result<Vec<u8>, Fail> {
-    let got = ran(alloc, &mut disk, &untroubled(&["check"], &[]))?;
-    Ok(got.output)
+// How many calls a run of this word with no input makes on a disk with one batch.
+pub fn calls_of_opening(alloc: Global, word: &str) -> Result<u64, Fail> {
+    let mut disk = MemoryDisk::new(alloc, ONE, &[])?;
+    says(alloc, &mut disk, word, &[], "")?;
+    Ok(disk.calls())
 }
 
-// How many calls a run with no input makes on a disk with one batch.
-fn calls_of_opening(alloc: Global) -> Result<u64, Fail> {
-    let mut disk = MemoryDisk::new(alloc, &image(alloc, &[])?, &[])?;
-    ran(alloc, &mut disk, &untroubled(&["dock"], &[]))?;
-    Ok(disk.calls())
+// Sees what `check` says of the journal that a stop inside a call leaves, with this of what the call writes.
+fn leaves(
+    alloc: Global,
+    disk: &MemoryDisk,
+    call: u64,
+    left: &[u8],
+    said: &str,
+) -> Result<(), Fail> {
+    if call >= disk.calls() {
+        return Err(Fail::from("a call"));
+    }
+    let mut stopped = disk.stopped(alloc, call, left)?;
+    says(alloc, &mut stopped, "check", &[], said)
+}
+
+// What `check` says behind a stop inside this call of so many, which leaves this: both batches where the gate is written, or the
+// last sync is begun.
+fn said_behind(call: u64, calls: u64, left: &[u8]) -> &'static str {
+    let is_synced = calls.saturating_sub(call) == 1;
+    let gate_is_written = calls.saturating_sub(call) == 2 && left == b"\x01".as_slice();
+    if gate_is_written || is_synced {
+        return BOTH;
+    }
+    ONE_BATCH
+}
+
+const LEFT: [&[u8]; 4] = [b"", b"\0", b"\x07", b"\x01"];
+
+// Sees what a stop inside a call leaves.
+fn stops(alloc: Global, disk: &MemoryDisk, call: u64) -> Result<(), Fail> {
+    for left in LEFT {
+        leaves(
+            alloc,
+            disk,
+            call,
+            left,
+            said_behind(call, disk.calls(), left),
+        )?;
+    }
+    Ok(())
 }
 
 #[test]
 fn a_stop_leaves_one_batch_or_both(rt: HostRuntime) -> Result<(), Fail> {
+    let opening = calls_of_opening(rt.alloc(), "dock")?;
     let disk = docked_next(rt.alloc())?;
-    let opening = calls_of_opening(rt.alloc())?;
-    assert!(rt; opening < 1_000);
-    assert_eq!(rt; disk.calls(), opening + APPEND);
+    is(disk.calls() == opening.saturating_add(APPEND), "the calls")?;
     for call in 0..disk.calls() {
-        for left in [[].as_slice(), &[0], &[7], &[1]] {
-            let gate_is_written = disk.calls() - call == 2 && left == [1].as_slice();
-            let is_synced = disk.calls() - call == 1;
-            let said = checked(rt.alloc(), disk.stopped(rt.alloc(), call, left)?)?;
-            if gate_is_written || is_synced {
-                assert_eq!(rt; said.as_slice(), b"journal 2 batches 2 facts\n".as_slice());
-            } else {
-                assert_eq!(rt; said.as_slice(), b"journal 1 batches 1 facts\n".as_slice());
-            }
-        }
+        stops(rt.alloc(), &disk, call)?;
     }
     Ok(())
 }
 
+// The frame with the second batch.
+const FRAME: &[u8] =
+    b"\x01\0\0\0\x14\x42\0\x07\0\0\0\x0d\0\x01\x07\x4d\x3d\x02\x58\0\x01\0\0\x01\xf4\0";
+
 #[test]
 fn a_stop_inside_a_frame_leaves_what_was(rt: HostRuntime) -> Result<(), Fail> {
+    let opening = calls_of_opening(rt.alloc(), "dock")?;
     let disk = docked_next(rt.alloc())?;
-    let opening = calls_of_opening(rt.alloc())?;
-    if opening < disk.calls() {
-        for kept in 0..26 {
-            let left = disk.bytes().get(42..42 + kept).unwrap_or(&[]);
-            assert_eq!(rt; left.len(), kept);
-            let said = checked(rt.alloc(), disk.stopped(rt.alloc(), opening, left)?)?;
-            assert_eq!(rt; said.as_slice(), b"journal 1 batches 1 facts\n".as_slice());
-        }
+    is(disk.bytes().get(41..) == Some(FRAME), "the frame")?;
+    for kept in 0..26 {
+        let left = disk.bytes().get(42..42 + kept).unwrap_or(&[]);
+        leaves(rt.alloc(), &disk, opening, left, ONE_BATCH)?;
     }
     Ok(())
+}
+
+// The calls behind the opening that fail, and what is answered to a batch that is sent three times. In doubt a run first settles,
+// with the call behind its gate.
+const IN_DOUBT: [(u64, u64, &str); 5] = [
+    (0, 0, "disk fault\nreceipt 7 13 2\nreceipt 7 13 2\n"),
+    (1, 1, "disk fault\nreceipt 7 13 2\nreceipt 7 13 2\n"),
+    (2, 2, "disk fault\nreceipt 7 13 2\nreceipt 7 13 2\n"),
+    (3, 3, "disk fault\nreceipt 7 13 2\nreceipt 7 13 2\n"),
+    (2, 3, "disk fault\ndisk fault\nreceipt 7 13 2\n"),
+];
+
+// Sees that this is answered where these calls fail.
+fn settles(alloc: Global, faults: &[u64], said: &str) -> Result<(), Fail> {
+    let mut disk = MemoryDisk::new(alloc, ONE, faults)?;
+    ends(
+        alloc,
+        &mut disk,
+        in_pieces(OF_A_BATCH),
+        &("dock", NEXT_THRICE, 0, said, ""),
+    )?;
+    is(disk.bytes().len() == 67, said)?;
+    says(alloc, &mut disk, "check", &[], BOTH)
 }
 
 #[test]
 fn a_batch_in_doubt_is_settled_before_it_is_receipted(rt: HostRuntime) -> Result<(), Fail> {
-    let opening = calls_of_opening(rt.alloc())?;
-    assert!(rt; opening < 1_000);
-    let (frame, first_sync, gate) = (opening, opening + 1, opening + 2);
-    let (second_sync, settling) = (opening + 3, opening + 3);
-    // The calls that fail, and what is answered to a batch that is sent three times.
-    let cases = [
-        (
-            [frame, frame],
-            "disk fault\nreceipt 7 13 2\nreceipt 7 13 2\n",
-        ),
-        (
-            [first_sync, first_sync],
-            "disk fault\nreceipt 7 13 2\nreceipt 7 13 2\n",
-        ),
-        ([gate, gate], "disk fault\nreceipt 7 13 2\nreceipt 7 13 2\n"),
-        (
-            [second_sync, second_sync],
-            "disk fault\nreceipt 7 13 2\nreceipt 7 13 2\n",
-        ),
-        ([gate, settling], "disk fault\ndisk fault\nreceipt 7 13 2\n"),
-    ];
-    let pieces = [NEXT.as_slice(), NEXT.as_slice(), NEXT.as_slice()];
-    for (faults, said) in cases {
-        let mut disk = MemoryDisk::new(rt.alloc(), &image(rt.alloc(), &[])?, &faults)?;
-        let got = ran_in_pieces(rt.alloc(), &mut disk, &untroubled(&["dock"], &[]), &pieces)?;
-        assert_eq!(rt; got.status, 0);
-        assert_eq!(rt; got.output.as_slice(), said.as_bytes());
-        assert_eq!(rt; disk.bytes().len(), 67);
-        assert_eq!(rt;
-            checked(rt.alloc(), disk)?.as_slice(),
-            b"journal 2 batches 2 facts\n".as_slice()
-        );
+    let opening = calls_of_opening(rt.alloc(), "dock")?;
+    for (first, second, said) in IN_DOUBT {
+        let faults = [
+            opening.saturating_add(first),
+            opening.saturating_add(second),
+        ];
+        settles(rt.alloc(), &faults, said)?;
     }
     Ok(())
 }
 
-// Batch 12 of handheld 7 with this in its number's last byte.
-fn numbered(number: u8) -> [u8; 20] {
-    let mut bytes = BATCH;
-    bytes[6] = number;
-    bytes
+// Three batches, the size of the pieces in which they come, the lines, and the length of the journal.
+const FRAMES: [(&[u8], usize, &str, usize); 3] = [
+    (
+        THREE,
+        60,
+        "receipt 7 12 1\nreceipt 7 13 2\nreceipt 7 14 3\n",
+        82,
+    ),
+    (
+        THREE,
+        OF_A_BATCH,
+        "receipt 7 12 1\nreceipt 7 13 2\nreceipt 7 14 3\n",
+        92,
+    ),
+    (
+        ONE_TWICE,
+        60,
+        "receipt 7 12 1\nreceipt 7 12 1\nreceipt 7 13 2\n",
+        62,
+    ),
+];
+
+// Sees what is answered to some batches, and how many bytes the journal has then.
+fn frames(
+    alloc: Global,
+    piece: usize,
+    input: &[u8],
+    said: &str,
+    length: usize,
+) -> Result<(), Fail> {
+    let mut disk = MemoryDisk::new(alloc, EMPTY, &[])?;
+    ends(
+        alloc,
+        &mut disk,
+        in_pieces(piece),
+        &("dock", input, 0, said, ""),
+    )?;
+    is(disk.bytes().len() == length, said)
 }
 
 #[test]
-fn a_frame_has_at_most_sixteen_batches(rt: HostRuntime) -> Result<(), Fail> {
-    let mut input = Vec::new(rt.alloc());
-    for number in 1..18 {
-        input.extend_from_slice(&numbered(number))?;
+fn batches_in_one_piece_share_a_frame(rt: HostRuntime) -> Result<(), Fail> {
+    for (input, piece, said, length) in FRAMES {
+        frames(rt.alloc(), piece, input, said, length)?;
     }
-    let mut disk = empty(rt.alloc())?;
-    let got = ran(rt.alloc(), &mut disk, &untroubled(&["dock"], &input))?;
-    assert_eq!(rt; got.output.len(), 9 * 14 + 8 * 16);
-    assert_eq!(rt; disk.bytes().len(), 17 + 5 + 16 * 20 + 5 + 20);
-    assert_eq!(rt; disk.bytes().get(16..21), Some([1, 0, 0, 1, 64].as_slice()));
     Ok(())
+}
+
+// Batches 1 to 17 of handheld 7, each with the calibration of batch 12.
+fn seventeen(alloc: Global) -> Result<Vec<u8>, Fail> {
+    let mut input = Vec::new(alloc);
+    for number in 1..18 {
+        input.extend_from_slice(b"\x42\0\x07\0\0\0")?;
+        input.push(number)?;
+        input.extend_from_slice(b"\0\x01\x07\x4d\x3d\x02\x58\0\x01\0\0\x01\xf4")?;
+    }
+    Ok(input)
+}
+
+const SEVENTEEN: &str = "receipt 7 1 1\nreceipt 7 2 2\nreceipt 7 3 3\nreceipt 7 4 4\n\
+    receipt 7 5 5\nreceipt 7 6 6\nreceipt 7 7 7\nreceipt 7 8 8\n\
+    receipt 7 9 9\nreceipt 7 10 10\nreceipt 7 11 11\nreceipt 7 12 12\n\
+    receipt 7 13 13\nreceipt 7 14 14\nreceipt 7 15 15\nreceipt 7 16 16\n\
+    receipt 7 17 17\n";
+
+#[test]
+fn a_frame_has_at_most_sixteen_batches(rt: HostRuntime) -> Result<(), Fail> {
+    let input = seventeen(rt.alloc())?;
+    let mut disk = MemoryDisk::new(rt.alloc(), EMPTY, &[])?;
+    says(rt.alloc(), &mut disk, "dock", &input, SEVENTEEN)?;
+    // One frame of 320 bytes, and then one of 20.
+    is(
+        disk.bytes().len() == 17 + 5 + 320 + 5 + 20
+            && disk.bytes().get(16..21) == Some(b"\x01\0\0\x01\x40".as_slice()),
+        "two frames",
+    )
 }
 
 #[test]
 fn a_fault_is_answered_to_a_whole_group(rt: HostRuntime) -> Result<(), Fail> {
-    let opening = calls_of_opening(rt.alloc())?;
-    let mut input = Vec::new(rt.alloc());
-    for number in 13..16 {
-        input.extend_from_slice(&numbered(number))?;
+    let opening = calls_of_opening(rt.alloc(), "dock")?;
+    let said = "disk fault\ndisk fault\ndisk fault\n";
+    let mut disk = MemoryDisk::new(rt.alloc(), ONE, &[opening])?;
+    says(rt.alloc(), &mut disk, "dock", BEHIND, said)?;
+    says(rt.alloc(), &mut disk, "check", &[], ONE_BATCH)
+}
+
+// The bytes for which there is room, what is answered to a batch, and then to it and another. A journal with one batch has 42
+// bytes, and each further batch of one fact adds 25.
+const ROOMS: [(usize, &str, &str); 3] = [
+    (
+        1_000,
+        "receipt 7 12 1\n",
+        "receipt 7 12 1\nreceipt 7 13 2\n",
+    ),
+    (42, "receipt 7 12 1\n", "receipt 7 12 1\ndisk fault\n"),
+    (41, "disk fault\n", "disk fault\ndisk fault\n"),
+];
+
+// Sees that a disk with so much room answers so.
+fn fills(alloc: Global, room: usize, first: &str, second: &str) -> Result<(), Fail> {
+    let mut disk = SureDisk::new(alloc, &[], room)?;
+    says(alloc, &mut disk, "init", &[], "")?;
+    is(disk.bytes().len() == 17, "an empty journal")?;
+    says(alloc, &mut disk, "dock", BATCH, first)?;
+    ends(
+        alloc,
+        &mut disk,
+        in_pieces(OF_A_BATCH),
+        &("dock", TWO, 0, second, ""),
+    )?;
+    Ok(())
+}
+
+#[test]
+fn a_disk_of_told_room_is_used_up_to_its_end(rt: HostRuntime) -> Result<(), Fail> {
+    for (room, first, second) in ROOMS {
+        fills(rt.alloc(), room, first, second)?;
     }
-    let mut disk = MemoryDisk::new(rt.alloc(), &image(rt.alloc(), &[])?, &[opening])?;
-    let got = ran(rt.alloc(), &mut disk, &untroubled(&["dock"], &input))?;
-    assert_eq!(rt;
-        got.output.as_slice(),
-        b"disk fault\ndisk fault\ndisk fault\n".as_slice()
-    );
-    assert_eq!(rt;
-        checked(rt.alloc(), disk)?.as_slice(),
-        b"journal 1 batches 1 facts\n".as_slice()
-    );
     Ok(())
 }
