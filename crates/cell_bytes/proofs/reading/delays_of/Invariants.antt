@@ -1,0 +1,8 @@
+use Rattle.std.proofs.Common.{◌≡◌, ◌*◌, take}
+use Rattle.std.specs.List.{flat_map}
+use Rattle.cell_bytes.specs.CellBytes.{line_bytes}
+use Rattle.cell_bytes.proofs.reading.delays_of.Given as goal
+
+-- what was read so far is spelled by the bytes so far
+abbrev pub invariant-loop-at : goal.invariant-loop-at
+invariant-loop-at l = take (26 * l.at) l.bytes ≡ flat_map line_bytes l.lines.items
