@@ -4,7 +4,7 @@ use Rattle.std.proofs.Common.{◌∙◌, ap, subst, arith, append_assoc}
 use Rattle.std.specs.Prelude.{IsTrue, slice_get}
 use Rattle.std.specs.Option.{option_map}
 use Rattle.std.proofs.lemmas.Bool.{false≢true}
-use Rattle.std.proofs.lemmas.List.{drop-drop, take_all}
+use Rattle.std.proofs.lemmas.List.{drop-drop, drop_all, take_all}
 use Rattle.list_words.proofs.WordLaws.{first_given_is_first}
 use Rattle.fact_kinds.specs.declared.batch.Batch.{Batch}
 use Rattle.fact_kinds.specs.Facts.{Entry, entries_of, facts_of}
@@ -136,11 +136,11 @@ held_is : (views : Held) (adopted spare : List Batch) → views.adopted ≡ adop
 held_is views adopted spare first second = rw (sym first, sym second) refl
 
 -- .. all of a history, where the batches have come to their end
-pub all_taken : (history batches : List Batch) (i : ℕ) (views : Held) → ¬ (i < length batches) → views.adopted ≡ history ++ take i batches
+pub all_taken : (history batches : List Batch) (i : ℕ) (views : Held) → length batches ≤ i → views.adopted ≡ history ++ take i batches
     → views.spare ≡ drop i batches → IsTrue (is_ruly (history ++ take i batches)) → HasTaken (history ++ batches) views None
 all_taken history batches i views past adopted spare ruly =
-    let whole : take i batches ≡ batches = take_all i batches (omega (arith, past)) in
-    let none : drop i batches ≡ [] = drop_all i batches (omega (arith, past)) in
+    let whole : take i batches ≡ batches = take_all i batches past in
+    let none : drop i batches ≡ [] = drop_all i batches past in
     let all : history ++ take i batches ≡ history ++ batches = ap (λ (l : List Batch). history ++ l) whole in
     (held_is views (history ++ batches) [] (adopted ∙ all) (spare ∙ none), subst (λ (l : List Batch). IsTrue (is_ruly l)) all ruly)
 

@@ -23,7 +23,7 @@ take_frame-requires-clause-kept g c =
     let next = c.in_ok-next_frame.ensures in
     let intake = c.args.intake.now in
     let taken = taken_all (batches_of c.args.opening.now.frames) intake.views intake.denied (sym c.is_some.ensures ∙ c.if-is_some.false) c.requires.taken in
-    rw c.deref.ensures.value (subst IsKept (sym (frame_behind c.args.opening.now.frames c.next_frame.new.opening.frames c.next_frame.new.batches.items
+    rw c.deref.ensures.value (subst IsKept (sym (frame_behind c.args.opening.now.frames c.next_frame.new.self.frames c.next_frame.new.batches.items
     intake.views (next.frame (ap Ok c.if-not-branch.false)).0 taken.0)) next.kept)
 
 pub take_frame-requires-clause-few : goal.take_frame-requires-clause-few
@@ -31,7 +31,7 @@ take_frame-requires-clause-few g c =
     let next = c.in_ok-next_frame.ensures in
     let intake = c.args.intake.now in
     let taken = taken_all (batches_of c.args.opening.now.frames) intake.views intake.denied (sym c.is_some.ensures ∙ c.if-is_some.false) c.requires.taken in
-    rw c.deref.ensures.value (subst (λ (l : List Batch). length l ≤ 8_000_000) (sym (frame_behind c.args.opening.now.frames c.next_frame.new.opening.frames
+    rw c.deref.ensures.value (subst (λ (l : List Batch). length l ≤ 8_000_000) (sym (frame_behind c.args.opening.now.frames c.next_frame.new.self.frames
     c.next_frame.new.batches.items intake.views (next.frame (ap Ok c.if-not-branch.false)).0 taken.0)) (next.few (ap Ok c.if-not-branch.false)))
 
 pub take_frame-requires-clause-ruly : goal.take_frame-requires-clause-ruly
@@ -45,6 +45,5 @@ returns-clause-taken g c =
     let next = c.in_ok-next_frame.ensures in
     let intake = c.args.intake.now in
     let taken = taken_all (batches_of c.args.opening.now.frames) intake.views intake.denied (sym c.is_some.ensures ∙ c.if-is_some.false) c.requires.taken in
-    subst (λ (l : List Batch). HasTaken l c.take_frame.new.views c.in_ok-take_frame.field-0) (frame_behind c.args.opening.now.frames
-    c.next_frame.new.opening.frames c.next_frame.new.batches.items intake.views (next.frame (ap Ok c.if-not-branch.false)).0 taken.0)
-    (rw c.deref.ensures.value at c.in_ok-take_frame.ensures.value)
+    rw (sym (frame_behind c.args.opening.now.frames c.next_frame.new.self.frames c.next_frame.new.batches.items intake.views
+    (next.frame (ap Ok c.if-not-branch.false)).0 taken.0)) (rw c.deref.ensures.value at c.in_ok-intake.ensures.value)
