@@ -1,7 +1,7 @@
 #!/usr/bin/env python3
 """Measures fact_store: facts of 20,000 components that come in key order, in reverse and shuffled, and each component's
 list read, beside a plain Rust program of the same job (store.rs). They are put into their lists one by one, or listed at
-once when all have come.
+once when all have come, or late: a half of them when it has come, and then the other half at once.
 
 Attempts stand in the list of their component; readings also in that of one of 200 instruments. What making the facts
 takes is left out. The program crates/facts_bench is proved and built first, so rt and rustc have to be on the path.
@@ -16,7 +16,7 @@ import tempfile
 FACTS = int(sys.argv[1]) if len(sys.argv) > 1 else 1_000_000
 RUNS = 3
 READS = 20
-ROWS = [([], "key"), ([], "reverse"), ([], "shuffled"), (["listed"], "key"), (["listed"], "reverse"), (["listed"], "shuffled")]
+ROWS = [(way, order) for way in ([], ["listed"], ["late"]) for order in ("key", "reverse", "shuffled")]
 
 here = pathlib.Path(__file__).parent
 crate = here.parent / "crates/facts_bench"

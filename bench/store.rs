@@ -1,5 +1,5 @@
 // A plain Rust store of facts by component and instrument in key order: the yardstick of store.py.
-// usage: store [listed] READS ORDER SORT FACTS    as crates/facts_bench has them
+// usage: store [listed|late] READS ORDER SORT FACTS    as crates/facts_bench has them
 #[derive(Clone, Copy, PartialEq, Eq, PartialOrd, Ord)]
 struct Key { day: u16, minute: u16, handheld: u16, number: u32, index: u16 }
 
@@ -16,7 +16,7 @@ enum Body {
 struct Fact { day: u16, minute: u16, body: Body }
 
 #[derive(Default)]
-struct Store { arrived: Vec<(Key, Fact)>, components: Vec<Vec<u32>>, readings: Vec<Vec<u32>> }
+struct Store { arrived: Vec<(Key, Fact)>, components: Vec<Vec<u32>>, readings: Vec<Vec<u32>>, listed: usize }
 
 fn put(lists: &mut Vec<Vec<u32>>, arrived: &[(Key, Fact)], number: u16, key: &Key) {
     if lists.len() <= number.into() {
@@ -36,19 +36,22 @@ impl Store {
         self.arrived.push((key, fact));
     }
 
-    /// Lists the facts that came, each list sorted once.
+    /// Lists the facts that came since, each list sorted once: in place at first, and then by runs.
     fn list(&mut self) {
-        let (mut components, mut readings) = (Vec::new(), Vec::new());
-        for (at, (_, fact)) in self.arrived.iter().enumerate() {
-            push(&mut components, component_of(fact), at as u32);
+        for (at, (_, fact)) in self.arrived.iter().enumerate().skip(self.listed) {
+            push(&mut self.components, component_of(fact), at as u32);
             if let Body::Reading { instrument, .. } = fact.body {
-                push(&mut readings, instrument, at as u32);
+                push(&mut self.readings, instrument, at as u32);
             }
         }
-        for list in components.iter_mut().chain(&mut readings) {
-            list.sort_unstable_by_key(|place: &u32| self.arrived[*place as usize].0);
+        for list in self.components.iter_mut().chain(&mut self.readings) {
+            if self.listed == 0 {
+                list.sort_unstable_by_key(|place: &u32| self.arrived[*place as usize].0);
+            } else {
+                list.sort_by_key(|place: &u32| self.arrived[*place as usize].0);
+            }
         }
-        (self.components, self.readings) = (components, readings);
+        self.listed = self.arrived.len();
     }
 }
 
@@ -84,7 +87,8 @@ fn mixed(place: u32) -> u32 {
 
 fn main() {
     let mut words: Vec<String> = std::env::args().skip(1).collect();
-    let at_once = words[0] == "listed";
+    let late = words[0] == "late";
+    let at_once = late || words[0] == "listed";
     if at_once {
         words.remove(0);
     }
@@ -110,6 +114,9 @@ fn main() {
         } else {
             let key = Key { day: fact.day, minute: fact.minute, handheld: 1, number: number as u32, index: 0 };
             if at_once {
+                if late && number == places.len() / 2 {
+                    store.list();
+                }
                 store.arrived.push((key, fact));
             } else {
                 store.insert(key, fact);

@@ -3,8 +3,9 @@
 by 40 handhelds, beside a plain Rust office that shows the same (views.rs).
 
 Each program adopts its facts and is then asked for a view again and again. The processor time is that of asking, and the memory
-is what the process takes at most while it is asked, beyond what it had before. The texts, of which the two programs tell the
-length and a sum, have to be the same. The program crates/views_bench is proved and built first, so rt and rustc have to be on
+is what the process takes at most while it is asked, beyond what it had before. Then so many batches of readings of the first day are
+adopted before the due list of a unit of one valve is asked: for this the time is that of adopting and asking, and what the list
+takes alone is next to nothing. The texts, of which the two programs tell the length and a sum, have to be the same. The program crates/views_bench is proved and built first, so rt and rustc have to be on
 the path, and /proc has to tell of processes.
 usage: views.py [FACTS ..]     1000000 8000000 if left out
 """
@@ -14,7 +15,9 @@ import sys
 import tempfile
 
 SIZES = [int(word) for word in sys.argv[1:]] or [1_000_000, 8_000_000]
-VIEWS = ("percent", "due", "tags", "report")
+ROWS = {view: [view] for view in ("percent", "due", "tags", "report")}
+for batches, readings in ((1, 1), (1, 512), (40, 512)):
+    ROWS[f"{batches} x {readings}"] = [f"late {readings}"] * batches + ["other"]
 RUNS = 5
 
 here = pathlib.Path(__file__).parent
@@ -45,14 +48,16 @@ class Office:
         """Forgets the greatest memory."""
         pathlib.Path(f"/proc/{self.process.pid}/clear_refs").write_text("5")
 
-    def ask(self, view):
-        """The processor time of a view, the memory that it took, and what was said."""
+    def ask_all(self, lines):
+        """The processor time of some lines, the memory that they took, and what was said."""
         self.forget()
         before, kept = self.time(), self.memory("VmRSS")
-        self.process.stdin.write(view + "\n")
-        self.process.stdin.flush()
-        said = self.process.stdout.readline()
-        return self.time() - before, self.memory("VmHWM") - kept, said
+        said = []
+        for line in lines:
+            self.process.stdin.write(line + "\n")
+            self.process.stdin.flush()
+            said.append(self.process.stdout.readline())
+        return self.time() - before, self.memory("VmHWM") - kept, tuple(said)
 
     def close(self):
         self.process.stdin.close()
@@ -60,20 +65,20 @@ class Office:
 
 
 def measured(programs, facts):
-    """For each program and view the least time and the most memory, run after run, the programs in turn."""
+    """For each program and row the least time and the most memory, run after run, the programs in turn."""
     offices = [Office(program, facts) for program in programs]
     if len({office.adopted for office in offices}) > 1:
         sys.exit(f"they adopt otherwise: {[office.adopted for office in offices]}")
     figures = {}
-    for view in VIEWS:
+    for row, lines in ROWS.items():
         took = [[] for _ in offices]
         for _ in range(RUNS):
-            answers = [office.ask(view) for office in offices]
+            answers = [office.ask_all(lines) for office in offices]
             if len({said for _, _, said in answers}) > 1:
                 sys.exit(f"they answer otherwise: {[said for _, _, said in answers]}")
             for times, (time, memory, _) in zip(took, answers):
                 times.append((time, memory))
-        figures[view] = [(min(time for time, _ in times), max(memory for _, memory in times)) for times in took]
+        figures[row] = [(min(time for time, _ in times), max(memory for _, memory in times)) for times in took]
     kept = [office.memory("VmRSS") for office in offices]
     adopting = [office.adopting for office in offices]
     for office in offices:
@@ -88,13 +93,13 @@ def main():
         subprocess.run(["rustc", "-O", "--edition", "2021", "-o", rust, here / "views.rs"], check=True)
         programs = (crate / "out/views_bench", rust)
         earlier = {}
-        print(f"{'':20} {'ms a view: ours':>16} {'Rust':>8} {'ratio':>6} {'growth':>7} {'Rust':>6} {'MB more: ours':>14} {'Rust':>6}")
+        print(f"{'':20} {'ms: ours':>16} {'Rust':>8} {'ratio':>6} {'growth':>7} {'Rust':>6} {'MB more: ours':>14} {'Rust':>6}")
         for facts in SIZES:
             figures, kept, adopting = measured(programs, facts)
             for view, ((ours, memory), (plain, other)) in figures.items():
                 grown = [now / before for now, before in zip((ours, plain), earlier.get(view, (ours, plain)))]
                 earlier[view] = (ours, plain)
-                print(f"{facts:<10} {view:9} {ours * 1e3:16.0f} {plain * 1e3:8.0f} {ours / plain:6.2f} {grown[0]:7.2f} {grown[1]:6.2f}"
+                print(f"{facts:<10} {view:9} {ours * 1e3:16.1f} {plain * 1e3:8.1f} {ours / plain:6.2f} {grown[0]:7.2f} {grown[1]:6.2f}"
                       f" {memory / 1e6:14.1f} {other / 1e6:6.1f}", flush=True)
             print(f"{facts:<10} {'adopted':9} {adopting[0] * 1e3:16.0f} {adopting[1] * 1e3:8.0f} {'':6} {'':7} {'':6}"
                   f" {kept[0] / 1e6:14.1f} {kept[1] / 1e6:6.1f}", flush=True)

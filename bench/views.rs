@@ -1,5 +1,5 @@
 // A plain Rust office that shows views from its facts: the yardstick of views.py.
-// usage: views FACTS    as crates/views_bench has it, with the names of views as input
+// usage: views FACTS    as crates/views_bench has it, with the names of views and `late N` as input
 // A view goes over the components once, or twice where quarters are skipped, and keeps no more of one than its answer takes.
 #![allow(dead_code)]
 use std::fmt::Write as _;
@@ -466,10 +466,10 @@ fn report_text(office: &Office, unit: &UnitEntry, half: u16, day: u16) -> String
 }
 
 fn view_text(office: &Office, view: &str, day: u16) -> String {
-    let Some(Some(unit)) = office.entries.get(1) else { return String::new() };
+    let Some(Some(unit)) = office.entries.get(if view == "other" { 2 } else { 1 }) else { return String::new() };
     let quarter = quarter_at(unit.startup, day);
     match view {
-        "due" => due_text(office, unit, day),
+        "due" | "other" => due_text(office, unit, day),
         "tags" => tags_text(office, unit, day),
         "delays" => delays_text(office, unit, day),
         "percent" => percent_text(office, unit, quarter, day),
@@ -483,7 +483,8 @@ fn view_text(office: &Office, view: &str, day: u16) -> String {
 const HANDHELDS: u32 = 40;
 const READ: u32 = 500;
 const VALVES: u32 = 20_000;
-const ENTRIES: u32 = 20_004;
+const ENTRIES: u32 = 20_006;
+const LATE: u16 = 41;
 const STARTUP: u16 = 18_276;
 const FIRST: u16 = 18_302;
 const ELECTION: u16 = 19_174;
@@ -491,10 +492,11 @@ const NOTIFIED: u16 = 19_083;
 
 fn entry(place: u32) -> Fact {
     let (day, body) = match place {
-        0 => (STARTUP, Body::Unit { unit: 1, older: false, name: *b"BENCH\0\0\0\0\0\0\0" }),
-        1..=VALVES => {
-            let class = Class { service: Service::Gas, designation: Designation::Plain, plan: 0, month: (place % 3 + 1) as u8 };
-            (STARTUP, Body::Component { component: place as u16, unit: 1, kind: Kind::Valve, monomer: false, replaces: false, class })
+        0 | 20_004 => (STARTUP, Body::Unit { unit: if place == 0 { 1 } else { 2 }, older: false, name: *b"BENCH\0\0\0\0\0\0\0" }),
+        1..=VALVES | 20_005 => {
+            let (number, unit) = if place <= VALVES { (place, 1) } else { (VALVES + 1, 2) };
+            let class = Class { service: Service::Gas, designation: Designation::Plain, plan: 0, month: (number % 3 + 1) as u8 };
+            (STARTUP, Body::Component { component: number as u16, unit, kind: Kind::Valve, monomer: false, replaces: false, class })
         }
         20_001 => (ELECTION, Body::Election { unit: 1, mode: 1, notified: NOTIFIED }),
         _ => (plus_days(ELECTION, (place % 2 * 400) as u16), Body::Shutdown { unit: 1, days: 10 }),
@@ -532,6 +534,14 @@ fn monthly_facts(month: u32, handheld: u32) -> Vec<Fact> {
     facts
 }
 
+fn late_facts(number: u32, readings: u32) -> Vec<Fact> {
+    (0..readings.min(512)).map(|index| {
+        let place = number.wrapping_mul(512).wrapping_add(index) % VALVES;
+        let body = Body::Reading { component: (place + 1) as u16, instrument: 1, operator: 1, routine: true, ppm: 0, background: 2 };
+        Fact { day: FIRST, minute: (120 + place % 600) as u16, body }
+    }).collect()
+}
+
 fn main() {
     let facts: u32 = std::env::args().nth(1).and_then(|word| word.parse().ok()).unwrap_or(0);
     let months = (facts.saturating_sub(ENTRIES) / (HANDHELDS * 512)).max(1);
@@ -551,8 +561,16 @@ fn main() {
     let mut out = std::io::stdout();
     writeln!(out, "adopted {adopted} batches").unwrap();
     let day = plus_days(plus_months(FIRST, months - 1), 15);
+    let mut late = 0u32;
     for view in std::io::stdin().lock().lines() {
         let view = view.unwrap();
+        if let Some((_, readings)) = view.split_once("late ") {
+            late += 1;
+            office.adopt(LATE, late, &late_facts(late, readings.parse().unwrap_or(1)));
+            writeln!(out, "late: adopted 1").unwrap();
+            out.flush().unwrap();
+            continue;
+        }
         let text = view_text(&office, &view, day);
         let sum = text.bytes().fold(0u64, |sum, byte| sum.wrapping_mul(31).wrapping_add(u64::from(byte)));
         writeln!(out, "{view}: {} bytes, {sum}", text.len()).unwrap();

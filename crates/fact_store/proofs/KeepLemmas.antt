@@ -1,9 +1,9 @@
-use Rattle.std.proofs.Common.{◌≡◌, ℕ, ◌+◌, true, false, ◌||◌, Vec, Option, Some, List, [], ◌∷◌, ◌++◌, length, drop, slice_get, refl, sym, ap, ◌∙◌, subst, inl}
+use Rattle.std.proofs.Common.{◌≡◌, ℕ, ◌+◌, true, false, ◌||◌, Vec, Option, Some, List, [], ◌∷◌, ◌++◌, length, take, drop, slice_get, refl, sym, ap, ◌∙◌, subst, inl}
 use Rattle.std.proofs.Common.{arith}
 use Rattle.std.specs.List.{AllByRecursion}
 use Rattle.std.specs.Ordering.{is_eq}
 use Rattle.std.proofs.lemmas.Bool.{or_parts, or_from, false≢true}
-use Rattle.std.proofs.lemmas.List.{drop-drop, length_push}
+use Rattle.std.proofs.lemmas.List.{drop-drop, length_push, take_all, take-append-le}
 use Rattle.list_words.specs.Order.{put_in_order, in_order, AllApart}
 use Rattle.list_words.proofs.Ascending.{apart_append, ascends_in_order, put_each_in_order}
 use Rattle.list_words.proofs.Members.{all_at, among_right}
@@ -15,28 +15,15 @@ use Rattle.fact_kinds.specs.Stated.{Stated}
 use Rattle.fact_kinds.proofs.KeyOrder.{strict_goes_first, apart_keys, no_tie}
 use Rattle.fact_store.specs.declared.place.Place.{Place}
 use Rattle.fact_store.specs.declared.index.Index.{Index}
+use Rattle.fact_store.specs.declared.indexes.Indexes.{Indexes}
 use Rattle.fact_store.specs.declared.naming.Naming.{Naming}
+use Rattle.fact_store.specs.declared.naming.Naming.TheVariants.{Component, Unit as OfUnit, Tested, Reading}
 use Rattle.fact_store.specs.Kept.{names, is_held}
-use Rattle.fact_store.specs.Lists.{OnlyGrow}
 use Rattle.fact_store.specs.Takes.{CanTake, Takes}
-use Rattle.fact_store.specs.Inside.{KeepsLists, KeepsIndex}
-use Rattle.fact_store.specs.Naming.{HasRoomFor, named_by}
+use Rattle.fact_store.specs.Inside.{AreEmpty, IsEmpty, KeepAll, KeepFirst, KeepsFirst, KeepsIndex, KeepsLists}
+use Rattle.fact_store.specs.Naming.{named_by}
 use Rattle.fact_store.proofs.CountLemmas.{room_for_first, room_for_others}
-
--- lists that only grow keep what they hold, and have room for what they have room for
-pub keeps_grown : {Z : Type 0} (naming : FactBody → Option ℕ) (arrived : List Entry) (spare : List Stated) (old new : List (Vec Place Z))
-    → KeepsLists naming arrived spare old → OnlyGrow old new → KeepsLists naming arrived spare new
-keeps_grown naming arrived spare old new keeps grows =
-    record {
-      held = λ n. rw (grows.items n) (keeps.held n);
-      listed = λ n. rw (grows.items n) (keeps.listed n);
-      room = λ n. omega (arith, keeps.room n, grows.room n);
-    }
-
--- .. and for other facts, once they have room for them
-pub keeps_reserved : {Z : Type 0} (naming : FactBody → Option ℕ) (arrived : List Entry) (spare facts : List Stated) (lists : List (Vec Place Z))
-    → KeepsLists naming arrived spare lists → HasRoomFor naming facts lists → KeepsLists naming arrived facts lists
-keeps_reserved naming arrived spare facts lists keeps room = record { held = keeps.held; listed = keeps.listed; room = room }
+use Rattle.fact_store.proofs.ListingLemmas.{hold_none}
 
 -- a fact that has room can come
 pub can_take : {Z : Type 0} (naming : FactBody → Option ℕ) (arrived : List Entry) (fact : Stated) (spare : List Stated) (lists : List (Vec Place Z))
@@ -93,17 +80,82 @@ spare_first reserved used fact first = first_of (drop used reserved) fact first 
 
 -- ---- an index
 
--- an index that only grows has room for other facts once it has it
-pub index_reserved : (naming : Naming) (arrived : List Entry) (spare facts : List Stated) (old new : Index) → KeepsIndex naming arrived spare old
-    → new.naming ≡ old.naming → OnlyGrow old.lists.items new.lists.items → HasRoomFor (named_by old.naming) facts new.lists.items
-    → KeepsIndex naming arrived facts new
-index_reserved naming arrived spare facts old new keeps same grows room =
+-- an index that keeps all facts that came keeps the first ones, which are all of them
+pub keeps_first : (naming : Naming) (arrived : List Entry) (spare : List Stated) (index : Index) → KeepsIndex naming arrived spare index
+    → KeepsFirst naming arrived index
+keeps_first naming arrived spare index keeps =
+    let all : take index.listed arrived ≡ arrived = take_all index.listed arrived (omega (arith, keeps.all)) in
     record {
-      by = same ∙ keeps.by;
-      lists = keeps_reserved (named_by naming) arrived spare facts new.lists.items
-          (keeps_grown (named_by naming) arrived spare old.lists.items new.lists.items keeps.lists grows)
-          (subst (λ n. HasRoomFor (named_by n) facts new.lists.items) keeps.by room);
+      by = keeps.by;
+      within = omega (arith, keeps.all);
+      lists = rw all (record { held = keeps.lists.held; listed = keeps.lists.listed });
     }
+
+-- .. and so it does after one more came
+first_stay : (naming : Naming) (arrived : List Entry) (e : Entry) (index : Index) → KeepsFirst naming arrived index
+    → KeepsFirst naming (arrived ++ e ∷ []) index
+first_stay naming arrived e index keeps =
+    record {
+      by = keeps.by;
+      within = omega (arith, keeps.within, length_push arrived e);
+      lists = rw (take-append-le index.listed arrived (e ∷ []) keeps.within) keeps.lists;
+    }
+
+-- an index that lists nothing keeps the lists of no facts, which are the first of any
+empty_first : (naming : Naming) (arrived : List Entry) (index : Index) → IsEmpty naming index → KeepsFirst naming arrived index
+empty_first naming arrived index is =
+    record {
+      by = is.by;
+      within = omega (arith, is.none);
+      lists = rw is.none (hold_none (named_by naming) arrived index.lists.items (λ n. rw is.empty refl));
+    }
+
+empty_all : (naming : Naming) (index : Index) → IsEmpty naming index → KeepsIndex naming [] [] index
+empty_all naming index is =
+    record {
+      by = is.by;
+      all = is.none;
+      lists = record { held = λ n. rw is.empty tt; listed = λ n. rw is.empty refl; room = λ n. omega arith };
+    }
+
+module _ (indexes : Indexes) where
+  pub are_first : (arrived : List Entry) → AreEmpty indexes → KeepFirst arrived indexes
+  are_first arrived are =
+      record {
+        by_component = empty_first Component arrived indexes.components are.by_component;
+        by_unit = empty_first OfUnit arrived indexes.units are.by_unit;
+        by_instrument = empty_first Tested arrived indexes.instruments are.by_instrument;
+        by_reading = empty_first Reading arrived indexes.readings are.by_reading;
+      }
+
+  pub are_all : AreEmpty indexes → KeepAll [] [] indexes
+  are_all are =
+      record {
+        by_component = empty_all Component indexes.components are.by_component;
+        by_unit = empty_all OfUnit indexes.units are.by_unit;
+        by_instrument = empty_all Tested indexes.instruments are.by_instrument;
+        by_reading = empty_all Reading indexes.readings are.by_reading;
+      }
+
+  -- indexes of all facts that came are those of the first ones
+  pub all_first : (arrived : List Entry) (spare : List Stated) → KeepAll arrived spare indexes → KeepFirst arrived indexes
+  all_first arrived spare keep =
+      record {
+        by_component = keeps_first Component arrived spare indexes.components keep.by_component;
+        by_unit = keeps_first OfUnit arrived spare indexes.units keep.by_unit;
+        by_instrument = keeps_first Tested arrived spare indexes.instruments keep.by_instrument;
+        by_reading = keeps_first Reading arrived spare indexes.readings keep.by_reading;
+      }
+
+  -- .. and so they are after one more came
+  pub still_first : (arrived : List Entry) (e : Entry) → KeepFirst arrived indexes → KeepFirst (arrived ++ e ∷ []) indexes
+  still_first arrived e keep =
+      record {
+        by_component = first_stay Component arrived e indexes.components keep.by_component;
+        by_unit = first_stay OfUnit arrived e indexes.units keep.by_unit;
+        by_instrument = first_stay Tested arrived e indexes.instruments keep.by_instrument;
+        by_reading = first_stay Reading arrived e indexes.readings keep.by_reading;
+      }
 
 module _ (naming : Naming) (arrived : List Entry) (spare : List Stated) (fact : Stated) (body : FactBody) (stated : body ≡ fact.body)
     (first : slice_get spare 0 ≡ Some fact) (apart : AllApart goes_first arrived) where
@@ -119,11 +171,12 @@ module _ (naming : Naming) (arrived : List Entry) (spare : List Stated) (fact : 
 
   -- .. and when it has, the index holds its place as well
   pub has_come : (key : Key) (old new : Index) → is_held key arrived ≡ false → KeepsIndex naming arrived spare old
-      → new.naming ≡ old.naming → Takes arrived (named_by old.naming body) key old.lists.items new.lists.items
+      → new.naming ≡ old.naming → new.listed ≡ length arrived + 1 → Takes arrived (named_by old.naming body) key old.lists.items new.lists.items
       → KeepsIndex naming (arrived ++ (key, fact) ∷ []) (drop 1 spare) new
-  has_come key old new new_key keeps same takes =
+  has_come key old new new_key keeps same listed takes =
       record {
         by = same ∙ keeps.by;
+        all = listed ∙ sym (length_push arrived (key, fact));
         lists = keeps_taken (named_by naming) arrived key fact (drop 1 spare) old.lists.items new.lists.items apart
             (apart_more arrived key fact apart new_key)
             (subst (λ facts. KeepsLists (named_by naming) arrived facts old.lists.items) (first_of spare fact first) keeps.lists)

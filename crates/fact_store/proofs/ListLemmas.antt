@@ -1,4 +1,4 @@
-use Rattle.std.proofs.Common.{◌+◌, ◌≡◌, ℕ, zero, suc, ◌-◌, ◌<◌, ◌≤◌, cond, nat_eq, Vec, Option, Some, None, List, [], ◌∷◌, ◌++◌, length, get_or, set, refl, sym, ap, ◌∙◌, inl, inr}
+use Rattle.std.proofs.Common.{◌+◌, ◌≡◌, ℕ, zero, suc, ◌-◌, ◌<◌, ◌≤◌, cond, nat_eq, Vec, Some, None, List, [], ◌∷◌, ◌++◌, length, get_or, set, refl, sym, ap, ◌∙◌, inl, inr}
 use Rattle.std.proofs.Common.{arith}
 use Rattle.std.specs.List.{insert}
 use Rattle.std.specs.Vec.{vec_len, vec_capacity}
@@ -133,18 +133,26 @@ module _ {X Z : Type 0} where
             ]);
       }
 
-  -- ---- lists made and filled
+  -- ---- room made, and lists filled
 
-  -- one list more, with room for its count
-  pub roomy_push : (lists : List (Vec X Z)) (list : Vec X Z) (counts : List ℕ) (count : ℕ) → length lists ≡ length counts
-      → count ≤ vec_capacity list - vec_len list → ((n : ℕ) → value_at (λ c. c) 0 counts n ≤ room_in lists n)
-      → (n : ℕ) → value_at (λ c. c) 0 (counts ++ count ∷ []) n ≤ room_in (lists ++ list ∷ []) n
-  roomy_push lists list counts count same roomy before n =
-      rw (value_at-append (λ c. c) 0 counts count n, value_at-append (λ v. vec_capacity v - vec_len v) 0 lists list n, same)
-      (elim (cases_eq (length counts) n) [
-        | inl e ↦ rw (eq-eqb (length counts) n e) roomy
-        | inr other ↦ rw (ne_eqb (length counts) n other) (before n)
-      ])
+  -- there is room for one count more
+  pub roomy_more : (counts : List ℕ) (at count : ℕ) (old new : List (Vec X Z)) → at < length counts → count ≡ get_or counts at count → OnlyGrow old new
+      → count ≤ room_in new at → ((n : ℕ) → n < at → value_at (λ c. c) 0 counts n ≤ room_in old n)
+      → (n : ℕ) → n < at + 1 → value_at (λ c. c) 0 counts n ≤ room_in new n
+  roomy_more counts at count old new within read grows room before n below =
+      elim (cases_eq n at) [
+        | inl e ↦ rw (e, value_at-read (λ c. c) 0 counts at count within read) room
+        | inr other ↦ omega (arith, before n (omega (arith, below, other)), grows.room n)
+      ]
+
+  -- .. and for all of them
+  pub roomy_all : (counts : List ℕ) (at : ℕ) (lists : List (Vec X Z)) → length counts ≤ at
+      → ((n : ℕ) → n < at → value_at (λ c. c) 0 counts n ≤ room_in lists n) → (n : ℕ) → value_at (λ c. c) 0 counts n ≤ room_in lists n
+  roomy_all counts at lists all before n =
+      elim (cases_lt n at) [
+        | inl below ↦ before n below
+        | inr past ↦ rw (value_at-past (λ c. c) 0 counts n (omega (arith, past, all))) (omega arith)
+      ]
 
   -- a write of a list that has one element more at its end
   pub pushes_set : (lists : List (Vec X Z)) (number : ℕ) (element : X) (old new : Vec X Z) → number < length lists → old ≡ get_or lists number old

@@ -1,5 +1,5 @@
 -- What is true of facts that came and are not listed.
-use Rattle.std.specs.Prelude.{◌≡◌, ℕ, ◌+◌, ◌≤◌, Vec, length, drop}
+use Rattle.std.specs.Prelude.{ℕ, ◌+◌, ◌≤◌, Vec, length, drop}
 use Rattle.std.specs.Vec.{vec_len, vec_capacity}
 use Rattle.fact_kinds.specs.declared.limits.TheConstants.{MOST_FACTS}
 use Rattle.list_words.specs.Order.{AllApart}

@@ -1,14 +1,16 @@
--- What is true inside every store.
-use Rattle.std.specs.Prelude.{◌≡◌, ℕ, Vec, Option, List, length, filter}
+-- What is true inside every store, and inside facts of which the first ones are listed.
+use Rattle.std.specs.Prelude.{◌≡◌, ℕ, ◌≤◌, Vec, Option, List, [], length, take, filter}
 use Rattle.list_words.specs.Order.{in_order}
 use Rattle.fact_kinds.specs.declared.body.FactBody.{FactBody}
 use Rattle.fact_kinds.specs.Facts.{Entry, goes_first}
 use Rattle.fact_kinds.specs.Stated.{Stated}
 use Rattle.fact_store.specs.declared.place.Place.{Place}
 use Rattle.fact_store.specs.declared.index.Index.{Index}
+use Rattle.fact_store.specs.declared.indexes.Indexes.{Indexes}
 use Rattle.fact_store.specs.declared.naming.Naming.{Naming}
 use Rattle.fact_store.specs.declared.naming.Naming.TheVariants.{Component, Unit as OfUnit, Tested, Reading}
-use Rattle.fact_store.specs.Kept.{Kept, entries_at, names}
+use Rattle.fact_store.specs.Kept.{entries_at, names}
+use Rattle.fact_store.specs.Listing.{HoldInTurn}
 use Rattle.fact_store.specs.Lists.{items_in}
 use Rattle.fact_store.specs.Naming.{HasRoomFor, named_by}
 use Rattle.fact_store.specs.Takes.{AreHeld}
@@ -22,11 +24,38 @@ pub record KeepsLists {Z : Type 0} (naming : FactBody → Option ℕ) (arrived :
 -- an index goes by this number, and its lists are kept
 pub record KeepsIndex (naming : Naming) (arrived : List Entry) (spare : List Stated) (index : Index) : Type 0 where
   pub by : index.naming ≡ naming
+  pub all : index.listed ≡ length arrived
   pub lists : KeepsLists (named_by naming) arrived spare index.lists.items
 
--- what is true inside every store
-pub record IsSound (kept : Kept) (components units instruments readings : Index) : Type 0 where
-  pub by_component : KeepsIndex Component kept.arrived kept.spare components
-  pub by_unit : KeepsIndex OfUnit kept.arrived kept.spare units
-  pub by_instrument : KeepsIndex Tested kept.arrived kept.spare instruments
-  pub by_reading : KeepsIndex Reading kept.arrived kept.spare readings
+-- an index goes by this number, and its lists are those of the first facts that came, as many as it says
+pub record KeepsFirst (naming : Naming) (arrived : List Entry) (index : Index) : Type 0 where
+  pub by : index.naming ≡ naming
+  pub within : index.listed ≤ length arrived
+  pub lists : HoldInTurn (named_by naming) (take index.listed arrived) (in_order goes_first (take index.listed arrived)) index.lists.items
+
+-- an index goes by this number, and lists nothing
+pub record IsEmpty (naming : Naming) (index : Index) : Type 0 where
+  pub by : index.naming ≡ naming
+  pub empty : index.lists.items ≡ []
+  pub none : index.listed ≡ 0
+
+-- what is true inside every store: each index keeps its lists of all facts that came, and has room for those to come
+pub record KeepAll (arrived : List Entry) (spare : List Stated) (indexes : Indexes) : Type 0 where
+  pub by_component : KeepsIndex Component arrived spare indexes.components
+  pub by_unit : KeepsIndex OfUnit arrived spare indexes.units
+  pub by_instrument : KeepsIndex Tested arrived spare indexes.instruments
+  pub by_reading : KeepsIndex Reading arrived spare indexes.readings
+
+-- what is true inside facts of which the first ones are listed: each index keeps its lists of some of the first
+pub record KeepFirst (arrived : List Entry) (indexes : Indexes) : Type 0 where
+  pub by_component : KeepsFirst Component arrived indexes.components
+  pub by_unit : KeepsFirst OfUnit arrived indexes.units
+  pub by_instrument : KeepsFirst Tested arrived indexes.instruments
+  pub by_reading : KeepsFirst Reading arrived indexes.readings
+
+-- no index lists anything
+pub record AreEmpty (indexes : Indexes) : Type 0 where
+  pub by_component : IsEmpty Component indexes.components
+  pub by_unit : IsEmpty OfUnit indexes.units
+  pub by_instrument : IsEmpty Tested indexes.instruments
+  pub by_reading : IsEmpty Reading indexes.readings

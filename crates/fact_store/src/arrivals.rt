@@ -96,9 +96,4 @@ impl Arrivals {
     {
         &self.reserved[self.used..]
     }
-
-    /// Where the facts are kept.
-    pub(crate) fn alloc(&self) -> Global {
-        self.alloc
-    }
 }

@@ -4,6 +4,7 @@
 mod arrivals;
 mod counting;
 mod index;
+mod indexes;
 mod listing;
 pub mod lists;
 mod naming;
@@ -15,7 +16,7 @@ mod store;
 pub use arrivals::Arrivals;
 pub use place::Place;
 pub use steps::Steps;
-pub use store::FactStore;
+pub use store::{FactStore, Facts};
 
 #[cfg(test)]
 mod tests;

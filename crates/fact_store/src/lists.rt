@@ -1,6 +1,6 @@
 //! Lists by number. Room is made for elements first, so that putting one in takes no memory.
 
-ghost use Rattle.std.specs.Prelude.{◌≡◌, ℕ, ◌+◌, ◌<◌, ◌≤◌, Some, nat_eq, unwrap_or, if◌then◌else◌, IfOk, OnOk, [], vec_len, count_by, length};
+ghost use Rattle.std.specs.Prelude.{◌≡◌, ℕ, ◌+◌, ◌<◌, ◌≤◌, Some, nat_eq, unwrap_or, if◌then◌else◌, IfOk, OnOk, vec_len, count_by, length};
 ghost use Rattle.std.specs.HashMap.{get};
 ghost use Rattle.fact_store.specs.Lists.{value_at, items_in, room_in, OnlyGrow, HaveRoomForEach, PutsIn, Pushes};
 
@@ -33,17 +33,17 @@ fn grow<T: Drop>(alloc: Global, lists: &mut Lists<T>, count: usize) -> Result<()
     Ok(())
 }
 
-/// Makes room for so many more elements in the list of a number.
+/// Makes room for so many more elements in the list at a place.
 fn make_room<T: Drop>(
     alloc: Global,
     lists: &mut Lists<T>,
-    number: u16,
+    at: usize,
     count: usize,
 ) -> Result<(), AllocError>
+    requires few { at < usize.MAX }
     ensures grows { OnlyGrow lists.old.items lists.new.items }
-    ensures roomy { OnOk result (count ≤ room_in lists.new.items number) }
+    ensures roomy { OnOk result (count ≤ room_in lists.new.items at) }
 {
-    let at = usize::from(number);
     grow(alloc, lists, at + 1)?;
     lists[at].reserve(count)
 }
@@ -73,7 +73,7 @@ pub fn make_rooms<T: Drop>(
     let mut counts = HashMap::new(alloc);
     for number in numbers {
         let count = count_up(&mut counts, *number)?;
-        make_room(alloc, lists, *number, count)?;
+        make_room(alloc, lists, usize::from(*number), count)?;
     }
     Ok(())
 }
@@ -88,16 +88,20 @@ pub fn put_in<T: Drop>(lists: &mut Lists<T>, number: u16, index: usize, element:
     let _ = lists[usize::from(number)].insert(index, element);
 }
 
-/// Empty lists, each with room for so many elements.
-pub fn lists_for<T: Drop>(alloc: Global, counts: &[usize]) -> Result<Lists<T>, AllocError>
-    ensures empty { IfOk result (λ lists. (n : ℕ) → items_in lists.items n ≡ []) }
-    ensures roomy { IfOk result (λ lists. (n : ℕ) → value_at (λ c. c) 0 counts.now n ≤ room_in lists.items n) }
+/// Makes room in the list of each number for as many more elements as these counts say. After an error the lists hold what
+/// they held.
+pub fn make_rooms_for<T: Drop>(
+    alloc: Global,
+    lists: &mut Lists<T>,
+    counts: &[usize],
+) -> Result<(), AllocError>
+    ensures grows { OnlyGrow lists.old.items lists.new.items }
+    ensures roomy { OnOk result ((n : ℕ) → value_at (λ c. c) 0 counts.now n ≤ room_in lists.new.items n) }
 {
-    let mut lists = Vec::with_capacity(alloc, counts.len())?;
-    for count in counts {
-        lists.push(Vec::with_capacity(alloc, *count)?)?;
+    for at in 0..counts.len() {
+        make_room(alloc, lists, at, counts[at])?;
     }
-    Ok(lists)
+    Ok(())
 }
 
 /// Adds an element at the end of the list of a number. It takes no memory, since there is room.

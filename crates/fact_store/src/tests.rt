@@ -1,7 +1,7 @@
 ghost use Rattle.std.specs.Prelude.{◌≡◌, ◌<◌, ◌≤◌, length, All, OnOk};
 ghost use Rattle.fact_store.specs.Kept.{is_held};
 
-use crate::{Arrivals, FactStore, Place, Steps};
+use crate::{FactStore, Facts, Place, Steps};
 use fact_kinds::{Day, Fact, FactBody, Key, Memory, Purpose};
 use std::alloc::{AllocError, Global};
 use std::marker::Brand;
@@ -35,28 +35,34 @@ fn add_new(
     Ok(())
 }
 
-/// These facts as they came, not listed; of two with one key the first.
-fn arrivals_of(alloc: Global, entries: &[(Key, Fact)]) -> Result<Arrivals, Memory> {
-    let mut arrivals = Arrivals::new(alloc);
+/// These facts, which come in this order and are listed after the first, after so many more and so on, and at the end; of
+/// two with one key the first.
+fn listed_at_each(alloc: Global, entries: &[(Key, Fact)], count: usize) -> Result<FactStore, Memory>
+    requires some { 0 < count }
+{
+    let mut facts = Facts::new(alloc);
     let mut seen: Vec<(Key, Fact)> = Vec::new(alloc);
-    for entry in entries {
-        add_arrival(&mut arrivals, &mut seen, *entry)?;
+    for at in 0..entries.len() {
+        add_fact(&mut facts, &mut seen, entries[at])?;
+        if at % count == 0 {
+            facts = Facts::of(facts.list()?);
+        }
     }
-    Ok(arrivals)
+    facts.list()
 }
 
 /// Adds a fact, if none with its key is among those seen.
-fn add_arrival(
-    arrivals: &mut Arrivals,
+fn add_fact(
+    facts: &mut Facts,
     seen: &mut Vec<(Key, Fact)>,
     entry: (Key, Fact),
 ) -> Result<(), Memory>
-    requires { seen.old.items ≡ arrivals.old.arrived }
-    ensures { OnOk result (seen.new.items ≡ arrivals.new.arrived) }
+    requires { seen.old.items ≡ facts.old.arrived }
+    ensures { OnOk result (seen.new.items ≡ facts.new.arrived) }
 {
     if seen.len() < 1000 && !is_seen(seen, &entry.0) {
-        arrivals.reserve(&[entry.1])?;
-        arrivals.insert(entry.0, entry.1);
+        facts.reserve(&[entry.1])?;
+        facts.insert(entry.0, entry.1);
         seen.push(entry)?;
     }
     Ok(())
@@ -200,7 +206,7 @@ fn an_instruments_tests_and_readings_stand_apart(rt: HostRuntime) -> Result<(), 
 }
 
 #[test]
-fn facts_in_reverse_are_listed_at_once_as_one_by_one(rt: HostRuntime) -> Result<(), Fail> {
+fn late_facts_are_listed_at_once_as_one_by_one(rt: HostRuntime) -> Result<(), Fail> {
     let alloc = rt.alloc();
     let day = Day::of_number(20_000).ok_or("day")?;
     let mut entries = Vec::new(alloc);
@@ -210,17 +216,15 @@ fn facts_in_reverse_are_listed_at_once_as_one_by_one(rt: HostRuntime) -> Result<
         entries.push((at(day, minute, 1, 1, n), attempt_at(day, n % 5 + 1)))?;
     }
     let inserted = store_of(alloc, &entries)?;
-    let listed = arrivals_of(alloc, &entries)?.list()?;
-    for component in 0..6 {
-        let want = keys_at::<Brand>(
-            alloc,
-            Blank::new(1),
-            &inserted,
-            inserted.of_component(component),
-        )?;
-        let places = listed.of_component(component);
-        let found = keys_at::<Brand>(alloc, Blank::new(2), &listed, places)?;
-        assert_eq!(rt; found.as_slice(), want.as_slice(), "component {component}");
+    for count in [1, 7, 30, 100] {
+        let listed = listed_at_each(alloc, &entries, count)?;
+        for component in 0..6 {
+            let places = inserted.of_component(component);
+            let want = keys_at::<Brand>(alloc, Blank::new(1), &inserted, places)?;
+            let places = listed.of_component(component);
+            let found = keys_at::<Brand>(alloc, Blank::new(2), &listed, places)?;
+            assert_eq!(rt; found.as_slice(), want.as_slice(), "component {component}");
+        }
     }
     Ok(())
 }
@@ -230,9 +234,9 @@ fn a_fact_with_room_comes_after_a_list_was_made(rt: HostRuntime) -> Result<(), F
     let alloc = rt.alloc();
     let day = Day::of_number(20_000).ok_or("day")?;
     let late = attempt(day);
-    let mut arrivals = Arrivals::new(alloc);
-    arrivals.reserve(&[late])?;
-    let mut store = arrivals.list()?;
+    let mut facts = Facts::new(alloc);
+    facts.reserve(&[late])?;
+    let mut store = facts.list()?;
     assert!(rt; store.of_component(7).is_empty());
     store.insert(at(day, 9, 1, 1, 0), late);
     let places = store.of_component(7);

@@ -3,7 +3,7 @@ ghost use Rattle.facts_bench.specs.Numbered.{AreNumbered};
 
 use crate::sort::{Sort, fact_at};
 use fact_kinds::{Fact, Key, MOST_FACTS, Memory};
-use fact_store::{Arrivals, FactStore};
+use fact_store::{FactStore, Facts};
 use std::alloc::{AllocError, Global};
 
 /// How many facts room is made for at once: as many as a batch may have.
@@ -22,13 +22,38 @@ pub fn filled(alloc: Global, places: &[u32], sort: Sort) -> Result<FactStore, Me
 
 /// A store of the facts of these places, which came one after the other and were then listed at once.
 pub fn filled_at_once(alloc: Global, places: &[u32], sort: Sort) -> Result<FactStore, Memory> {
-    let mut arrivals = Arrivals::new(alloc);
-    let mut came = 0;
+    let mut arrivals = Facts::new(alloc);
+    arrive(alloc, &mut arrivals, 0, places, sort)?;
+    arrivals.list()
+}
+
+/// A store of the facts of these places, of which one half came and was listed, and then the other.
+pub fn filled_late(alloc: Global, places: &[u32], sort: Sort) -> Result<FactStore, Memory> {
+    let (first, late) = places.split_at(places.len() / 2);
+    let mut arrivals = Facts::new(alloc);
+    let came = arrive(alloc, &mut arrivals, 0, first, sort)?;
+    let mut arrivals = Facts::of(arrivals.list()?);
+    arrive(alloc, &mut arrivals, came, late, sort)?;
+    arrivals.list()
+}
+
+/// Adds the facts of these places, which are not listed. The result is how many there are then.
+fn arrive(
+    alloc: Global,
+    arrivals: &mut Facts,
+    before: u32,
+    places: &[u32],
+    sort: Sort,
+) -> Result<u32, Memory>
+    requires numbered { AreNumbered before arrivals.old.arrived }
+    ensures numbered { IfOk result (λ came. AreNumbered came arrivals.new.arrived) }
+{
+    let mut came = before;
     for some in places.chunks(AT_ONCE) {
         let facts = facts_at(alloc, some, sort)?;
-        came = add_arrivals(&mut arrivals, came, &facts)?;
+        came = add_arrivals(arrivals, came, &facts)?;
     }
-    arrivals.list()
+    Ok(came)
 }
 
 fn facts_at(alloc: Global, places: &[u32], sort: Sort) -> Result<Vec<Fact>, AllocError> {
@@ -56,7 +81,7 @@ fn add_facts(store: &mut FactStore, before: u32, facts: &[Fact]) -> Result<u32, 
 }
 
 /// Adds facts that are not listed, numbered in the same way.
-fn add_arrivals(arrivals: &mut Arrivals, before: u32, facts: &[Fact]) -> Result<u32, Memory>
+fn add_arrivals(arrivals: &mut Facts, before: u32, facts: &[Fact]) -> Result<u32, Memory>
     requires numbered { AreNumbered before arrivals.old.arrived }
     ensures numbered { IfOk result (λ came. AreNumbered came arrivals.new.arrived) }
 {

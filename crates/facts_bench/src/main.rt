@@ -3,7 +3,8 @@
 //! With `read FILE PASSES` it reads the batches of a file so many times. With `READS ORDER SORT FACTS` it makes so many
 //! facts of 20,000 components, puts them into a store, and reads each component's list so many times; where READS is no
 //! number it makes them alone. They come in `key`, `reverse` or `shuffled` order, and are `attempts` or `readings`. With
-//! `listed` in front they are listed at once when all have come. With no words it does a little of each.
+//! `listed` in front they are listed at once when all have come, and with `late` in front a half of them when it has come,
+//! and then the other half. With no words it does a little of each.
 #![tactic(auto)]
 
 mod filling;
@@ -12,10 +13,11 @@ mod order;
 mod reading;
 mod sort;
 mod total;
+mod way;
 
 use fact_kinds::Memory;
 use fact_store::FactStore;
-use filling::{filled, filled_at_once};
+use filling::{filled, filled_at_once, filled_late};
 use listing::listed;
 use order::{Order, places};
 use reading::read_all;
@@ -25,6 +27,7 @@ use std::marker::Brand;
 use std::sync::ledger::Blank;
 use std::{env, fs};
 use total::Total;
+use way::Way;
 
 fn main(rt: HostRuntime) -> Result<(), anyhow::Error> {
     let words: Vec<String> = env::args(&rt)?.skip(1).collect(rt.alloc())?;
@@ -32,10 +35,24 @@ fn main(rt: HostRuntime) -> Result<(), anyhow::Error> {
     match words.as_slice() {
         ["read", path, passes] => read(&rt, path, passes.parse().unwrap_or(1)),
         [reads, order, sort, facts] => {
-            store(&rt, false, reads, order, sort, facts.parse().unwrap_or(0))
+            store(
+                &rt,
+                Way::OneByOne,
+                reads,
+                order,
+                sort,
+                facts.parse().unwrap_or(0),
+            )
         }
-        ["listed", reads, order, sort, facts] => {
-            store(&rt, true, reads, order, sort, facts.parse().unwrap_or(0))
+        [way, reads, order, sort, facts] => {
+            store(
+                &rt,
+                Way::of(way),
+                reads,
+                order,
+                sort,
+                facts.parse().unwrap_or(0),
+            )
         }
         _ => a_little(&rt),
     }
@@ -55,7 +72,7 @@ fn read(rt: &HostRuntime, path: &str, passes: u32) -> Result<(), anyhow::Error> 
 
 fn store(
     rt: &HostRuntime,
-    at_once: bool,
+    way: Way,
     reads: &str,
     order: &str,
     sort: &str,
@@ -63,7 +80,7 @@ fn store(
 ) -> Result<(), anyhow::Error> {
     let places = places(rt.alloc(), Order::of(order), facts)?;
     let total = match reads.parse::<u32>() {
-        Ok(reads) => stored(rt.alloc(), at_once, &places, Sort::of(sort), reads)?,
+        Ok(reads) => stored(rt.alloc(), way, &places, Sort::of(sort), reads)?,
         Err(_) => made(&places, Sort::of(sort)),
     };
     println!(rt;
@@ -85,29 +102,31 @@ fn made(places: &[u32], sort: Sort) -> Total {
 /// The total of the facts of these places, which are read so many times from a store, component by component.
 fn stored(
     alloc: Global,
-    at_once: bool,
+    way: Way,
     places: &[u32],
     sort: Sort,
     reads: u32,
 ) -> Result<Total, Memory> {
-    let store = store_of(alloc, at_once, places, sort)?;
+    let store = store_of(alloc, way, places, sort)?;
     Ok(listed::<Brand>(Blank::new(1), &store, reads))
 }
 
-/// A store of the facts of these places, listed at once or one by one.
-fn store_of(alloc: Global, at_once: bool, places: &[u32], sort: Sort) -> Result<FactStore, Memory> {
-    if at_once {
-        return filled_at_once(alloc, places, sort);
+/// A store of the facts of these places, listed in this way.
+fn store_of(alloc: Global, way: Way, places: &[u32], sort: Sort) -> Result<FactStore, Memory> {
+    match way {
+        Way::OneByOne => filled(alloc, places, sort),
+        Way::AtOnce => filled_at_once(alloc, places, sort),
+        Way::Late => filled_late(alloc, places, sort),
     }
-    filled(alloc, places, sort)
 }
 
 fn a_little(rt: &HostRuntime) -> Result<(), anyhow::Error> {
     read(rt, "batches", 2)?;
     for order in ["key", "reverse", "shuffled"] {
         for sort in ["attempts", "readings"] {
-            store(rt, false, "1", order, sort, 40_000)?;
-            store(rt, true, "1", order, sort, 40_000)?;
+            for way in [Way::OneByOne, Way::AtOnce, Way::Late] {
+                store(rt, way, "1", order, sort, 40_000)?;
+            }
         }
     }
     Ok(())

@@ -25,7 +25,6 @@ mod program;
 #[cfg(test)]
 mod row_tests;
 mod showing;
-mod shut_filing;
 mod status;
 #[cfg(test)]
 mod stop_tests;
@@ -35,10 +34,10 @@ mod tests;
 
 use disk_model::{Disk, MemoryDisk};
 pub use file_disk::FileDisk;
+use filed_table::{AtPath, TableFiling};
 pub use program::run;
 use report_filing::{Filing, MapFiling};
-pub use shut_filing::ShutFiling;
-use status::Status;
+pub use status::Status;
 use std::process::ExitCode;
 use std::{env, io};
 pub use streams::{StdSink, StdSource};
@@ -121,18 +120,18 @@ fn office(rt: &HostRuntime, words: &[String]) -> u8 {
         "--help" => shown(rt, HELP),
         "--version" => shown(rt, VERSION),
         ":memory:" => in_memory(rt, &words[2..]),
-        path => with_disk(
-            rt,
-            &words[2..],
-            &mut FileDisk::new(rt, path),
-            &mut filing_for(path),
-        ),
+        path => at_path(rt, &words[2..], path),
     }
 }
 
-/// The reports on file beside the journal of a path. They have no store yet, so `file` ends with a filing fault there.
-fn filing_for(_path: &str) -> ShutFiling {
-    ShutFiling::new()
+/// Answers words over the journal of a path. The reports on file stand beside it, under its path with `.filed` behind; the file is
+/// made by the first call that asks for a report on file, so by no other command than `file`.
+fn at_path(rt: &HostRuntime, words: &[String], path: &str) -> u8 {
+    let Ok(filed) = format!(in rt.alloc(); "{path}.filed") else {
+        return Status::Memory.number();
+    };
+    let mut filing = TableFiling::new(AtPath::new(*rt, filed));
+    with_disk(rt, words, &mut FileDisk::new(rt, path), &mut filing)
 }
 
 /// Prints a text of the program itself.

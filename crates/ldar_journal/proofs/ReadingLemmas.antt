@@ -142,7 +142,7 @@ facts_grow frames batches is =
     )
 
 -- there are no more batches than facts
-pub few_batches : (frames : List (List Batch)) → AllByRecursion IsFrame frames → length (batches_of frames) ≤ fact_count (batches_of frames)
+few_batches : (frames : List (List Batch)) → AllByRecursion IsFrame frames → length (batches_of frames) ≤ fact_count (batches_of frames)
 few_batches [] each = omega arith
 few_batches (f ∷ frames) each =
     omega (
@@ -152,6 +152,13 @@ few_batches (f ∷ frames) each =
       fact_count-some f each.0.each,
       few_batches frames each.1,
     )
+
+-- .. and so not too many, with one frame more that may be kept
+pub few_more : (frames : List (List Batch)) (batches : List Batch) → AllByRecursion IsFrame frames → IsFrame batches → IsKept (batches_of frames ++ batches)
+    → length (batches_of (frames ++ batches ∷ [])) ≤ 8_000_000
+few_more frames batches each is kept =
+    let together = ap fact_count (batches_of-push frames batches) in
+    omega (arith, few_batches (frames ++ batches ∷ []) (AllByRecursion-push IsFrame frames batches each is), together, kept.fits)
 
 -- what is known of the batches of one frame more
 pub known_frames : (frames : List (List Batch)) (batches : List Batch) (identities : List Identity) (facts : ℕ)

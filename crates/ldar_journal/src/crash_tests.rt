@@ -1,54 +1,17 @@
-use crate::{CreateError, Journal, Settled, Torn, create, open_journal, prepare};
-use disk_model::{Disk, DiskFault, MemoryDisk, SureDisk};
-use fact_kinds::Batch;
-use ldar_facts::{Read, read_batch};
+use crate::tests::{EMPTY, appended, batches_on, empty_journal};
+use crate::{CreateError, Settled, Torn, create};
+use disk_model::{DiskFault, MemoryDisk, SureDisk};
 use std::alloc::Global;
 use std::test::Fail;
-
-// Handheld 7, batch 12: one calibration on 2024-02-20 at 10:00, instrument 1, 500 ppm.
-const BATCH: [u8; 20] = *b"\x42\0\x07\0\0\0\x0c\0\x01\x07\x4d\x3d\x02\x58\0\x01\0\0\x01\xf4";
 
 // What stands behind the gate of a frame with this batch: its length, the batch and a closed gate.
 const BEHIND: [u8; 25] =
     *b"\0\0\0\x14\x42\0\x07\0\0\0\x0c\0\x01\x07\x4d\x3d\x02\x58\0\x01\0\0\x01\xf4\0";
 
-// The header of a journal and a closed gate.
-const EMPTY: [u8; 17] = *b"LDARJNL1\0\0\0\0\0\0\0\0\0";
-
-fn batch(alloc: Global) -> Result<Batch, Fail> {
-    match read_batch(alloc, &BATCH)? {
-        Read::Whole { batch, used: _ } => Ok(batch),
-        _ => Err(Fail::from("a batch")),
-    }
-}
-
-// Adds a batch to the empty journal on a disk, and gives the journal and what the call answered.
-fn appended<D: Disk>(
-    alloc: Global,
-    disk: D,
-    batch: Batch,
-) -> Result<(Journal<D>, Result<(), Torn>), Fail> {
-    let Ok((mut journal, batches)) = open_journal(alloc, disk) else {
-        return Err(Fail::from("a journal"));
-    };
-    if !batches.is_empty() {
-        return Err(Fail::from("an empty journal"));
-    }
-    if batch.facts.as_slice().len() > 512 {
-        return Err(Fail::from("a batch that fits"));
-    }
-    let frame = prepare(alloc, &[batch])?;
-    let appended = journal.append(&frame);
-    Ok((journal, appended))
-}
-
 // The number of the first call of an append to an empty journal: those before it opened the journal.
 fn first_call(alloc: Global) -> Result<u64, Fail> {
-    let disk = MemoryDisk::new(alloc, &EMPTY, &[])?;
-    match open_journal(alloc, disk) {
-        Ok((journal, _)) => Ok(journal.disk().calls()),
-        Err(_) => Err(Fail::from("a journal")),
-    }
+    let journal = empty_journal(alloc, MemoryDisk::new(alloc, &EMPTY, &[])?)?;
+    Ok(journal.disk().calls())
 }
 
 // How many batches stand on a disk as a stop inside a call left it, unless it does not open.
@@ -62,10 +25,7 @@ fn stopped_batches(
         return Err(Fail::from("a call that was made"));
     }
     let stopped = disk.stopped(alloc, call, left)?;
-    match open_journal(alloc, stopped) {
-        Ok((_, batches)) => Ok(Some(batches.len())),
-        Err(_) => Ok(None),
-    }
+    Ok(batches_on(alloc, stopped).ok())
 }
 
 #[test]
@@ -92,7 +52,7 @@ fn a_stop_inside_create_leaves_nothing_or_an_empty_journal(rt: HostRuntime) -> R
 fn a_stop_before_the_gate_leaves_the_old_history(rt: HostRuntime) -> Result<(), Fail> {
     let first = first_call(rt.alloc())?;
     let disk = MemoryDisk::new(rt.alloc(), &EMPTY, &[])?;
-    let (journal, appended) = appended(rt.alloc(), disk, batch(rt.alloc())?)?;
+    let (journal, appended) = appended(rt.alloc(), disk)?;
     assert_eq!(rt; appended, Ok(()));
     let disk = journal.into_disk();
     for kept in 0..26 {
@@ -124,7 +84,7 @@ fn an_append_says_whether_its_gate_was_touched(rt: HostRuntime) -> Result<(), Fa
     for (call, gate) in [(0, false), (1, false), (2, true), (3, true)] {
         let failing = first.saturating_add(call);
         let disk = MemoryDisk::new(rt.alloc(), &EMPTY, &[failing])?;
-        let (journal, appended) = appended(rt.alloc(), disk, batch(rt.alloc())?)?;
+        let (journal, appended) = appended(rt.alloc(), disk)?;
         assert_eq!(rt; appended, Err(Torn { gate }));
         assert_eq!(rt; journal.settling(), gate);
         assert_eq!(rt; journal.disk().calls(), failing.saturating_add(1));
@@ -140,7 +100,7 @@ fn settling_says_what_the_gate_says(rt: HostRuntime) -> Result<(), Fail> {
     for (call, answer, count) in cases {
         let failing = first.saturating_add(call);
         let disk = MemoryDisk::new(rt.alloc(), &EMPTY, &[failing])?;
-        let (mut journal, _) = appended(rt.alloc(), disk, batch(rt.alloc())?)?;
+        let (mut journal, _) = appended(rt.alloc(), disk)?;
         if !journal.settling() {
             return Err(Fail::from("a journal in doubt"));
         }
@@ -171,7 +131,7 @@ fn a_fault_of_settling_leaves_the_doubt(rt: HostRuntime) -> Result<(), Fail> {
     let first = first_call(rt.alloc())?;
     let gate = first.saturating_add(2);
     let disk = MemoryDisk::new(rt.alloc(), &EMPTY, &[gate, gate.saturating_add(1)])?;
-    let (mut journal, appended) = appended(rt.alloc(), disk, batch(rt.alloc())?)?;
+    let (mut journal, appended) = appended(rt.alloc(), disk)?;
     assert_eq!(rt; appended, Err(Torn { gate: true }));
     if !journal.settling() {
         return Err(Fail::from("a journal in doubt"));
@@ -200,7 +160,7 @@ fn a_disk_with_room_does_not_fail(rt: HostRuntime) -> Result<(), Fail> {
         let mut disk = SureDisk::new(rt.alloc(), &[], room)?;
         assert_eq!(rt; create(&mut disk), made);
         if let Some(want) = want {
-            let (_, appended) = appended(rt.alloc(), disk, batch(rt.alloc())?)?;
+            let (_, appended) = appended(rt.alloc(), disk)?;
             assert_eq!(rt; appended, want);
         }
     }

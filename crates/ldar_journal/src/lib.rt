@@ -1,7 +1,6 @@
 //! A journal of accepted batches in a file, behind gates that a crash leaves closed.
 #![tactic(auto)]
 
-mod accepted;
 mod creation;
 mod frame;
 mod gates;
@@ -17,10 +16,9 @@ mod reader;
 mod settling;
 mod window;
 
-pub use accepted::Accepted;
 pub use creation::{CreateError, create};
 pub use journal::{Journal, Torn};
-pub use opening::{OpenError, OpenWhy, open_accepted, open_journal};
+pub use opening::{OpenError, OpenWhy};
 pub use prepared::{Frame, prepare};
 pub use reader::Opening;
 pub use settling::Settled;

@@ -1,6 +1,7 @@
 ghost use Rattle.std.specs.Prelude.{◌^◌, ◌-◌, None};
 
-use crate::{OpenWhy, Opening, open_accepted, open_journal};
+use crate::tests::{batches_on, read_on};
+use crate::{OpenWhy, Opening};
 use disk_model::{Disk, DiskFault, MemoryDisk};
 use fact_kinds::Identity;
 use std::alloc::Global;
@@ -78,17 +79,19 @@ fn put_batch(bytes: &mut Vec<u8>, number: u32, facts: u16) -> Result<(), Fail> {
     Ok(())
 }
 
-// Puts an open frame of so many batches behind an image, numbered from this number on.
+// Puts an open frame behind an image: so many batches, numbered from the first on by these steps.
 fn put_frame(
     alloc: Global,
     image: &mut Vec<u8>,
-    first: u32,
-    batches: u32,
+    frame: (u32, u32, u32),
     facts: u16,
 ) -> Result<(), Fail> {
+    let (first, step, count) = frame;
     let mut payload = Vec::new(alloc);
-    for index in 0..batches {
-        put_batch(&mut payload, first.wrapping_add(index), facts)?;
+    let mut number = first;
+    for _ in 0..count {
+        put_batch(&mut payload, number, facts)?;
+        number = number.wrapping_add(step);
     }
     let length = (payload.len() % 4_294_967_296) as u32;
     image.push(1)?;
@@ -97,64 +100,52 @@ fn put_frame(
     Ok(())
 }
 
-// An image with frames of these numbers of batches, all of so many facts.
-fn image_of(alloc: Global, frames: &[u32], facts: u16) -> Result<Vec<u8>, Fail> {
+// An image with these frames, all of batches of so many facts, and these bytes behind them.
+fn image_of(
+    alloc: Global,
+    frames: &[(u32, u32, u32)],
+    facts: u16,
+    behind: &[u8],
+) -> Result<Vec<u8>, Fail> {
     let mut image = Vec::from_slice(alloc, &HEADER)?;
-    let mut first: u32 = 1;
-    for batches in frames {
-        put_frame(alloc, &mut image, first, *batches, facts)?;
-        first = first.wrapping_add(*batches);
+    for frame in frames {
+        put_frame(alloc, &mut image, *frame, facts)?;
     }
-    image.push(0)?;
+    image.extend_from_slice(behind)?;
     Ok(image)
 }
 
-// Why the image is not opened, if it isn't.
-fn refusal(alloc: Global, image: &[u8]) -> Result<Option<OpenWhy>, Fail> {
-    match open_journal(alloc, MemoryDisk::new(alloc, image, &[])?) {
-        Ok(_) => Ok(None),
-        Err(error) => Ok(Some(error.why)),
-    }
+// What such an image opens to.
+fn opens_to(
+    alloc: Global,
+    frames: &[(u32, u32, u32)],
+    facts: u16,
+    behind: &[u8],
+) -> Result<Result<usize, OpenWhy>, Fail> {
+    let image = image_of(alloc, frames, facts, behind)?;
+    Ok(batches_on(alloc, MemoryDisk::new(alloc, &image, &[])?))
 }
 
 #[test]
 fn a_long_journal_opens(rt: HostRuntime) -> Result<(), Fail> {
-    // Frames of 1, 2 and 16 batches: 73 batches in over 64 KiB, and 74 of 512 facts in over 400 KiB; 243 of those in over 1 MiB.
-    let cases: [(&[u32], u16, usize); 3] = [
-        (&[1, 2, 16, 16, 16, 16, 6], 90, 73),
-        (&[16, 16, 16, 16, 2, 8], 512, 74),
-        (
-            &[
-                16, 16, 16, 16, 16, 16, 16, 16, 16, 16, 16, 16, 16, 16, 16, 2, 1,
-            ],
-            512,
-            243,
-        ),
-    ];
-    for (frames, facts, want) in cases {
-        let image = image_of(rt.alloc(), frames, facts)?;
-        let disk = MemoryDisk::new(rt.alloc(), &image, &[])?;
-        let Ok((_journal, accepted)) = open_accepted(rt.alloc(), disk) else {
-            return Err(Fail::from("a journal"));
-        };
-        assert_eq!(rt; accepted.as_slice().len(), want);
-        assert_eq!(rt; accepted.facts(), want as u64 * u64::from(facts));
-        for number in [1, 2, 3, 19, want as u32] {
-            assert_eq!(rt;
-                accepted.position(Identity {
-                    handheld: 7,
-                    number
-                }),
-                Some(number)
-            );
+    // Frames of 16 batches and one of 6 or 3: 70 batches in over 64 KiB, and of 512 facts in over 400 KiB; 243 of those in over 1 MiB.
+    let cases: [(u32, u32, u16, usize); 3] = [(4, 6, 90, 70), (4, 6, 512, 70), (15, 3, 512, 243)];
+    for (frames, last, facts, want) in cases {
+        let mut rows = Vec::new(rt.alloc());
+        let mut first: u32 = 1;
+        for _ in 0..frames {
+            rows.push((first, 1, 16))?;
+            first = first.wrapping_add(16);
         }
+        rows.push((first, 1, last))?;
+        assert_eq!(rt; opens_to(rt.alloc(), &rows, facts, &[0])?, Ok(want));
     }
     Ok(())
 }
 
 #[test]
 fn frames_come_one_by_one(rt: HostRuntime) -> Result<(), Fail> {
-    let image = image_of(rt.alloc(), &[1, 2, 16], 3)?;
+    let image = image_of(rt.alloc(), &[(1, 1, 1), (2, 1, 2), (4, 1, 16)], 3, &[0])?;
     let Ok(mut opening) = Opening::begin(rt.alloc(), MemoryDisk::new(rt.alloc(), &image, &[])?)
     else {
         return Err(Fail::from("a journal"));
@@ -164,117 +155,113 @@ fn frames_come_one_by_one(rt: HostRuntime) -> Result<(), Fail> {
         assert_eq!(rt; opening.next_frame(rt.alloc(), &mut batches), Ok(true));
         assert_eq!(rt; batches.len(), want);
     }
-    assert_eq!(rt; opening.next_frame(rt.alloc(), &mut batches), Ok(false));
-    assert_eq!(rt; opening.facts(), 57);
+    let Ok(false) = opening.next_frame(rt.alloc(), &mut batches) else {
+        return Err(Fail::from("a closed gate"));
+    };
+    let (_, positions) = opening.finish();
+    for number in [1, 2, 3, 19] {
+        assert_eq!(rt;
+            positions.position(Identity {
+                handheld: 7,
+                number
+            }),
+            Some(number)
+        );
+    }
     Ok(())
+}
+
+// Reads a journal over a disk that gives so few bytes a read, and gives the disk back, and what it opened to.
+fn trickled(
+    alloc: Global,
+    bytes: Vec<u8>,
+    most: usize,
+    endless: bool,
+) -> (Trickle, Result<usize, OpenWhy>) {
+    let disk = Trickle {
+        bytes,
+        most,
+        endless,
+        reads: 0,
+        last: 0,
+    };
+    match Opening::begin(alloc, disk) {
+        Ok(mut opening) => {
+            let count = read_on(alloc, &mut opening);
+            (opening.into_disk(), count)
+        }
+        Err(error) => (error.disk, Err(error.why)),
+    }
 }
 
 #[test]
 fn a_disk_may_give_few_bytes_and_never_end(rt: HostRuntime) -> Result<(), Fail> {
     // How many bytes a read gives at most, whether bytes follow without end, and how many reads are enough for all.
-    let image = image_of(rt.alloc(), &[1, 2, 16], 40)?;
+    let image = image_of(rt.alloc(), &[(1, 1, 1), (2, 1, 2), (4, 1, 16)], 40, &[0])?;
     for (most, endless) in [(1, false), (7, true), (1_000, true), (1 << 20, true)] {
-        let disk = Trickle {
-            bytes: image.clone()?,
-            most,
-            endless,
-            reads: 0,
-            last: 0,
-        };
-        let Ok((journal, batches)) = open_journal(rt.alloc(), disk) else {
-            return Err(Fail::from("a journal"));
-        };
-        assert_eq!(rt; batches.len(), 19);
+        let (disk, opened) = trickled(rt.alloc(), image.clone()?, most, endless);
+        assert_eq!(rt; opened, Ok(19));
         // No read begins past the closed gate.
-        assert!(rt; journal.disk().last < image.len() as u64);
-        assert!(rt; journal.disk().reads <= image.len() as u64 / most as u64 + 20);
+        assert!(rt; disk.last < image.len() as u64);
+        assert!(rt; disk.reads <= image.len() as u64 / most as u64 + 20);
     }
     Ok(())
 }
 
 #[test]
 fn zeros_for_ever_are_no_journal(rt: HostRuntime) -> Result<(), Fail> {
-    let disk = Trickle {
-        bytes: Vec::new(rt.alloc()),
-        most: 1 << 20,
-        endless: true,
-        reads: 0,
-        last: 0,
-    };
-    match open_journal(rt.alloc(), disk) {
-        Ok(_) => Err(Fail::from("no journal")),
-        Err(error) => {
-            assert_eq!(rt; error.why, OpenWhy::NotAJournal);
-            assert_eq!(rt; error.disk.reads, 1);
-            Ok(())
-        }
-    }
+    let (disk, opened) = trickled(rt.alloc(), Vec::new(rt.alloc()), 1 << 20, true);
+    assert_eq!(rt; opened, Err(OpenWhy::NotAJournal));
+    assert_eq!(rt; disk.reads, 1);
+    Ok(())
 }
 
 #[test]
 fn each_bad_frame_is_told_with_its_place(rt: HostRuntime) -> Result<(), Fail> {
-    // What follows two good frames of 25 and 45 bytes, the second of which ends at 86.
-    let good = image_of(rt.alloc(), &[1, 2], 1)?;
-    let front = &good[..good.len().saturating_sub(1)];
-    let cases: [(&[u8], Option<OpenWhy>); 9] = [
-        (&[0], None),
-        (&[7], None),
-        (&[], Some(OpenWhy::Damaged { at: 86 })),
-        (&[1], Some(OpenWhy::Damaged { at: 86 })),
-        (&[1, 0, 0, 0], Some(OpenWhy::Damaged { at: 86 })),
-        (&[1, 0, 0, 0, 0, 0], Some(OpenWhy::Damaged { at: 86 })),
-        (&[1, 0, 2, 0xe0, 0x91, 0], Some(OpenWhy::Damaged { at: 86 })),
-        (
-            &[1, 0, 0, 0, 20, 0x42, 0, 7],
-            Some(OpenWhy::Damaged { at: 86 }),
-        ),
-        (
-            &[1, 0, 0, 0, 2, 0x42, 0, 0],
-            Some(OpenWhy::Damaged { at: 86 }),
-        ),
+    // What follows two good frames of 25 and 45 bytes, the second of which ends at 86, and whether the journal opens.
+    let cases: [(&[u8], bool); 9] = [
+        (&[0], true),
+        (&[7], true),
+        (&[], false),
+        (&[1], false),
+        (&[1, 0, 0, 0], false),
+        (&[1, 0, 0, 0, 0, 0], false),
+        (&[1, 0, 2, 0xe0, 0x91, 0], false),
+        (&[1, 0, 0, 0, 20, 0x42, 0, 7], false),
+        (&[1, 0, 0, 0, 2, 0x42, 0, 0], false),
     ];
-    for (tail, want) in cases {
-        let mut image = Vec::from_slice(rt.alloc(), front)?;
-        image.extend_from_slice(tail)?;
-        assert_eq!(rt; refusal(rt.alloc(), &image)?, want);
+    for (behind, good) in cases {
+        let want = if good {
+            Ok(3)
+        } else {
+            Err(OpenWhy::Damaged { at: 86 })
+        };
+        assert_eq!(rt;
+            opens_to(rt.alloc(), &[(1, 1, 1), (2, 1, 2)], 1, behind)?,
+            want
+        );
     }
     Ok(())
 }
 
 #[test]
 fn frames_that_may_not_be_kept_are_bad(rt: HostRuntime) -> Result<(), Fail> {
-    // A frame of 17 batches; a number that comes again in a later frame, and in its own.
-    let mut seventeen = Vec::from_slice(rt.alloc(), &HEADER)?;
-    put_frame(rt.alloc(), &mut seventeen, 1, 17, 1)?;
-    assert_eq!(rt;
-        refusal(rt.alloc(), &seventeen)?,
-        Some(OpenWhy::Damaged { at: 16 })
-    );
-    let mut again = Vec::from_slice(rt.alloc(), &HEADER)?;
-    put_frame(rt.alloc(), &mut again, 1, 1, 1)?;
-    put_frame(rt.alloc(), &mut again, 0, 2, 1)?;
-    assert_eq!(rt;
-        refusal(rt.alloc(), &again)?,
-        Some(OpenWhy::Damaged { at: 41 })
-    );
-    let mut own = Vec::from_slice(rt.alloc(), &HEADER)?;
-    own.extend_from_slice(&[1, 0, 0, 0, 40])?;
-    put_batch(&mut own, 5, 1)?;
-    put_batch(&mut own, 5, 1)?;
-    own.push(0)?;
-    assert_eq!(rt;
-        refusal(rt.alloc(), &own)?,
-        Some(OpenWhy::Damaged { at: 16 })
-    );
-    for length in 0..16 {
+    // A frame of 17 batches; a number that comes again in a later frame, and in its own; and the place of the bad frame.
+    let cases: [(&[(u32, u32, u32)], u64); 4] = [
+        (&[(1, 1, 17)], 16),
+        (&[(1, 1, 1), (0, 1, 2)], 41),
+        (&[(5, 0, 2)], 16),
+        (&[], 16),
+    ];
+    for (frames, at) in cases {
         assert_eq!(rt;
-            refusal(rt.alloc(), &HEADER[..length])?,
-            Some(OpenWhy::NotAJournal)
+            opens_to(rt.alloc(), frames, 1, &[])?,
+            Err(OpenWhy::Damaged { at })
         );
     }
-    assert_eq!(rt;
-        refusal(rt.alloc(), &HEADER)?,
-        Some(OpenWhy::Damaged { at: 16 })
-    );
+    for length in 0..16 {
+        let disk = MemoryDisk::new(rt.alloc(), &HEADER[..length], &[])?;
+        assert_eq!(rt; batches_on(rt.alloc(), disk), Err(OpenWhy::NotAJournal));
+    }
     Ok(())
 }

@@ -89,7 +89,8 @@ impl<D: Disk> Opening<D> {
         ensures frame { result ≡ Ok true → (self.new.frames ≡ self.old.frames ++ batches.new.items ∷ [])
             × (fact_count (batches_of self.old.frames) < fact_count (batches_of self.new.frames)) }
         ensures identities { self.new.identities ≡ map identity_of (batches_of self.new.frames) }
-        ensures few { fact_count (batches_of self.new.frames) ≤ MOST_FACTS }
+        ensures kept { IsKept (batches_of self.new.frames) }
+        ensures few { result ≡ Ok true → length (batches_of self.new.frames) ≤ MOST_FACTS }
         ensures ended { result ≡ Ok false → self.new.ended ≡ true }
         ensures others { result ≢ Ok true → self.new.frames ≡ self.old.frames }
         ensures not_a_journal { result ≢ Err OpenWhy.NotAJournal }
@@ -121,22 +122,16 @@ impl<D: Disk> Opening<D> {
         }
     }
 
-    /// How many facts the batches so far have.
-    pub fn facts(&self) -> u64
-        ensures value { result ≡ fact_count (batches_of self.now.frames) }
-        ensures identities { self.now.identities ≡ map identity_of (batches_of self.now.frames) }
-        ensures kept { IsKept (batches_of self.now.frames) }
-        ensures some { length (batches_of self.now.frames) ≤ fact_count (batches_of self.now.frames) }
-    {
-        self.facts
-    }
-
     /// The journal, and where its batches stand, once the closed gate was found.
     pub fn finish(self) -> (Journal<D>, Positions)
         requires ended { self.ended ≡ true }
         ensures value { result.0 ≡ record { disk = self.disk; frames = self.frames; doubt = [] } }
         ensures opens { Told (D.content self.disk) (λ bytes. EndsAt bytes (end_of self.frames) self.frames) }
-        ensures identities { result.1.identities ≡ self.identities }
+        ensures kept { IsKept (batches_of self.frames) }
+        ensures identities { result.1.identities ≡ map identity_of (batches_of self.frames) }
+
+        // What a crash may leave of it is just its bytes.
+        ensures durable { Told (D.content self.disk) (λ bytes. Only bytes (D.images self.disk)) }
     {
         let Opening {
             disk,

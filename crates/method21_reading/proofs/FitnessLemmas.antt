@@ -1,11 +1,10 @@
-use Rattle.std.proofs.Common.{◌≡◌, ℕ, Option, Some, List, sym, ap, ◌∙◌, subst}
+use Rattle.std.proofs.Common.{◌≡◌, ℕ, Some, List, ap, ◌∙◌}
 use Rattle.fact_kinds.specs.declared.body.FactBody.{FactBody}
 use Rattle.fact_kinds.specs.declared.body.FactBody.TheVariants.{Reading}
 use Rattle.fact_kinds.specs.declared.key.Key.{Key}
 use Rattle.fact_kinds.specs.Facts.{Entry}
 use Rattle.fact_kinds.specs.Named.{reading_instrument}
 use Rattle.ldar_law.specs.declared.fitness.Fitness.{Fitness}
-use Rattle.ldar_law.specs.Fitness.{fitness_of}
 use Rattle.ldar_law.specs.Slices.{facts_of_instrument}
 use Rattle.ldar_law.proofs.FitnessLemmas.{fitness_is_of_instrument}
 use Rattle.method21_reading.specs.Readings.{fitness_by, IsFitnessAmongAll}

@@ -1,8 +1,8 @@
 -- Adding months keeps the order of days.
-use Rattle.std.proofs.Common.{◌≡◌, ℕ, ◌+◌, ◌-◌, ◌<◌, ◌≤◌, min, sym, subst, inl, inr, arith}
+use Rattle.std.proofs.Common.{◌≡◌, ℕ, ◌+◌, ◌-◌, ◌≤◌, subst, inl, inr, arith}
 use Rattle.std.proofs.lemmas.Bool.{cases_lt}
 use Rattle.std.proofs.lemmas.Bool.Decides.{nat_tests}
-use Rattle.ldar_days.specs.Calendar.{first_day, month_length, month_of, end_by, day_at, later_by}
+use Rattle.ldar_days.specs.Calendar.{first_day, month_of, end_by, day_at, later_by}
 use Rattle.ldar_days.proofs.Months.{first_day-lt, month_length_bounds}
 
 -- the month of a later day is no earlier one

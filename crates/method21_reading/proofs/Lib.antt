@@ -4,4 +4,3 @@ pub mod FitnessLemmas
 pub mod FrontLemmas
 pub mod LaterLemmas
 pub mod NextCalibration
-pub mod WalkLemmas

@@ -1,18 +1,14 @@
 -- What the rule makes of a component over days between which no class is entered for it.
-use Rattle.std.specs.Prelude.{◌≡◌, ℕ, ◌<◌, ◌≤◌, true, false, not, ◌&&◌, ◌||◌, nat_le, List}
-use Rattle.std.specs.List.Sorted.{IsPartitionPoint}
+use Rattle.std.specs.Prelude.{◌≡◌, ℕ, not, ◌&&◌, ◌||◌, List}
 use Rattle.fact_kinds.specs.declared.class.Class.{Class}
 use Rattle.fact_kinds.specs.declared.key.Key.{Key}
 use Rattle.ldar_law.specs.declared.equipment.Equipment.{Equipment}
 use Rattle.ldar_law.specs.Force.{class_on}
 use Rattle.ldar_law.specs.Limits.{regime_of, limit_of}
 use Rattle.ldar_law.specs.Standing.{are_valve_rules, are_pump_rules, are_compressor_rules, are_heavy_liquid_rules, leave_out, is_nde_designated}
+use Rattle.class_standing.specs.Standings.{IsInForce}
 use Rattle.method21_reading.specs.declared.rules.Rules.{Rules}
 use Rattle.method21_reading.specs.declared.standing.Standing.{Standing}
-
--- the classes in front of the place were entered by the day, and those from it on later
-abbrev pub IsBehind : ℕ → List (Key × Class) → ℕ → Type 0
-IsBehind day classes place = IsPartitionPoint (λ e. nat_le e.0.day day ≡ true) (λ e. nat_le e.0.day day ≡ false) classes place
 
 -- what the rule makes of a component of a class
 abbrev pub rules_of : Equipment → Class → Rules
@@ -30,6 +26,6 @@ rules_of item class = record {
 abbrev pub rules_on : Equipment → List (Key × Class) → ℕ → Rules
 rules_on item classes day = rules_of item (class_on item classes day)
 
--- it stands so on each of the days
+-- the rule makes this of it, by a class that is in force on each of its days
 abbrev pub StandsSo : Equipment → List (Key × Class) → Standing → Type 0
-StandsSo item classes standing = (day : ℕ) → standing.first ≤ day → day < standing.end → standing.rules ≡ rules_on item classes day
+StandsSo item classes standing = (standing.rules ≡ rules_of item standing.under.class) × IsInForce item classes standing.under

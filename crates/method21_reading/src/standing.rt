@@ -1,14 +1,13 @@
 //! What the rule makes of a component from one fact to the next: it stays as it is until a day on which a class is
 //! entered, so that most facts ask for no class.
 
-ghost use Rattle.std.specs.Prelude.{◌≡◌, ◌≤◌, ◌<◌, ◌-◌, ℕ, false, nat_le, length, slice_get};
-ghost use Rattle.std.specs.Option.{option_map_or};
+ghost use Rattle.std.specs.Prelude.{◌≡◌};
 ghost use Rattle.list_words.specs.Order.{Ascends};
 ghost use Rattle.fact_kinds.specs.Facts.{is_earlier};
-ghost use Rattle.ldar_law.specs.Force as force;
-ghost use Rattle.method21_reading.specs.Standings.{IsBehind, StandsSo, rules_on};
+ghost use Rattle.method21_reading.specs.Standings.{StandsSo, rules_on};
 
 use crate::rules::Rules;
+use class_standing::ClassStanding;
 use fact_kinds::{Class, Key};
 use ldar_days::Day;
 use ldar_law::Equipment;
@@ -16,59 +15,22 @@ use ldar_law::Equipment;
 /// What the rule makes of a component over some days.
 #[derive(Clone, Copy)]
 pub struct Standing {
-    /// The number of the first of the days.
-    pub first: u32,
-    /// The number of the day behind the last of them.
-    pub end: u32,
+    /// The class by which it does.
+    pub under: ClassStanding,
     pub rules: Rules,
 }
 
-/// The number of the day on which the class at a place was entered, or one behind all days where none stands there.
-fn day_at(classes: &[(Key, Class)], place: usize) -> u32
-    ensures value { (day : ℕ) → day < 65_536 → option_map_or (λ e. nat_le e.0.day day) (slice_get classes.now place) false ≡ nat_le result day }
-    ensures bound { result ≤ 65_536 }
-{
-    match classes.get(place) {
-        Some(e) => e.0.day.number(),
-        None => 65_536,
-    }
-}
-
-/// The number of the day on which the class in front of a place was entered, or one before all days.
-fn day_before(classes: &[(Key, Class)], place: usize) -> u32
-    ensures value { (day : ℕ) → day < 65_536 → 0 < place
-        → option_map_or (λ e. nat_le e.0.day day) (slice_get classes.now (place - 1)) false ≡ nat_le result day }
-{
-    if place == 0 {
-        return 0;
-    }
-    day_at(classes, place - 1)
-}
-
-/// The class in force on a day, by the place behind the classes entered by then.
-fn class_at(equipment: &Equipment, classes: &[(Key, Class)], place: usize) -> Class
-    requires within { place ≤ length classes.now }
-    ensures value { (day : ℕ) → IsBehind day classes.now place → result ≡ force.class_on equipment.now classes.now day }
-{
-    if place == 0 {
-        return equipment.class;
-    }
-    classes[place - 1].1
-}
-
 impl Standing {
-    /// That of a component on a day, by its classes in key order, of which the last one entered by then is found by
-    /// halving.
+    /// That of a component on a day, by its classes in key order.
     pub fn on(equipment: &Equipment, classes: &[(Key, Class)], day: Day) -> Standing
         requires ordered { Ascends (λ a b. is_earlier a.0 b.0) classes.now }
         ensures today { result.rules ≡ rules_on equipment.now classes.now day }
         ensures value { StandsSo equipment.now classes.now result }
     {
-        let place = classes.partition_point(|e| e.0.day <= day);
+        let under = ClassStanding::on(equipment, classes, day);
         Standing {
-            first: day_before(classes, place),
-            end: day_at(classes, place),
-            rules: Rules::of(equipment, class_at(equipment, classes, place)),
+            under,
+            rules: Rules::of(equipment, under.class),
         }
     }
 
@@ -79,8 +41,7 @@ impl Standing {
         ensures today { result.rules ≡ rules_on equipment.now classes.now day }
         ensures value { StandsSo equipment.now classes.now result }
     {
-        let number = day.number();
-        if self.first <= number && number < self.end {
+        if self.under.holds_on(day) {
             return self;
         }
         Standing::on(equipment, classes, day)

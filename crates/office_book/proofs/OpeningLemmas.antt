@@ -1,20 +1,25 @@
 -- The batches of a journal, taken in one after the other until one is denied.
-use Rattle.std.proofs.Common.{◌≡◌, ℕ, ◌+◌, ◌<◌, ◌≤◌, Option, Some, None, List, [], ◌∷◌, ◌++◌, length, take, drop, get_or, refl, sym, ◌∙◌, ap, subst, arith}
-use Rattle.std.specs.Prelude.{IsTrue}
+use Rattle.std.proofs.Common.{◌≡◌, ℕ, ◌+◌, ◌<◌, ◌≤◌, true, false, Option, Some, None, is_some, List, [], ◌∷◌, ◌++◌, length, take, drop, get_or, refl, sym}
+use Rattle.std.proofs.Common.{◌∙◌, ap, subst, arith, append_assoc}
+use Rattle.std.specs.Prelude.{IsTrue, slice_get}
 use Rattle.std.specs.Option.{option_map}
-use Rattle.std.proofs.lemmas.List.{length-take, drop-drop}
+use Rattle.std.proofs.lemmas.Bool.{false≢true}
+use Rattle.std.proofs.lemmas.List.{drop-drop, take_all}
 use Rattle.list_words.proofs.WordLaws.{first_given_is_first}
 use Rattle.fact_kinds.specs.declared.batch.Batch.{Batch}
 use Rattle.fact_kinds.specs.Facts.{Entry, entries_of, facts_of}
 use Rattle.fact_kinds.proofs.OrderFree.{facts_count}
-use Rattle.ldar_journal.specs.Image.{IsKept}
+use Rattle.ldar_journal.specs.Image.{batches_of, IsKept}
+use Rattle.ldar_journal.proofs.Histories.{batches_of-push}
 use Rattle.ldar_journal.proofs.KeepingLemmas.{next_one}
 use Rattle.ldar_journal.proofs.Positions.{fact_count-push}
-use Rattle.ldar_law.specs.declared.verdict.Verdict.TheVariants.{Pass, Denied, Full}
+use Rattle.ldar_law.specs.declared.verdict.Verdict.TheVariants.{Pass, Denied}
+use Rattle.ldar_law.specs.Machine.{IsNew}
 use Rattle.ldar_law.specs.Verdicts.{is_ruly, first_unruly, unruly_at, denial_at, first_denial, facts_with, verdict_by, verdict_on}
-use Rattle.ldar_law.proofs.VerdictLemmas.{first_fact_is_told, full_undenied, ruly_is_each}
-use Rattle.office_book.specs.Archive.{MayCome}
-use Rattle.office_book.proofs.HistoryLemmas.{cut_at, kept_to, ruly_more}
+use Rattle.ldar_law.proofs.VerdictLemmas.{first_fact_is_told, ruly_is_each}
+use Rattle.office_book.specs.Opened.{HasTaken}
+use Rattle.office_book.proofs.HistoryLemmas.{cut_at, kept_to, new_at, next_spare, ruly_more}
+use Rattle.office_views.specs.Held.{Held}
 
 -- ---- the first batch that is denied
 
@@ -44,53 +49,103 @@ first_behind before batch after fact number ruly denied =
           (undenied (first_denial a y) (facts_with a y) ((ruly_is_each before).0 ruly a y b stands));
     })
 
--- .. of the batches of a journal
-pub first_at : (batches : List Batch) (i : ℕ) (batch : Batch) (fact number : ℕ) → i < length batches → batch ≡ get_or batches i batch
-    → IsTrue (is_ruly (take i batches)) → verdict_on (take i batches) batch ≡ Denied fact number → first_unruly batches ≡ Some (i + 1, number)
-first_at batches i batch fact number within is ruly denied =
-    let long : length (take i batches) ≡ i = omega (arith, length-take i batches) in
-    ap first_unruly (cut_at [] batches i batch within is) ∙ first_behind (take i batches) batch (drop (i + 1) batches) fact number ruly denied
-    ∙ ap (λ (n : ℕ). Some (n + 1, number)) long
+-- .. of batches that come behind a history
+pub first_at : (history batches : List Batch) (i : ℕ) (batch : Batch) (fact number : ℕ) → i < length batches → batch ≡ get_or batches i batch
+    → IsTrue (is_ruly (history ++ take i batches)) → verdict_on (history ++ take i batches) batch ≡ Denied fact number
+    → first_unruly (history ++ batches) ≡ Some (length (history ++ take i batches) + 1, number)
+first_at history batches i batch fact number within is ruly denied =
+    ap first_unruly (cut_at history batches i batch within is)
+    ∙ first_behind (history ++ take i batches) batch (drop (i + 1) batches) fact number ruly denied
+
+-- the first that is denied stays the first, whatever comes behind it
+pub first_unruly-append : (history more : List Batch) (denied : ℕ × ℕ) → first_unruly history ≡ Some denied → first_unruly (history ++ more) ≡ Some denied
+first_unruly-append history more denied is =
+    let first = (first_given_is_first Batch (ℕ × ℕ) unruly_at history denied).0 is in
+    (first_given_is_first Batch (ℕ × ℕ) unruly_at (history ++ more) denied).1 (record {
+      before = first.before;
+      element = first.element;
+      after = first.after ++ more;
+      stands = ap (λ (l : List Batch). l ++ more) first.stands ∙ append_assoc first.before (first.element ∷ first.after) more;
+      gives = first.gives;
+      none_before = λ a y b stands. first.none_before a y b stands;
+    })
 
 -- ---- a batch that is taken in
 
 -- a batch that is not too much, of those that may be kept
-pub fits_at : (batches : List Batch) (i : ℕ) (batch : Batch) → i < length batches → batch ≡ get_or batches i batch → IsKept batches
-    → facts_with (take i batches) batch ≤ 8_000_000
-fits_at batches i batch within is kept =
-    let most = (kept_to [] batches i batch within is kept).fits in
-    omega (arith, facts_count (take i batches), fact_count-push (take i batches) batch)
-
--- it may come behind those before it
-pub may_come_next : (batches : List Batch) (i : ℕ) (batch : Batch) → i < length batches → batch ≡ get_or batches i batch → IsKept batches
-    → IsTrue (is_ruly (take i batches)) → verdict_on (take i batches) batch ≡ Pass → MayCome (take i batches) (batch ∷ [])
-may_come_next batches i batch within is kept ruly passes = record {
-  kept = kept_to [] batches i batch within is kept;
-  ruly = ruly_more (take i batches) batch ruly passes;
-}
-
--- with it they are ruly
-pub ruly_next : (batches : List Batch) (i : ℕ) (batch : Batch) → i < length batches → batch ≡ get_or batches i batch
-    → IsTrue (is_ruly (take i batches)) → verdict_on (take i batches) batch ≡ Pass → IsTrue (is_ruly (take (i + 1) batches))
-ruly_next batches i batch within is ruly passes =
-    subst (λ (l : List Batch). IsTrue (is_ruly l)) (sym (next_one batches i batch within is)) (ruly_more (take i batches) batch ruly passes)
-
--- what is too much does not fit
-pub not_full : (history : List Batch) (batch : Batch) (facts : ℕ) → verdict_on history batch ≡ Full facts → facts_with history batch ≤ 8_000_000 → ⊥
-not_full history batch facts full fits =
-    let told = (full_undenied history batch facts).0 full in
-    let many = told.1 in
-    let is = told.2 in
-    omega arith
+fits_at : (history batches : List Batch) (i : ℕ) (batch : Batch) → i < length batches → batch ≡ get_or batches i batch → IsKept (history ++ batches)
+    → facts_with (history ++ take i batches) batch ≤ 8_000_000
+fits_at history batches i batch within is kept =
+    let most = (kept_to history batches i batch within is kept).fits in
+    omega (arith, facts_count (history ++ take i batches), fact_count-push (history ++ take i batches) batch)
 
 -- a batch that is not denied passes, of those that may be kept
-pub passes_next : (batches : List Batch) (i : ℕ) (batch : Batch) (adopted : List Batch) → i < length batches → batch ≡ get_or batches i batch → IsKept batches
-    → adopted ≡ take i batches → (facts_with adopted batch ≤ 8_000_000 → verdict_on adopted batch ≡ Pass) → verdict_on (take i batches) batch ≡ Pass
-passes_next batches i batch adopted within is kept same passes =
-    subst (λ (l : List Batch). verdict_on l batch ≡ Pass) same
-    (passes (subst (λ (l : List Batch). facts_with l batch ≤ 8_000_000) (sym same) (fits_at batches i batch within is kept)))
+pub passes_next : (history batches : List Batch) (i : ℕ) (batch : Batch) (adopted : List Batch) → i < length batches → batch ≡ get_or batches i batch
+    → IsKept (history ++ batches) → adopted ≡ history ++ take i batches
+    → (facts_with adopted batch ≤ 8_000_000 → verdict_on adopted batch ≡ Pass) → verdict_on adopted batch ≡ Pass
+passes_next history batches i batch adopted within is kept same passes =
+    passes (subst (λ (l : List Batch). facts_with l batch ≤ 8_000_000) (sym same) (fits_at history batches i batch within is kept))
 
--- the room that is left with one batch more
-pub spare_next : (batches spare : List Batch) (i n : ℕ) → spare ≡ drop i batches → n ≡ 1 → drop n spare ≡ drop (i + 1) batches
-spare_next batches spare i n left one =
-    ap (λ (m : ℕ). drop m spare) one ∙ ap (λ (l : List Batch). drop 1 l) left ∙ drop-drop 1 i batches
+-- it is new
+pub new_next : (history batches : List Batch) (i : ℕ) (batch : Batch) (adopted : List Batch) → i < length batches → batch ≡ get_or batches i batch
+    → IsKept (history ++ batches) → adopted ≡ history ++ take i batches → IsNew adopted batch
+new_next history batches i batch adopted within is kept same =
+    subst (λ (l : List Batch). IsNew l batch) (sym same) (new_at history batches i batch within is kept)
+
+-- the front with it
+pub front_next : (history batches : List Batch) (i : ℕ) (batch : Batch) (adopted : List Batch) → i < length batches → batch ≡ get_or batches i batch
+    → adopted ≡ history ++ take i batches → adopted ++ batch ∷ [] ≡ history ++ take (i + 1) batches
+front_next history batches i batch adopted within is same =
+    ap (λ (l : List Batch). l ++ batch ∷ []) same ∙ append_assoc history (take i batches) (batch ∷ [])
+    ∙ ap (λ (l : List Batch). history ++ l) (sym (next_one batches i batch within is))
+
+-- .. is ruly
+pub ruly_next : (history batches : List Batch) (i : ℕ) (batch : Batch) (adopted : List Batch) → i < length batches → batch ≡ get_or batches i batch
+    → adopted ≡ history ++ take i batches → IsTrue (is_ruly (history ++ take i batches)) → verdict_on adopted batch ≡ Pass
+    → IsTrue (is_ruly (history ++ take (i + 1) batches))
+ruly_next history batches i batch adopted within is same ruly passes =
+    subst (λ (l : List Batch). IsTrue (is_ruly l)) (front_next history batches i batch adopted within is same)
+    (ruly_more adopted batch (subst (λ (l : List Batch). IsTrue (is_ruly l)) (sym same) ruly) passes)
+
+-- it is the first of those that have room
+pub room_next : (batches spare : List Batch) (i : ℕ) (batch : Batch) → i < length batches → batch ≡ get_or batches i batch → spare ≡ drop i batches
+    → slice_get spare 0 ≡ Some batch
+room_next batches spare i batch within is left =
+    ap (λ (l : List Batch). slice_get l 0) left ∙ next_spare batches batches i batch (take_all (length batches) batches (omega arith)) within is
+
+-- .. and then the others have room
+pub spare_next : (batches spare : List Batch) (i : ℕ) → spare ≡ drop i batches → drop 1 spare ≡ drop (i + 1) batches
+spare_next batches spare i left = ap (λ (l : List Batch). drop 1 l) left ∙ drop-drop 1 i batches
+
+-- ---- a frame that is taken in
+
+-- .. where a batch before it was denied
+pub taken_behind : (history more : List Batch) (old new : Held) (denied : Option (ℕ × ℕ)) → is_some denied ≡ true → HasTaken history old denied
+    → HasTaken (history ++ more) new denied
+taken_behind history more old new None some taken = absurd (false≢true some)
+taken_behind history more old new (Some denied) some taken = first_unruly-append history more denied taken
+
+-- .. where all before it were taken in
+pub taken_all : (history : List Batch) (views : Held) (denied : Option (ℕ × ℕ)) → is_some denied ≡ false → HasTaken history views denied
+    → (views ≡ record { adopted = history; spare = [] }) × IsTrue (is_ruly history)
+taken_all history views None none taken = taken
+taken_all history views (Some denied) none taken = absurd (false≢true (sym none))
+
+-- what views hold
+held_is : (views : Held) (adopted spare : List Batch) → views.adopted ≡ adopted → views.spare ≡ spare → views ≡ record { adopted = adopted; spare = spare }
+held_is views adopted spare first second = rw (sym first, sym second) refl
+
+-- .. all of a history, where the batches have come to their end
+pub all_taken : (history batches : List Batch) (i : ℕ) (views : Held) → ¬ (i < length batches) → views.adopted ≡ history ++ take i batches
+    → views.spare ≡ drop i batches → IsTrue (is_ruly (history ++ take i batches)) → HasTaken (history ++ batches) views None
+all_taken history batches i views past adopted spare ruly =
+    let whole : take i batches ≡ batches = take_all i batches (omega (arith, past)) in
+    let none : drop i batches ≡ [] = drop_all i batches (omega (arith, past)) in
+    let all : history ++ take i batches ≡ history ++ batches = ap (λ (l : List Batch). history ++ l) whole in
+    (held_is views (history ++ batches) [] (adopted ∙ all) (spare ∙ none), subst (λ (l : List Batch). IsTrue (is_ruly l)) all ruly)
+
+-- the batches of a frame behind all that were taken in
+pub frame_behind : (old new : List (List Batch)) (batches : List Batch) (views : Held) → new ≡ old ++ batches ∷ []
+    → views ≡ record { adopted = batches_of old; spare = [] } → views.adopted ++ batches ≡ batches_of new
+frame_behind old new batches views frames is =
+    ap (λ (h : Held). h.adopted ++ batches) is ∙ sym (ap batches_of frames ∙ batches_of-push old batches)

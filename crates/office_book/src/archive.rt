@@ -1,14 +1,13 @@
-ghost use Rattle.std.specs.Prelude.{◌≡◌, ◌↔◌, ℕ, ◌+◌, ◌<◌, ◌≤◌, List, IsTrue, Some, [], ◌∷◌, ◌++◌, length, take, drop, map, IfOk, OnOk, OnErr, IfSome, IsNone};
+ghost use Rattle.std.specs.Prelude.{◌≡◌, ◌↔◌, ◌+◌, ◌<◌, ◌≤◌, List, IsTrue, Some, [], ◌++◌, length, take, drop, map, OnOk};
 ghost use Rattle.fact_kinds.specs.declared.batch.Batch.{Batch as FactBatch};
 ghost use Rattle.fact_kinds.specs.declared.limits.TheConstants.{MOST_FACTS};
 ghost use Rattle.fact_kinds.specs.Facts.{facts_of, facts_to};
 ghost use Rattle.fact_kinds.specs.Identity.{identity_of};
 ghost use Rattle.ldar_journal.specs.Image.{IsKept};
-ghost use Rattle.ldar_law.specs.declared.verdict.Verdict.TheVariants as verdicts;
 ghost use Rattle.ldar_law.specs.Machine.{batch_at};
 ghost use Rattle.ldar_law.specs.Shown as law;
 ghost use Rattle.ldar_law.specs.Slices.{register_facts};
-ghost use Rattle.ldar_law.specs.Verdicts.{is_ruly, first_unruly, facts_with, verdict_on};
+ghost use Rattle.ldar_law.specs.Verdicts.{is_ruly, verdict_on};
 ghost use Rattle.office_book.specs.Archive.{IsStanding, MayCome};
 ghost use Rattle.office_views.specs.Answers.{report_asked, IsShown, IsView, Tells};
 
@@ -19,10 +18,8 @@ use fact_kinds::Batch;
 use fact_store::Steps;
 use ldar_days::Day;
 use ldar_law::{Report, Request, Verdict};
-use office_views::{AskError, Shown, Views};
-use std::alloc::Global;
+use office_views::{AskError, Shown, Views, ask_views, report_views};
 use std::marker::{Brand, Model};
-use std::slice::from_ref;
 use std::sync::ledger::{Blank, Ledger};
 
 /// How a batch stands to those that are kept.
@@ -52,14 +49,15 @@ impl Model for Archive {
 }
 
 impl Archive {
-    /// No batch.
-    pub fn new(alloc: Global) -> Result<Archive, Memory>
-        ensures value { IfOk result (λ archive. archive ≡ record { adopted = []; spare = [] }) }
+    /// The batches that were taken in, and where they stand.
+    pub fn of(views: Views, positions: Positions) -> Archive
+        requires kept { IsKept views.adopted }
+        requires ruly { IsTrue (is_ruly views.adopted) }
+        requires known { positions.identities ≡ map identity_of views.adopted }
+        requires none { views.spare ≡ [] }
+        ensures value { result ≡ views }
     {
-        Ok(Archive {
-            views: Views::new(alloc),
-            positions: Positions::new(alloc)?,
-        })
+        Archive { views, positions }
     }
 
     /// How many batches there are, and how many facts they have.
@@ -106,8 +104,7 @@ impl Archive {
     pub fn judged(&self, batch: &Batch) -> Verdict
         ensures value { result ≡ verdict_on self.now.adopted batch.now }
     {
-        let (_, facts) = self.views.counts();
-        verdict(self.views.register(), facts, batch)
+        judged_after(&self.views, batch)
     }
 
     /// The verdict on a batch after those that are kept and others behind them, which enter no equipment and have so many facts.
@@ -136,42 +133,14 @@ impl Archive {
     {
         report_views::<Brand>(&mut self.views, unit, half, day, Blank::new(1))
     }
+}
 
-    /// Adds batches for which there is room, one after the other, as long as they pass: where one is denied after those before
-    /// it, its position, from 1, and the rule.
-    pub fn take_in(&mut self, batches: &[Batch]) -> Option<(u32, u8)>
-        requires none { self.old.adopted ≡ [] }
-        requires roomy { self.old.spare ≡ batches.now }
-        requires kept { IsKept batches.now }
-        requires few { length batches.now ≤ MOST_FACTS }
-        ensures adopted { IsNone result → self.new.adopted ≡ batches.now }
-        ensures ruly { IsNone result → IsTrue (is_ruly batches.now) }
-        ensures unruly { IfSome result (λ found. first_unruly batches.now ≡ Some found) }
-    {
-        for batch in batches {
-            match self.rule_against(batch) {
-                None => self.adopt(from_ref(batch)),
-                Some(rule) => {
-                    let (count, _) = self.counts();
-                    return Some((count + 1, rule));
-                }
-            }
-        }
-        None
-    }
-
-    /// The least rule that denies a batch after those that are kept, if one does.
-    fn rule_against(&self, batch: &Batch) -> Option<u8>
-        ensures denied { IfSome result (λ rule. (fact : ℕ) × (verdict_on self.now.adopted batch.now ≡ verdicts.Denied fact rule)) }
-        ensures passes { IsNone result → facts_with self.now.adopted batch.now ≤ MOST_FACTS
-            → verdict_on self.now.adopted batch.now ≡ verdicts.Pass }
-    {
-        match self.judged(batch) {
-            Verdict::Denied { fact: _, rule } => Some(rule),
-            Verdict::Pass => None,
-            Verdict::Full { facts: _ } => None,
-        }
-    }
+/// The verdict on a batch after those that were adopted.
+pub(crate) fn judged_after(views: &Views, batch: &Batch) -> Verdict
+    ensures value { result ≡ verdict_on views.now.adopted batch.now }
+{
+    let (_, facts) = views.counts();
+    verdict(views.register(), facts, batch)
 }
 
 /// Adopts batches that have room, one after the other, and says where they stand.
@@ -209,35 +178,4 @@ fn is_kept_at<L: Ledger>(views: &Views, position: u32, batch: &Batch, blank: Bla
 {
     let mut steps = Steps::<L>::new(blank);
     views.is_kept_at(position, batch, &mut steps)
-}
-
-/// What a view shows of the adopted batches.
-fn ask_views<L: Ledger>(views: &mut Views, request: &Request, blank: Blank) -> Result<Shown, Memory>
-    requires name { blank.name ≡ L.name }
-    requires parts { blank.parts ≡ L.parts }
-    requires some_part { 0 < L.parts }
-    requires view { IsView request.now }
-    ensures value { IsShown result (law.shown views.old.adopted request.now) }
-    ensures unchanged { views.new ≡ views.old }
-{
-    let mut steps = Steps::<L>::new(blank);
-    views.ask(request, &mut steps)
-}
-
-/// The report of the adopted batches.
-fn report_views<L: Ledger>(
-    views: &mut Views,
-    unit: u16,
-    half: u16,
-    day: Day,
-    blank: Blank,
-) -> Result<Report, AskError>
-    requires name { blank.name ≡ L.name }
-    requires parts { blank.parts ≡ L.parts }
-    requires some_part { 0 < L.parts }
-    ensures value { Tells result (report_asked unit half day (facts_to day views.old.adopted)) }
-    ensures unchanged { views.new ≡ views.old }
-{
-    let mut steps = Steps::<L>::new(blank);
-    views.report(unit, half, day, &mut steps)
 }

@@ -7,6 +7,7 @@ mod asking;
 mod book;
 mod copies;
 mod grouping;
+mod intake;
 mod keeping;
 pub mod laws;
 mod office;

@@ -3,7 +3,6 @@ pub mod Asked
 pub mod Headers
 pub mod Held
 pub mod Inside
-pub mod Kept
 pub mod Known
 pub mod Lists
 pub mod Taking

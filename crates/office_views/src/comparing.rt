@@ -2,10 +2,9 @@ ghost use Rattle.std.specs.Prelude.{◌≡◌, ◌+◌, ◌≤◌, ◌↔◌, Is
 ghost use Rattle.fact_kinds.specs.declared.limits.TheConstants.{MOST_FACTS};
 ghost use Rattle.office_views.specs.Headers.{batch_by, facts_kept};
 
-use crate::facts::Facts;
 use crate::header::Header;
 use fact_kinds::{Batch, Fact};
-use fact_store::{Place, Steps};
+use fact_store::{Facts, Place, Steps};
 use std::sync::ledger::Ledger;
 
 /// Whether two facts are the same.

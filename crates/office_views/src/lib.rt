@@ -7,7 +7,6 @@ mod asking;
 mod comparing;
 mod due;
 mod entered;
-mod facts;
 mod header;
 mod instruments;
 mod judged;
@@ -27,4 +26,4 @@ mod unit_lists;
 mod views;
 
 pub use shown::{AskError, Shown};
-pub use views::Views;
+pub use views::{Views, ask_views, report_views};

@@ -5,9 +5,9 @@ ghost use Rattle.fact_kinds.specs.Fields.{IsFact};
 ghost use Rattle.ldar_law.specs.Slices.{is_registered as says_registered, register_facts};
 ghost use Rattle.office_views.specs.Taking.{CanEnter, HasOwnKeys};
 
-use crate::facts::Facts;
 use component_register::Register;
 use fact_kinds::{Batch, Fact, Key};
+use fact_store::Facts;
 use ldar_law::is_registered;
 
 /// The key of the fact at a place of a batch.

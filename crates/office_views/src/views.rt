@@ -1,4 +1,4 @@
-ghost use Rattle.std.specs.Prelude.{◌≡◌, ℕ, ◌+◌, ◌≤◌, ◌↔◌, Some, None, IsTrue, [], ◌∷◌, ◌++◌, length, drop, slice_get, OnOk, OnErr};
+ghost use Rattle.std.specs.Prelude.{◌≡◌, ℕ, ◌+◌, ◌<◌, ◌≤◌, ◌↔◌, Some, None, IsTrue, [], ◌∷◌, ◌++◌, length, drop, slice_get, OnOk, OnErr};
 ghost use Rattle.fact_kinds.specs.Facts.{facts_of, facts_to};
 ghost use Rattle.fact_kinds.specs.declared.limits.TheConstants.{MOST_FACTS};
 ghost use Rattle.fact_store.specs.Kept.{facts_in};
@@ -13,7 +13,6 @@ ghost use Rattle.office_views.specs.Answers.{IsShown, IsView, Tells};
 use crate::asked::unit_asked;
 use crate::asking::answer;
 use crate::comparing::is_batch_of;
-use crate::facts::Facts;
 use crate::header::{Header, facts_of_all, push_headers};
 use crate::lists::Lists;
 use crate::reporting::report_on;
@@ -21,12 +20,12 @@ use crate::shown::{AskError, Shown};
 use crate::taking::{put_entries, put_facts};
 use component_register::Register;
 use fact_kinds::{Batch, Memory};
-use fact_store::Steps;
+use fact_store::{Facts, Steps};
 use ldar_days::Day;
 use ldar_law::{Report, Request};
 use std::alloc::Global;
 use std::marker::Model;
-use std::sync::ledger::Ledger;
+use std::sync::ledger::{Blank, Ledger};
 
 /// The facts of the adopted batches, and what they say of each process unit on a day. Contracts see the adopted batches in
 /// the order in which they came, beside the batches that have room.
@@ -132,7 +131,7 @@ impl Views {
             Ok(entry) => entry,
             Err(what) => return Ok(Shown::NoSuch(what)),
         };
-        let store = self.store.list(self.alloc)?;
+        let store = self.store.list()?;
         let shown = answer(self.alloc, &store, &self.register, &entry, request, steps);
         self.store = Facts::of(store);
         shown
@@ -154,7 +153,7 @@ impl Views {
             Ok(entry) => entry,
             Err(what) => return Err(AskError::NoSuch(what)),
         };
-        let store = self.store.list(self.alloc)?;
+        let store = self.store.list()?;
         let lists = Lists {
             alloc: self.alloc,
             store: &store,
@@ -172,4 +171,39 @@ impl Views {
         let at = position.saturating_sub(1) as usize;
         at < self.adopted && is_batch_of(&self.store, &self.headers[at], batch, steps)
     }
+}
+
+/// What a view shows of the adopted batches, with a count of its reads that begins here.
+pub fn ask_views<L: Ledger>(
+    views: &mut Views,
+    request: &Request,
+    blank: Blank,
+) -> Result<Shown, Memory>
+    requires name { blank.name ≡ L.name }
+    requires parts { blank.parts ≡ L.parts }
+    requires some_part { 0 < L.parts }
+    requires view { IsView request.now }
+    ensures value { IsShown result (law.shown views.old.adopted request.now) }
+    ensures unchanged { views.new ≡ views.old }
+{
+    let mut steps = Steps::<L>::new(blank);
+    views.ask(request, &mut steps)
+}
+
+/// The report of a half of a process unit of the adopted batches, with a count of its reads that begins here.
+pub fn report_views<L: Ledger>(
+    views: &mut Views,
+    unit: u16,
+    half: u16,
+    day: Day,
+    blank: Blank,
+) -> Result<Report, AskError>
+    requires name { blank.name ≡ L.name }
+    requires parts { blank.parts ≡ L.parts }
+    requires some_part { 0 < L.parts }
+    ensures value { Tells result (asked.report_asked unit half day (facts_to day views.old.adopted)) }
+    ensures unchanged { views.new ≡ views.old }
+{
+    let mut steps = Steps::<L>::new(blank);
+    views.report(unit, half, day, &mut steps)
 }

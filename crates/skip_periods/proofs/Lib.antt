@@ -1,4 +1,5 @@
 pub mod ElectionLemmas
+pub mod MarkLemmas
 pub mod PassLemmas
 pub mod ReadingLemmas
 pub mod SeenLemmas

@@ -157,11 +157,11 @@ seen_more startup quarter events i e old new within stands seen looks = record {
 
 -- the mark of what is seen
 pub mark_is : (item : Equipment) (classes : List (Key × Class)) (startup : ℕ) (events : List Event) (delayed : List Bool) (day quarter : ℕ) (seen mark : Mark)
-    (is_delayed is_missed : Bool) → seen ≡ seen_in startup events quarter → is_delayed ≡ get_or delayed (quarter - 1) false →
-    is_missed ≡ is_first_missed item classes startup events false quarter day →
-    mark.leaking ≡ (is_counted item classes startup [] false quarter day && (seen.leaking || is_delayed || is_missed)) →
-    mark.monitored ≡ (is_counted item classes startup [] false quarter day && (seen.monitored || is_delayed || is_missed)) →
+    (counted is_delayed is_missed : Bool) → counted ≡ is_counted item classes startup [] false quarter day → seen ≡ seen_in startup events quarter →
+    is_delayed ≡ get_or delayed (quarter - 1) false → is_missed ≡ is_first_missed item classes startup events false quarter day →
+    mark.leaking ≡ (counted && (seen.leaking || is_delayed || is_missed)) →
+    mark.monitored ≡ (counted && (seen.monitored || is_delayed || is_missed)) →
     mark ≡ mark_for item classes startup events delayed day quarter
 unfolding mark_of
-mark_is item classes startup events delayed day quarter seen mark is_delayed is_missed seen_is delayed_is missed_is leaks monitors =
-    same_mark mark _ _ (leaks ∙ rw (seen_is, delayed_is, missed_is) refl) (monitors ∙ rw (seen_is, delayed_is, missed_is) refl)
+mark_is item classes startup events delayed day quarter seen mark counted is_delayed is_missed counted_is seen_is delayed_is missed_is leaks monitors =
+    same_mark mark _ _ (leaks ∙ rw (counted_is, seen_is, delayed_is, missed_is) refl) (monitors ∙ rw (counted_is, seen_is, delayed_is, missed_is) refl)

@@ -1,5 +1,5 @@
 -- What is seen of a component in each quarter from the first to one, and its marks for them (40 CFR 60.485a(h)).
-use Rattle.std.specs.Prelude.{◌≡◌, ℕ, ◌+◌, ◌-◌, ◌<◌, Bool, false, ◌&&◌, ◌||◌, List, length, slice_index_or}
+use Rattle.std.specs.Prelude.{◌≡◌, ℕ, ◌+◌, ◌-◌, ◌<◌, ◌≤◌, Bool, false, not, ◌&&◌, ◌||◌, List, length, slice_index_or}
 use Rattle.std.specs.List.{list_any}
 use Rattle.fact_kinds.specs.declared.class.Class.{Class}
 use Rattle.fact_kinds.specs.declared.key.Key.{Key}
@@ -7,7 +7,9 @@ use Rattle.ldar_law.specs.declared.equipment.Equipment.{Equipment}
 use Rattle.ldar_law.specs.declared.event.Event.{Event}
 use Rattle.ldar_law.specs.declared.tally.Mark.{Mark}
 use Rattle.ldar_law.specs.Happenings.{is_routine, is_routine_leak}
+use Rattle.ldar_law.specs.Limits.{regime_of}
 use Rattle.ldar_law.specs.Percent.{is_in_quarter, mark_of}
+use Rattle.ldar_law.specs.Standing.{are_valve_rules, is_nde_designated}
 
 -- it was found leaking in the quarter, and it was monitored in it
 abbrev pub seen_in : ℕ → List Event → ℕ → Mark
@@ -37,3 +39,14 @@ pub record LooksAt (startup : ℕ) (e : Event) (old new : List Mark) : Type 0 wh
 abbrev pub mark_for : Equipment → List (Key × Class) → ℕ → List Event → List Bool → ℕ → ℕ → Mark
 mark_for item classes startup events delayed day quarter =
     mark_of item classes startup events (slice_index_or delayed (quarter - 1) false) quarter day
+
+-- a component of this class is a valve that is counted
+abbrev pub counts_class : Equipment → Class → Bool
+counts_class item class = are_valve_rules (regime_of item.kind class.service) && not (is_nde_designated class.designation)
+
+-- the marks of so many quarters from the first on, with what is seen in the others behind them
+pub record AreMarkedTo (item : Equipment) (classes : List (Key × Class)) (startup : ℕ) (events : List Event) (delayed : List Bool) (day quarter past : ℕ)
+    (marks : List Mark) : Type 0 where
+  pub count : length marks ≡ quarter
+  pub marked : (k : ℕ) (d : Mark) → k < past → slice_index_or marks k d ≡ mark_for item classes startup events delayed day (k + 1)
+  pub seen : (k : ℕ) (d : Mark) → past ≤ k → k < quarter → slice_index_or marks k d ≡ seen_in startup events (k + 1)

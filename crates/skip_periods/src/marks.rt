@@ -6,11 +6,12 @@ ghost use Rattle.fact_kinds.specs.Named.{is_numbered as says_numbered};
 ghost use Rattle.ldar_law.specs.declared.numbers.TheConstants.{LAST_FACT_DAY};
 ghost use Rattle.skip_periods.specs.Seen.{mark_for};
 
-use crate::percent::{mark_seen, missed_quarter};
+use crate::percent::{is_counted_of, mark_seen, missed_quarter};
 use crate::seen::seen_to;
+use class_standing::ClassStanding;
 use fact_kinds::{Class, Key, Memory};
 use ldar_days::Day;
-use ldar_law::{Equipment, Event, Mark};
+use ldar_law::{Equipment, Event, Mark, judging_day};
 use std::alloc::Global;
 
 /// Whether the list says that a quarter is delayed.
@@ -37,7 +38,7 @@ fn is_numbered(number: Option<u16>, quarter: u16) -> bool
 /// What a component adds to the counts of each quarter from the first to one (40 CFR 60.485a(h)), as a view of the day
 /// has it: entry 0 is the mark for quarter 1. The classes and the events are those of the component, the classes in key
 /// order; `delayed` says of each quarter, from the first on, what `mark` is told of it. The events are walked over once,
-/// whatever the number of quarters. An error: no memory for the marks.
+/// whatever the number of quarters, and the class moves on with them. An error: no memory for the marks.
 pub fn marks_to(
     alloc: Global,
     equipment: &Equipment,
@@ -53,24 +54,17 @@ pub fn marks_to(
     ensures value { IfOk result (λ marks. marks.items
         ≡ map (mark_for equipment.now classes.now startup events.now delayed.now day) (from_to 1 quarter)) }
 {
-    let seen = seen_to(alloc, startup, events, quarter)?;
+    let mut marks = seen_to(alloc, startup, events, quarter)?;
     let missed = missed_quarter(equipment, classes, startup, events, day);
-    let mut marks = Vec::with_capacity(alloc, usize::from(quarter))?;
+    let mut standing = ClassStanding::on(equipment, classes, equipment.begin);
     for past in 0..quarter {
         let number = past + 1;
+        standing = standing.moved_to(equipment, classes, judging_day(startup, number, day));
+        let is_counted = is_counted_of(equipment, standing.class);
         let is_delayed = is_delayed_in(delayed, number);
         let is_missed = is_numbered(missed, number);
-        let mark = mark_seen(
-            equipment,
-            classes,
-            startup,
-            seen[usize::from(past)],
-            is_delayed,
-            is_missed,
-            number,
-            day,
-        );
-        marks.push(mark)?;
+        let place = usize::from(past);
+        marks[place] = mark_seen(is_counted, marks[place], is_delayed, is_missed);
     }
     Ok(marks)
 }

@@ -5,11 +5,19 @@ ghost use Rattle.fact_kinds.specs.Named.{is_numbered as says_numbered};
 ghost use Rattle.ldar_law.specs.Duties as duties;
 ghost use Rattle.ldar_law.specs.Percent as law;
 ghost use Rattle.ldar_law.specs.declared.numbers.TheConstants.{LAST_FACT_DAY};
+ghost use Rattle.skip_periods.specs.Seen.{counts_class};
 
 use crate::readings::{has_routine_in, is_found_leaking, is_read};
 use fact_kinds::{Class, Key};
 use ldar_days::{Day, quarter_of};
 use ldar_law::{Equipment, Event, Mark, Regime, is_in_quarter, is_nde_designated, judging_day};
+
+/// Whether a component of a class is a valve that is counted (40 CFR 60.485a(h)).
+pub fn is_counted_of(item: &Equipment, class: Class) -> bool
+    ensures value { result ≡ counts_class item.now class }
+{
+    Regime::of(item.kind, class.service).are_valve_rules() && !is_nde_designated(class.designation)
+}
 
 /// Whether the component is a valve that is counted in the quarter, as a view of the day has it.
 fn is_counted(
@@ -25,7 +33,7 @@ fn is_counted(
     ensures value { result ≡ law.is_counted item.now classes.now startup [] false quarter day }
 {
     let class = item.ordered_class_on(classes, judging_day(startup, quarter, day));
-    Regime::of(item.kind, class.service).are_valve_rules() && !is_nde_designated(class.designation)
+    is_counted_of(item, class)
 }
 
 /// Whether the first monitoring of the component was due before the day and was not made (our own rule).
@@ -78,26 +86,11 @@ pub fn missed_quarter(
     }
 }
 
-/// What a component adds to the counts of a quarter, by what is seen of it in the quarter.
-pub fn mark_seen(
-    item: &Equipment,
-    classes: &[(Key, Class)],
-    startup: Day,
-    seen: Mark,
-    delayed: bool,
-    missed: bool,
-    quarter: u16,
-    day: Day,
-) -> Mark
-    requires startup { startup ≤ LAST_FACT_DAY }
-    requires quarter { 1 ≤ quarter }
-    requires ordered { Ascends (λ a b. is_earlier a.0 b.0) classes.now }
-    ensures leaking { result.leaking
-        ≡ (law.is_counted item.now classes.now startup [] false quarter day && (seen.leaking || delayed || missed)) }
-    ensures monitored { result.monitored
-        ≡ (law.is_counted item.now classes.now startup [] false quarter day && (seen.monitored || delayed || missed)) }
+/// What a component adds to the counts of a quarter, by whether it is counted and what is seen of it in the quarter.
+pub fn mark_seen(counted: bool, seen: Mark, delayed: bool, missed: bool) -> Mark
+    ensures leaking { result.leaking ≡ (counted && (seen.leaking || delayed || missed)) }
+    ensures monitored { result.monitored ≡ (counted && (seen.monitored || delayed || missed)) }
 {
-    let counted = is_counted(item, classes, startup, quarter, day);
     Mark {
         leaking: counted && (seen.leaking || delayed || missed),
         monitored: counted && (seen.monitored || delayed || missed),
@@ -127,7 +120,6 @@ pub fn mark(
         monitored: is_read(startup, events, quarter),
     };
     let missed = is_first_missed(equipment, classes, startup, events, quarter, day);
-    mark_seen(
-        equipment, classes, startup, seen, delayed, missed, quarter, day,
-    )
+    let counted = is_counted(equipment, classes, startup, quarter, day);
+    mark_seen(counted, seen, delayed, missed)
 }

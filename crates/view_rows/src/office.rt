@@ -14,7 +14,7 @@ use fact_kinds::{Batch, Identity, Memory};
 use fact_store::Steps;
 use ldar_days::Day;
 use ldar_law::{Report, Request, Verdict};
-use office_views::{AskError, Shown, Views};
+use office_views::{AskError, Shown, Views, ask_views, report_views};
 use std::alloc::Global;
 use std::marker::{Brand, Model};
 use std::slice::from_ref;
@@ -154,35 +154,4 @@ fn adopt_accepted<L: Ledger>(views: &mut Views, batch: &Batch, blank: Blank)
 {
     let mut steps = Steps::<L>::new(blank);
     views.adopt(batch, &mut steps);
-}
-
-/// What a view shows of the adopted batches.
-fn ask_views<L: Ledger>(views: &mut Views, request: &Request, blank: Blank) -> Result<Shown, Memory>
-    requires name { blank.name ≡ L.name }
-    requires parts { blank.parts ≡ L.parts }
-    requires some_part { 0 < L.parts }
-    requires view { IsView request.now }
-    ensures value { IsShown result (law.shown views.old.adopted request.now) }
-    ensures unchanged { views.new ≡ views.old }
-{
-    let mut steps = Steps::<L>::new(blank);
-    views.ask(request, &mut steps)
-}
-
-/// The report of the adopted batches.
-fn report_views<L: Ledger>(
-    views: &mut Views,
-    unit: u16,
-    half: u16,
-    day: Day,
-    blank: Blank,
-) -> Result<Report, AskError>
-    requires name { blank.name ≡ L.name }
-    requires parts { blank.parts ≡ L.parts }
-    requires some_part { 0 < L.parts }
-    ensures value { Tells result (report_asked unit half day (facts_to day views.old.adopted)) }
-    ensures unchanged { views.new ≡ views.old }
-{
-    let mut steps = Steps::<L>::new(blank);
-    views.report(unit, half, day, &mut steps)
 }

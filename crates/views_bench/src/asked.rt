@@ -9,13 +9,14 @@ use office_views::Shown;
 use std::alloc::Global;
 use view_rows::Office;
 
-/// The view of the unit that a word names, on a day, and of the quarter or half in which the day lies.
+/// The view that a word names, on a day, and of the quarter or half in which the day lies.
 fn request(view: &str, day: Day) -> Request
     ensures view { IsView result }
 {
     let quarter = quarter_of(startup(), day.month()).unwrap_or(0);
     match view {
         "due" => Request::Due { unit: 1, day },
+        "other" => Request::Due { unit: 2, day },
         "tags" => Request::Tags { unit: 1, day },
         "delays" => Request::Delays { unit: 1, day },
         "percent" => Request::Percent {

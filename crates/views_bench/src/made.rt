@@ -12,10 +12,13 @@ pub const HANDHELDS: u32 = 40;
 
 const READ: u32 = 500;
 
-/// How many valves there are; the register has the unit, an election and two shutdowns besides.
+/// How many valves there are; the register has the unit, an election and two shutdowns besides, and another unit of one valve.
 const VALVES: u32 = 20_000;
 
-pub const ENTRIES: u32 = 20_004;
+pub const ENTRIES: u32 = 20_006;
+
+/// The handheld whose readings come late.
+const LATE: u16 = 41;
 
 /// 2020-01-15, when the unit starts up, and 2020-02-10, from when on it is monitored.
 const STARTUP: u32 = 18_276;
@@ -56,23 +59,31 @@ pub fn register_batch(alloc: Global, number: u32) -> Result<Option<Batch>, Memor
 /// The entry of the register at a place.
 fn entry(place: u32) -> Option<Fact> {
     if place == 0 {
-        return unit();
+        return unit(1);
     }
     if place <= VALVES {
-        return Some(valve(place));
+        return Some(valve(place, 1));
     }
     if place == VALVES + 1 {
         return Some(election());
     }
-    Some(shutdown(place % 2 * 400))
+    if place <= VALVES + 3 {
+        return Some(shutdown(place % 2 * 400));
+    }
+    if place == VALVES + 4 {
+        return unit(2);
+    }
+    Some(valve(VALVES + 1, 2))
 }
 
-fn unit() -> Option<Fact> {
+fn unit(unit: u8) -> Option<Fact>
+    requires in_range { (1 ≤ unit) × (unit ≤ 64) }
+{
     Some(Fact {
         day: Day::at(STARTUP),
         minute: 0,
         body: FactBody::Unit {
-            unit: 1,
+            unit,
             older: false,
             name: Name::new(b"BENCH")?,
         },
@@ -93,8 +104,10 @@ fn number_of(handheld: u32) -> u16
     (handheld % HANDHELDS + 1) as u16
 }
 
-/// The valve with this number, from 1.
-fn valve(number: u32) -> Fact {
+/// The valve of a unit with this number, from 1.
+fn valve(number: u32, unit: u8) -> Fact
+    requires in_range { (1 ≤ unit) × (unit ≤ 64) }
+{
     let class = Class {
         service: Service::Gas,
         designation: Designation::Plain,
@@ -106,7 +119,7 @@ fn valve(number: u32) -> Fact {
         minute: 0,
         body: FactBody::Component {
             component: valve_at(number.saturating_sub(1)),
-            unit: 1,
+            unit,
             kind: Kind::Valve,
             monomer: false,
             replaces: false,
@@ -151,6 +164,17 @@ pub fn monthly_batch(alloc: Global, month: u32, handheld: u32) -> Result<Option<
         }
     }
     Ok(Batch::new(number, month, facts))
+}
+
+/// The batch with this number, from 0, of so many readings that come late, 512 at most: each of another valve, on the first day.
+pub fn late_batch(alloc: Global, number: u32, readings: u32) -> Result<Option<Batch>, Memory> {
+    let first = number.wrapping_mul(512);
+    let mut facts = Vec::new(alloc);
+    for index in 0..readings.min(512) {
+        let place = first.wrapping_add(index) % VALVES;
+        facts.push(reading(Day::at(FIRST), number_of(0), place, 0))?;
+    }
+    Ok(Batch::new(LATE, number, facts))
 }
 
 fn precision(day: Day, handheld: u32) -> Fact {

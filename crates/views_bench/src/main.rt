@@ -2,7 +2,8 @@
 //!
 //! With a number of facts it makes a process unit of 20,000 valves and their monthly readings by 40 handhelds, so many facts at
 //! most but one month at least, in batches of up to 512, and has each batch judged and adopted. Then it answers each line of its
-//! input, which names a view, by the length of its text and a sum over it. The views are of the days after the last readings.
+//! input. One that names a view is answered by the length of its text and a sum over it; the views are of the days after the last
+//! readings, and `other` is the due list of a unit of one valve. At `late N` a batch of N readings is adopted, which come late.
 #![tactic(auto)]
 
 mod asked;
@@ -10,7 +11,7 @@ mod made;
 
 use asked::said;
 use fact_kinds::Batch;
-use made::{ENTRIES, HANDHELDS, monthly_batch, register_batch, view_day};
+use made::{ENTRIES, HANDHELDS, late_batch, monthly_batch, register_batch, view_day};
 use std::alloc::Global;
 use std::env;
 use view_rows::Office;
@@ -29,11 +30,31 @@ fn main(rt: HostRuntime) -> Result<(), anyhow::Error> {
     let mut office = Office::new(alloc);
     let adopted = adopt_all(alloc, &mut office, months)?;
     println!(rt; "adopted {adopted} batches")?;
+    let mut late = 0u32;
     for line in rt.lines(alloc) {
-        let told = said(alloc, &mut office, line?.as_str(), view_day(months))?;
+        let line = line?;
+        let told = match line.split_once("late ") {
+            Some((_, readings)) => {
+                late = late.wrapping_add(1);
+                adopted_late(alloc, &mut office, late, readings)?
+            }
+            None => said(alloc, &mut office, line.as_str(), view_day(months))?,
+        };
         println!(rt; "{told}")?;
     }
     Ok(())
+}
+
+/// Adopts the batch with this number of so many readings that come late, and says whether it was adopted.
+fn adopted_late(
+    alloc: Global,
+    office: &mut Office,
+    number: u32,
+    readings: &str,
+) -> Result<String, anyhow::Error> {
+    let batch = late_batch(alloc, number, readings.parse().unwrap_or(1))?;
+    let adopted = adopt(office, &batch)?;
+    Ok(format!(in alloc; "late: adopted {adopted}")?)
 }
 
 /// Adopts the batches of the register and of so many months. The result is how many were adopted.

@@ -2,7 +2,6 @@ use Rattle.std.proofs.Common.{◌≡◌, ℕ, ◌+◌, count_by, take}
 use Rattle.fact_kinds.specs.Named.{is_numbered}
 use Rattle.fact_store.specs.Kept.{names}
 use Rattle.fact_store.specs.Lists.{value_at}
-use Rattle.fact_store.specs.Listing.{named_in}
 use Rattle.fact_store.specs.Naming.{named_by}
 use Rattle.fact_store.proofs.counting.counts_of.Given as goal
 

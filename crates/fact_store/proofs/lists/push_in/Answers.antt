@@ -1,4 +1,4 @@
-use Rattle.std.proofs.Common.{◌≡◌, ◌<◌, ◌-◌, [], length, get_or, arith}
+use Rattle.std.proofs.Common.{◌≡◌, ◌<◌, ◌-◌, length, get_or, arith}
 use Rattle.std.specs.Vec.{vec_len, vec_capacity}
 use Rattle.fact_store.specs.Lists.{room_in}
 use Rattle.fact_store.proofs.ListLemmas.{value_at-read, room_within, pushes_set}

@@ -1,4 +1,4 @@
-use Rattle.std.proofs.Common.{rules, ◌≡◌, ◌<◌, ◌≤◌, nat_le, false, length, arith}
+use Rattle.std.proofs.Common.{rules, ◌≡◌, ◌<◌, nat_le, false, length, arith}
 use Rattle.std.proofs.lemmas.Bool.{leb-true, le-leb, lt-leb}
 use Rattle.fact_kinds.specs.Facts.{goes_first}
 use Rattle.fact_kinds.proofs.Cuts.{earlier_day}

@@ -1,4 +1,4 @@
-use Rattle.std.proofs.Common.{◌≡◌, nat_le, true, false, rules, option_map, ap, ◌∙◌}
+use Rattle.std.proofs.Common.{◌≡◌, nat_le, true, false, rules, ap, ◌∙◌}
 use Rattle.std.specs.List.Sorted.{IsPartitionPoint}
 use Rattle.std.specs.Option.{option_map_or}
 use Rattle.std.proofs.lemmas.List.Sorted.{IsPartitionPoint-from_clause}

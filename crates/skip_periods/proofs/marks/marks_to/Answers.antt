@@ -1,32 +1,46 @@
-use Rattle.std.proofs.Common.{◌≡◌, ◌+◌, ◌++◌, map, get_or, ap, ◌∙◌, arith}
-use Rattle.list_words.specs.Ranges.{until}
-use Rattle.skip_periods.specs.Seen.{seen_in, mark_for}
-use Rattle.skip_periods.proofs.PassLemmas.{map_until, map_done}
+use Rattle.std.proofs.Common.{◌≡◌, ◌+◌, get_or, ap, ◌∙◌, arith}
+use Rattle.ldar_law.specs.Force.{class_on}
+use Rattle.skip_periods.specs.Seen.{seen_in, counts_class}
+use Rattle.skip_periods.proofs.MarkLemmas.{marked_none, marked_more, marked_all}
 use Rattle.skip_periods.proofs.SeenLemmas.{mark_is}
 use Rattle.skip_periods.proofs.marks.marks_to.Goals as goal
+
+pub loop-past-init : goal.loop-past-init
+loop-past-init c =
+    let a = c.args in
+    record {
+      stands = c.on-standing.ensures.value;
+      marked = marked_none a.equipment.now a.classes.now a.startup a.events.now a.delayed.now a.day a.quarter c.in_ok-marks.marks.items c.in_ok-marks.ensures.value;
+    }
 
 pub loop-past-preserved : goal.loop-past-preserved
 loop-past-preserved c =
     let a = c.args in
     let l = c.loop-past in
-    let mark = c.mark_seen-mark in
-    let gives = mark_for a.equipment.now a.classes.now a.startup a.events.now a.delayed.now a.day in
+    let mark = c.mark_seen in
     let shown = c.index.result.now in
-    let place : c.from-in-loop-past.result ≡ l.past = c.from-in-loop-past.ensures in
+    let place : c.from-place.result ≡ l.past = c.from-place.ensures in
     let seen : shown ≡ seen_in a.startup a.events.now (l.past + 1) =
-    c.index.ensures ∙ ap (λ k. get_or c.in_ok-seen.seen.items k shown) place ∙ c.in_ok-seen.ensures.value.each l.past shown (omega arith) in
-    ap (λ ms. ms ++ map gives (until (l.past + 1 + 1) (a.quarter + 1))) c.in_ok-push.ensures.items
-    ∙ map_until gives l.marks.items (l.past + 1) (a.quarter + 1) mark.result (omega arith)
-    (mark_is a.equipment.now a.classes.now a.startup a.events.now a.delayed.now a.day (l.past + 1) shown mark.result
-    c.is_delayed_in-is_delayed.result c.is_numbered-is_missed.result seen c.is_delayed_in-is_delayed.ensures.value
-    (c.is_numbered-is_missed.ensures.value ∙ c.missed_quarter-missed.ensures.value (l.past + 1)) mark.ensures.leaking mark.ensures.monitored)
-    ∙ l.invariant
+    c.index.ensures ∙ ap (λ k. get_or l.marks.items k shown) place ∙ l.invariant.marked.seen l.past shown (omega arith) (omega arith) in
+    record {
+      stands = c.moved_to-standing.ensures.value;
+      marked =
+          marked_more a.equipment.now a.classes.now a.startup a.events.now a.delayed.now a.day a.quarter l.past c.from-place.result l.marks.items
+          mark.result place (omega arith) l.invariant.marked
+          (mark_is a.equipment.now a.classes.now a.startup a.events.now a.delayed.now a.day (l.past + 1) shown mark.result
+          c.is_counted_of-is_counted.result c.is_delayed_in-is_delayed.result c.is_numbered-is_missed.result
+          (c.is_counted_of-is_counted.ensures.value
+          ∙ ap (counts_class a.equipment.now)
+          (c.moved_to-standing.ensures.today ∙ ap (class_on a.equipment.now a.classes.now) c.judging_day.ensures.value))
+          seen c.is_delayed_in-is_delayed.ensures.value
+          (c.is_numbered-is_missed.ensures.value ∙ c.missed_quarter-missed.ensures.value (l.past + 1)) mark.ensures.leaking mark.ensures.monitored);
+    }
 
 pub returns : goal.returns
 returns c =
     let a = c.args in
     let l = c.loop-past in
     record {
-      value = map_done (mark_for a.equipment.now a.classes.now a.startup a.events.now a.delayed.now a.day) l.marks.items _ (l.past + 1) (a.quarter + 1)
-          (omega arith) l.invariant;
+      value =
+          marked_all a.equipment.now a.classes.now a.startup a.events.now a.delayed.now a.day a.quarter l.past l.marks.items (omega arith) l.invariant.marked;
     }

@@ -3,7 +3,7 @@ use Rattle.fact_kinds.specs.declared.batch.Batch.{Batch}
 use Rattle.std.proofs.lemmas.Bool.{false≢true}
 use Rattle.ldar_journal.specs.Window.{WindowState}
 use Rattle.ldar_journal.proofs.ShelfLemmas.{IsCounted-fits}
-use Rattle.ldar_journal.proofs.ReadingLemmas.{reading_on, not_kept_damaged, frame_fits, facts_grow, known_frames}
+use Rattle.ldar_journal.proofs.ReadingLemmas.{reading_on, not_kept_damaged, frame_fits, facts_grow, few_more, known_frames}
 use Rattle.ldar_journal.proofs.reader.Opening.next_frame.Goals as goal
 
 pub judge-requires-clause-fits : goal.judge-requires-clause-fits
@@ -52,3 +52,13 @@ returns-in-Some-clause-frame g c = λ ok.
     let chapter : c.of.result ≡ batches = c.of.ensures.value ∙ c.deref-in-Whole.ensures.value in
     let frames : c.push.new.self ≡ old.frames ++ batches ∷ [] = c.push.ensures.value ∙ ap (λ (l : List Batch). old.frames ++ l ∷ []) chapter in
     rw (← c.self.view_is) (frames, rw frames (facts_grow old.frames batches whole.0))
+
+pub returns-in-Some-clause-few : goal.returns-in-Some-clause-few
+returns-in-Some-clause-few g c = λ ok.
+    let old = c.self.inside in
+    let batches = c.judge.new.batches.items in
+    let whole = rw c.in-Whole.is at c.in_ok-judge.ensures.whole in
+    let chapter : c.of.result ≡ batches = c.of.ensures.value ∙ c.deref-in-Whole.ensures.value in
+    let frames : c.push.new.self ≡ old.frames ++ batches ∷ [] = c.push.ensures.value ∙ ap (λ (l : List Batch). old.frames ++ l ∷ []) chapter in
+    let known = rw c.deref.ensures.value at c.in-Some.ensures.added in
+    rw frames (few_more old.frames batches c.self.invariant.0.counted.each whole.0 known.kept)

@@ -1,0 +1,2 @@
+pub mod CellBytes
+pub mod Kept

@@ -1,0 +1,96 @@
+ghost use Rattle.std.specs.Prelude.{◌≡◌, ◌≤◌, ◌<◌, ◌-◌, ◌&&◌, ℕ, false, nat_le, nat_lt, length, slice_get};
+ghost use Rattle.std.specs.Option.{option_map_or};
+ghost use Rattle.list_words.specs.Order.{Ascends};
+ghost use Rattle.fact_kinds.specs.Facts.{is_earlier};
+ghost use Rattle.ldar_law.specs.Force as force;
+ghost use Rattle.class_standing.specs.Standings.{IsBehind, IsInForce};
+
+use fact_kinds::{Class, Key};
+use ldar_days::Day;
+use ldar_law::Equipment;
+
+/// A class of a component, with days over which it is in force.
+#[derive(Clone, Copy)]
+pub struct ClassStanding {
+    /// The number of the first of the days.
+    pub first: u32,
+    /// The number of the day behind the last of them.
+    pub end: u32,
+    pub class: Class,
+}
+
+/// The number of the day on which the class at a place was entered, or one behind all days where none stands there.
+fn day_at(classes: &[(Key, Class)], place: usize) -> u32
+    ensures value { (day : ℕ) → day < 65_536 → option_map_or (λ e. nat_le e.0.day day) (slice_get classes.now place) false ≡ nat_le result day }
+    ensures bound { result ≤ 65_536 }
+{
+    match classes.get(place) {
+        Some(e) => e.0.day.number(),
+        None => 65_536,
+    }
+}
+
+/// The number of the day on which the class in front of a place was entered, or one before all days.
+fn day_before(classes: &[(Key, Class)], place: usize) -> u32
+    ensures value { (day : ℕ) → day < 65_536 → 0 < place
+        → option_map_or (λ e. nat_le e.0.day day) (slice_get classes.now (place - 1)) false ≡ nat_le result day }
+{
+    if place == 0 {
+        return 0;
+    }
+    day_at(classes, place - 1)
+}
+
+/// The class in force on a day, by the place behind the classes entered by then.
+fn class_at(equipment: &Equipment, classes: &[(Key, Class)], place: usize) -> Class
+    requires within { place ≤ length classes.now }
+    ensures value { (day : ℕ) → IsBehind day classes.now place → result ≡ force.class_on equipment.now classes.now day }
+{
+    if place == 0 {
+        return equipment.class;
+    }
+    classes[place - 1].1
+}
+
+impl ClassStanding {
+    /// The class of a component on a day, by its classes in key order, of which the last one entered by then is found by
+    /// halving.
+    pub fn on(equipment: &Equipment, classes: &[(Key, Class)], day: Day) -> ClassStanding
+        requires ordered { Ascends (λ a b. is_earlier a.0 b.0) classes.now }
+        ensures today { result.class ≡ force.class_on equipment.now classes.now day }
+        ensures value { IsInForce equipment.now classes.now result }
+    {
+        let place = classes.partition_point(|e| e.0.day <= day);
+        ClassStanding {
+            first: day_before(classes, place),
+            end: day_at(classes, place),
+            class: class_at(equipment, classes, place),
+        }
+    }
+
+    /// Whether a day is one of its days.
+    pub fn holds_on(&self, day: Day) -> bool
+        ensures value { result ≡ (nat_le self.now.first day && nat_lt day self.now.end) }
+    {
+        let number = day.number();
+        self.first <= number && number < self.end
+    }
+
+    /// The class on another day: the same where the day is one of its days.
+    pub fn moved_to(
+        self,
+        equipment: &Equipment,
+        classes: &[(Key, Class)],
+        day: Day,
+    ) -> ClassStanding
+        requires ordered { Ascends (λ a b. is_earlier a.0 b.0) classes.now }
+        requires value { IsInForce equipment.now classes.now self }
+        ensures today { result.class ≡ force.class_on equipment.now classes.now day }
+        ensures value { IsInForce equipment.now classes.now result }
+    {
+        if self.holds_on(day) {
+            return self;
+        }
+        ClassStanding::on(equipment, classes, day)
+    }
+}

@@ -1,0 +1,61 @@
+ghost use Rattle.std.specs.Prelude.{◌≡◌};
+
+use crate::ClassStanding;
+use fact_kinds::{Class, Designation, Key, Kind, Service};
+use ldar_days::Day;
+use ldar_law::Equipment;
+use std::test::Fail;
+
+/// A class with a service and no designation.
+fn class(service: Service) -> Class {
+    Class {
+        service,
+        designation: Designation::Plain,
+        plan: 0,
+        month: 1,
+    }
+}
+
+/// A key on a day.
+fn key(day: Day) -> Key
+    ensures { result ≡ record { day = day; minute = 0; handheld = 1; number = 1; index = 0 } }
+{
+    Key {
+        day,
+        minute: 0,
+        handheld: 1,
+        number: 1,
+        index: 0,
+    }
+}
+
+#[test]
+fn a_class_stands_until_the_next_one_is_entered(rt: HostRuntime) -> Result<(), Fail> {
+    let item = Equipment {
+        component: 1,
+        unit: 1,
+        kind: Kind::Valve,
+        monomer: false,
+        replaces: false,
+        begin: Day::at(18_000),
+        retired: None,
+        class: class(Service::Gas),
+    };
+    let classes = [
+        (key(Day::at(19_000)), class(Service::Light)),
+        (key(Day::at(19_100)), class(Service::Heavy)),
+    ];
+    let gas = ClassStanding::on(&item, &classes, Day::at(18_999));
+    let light = gas.moved_to(&item, &classes, Day::at(19_000));
+    let still = light.moved_to(&item, &classes, Day::at(19_099));
+    let heavy = still.moved_to(&item, &classes, Day::at(19_100));
+    let back = heavy.moved_to(&item, &classes, Day::at(18_000));
+    assert_eq!(rt; gas.class.service, Service::Gas);
+    assert_eq!(rt; light.class.service, Service::Light);
+    assert_eq!(rt; still.class.service, Service::Light);
+    assert_eq!(rt; heavy.class.service, Service::Heavy);
+    assert_eq!(rt; back.class.service, Service::Gas);
+    assert!(rt; light.holds_on(Day::at(19_099)));
+    assert!(rt; !light.holds_on(Day::at(19_100)));
+    Ok(())
+}

@@ -1,0 +1,47 @@
+ghost use Rattle.std.specs.Prelude.{◌≡◌, pos, IfOk};
+ghost use Rattle.sqlite.specs.declared.types.Value.TheVariants.{Int, Blob};
+ghost use Rattle.sqlite_value.specs.Order.{column};
+ghost use Rattle.filed_rows.specs.Statements.{ReadsAs};
+
+use sqlite::{Error, Row};
+
+/// A report on file as the table keeps it: its numbers, and its cells as bytes.
+#[derive(Drop)]
+pub struct FiledRow {
+    pub unit: u8,
+    pub half: u16,
+    pub revision: u32,
+    /// Days since 1970-01-01.
+    pub day: u32,
+    pub months: Vec<u8>,
+    pub delays: Vec<u8>,
+    pub stops: Vec<u8>,
+}
+
+fn number_at(row: &Row, at: usize) -> Result<u32, Error>
+    ensures value { IfOk result (λ number. column row.now at ≡ Int (pos number)) }
+{
+    row.get(at)
+}
+
+fn bytes_at(row: &Row, at: usize) -> Result<Vec<u8>, Error>
+    ensures value { IfOk result (λ bytes. column row.now at ≡ Blob bytes.items) }
+{
+    row.get(at)
+}
+
+/// The report of a row that was found for a unit and half.
+pub(crate) fn row_of(unit: u8, half: u16, row: &Row) -> Result<FiledRow, Error>
+    ensures asked { IfOk result (λ found. (found.unit ≡ unit) × (found.half ≡ half)) }
+    ensures value { IfOk result (ReadsAs row.now) }
+{
+    Ok(FiledRow {
+        unit,
+        half,
+        revision: number_at(row, 0)?,
+        day: number_at(row, 1)?,
+        months: bytes_at(row, 2)?,
+        delays: bytes_at(row, 3)?,
+        stops: bytes_at(row, 4)?,
+    })
+}

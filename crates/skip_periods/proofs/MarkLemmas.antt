@@ -1,0 +1,48 @@
+-- The marks of the quarters from the first on, one after the other.
+use Rattle.std.proofs.Common.{◌≡◌, ℕ, ◌+◌, ◌-◌, ◌<◌, ◌≤◌, Bool, List, map, set, sym, ◌∙◌, inl, inr, arith}
+use Rattle.std.proofs.lemmas.Bool.{cases_eq}
+use Rattle.std.proofs.lemmas.List.{get_or-set_same, get_or-set_other, length-set, same_lists}
+use Rattle.std.proofs.lemmas.List.FromFn.{length-map-range_with_len, get_or-map-range_with_len}
+use Rattle.list_words.specs.Ranges.{until, from_to}
+use Rattle.fact_kinds.specs.declared.class.Class.{Class}
+use Rattle.fact_kinds.specs.declared.key.Key.{Key}
+use Rattle.ldar_law.specs.declared.equipment.Equipment.{Equipment}
+use Rattle.ldar_law.specs.declared.event.Event.{Event}
+use Rattle.ldar_law.specs.declared.tally.Mark.{Mark}
+use Rattle.skip_periods.specs.Seen.{AreSeen, AreMarkedTo, mark_for}
+
+module _ (item : Equipment) (classes : List (Key × Class)) (startup : ℕ) (events : List Event) (delayed : List Bool) (day quarter : ℕ) where
+  -- none of them yet
+  pub marked_none : (seen : List Mark) → AreSeen startup events quarter seen → AreMarkedTo item classes startup events delayed day quarter 0 seen
+  marked_none seen all = record {
+    count = all.count;
+    marked = λ k d low. absurd (omega (arith, low));
+    seen = λ k d low within. all.each k d within;
+  }
+
+  -- one more
+  pub marked_more : (past place : ℕ) (marks : List Mark) (mark : Mark) → place ≡ past → past < quarter →
+      AreMarkedTo item classes startup events delayed day quarter past marks → mark ≡ mark_for item classes startup events delayed day (past + 1) →
+      AreMarkedTo item classes startup events delayed day quarter (past + 1) (set marks place mark)
+  marked_more past place marks mark here within all is =
+      rw here (record {
+        count = length-set marks past mark ∙ all.count;
+        marked = λ k d low.
+            elim (cases_eq k past) [
+              | inl same ↦ rw same (get_or-set_same marks past mark d (omega (arith, all.count, within)) ∙ is)
+              | inr other ↦ get_or-set_other marks past k mark d other ∙ all.marked k d (omega (arith, low, other))
+            ];
+        seen = λ k d low inside. get_or-set_other marks past k mark d (λ same. absurd (omega (arith, same, low))) ∙ all.seen k d (omega (arith, low)) inside;
+      })
+
+  -- all of them
+  pub marked_all : (past : ℕ) (marks : List Mark) → quarter ≤ past → AreMarkedTo item classes startup events delayed day quarter past marks →
+      marks ≡ map (mark_for item classes startup events delayed day) (from_to 1 quarter)
+  unfolding until
+  marked_all past marks over all =
+      let gives = mark_for item classes startup events delayed day in
+      let as_many : quarter + 1 - 1 ≡ quarter = omega arith in
+      same_lists marks (map gives (from_to 1 quarter)) (all.count ∙ sym (length-map-range_with_len gives 1 (quarter + 1 - 1) ∙ as_many))
+      (λ k d within.
+      all.marked k d (omega (arith, within, all.count, over))
+      ∙ sym (get_or-map-range_with_len gives 1 (quarter + 1 - 1) k (k + 1) d (omega (arith, within, all.count)) (omega arith)))
