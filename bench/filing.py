@@ -92,7 +92,7 @@ def each_in_a_run_of_its_own():
     case("the report that is amended", filed(), SECOND)
     case("the same again", filed(), (11, "", "same as revision 2\n"))
     case("another half", filed("1", "7", REPORT[2]), (0, "filed 1 7 1\n", ""))
-    case("the report that is shown", ldar(JOURNAL, "show", "report", *REPORT)[1].splitlines()[6][:20], b"2024-03 valves 1 0 p")
+    case("the report that is shown", ldar(JOURNAL, "show", "report", *REPORT)[1].splitlines()[6][:20], b"2024-03 valves 0 0 p")
 
 
 def read_by_sqlite():
