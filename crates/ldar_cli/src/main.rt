@@ -58,7 +58,7 @@ COMMAND  init                           makes an empty journal
          show route UNIT DAY STOPS      shows routes with at most so many stops
          show percent UNIT QUARTER DAY  shows the percent leaking in a quarter
          show report UNIT HALF DAY      shows the report of a half year
-         file UNIT HALF DAY             puts the report of a half year on file
+         file UNIT HALF DAY             puts that report on file, in JOURNAL.filed
          check                          prints how many batches and facts the journal has
 
 UNIT is 0 to 255, a DAY as 2024-02-29; QUARTER and HALF count from 1, from the unit's first.
