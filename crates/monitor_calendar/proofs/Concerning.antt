@@ -2,7 +2,7 @@
 use Rattle.std.proofs.Common.{◌≡◌, ℕ, ◌-◌, ◌%◌, Bool, true, false, not, ◌&&◌, ◌||◌, nat_eq, nat_le, nat_lt, min, Option, Some, None, option_map, unwrap_or, List, [], ◌∷◌, ◌++◌, cond, refl, sym, ap, subst, ◌∙◌}
 use Rattle.std.specs.List.{filter_map}
 use Rattle.std.specs.Option.{option_or}
-use Rattle.std.proofs.lemmas.Bool.{and_left, and_right, or_parts}
+use Rattle.std.proofs.lemmas.Bool.{and_left, and_right, or_parts, or_from}
 use Rattle.std.proofs.lemmas.List.{append-nil}
 use Rattle.list_words.specs.Words.{each_from, each_where, last_such}
 use Rattle.list_words.proofs.WordLemmas.{last_such-cons}
@@ -156,7 +156,29 @@ third_fails : (a b c d e f : Bool) → c ≡ false → (a && b && c && d && e &&
 third_fails a b c d e f none =
     and_left (a && b && c && d && e) f (and_left (a && b && c && d) e (and_left (a && b && c) d (and_right (a && b) c none)))
 
+-- a valve is no pump
+valve_no_pump : (kind : Kind) → is_valve kind ≡ true → is_pump kind ≡ false
+valve_no_pump Valve e = refl
+valve_no_pump Pump e = cc
+valve_no_pump Compressor e = refl
+valve_no_pump Relief e = refl
+
 module _ (asked : Asked) where
+  -- a quarterly month of a valve has no monthly duty
+  pub not_monthly : (month : ℕ) → is_valve asked.item.now.kind ≡ true → is_quarterly asked.startup asked.events.now month ≡ true →
+      causes.monthly asked month ≡ None
+  unfolding law.monthly
+  not_monthly month valve quarterly =
+      let item = asked.item.now in
+      let classes = asked.classes.now in
+      let day = min (last_day month) asked.day in
+      let no_pump = no_pump_rules item.kind (class_on item classes day).service (valve_no_pump item.kind valve) in
+      unowed item classes asked.startup asked.events.now asked.skipped.now asked.day 2 _ _ _ _
+      (and_right (is_in_service item day && is_plain item classes day)
+      (is_under_pump_rules item classes day || (is_under_valve_rules item classes day && not (is_quarterly asked.startup asked.events.now month)))
+      (or_from (is_under_pump_rules item classes day) (is_under_valve_rules item classes day && not (is_quarterly asked.startup asked.events.now month)) no_pump
+      (and_right (is_under_valve_rules item classes day) (not (is_quarterly asked.startup asked.events.now month)) (ap not quarterly))))
+
   -- a month that is no quarterly one has no quarterly duty
   pub not_quarterly : (month : ℕ) → is_quarterly asked.startup asked.events.now month ≡ false → causes.quarterly asked month ≡ None
   unfolding law.quarterly

@@ -1,6 +1,6 @@
 //! Yearly monitoring (40 CFR 60.482-2a(e), 60.482-3a(i), 60.482-7a(f), (h)).
 
-ghost use Rattle.std.specs.Prelude.{◌≡◌, ◌+◌, ◌/◌, ◌++◌, ◌≤◌, OnOk, filter_map};
+ghost use Rattle.std.specs.Prelude.{◌≡◌, ◌+◌, ◌/◌, ◌++◌, ◌≤◌, OnOk, filter_map, option_map};
 ghost use Rattle.list_words.specs.Ranges.{until};
 ghost use Rattle.ldar_days.specs.Calendar.{month_of};
 ghost use Rattle.monitor_calendar.specs.Causes as causes;
@@ -8,9 +8,9 @@ ghost use Rattle.monitor_calendar.specs.Causes as causes;
 use crate::asked::{Asked, Judged};
 use crate::duty::put;
 use crate::period::{routine_in, routine_near_background};
-use fact_kinds::Memory;
+use fact_kinds::{Key, Memory};
 use ldar_days::{Day, Month};
-use ldar_law::{Duty, Event, is_difficult_designated, is_nde_designated};
+use ldar_law::{Duty, is_difficult_designated, is_nde_designated};
 
 /// Whether what is so judged is monitored each year.
 fn is_yearly(judged: Judged) -> bool
@@ -26,9 +26,9 @@ fn is_yearly(judged: Judged) -> bool
 }
 
 impl Asked<'_> {
-    /// What meets a yearly monitoring of the component, as it is judged.
-    fn yearly_reading(&self, judged: Judged, first: Day, due: Day) -> Option<Event>
-        ensures value { result ≡ causes.yearly_reading_judged self.now judged first due }
+    /// The key of what meets a yearly monitoring of the component, as it is judged.
+    fn yearly_reading(&self, judged: Judged, first: Day, due: Day) -> Option<Key>
+        ensures value { result ≡ option_map (λ e. e.key) (causes.yearly_reading_judged self.now judged first due) }
     {
         if is_nde_designated(judged.class.designation) {
             routine_near_background(self.events, first, due)
