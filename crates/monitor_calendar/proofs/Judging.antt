@@ -9,7 +9,6 @@ use Rattle.fact_kinds.specs.declared.class.Kind.TheVariants.{Valve, Pump, Compre
 use Rattle.fact_kinds.specs.declared.class.Service.{Service}
 use Rattle.fact_kinds.specs.declared.class.Service.TheVariants.{Gas, Light, Heavy, Vacuum, Under300}
 use Rattle.fact_kinds.specs.declared.key.Key.{Key}
-use Rattle.ldar_law.specs.declared.duty.Duty.{Duty}
 use Rattle.ldar_law.specs.declared.event.Event.{Event}
 use Rattle.ldar_law.specs.Duties as law
 use Rattle.ldar_law.specs.Force.{class_on, regime_on, is_in_service}

@@ -1,4 +1,4 @@
-use Rattle.std.proofs.Common.{◌≡◌, true, min, sym, ap, subst, ◌∙◌}
+use Rattle.std.proofs.Common.{◌≡◌, min, sym, subst, ◌∙◌}
 use Rattle.ldar_days.specs.Calendar.{first_day, last_day}
 use Rattle.std.proofs.lemmas.Bool.{and_parts}
 use Rattle.ldar_law.specs.Duties.{routine_in}

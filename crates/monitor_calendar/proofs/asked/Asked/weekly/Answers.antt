@@ -1,4 +1,4 @@
-use Rattle.std.proofs.Common.{◌≡◌, true, min, sym, ap, subst, ◌∙◌, arith}
+use Rattle.std.proofs.Common.{◌≡◌, min, sym, subst, ◌∙◌, arith}
 use Rattle.ldar_days.specs.Calendar.{week_first, week_last}
 use Rattle.ldar_law.specs.Duties.{look_in}
 use Rattle.monitor_calendar.specs.Causes as causes
