@@ -159,59 +159,41 @@ fn class_of(component: u16, class: Class) -> FactBody
     FactBody::Class { component, class }
 }
 
-/// What is told of a component.
-#[derive(Clone, Copy)]
-enum OfComponent {
-    /// A reading of this instrument and operator.
-    Read(u16, u16),
-    Seen,
-    Indicated(Sort),
-    Released,
-    Retired,
-    Classed(Service, Designation),
-    /// It is entered, in unit 1.
-    Entered(Kind, Service),
-    /// Its repair is delayed for this ground, by this signer, up to the day with this number, if there is one.
-    Delayed(u8, u16, u32),
-}
-
-/// What is told of a unit.
-#[derive(Clone, Copy)]
-enum OfUnit {
-    Entered,
-    Shut,
-    /// Skip periods are elected in this mode, of which notice was given on the day with this number.
-    Elected(u8, u32),
-}
-
-/// What is told on the day with a number.
+/// What is told on a day at ten o'clock: of a component or a unit, whose number stands first.
 #[derive(Clone, Copy)]
 enum Told {
-    Component(u32, u16, OfComponent),
-    Unit(u32, u8, OfUnit),
-    Nothing,
+    /// A reading, of this instrument and operator.
+    Read(u16, u16, u16),
+    Seen(u16),
+    Indicated(u16, Sort),
+    Released(u16),
+    Retired(u16),
+    Classed(u16, Service, Designation),
+    /// The component is entered, in unit 1.
+    Entered(u16, Kind, Service),
+    /// The repair is delayed for this ground, by this signer, up to the day with this number, if there is one.
+    Delayed(u16, u8, u16, u32),
+    /// The unit is entered.
+    Unit(u8),
+    Shut(u8),
+    /// Skip periods are elected in this mode, of which notice was given on the day with this number.
+    Elected(u8, u8, u32),
 }
 
-/// The fact of a component.
-fn fact_of_component(day: Day, component: u16, told: OfComponent) -> Fact
-    requires { (1 ≤ component) × (component ≤ 60_000) }
+/// The number of a day and what is told on it.
+type On = (u32, Told);
+
+/// The number of a component that is nearest to this one.
+fn item(number: u16) -> u16
+    ensures { (1 ≤ result) × (result ≤ 60_000) }
 {
-    match told {
-        OfComponent::Read(instrument, operator) => reading(day, component, instrument, operator),
-        OfComponent::Seen => visual(day, component),
-        OfComponent::Indicated(sort) => indication(day, component, sort),
-        OfComponent::Released => release(day, component),
-        OfComponent::Retired => retired(day, component),
-        OfComponent::Classed(service, designation) => classed(day, component, service, designation),
-        OfComponent::Entered(kind, service) => entered(day, component, kind, service),
-        OfComponent::Delayed(ground, signer, expected) => delay(
-            component,
-            up_to(ground, 5),
-            signer,
-            day,
-            Day::of_number(expected),
-        ),
+    if number == 0 {
+        return 1;
     }
+    if number > 60_000 {
+        return 60_000;
+    }
+    number
 }
 
 /// The smaller of two numbers.
@@ -219,6 +201,16 @@ fn up_to(number: u8, most: u8) -> u8
     ensures { result ≤ most }
 {
     if number < most { number } else { most }
+}
+
+/// The number of a unit that is nearest to this one.
+fn unit_near(number: u8) -> u8
+    ensures { (1 ≤ result) × (result ≤ 64) }
+{
+    if number == 0 {
+        return 1;
+    }
+    up_to(number, 64)
 }
 
 fn classed(day: Day, component: u16, service: Service, designation: Designation) -> Fact
@@ -233,22 +225,6 @@ fn entered(day: Day, number: u16, kind: Kind, service: Service) -> Fact
     on(day, component(number, kind, false, service))
 }
 
-/// The fact of a unit, whose name is COKER.
-fn fact_of_unit(day: Day, number: u8, told: OfUnit) -> Option<Fact>
-    requires { (1 ≤ number) × (number ≤ 64) }
-{
-    match told {
-        OfUnit::Entered => Some(unit(day, number, Name::new(b"COKER")?)),
-        OfUnit::Shut => Some(shut(day, number)),
-        OfUnit::Elected(mode, notified) => Some(election(
-            day,
-            number,
-            up_to(mode, 1),
-            Day::of_number(notified)?,
-        )),
-    }
-}
-
 /// A shutdown of three days.
 fn shut(day: Day, unit: u8) -> Fact
     requires { (1 ≤ unit) × (unit ≤ 64) }
@@ -256,28 +232,55 @@ fn shut(day: Day, unit: u8) -> Fact
     on(day, FactBody::Shutdown { unit, days: 3 })
 }
 
-/// The fact, if it is one.
-fn fact_of(told: Told) -> Option<Fact> {
+/// The fact, if there is one.
+fn fact_on(day: Day, told: Told) -> Option<Fact> {
     match told {
-        Told::Component(day, component, told) if (1..=60_000).contains(&component) => {
-            Some(fact_of_component(Day::of_number(day)?, component, told))
+        Told::Delayed(number, ground, signer, expected) => {
+            let expected = Day::of_number(expected);
+            Some(delay(item(number), up_to(ground, 5), signer, day, expected))
         }
-        Told::Unit(day, unit, told) if (1..=64).contains(&unit) => {
-            fact_of_unit(Day::of_number(day)?, unit, told)
+        Told::Unit(number) => Some(unit(day, unit_near(number), Name::new(b"COKER")?)),
+        Told::Shut(number) => Some(shut(day, unit_near(number))),
+        Told::Elected(number, mode, notified) => {
+            let notified = Day::of_number(notified)?;
+            Some(election(day, unit_near(number), up_to(mode, 1), notified))
         }
+        of_component => fact_of_component(day, of_component),
+    }
+}
+
+/// The fact, if it is one that needs no other day.
+fn fact_of_component(day: Day, told: Told) -> Option<Fact> {
+    match told {
+        Told::Read(number, instrument, operator) => {
+            Some(reading(day, item(number), instrument, operator))
+        }
+        Told::Seen(number) => Some(visual(day, item(number))),
+        Told::Indicated(number, sort) => Some(indication(day, item(number), sort)),
+        Told::Released(number) => Some(release(day, item(number))),
+        Told::Retired(number) => Some(retired(day, item(number))),
+        Told::Classed(number, service, designation) => {
+            Some(classed(day, item(number), service, designation))
+        }
+        Told::Entered(number, kind, service) => Some(entered(day, item(number), kind, service)),
         _ => None,
     }
 }
 
 /// The facts of a batch.
-fn facts_of(alloc: Global, told: &[Told]) -> Result<Vec<Fact>, Memory> {
+fn facts_of(alloc: Global, told: &[On]) -> Result<Vec<Fact>, Memory> {
     let mut facts = Vec::new(alloc);
-    for one in told {
-        if let Some(fact) = fact_of(*one) {
+    for (number, told) in told {
+        if let Some(fact) = fact_of(*number, *told) {
             facts.push(fact)?;
         }
     }
     Ok(facts)
+}
+
+/// The fact, if this is the number of a day.
+fn fact_of(number: u32, told: Told) -> Option<Fact> {
+    fact_on(Day::of_number(number)?, told)
 }
 
 /// What is said of a batch of these facts, which a handheld sends.
@@ -286,7 +289,7 @@ fn said_of(
     register: &Register,
     held: u64,
     handheld: u16,
-    told: &[Told],
+    told: &[On],
 ) -> Result<Verdict, Fail>
     requires { held ≤ 8_000_000 }
 {
@@ -298,7 +301,7 @@ fn said_of(
 }
 
 /// The case, the handheld, what is told, and the fact and the rule of the denial, or 0 and 0 where it passes.
-type Row<'a> = (&'a str, u16, [Told; 3], u16, u8);
+type Row<'a> = (&'a str, u16, [On; 3], u16, u8);
 
 /// The verdict of a row.
 fn wanted(row: &Row) -> Verdict {
@@ -420,49 +423,34 @@ fn delay(component: u16, ground: u8, signer: u16, day: Day, expected: Option<Day
     }
 }
 
-const NONE: Told = Told::Nothing;
+/// No fact: there is no such day.
+const NONE: On = (0, Told::Seen(0));
 
 /// A reading of valve 1.
-const LOOK: Told = Told::Component(DAY, 1, OfComponent::Read(1, 1));
+const LOOK: On = (DAY, Told::Read(1, 1, 1));
 
 /// Valve 40 is entered.
-const NEW: Told = Told::Component(DAY, 40, OfComponent::Entered(Kind::Valve, Service::Gas));
+const NEW: On = (DAY, Told::Entered(40, Kind::Valve, Service::Gas));
 
 /// A reading of it.
-const READ: Told = Told::Component(DAY, 40, OfComponent::Read(1, 1));
+const READ: On = (DAY, Told::Read(40, 1, 1));
 
 /// .. by nobody.
-const UNSIGNED: Told = Told::Component(DAY, 40, OfComponent::Read(1, 0));
+const UNSIGNED: On = (DAY, Told::Read(40, 1, 0));
 
 /// Valve 1 is in vacuum service, from this day on or the next.
-const VACUUM: Told = Told::Component(
-    DAY,
-    1,
-    OfComponent::Classed(Service::Vacuum, Designation::Plain),
-);
+const VACUUM: On = (DAY, Told::Classed(1, Service::Vacuum, Designation::Plain));
 
-const VACUUM_NEXT: Told = Told::Component(
-    NEXT,
-    1,
-    OfComponent::Classed(Service::Vacuum, Designation::Plain),
-);
+const VACUUM_NEXT: On = (NEXT, Told::Classed(1, Service::Vacuum, Designation::Plain));
 
 /// Pump 5 is in service for under 300 hours.
-const UNDER_300: Told = Told::Component(
-    DAY,
-    5,
-    OfComponent::Classed(Service::Under300, Designation::Plain),
-);
+const UNDER_300: On = (DAY, Told::Classed(5, Service::Under300, Designation::Plain));
 
 const COMPONENTS: [Row; 20] = [
     (
         "unknown and unsigned, before a release",
         7,
-        [
-            UNSIGNED,
-            Told::Component(DAY, 1, OfComponent::Released),
-            NONE,
-        ],
+        [UNSIGNED, (DAY, Told::Released(1)), NONE],
         1,
         1,
     ),
@@ -486,14 +474,14 @@ const COMPONENTS: [Row; 20] = [
     (
         "under 300 hours",
         0,
-        [UNDER_300, Told::Component(DAY, 5, OfComponent::Seen), NONE],
+        [UNDER_300, (DAY, Told::Seen(5)), NONE],
         2,
         3,
     ),
     (
         "another under 300 hours",
         0,
-        [UNDER_300, Told::Component(DAY, 6, OfComponent::Seen), NONE],
+        [UNDER_300, (DAY, Told::Seen(6)), NONE],
         0,
         0,
     ),
@@ -501,87 +489,53 @@ const COMPONENTS: [Row; 20] = [
     (
         "no instrument",
         7,
-        [Told::Component(DAY, 1, OfComponent::Read(0, 1)), NONE, NONE],
+        [(DAY, Told::Read(1, 0, 1)), NONE, NONE],
         1,
         4,
     ),
     ("instrument and operator", 7, [LOOK, NONE, NONE], 0, 0),
-    (
-        "a valve seen",
-        7,
-        [Told::Component(DAY, 1, OfComponent::Seen), NONE, NONE],
-        1,
-        5,
-    ),
+    ("a valve seen", 7, [(DAY, Told::Seen(1)), NONE, NONE], 1, 5),
     (
         "a pump in heavy liquid seen",
         7,
-        [Told::Component(DAY, 7, OfComponent::Seen), NONE, NONE],
+        [(DAY, Told::Seen(7)), NONE, NONE],
         1,
         5,
     ),
-    (
-        "a pump seen",
-        7,
-        [Told::Component(DAY, 5, OfComponent::Seen), NONE, NONE],
-        0,
-        0,
-    ),
+    ("a pump seen", 7, [(DAY, Told::Seen(5)), NONE, NONE], 0, 0),
     (
         "a sensor at a pump",
         7,
-        [
-            Told::Component(DAY, 5, OfComponent::Indicated(Sort::Sensor)),
-            NONE,
-            NONE,
-        ],
+        [(DAY, Told::Indicated(5, Sort::Sensor)), NONE, NONE],
         1,
         6,
     ),
     (
         "a sensor at a compressor",
         7,
-        [
-            Told::Component(DAY, 9, OfComponent::Indicated(Sort::Sensor)),
-            NONE,
-            NONE,
-        ],
+        [(DAY, Told::Indicated(9, Sort::Sensor)), NONE, NONE],
         0,
         0,
     ),
     (
         "a release of a valve",
         7,
-        [Told::Component(DAY, 1, OfComponent::Released), NONE, NONE],
+        [(DAY, Told::Released(1)), NONE, NONE],
         1,
         7,
     ),
-    (
-        "a release",
-        7,
-        [Told::Component(DAY, 8, OfComponent::Released), NONE, NONE],
-        0,
-        0,
-    ),
+    ("a release", 7, [(DAY, Told::Released(8)), NONE, NONE], 0, 0),
     (
         "evidence at a compressor",
         7,
-        [
-            Told::Component(DAY, 9, OfComponent::Indicated(Sort::Evidence)),
-            NONE,
-            NONE,
-        ],
+        [(DAY, Told::Indicated(9, Sort::Evidence)), NONE, NONE],
         1,
         8,
     ),
     (
         "evidence at a pump in heavy liquid",
         7,
-        [
-            Told::Component(DAY, 7, OfComponent::Indicated(Sort::Evidence)),
-            NONE,
-            NONE,
-        ],
+        [(DAY, Told::Indicated(7, Sort::Evidence)), NONE, NONE],
         0,
         0,
     ),
@@ -602,121 +556,77 @@ const DELAYS: [Row; 11] = [
     (
         "purge of a pump",
         7,
-        [
-            Told::Component(DAY, 5, OfComponent::Delayed(3, 9, SOME)),
-            NONE,
-            NONE,
-        ],
+        [(DAY, Told::Delayed(5, 3, 9, SOME)), NONE, NONE],
         1,
         9,
     ),
     (
         "purge of a valve",
         7,
-        [
-            Told::Component(DAY, 1, OfComponent::Delayed(3, 9, SOME)),
-            NONE,
-            NONE,
-        ],
+        [(DAY, Told::Delayed(1, 3, 9, SOME)), NONE, NONE],
         0,
         0,
     ),
     (
         "dual seal of a valve",
         7,
-        [
-            Told::Component(DAY, 1, OfComponent::Delayed(4, 9, SOME)),
-            NONE,
-            NONE,
-        ],
+        [(DAY, Told::Delayed(1, 4, 9, SOME)), NONE, NONE],
         1,
         10,
     ),
     (
         "dual seal of a pump",
         7,
-        [
-            Told::Component(DAY, 5, OfComponent::Delayed(4, 9, SOME)),
-            NONE,
-            NONE,
-        ],
+        [(DAY, Told::Delayed(5, 4, 9, SOME)), NONE, NONE],
         0,
         0,
     ),
     (
         "stock for a pump",
         7,
-        [
-            Told::Component(DAY, 5, OfComponent::Delayed(5, 9, SOME)),
-            NONE,
-            NONE,
-        ],
+        [(DAY, Told::Delayed(5, 5, 9, SOME)), NONE, NONE],
         1,
         11,
     ),
     (
         "stock for a valve",
         7,
-        [
-            Told::Component(DAY, 1, OfComponent::Delayed(5, 9, SOME)),
-            NONE,
-            NONE,
-        ],
+        [(DAY, Told::Delayed(1, 5, 9, SOME)), NONE, NONE],
         0,
         0,
     ),
     (
         "shutdown without a signer",
         7,
-        [
-            Told::Component(DAY, 1, OfComponent::Delayed(1, 0, SOME)),
-            NONE,
-            NONE,
-        ],
+        [(DAY, Told::Delayed(1, 1, 0, SOME)), NONE, NONE],
         1,
         12,
     ),
     (
         "shutdown with a signer",
         7,
-        [
-            Told::Component(DAY, 1, OfComponent::Delayed(1, 9, SOME)),
-            NONE,
-            NONE,
-        ],
+        [(DAY, Told::Delayed(1, 1, 9, SOME)), NONE, NONE],
         0,
         0,
     ),
     (
         "isolated without a signer",
         7,
-        [
-            Told::Component(DAY, 1, OfComponent::Delayed(2, 0, SOME)),
-            NONE,
-            NONE,
-        ],
+        [(DAY, Told::Delayed(1, 2, 0, SOME)), NONE, NONE],
         0,
         0,
     ),
     (
         "isolated with no day",
         7,
-        [
-            Told::Component(DAY, 1, OfComponent::Delayed(2, 9, 0)),
-            NONE,
-            NONE,
-        ],
+        [(DAY, Told::Delayed(1, 2, 9, 0)), NONE, NONE],
         1,
         13,
     ),
     (
         "withdrawn with no day",
         7,
-        [
-            Told::Component(DAY, 1, OfComponent::Delayed(0, 0, 0)),
-            NONE,
-            NONE,
-        ],
+        [(DAY, Told::Delayed(1, 0, 0, 0)), NONE, NONE],
         0,
         0,
     ),
@@ -726,62 +636,42 @@ const ELECTIONS: [Row; 6] = [
     (
         "89 days of notice",
         0,
-        [
-            Told::Unit(QUARTER, 1, OfUnit::Elected(1, 19_816)),
-            NONE,
-            NONE,
-        ],
+        [(QUARTER, Told::Elected(1, 1, 19_816)), NONE, NONE],
         1,
         14,
     ),
     (
         "90 days of notice",
         0,
-        [
-            Told::Unit(QUARTER, 1, OfUnit::Elected(1, 19_815)),
-            NONE,
-            NONE,
-        ],
+        [(QUARTER, Told::Elected(1, 1, 19_815)), NONE, NONE],
         0,
         0,
     ),
     (
         "given up without notice",
         0,
-        [
-            Told::Unit(QUARTER, 1, OfUnit::Elected(0, QUARTER)),
-            NONE,
-            NONE,
-        ],
+        [(QUARTER, Told::Elected(1, 0, QUARTER)), NONE, NONE],
         0,
         0,
     ),
     (
         "the second day of a quarter",
         0,
-        [
-            Told::Unit(19_906, 1, OfUnit::Elected(1, 19_815)),
-            NONE,
-            NONE,
-        ],
+        [(19_906, Told::Elected(1, 1, 19_815)), NONE, NONE],
         1,
         20,
     ),
     (
         "before the first quarter",
         0,
-        [Told::Unit(18_293, 1, OfUnit::Elected(0, DAY)), NONE, NONE],
+        [(18_293, Told::Elected(1, 0, DAY)), NONE, NONE],
         1,
         20,
     ),
     (
         "unit not entered",
         0,
-        [
-            Told::Unit(QUARTER, 2, OfUnit::Elected(1, 19_815)),
-            NONE,
-            NONE,
-        ],
+        [(QUARTER, Told::Elected(2, 1, 19_815)), NONE, NONE],
         1,
         17,
     ),
@@ -827,30 +717,26 @@ fn unit(day: Day, unit: u8, name: Name) -> Fact
 }
 
 /// Unit 2, with its shutdown, a compressor, and a reading on the last day.
-const COKER: Told = Told::Unit(DAY, 2, OfUnit::Entered);
+const COKER: On = (DAY, Told::Unit(2));
 
-const SHUTDOWN: Told = Told::Unit(DAY, 2, OfUnit::Shut);
+const SHUTDOWN: On = (DAY, Told::Shut(2));
 
-const COMPRESSOR: Told = Told::Component(
-    DAY,
-    20,
-    OfComponent::Entered(Kind::Compressor, Service::Light),
-);
+const COMPRESSOR: On = (DAY, Told::Entered(20, Kind::Compressor, Service::Light));
 
-const LAST: Told = Told::Component(46_751, 1, OfComponent::Read(1, 1));
+const LAST: On = (46_751, Told::Read(1, 1, 1));
 
 const OWN: [Row; 14] = [
     (
         "retired by a handheld",
         7,
-        [Told::Component(DAY, 1, OfComponent::Retired), NONE, NONE],
+        [(DAY, Told::Retired(1)), NONE, NONE],
         1,
         16,
     ),
     (
         "retired by the office",
         0,
-        [Told::Component(DAY, 1, OfComponent::Retired), NONE, NONE],
+        [(DAY, Told::Retired(1)), NONE, NONE],
         0,
         0,
     ),
@@ -868,19 +754,13 @@ const OWN: [Row; 14] = [
         0,
         0,
     ),
-    (
-        "a unit again",
-        0,
-        [Told::Unit(DAY, 1, OfUnit::Entered), NONE, NONE],
-        1,
-        18,
-    ),
+    ("a unit again", 0, [(DAY, Told::Unit(1)), NONE, NONE], 1, 18),
     ("a unit twice in a batch", 0, [COKER, COKER, NONE], 2, 18),
     (
         "a component again",
         0,
         [
-            Told::Component(DAY, 1, OfComponent::Entered(Kind::Pump, Service::Light)),
+            (DAY, Told::Entered(1, Kind::Pump, Service::Light)),
             NONE,
             NONE,
         ],
@@ -891,18 +771,14 @@ const OWN: [Row; 14] = [
     (
         "a day too late",
         7,
-        [
-            LAST,
-            Told::Component(46_752, 1, OfComponent::Read(1, 1)),
-            NONE,
-        ],
+        [LAST, (46_752, Told::Read(1, 1, 1)), NONE],
         2,
         19,
     ),
     (
         "a day too late for an election",
         0,
-        [Told::Unit(46_752, 1, OfUnit::Elected(0, DAY)), NONE, NONE],
+        [(46_752, Told::Elected(1, 0, DAY)), NONE, NONE],
         1,
         19,
     ),
@@ -924,11 +800,7 @@ const OWN: [Row; 14] = [
         "a pump with no emissions",
         0,
         [
-            Told::Component(
-                DAY,
-                5,
-                OfComponent::Classed(Service::Light, Designation::Nde),
-            ),
+            (DAY, Told::Classed(5, Service::Light, Designation::Nde)),
             NONE,
             NONE,
         ],
@@ -939,10 +811,9 @@ const OWN: [Row; 14] = [
         "a pump difficult to monitor",
         0,
         [
-            Told::Component(
+            (
                 DAY,
-                5,
-                OfComponent::Classed(Service::Light, Designation::Difficult),
+                Told::Classed(5, Service::Light, Designation::Difficult),
             ),
             NONE,
             NONE,
@@ -963,7 +834,7 @@ fn says_behind(
     alloc: Global,
     register: &Register,
     held: u64,
-    told: Told,
+    told: On,
     want: Verdict,
 ) -> Result<(), Fail>
     requires { held ≤ 8_000_000 }
@@ -977,7 +848,7 @@ fn there_are_at_most_8_000_000_facts(rt: HostRuntime) -> Result<(), Fail> {
     let register = small_register(rt.alloc())?;
     let full = Verdict::Full { facts: 8_000_001 };
     let denied = Verdict::Denied { fact: 1, rule: 5 };
-    let seen = Told::Component(DAY, 1, OfComponent::Seen);
+    let seen = (DAY, Told::Seen(1));
     says_behind(rt.alloc(), &register, 8_000_000, LAST, full)?;
     says_behind(rt.alloc(), &register, 7_999_999, LAST, Verdict::Pass)?;
     says_behind(rt.alloc(), &register, 8_000_000, seen, denied)
@@ -1005,27 +876,15 @@ const YEAR: u32 = 19_723;
 const YEAR_NEXT: u32 = 19_724;
 
 /// Valves 1 to 3 become difficult to monitor, and a valve 40 and a pump 40 are entered in 2020.
-const FIRST: Told = Told::Component(
-    YEAR,
-    1,
-    OfComponent::Classed(Service::Gas, Designation::Difficult),
-);
+const FIRST: On = (YEAR, Told::Classed(1, Service::Gas, Designation::Difficult));
 
-const SECOND: Told = Told::Component(
-    YEAR,
-    2,
-    OfComponent::Classed(Service::Gas, Designation::Difficult),
-);
+const SECOND: On = (YEAR, Told::Classed(2, Service::Gas, Designation::Difficult));
 
-const THIRD: Told = Told::Component(
-    YEAR,
-    3,
-    OfComponent::Classed(Service::Gas, Designation::Difficult),
-);
+const THIRD: On = (YEAR, Told::Classed(3, Service::Gas, Designation::Difficult));
 
-const VALVE: Told = Told::Component(18_276, 40, OfComponent::Entered(Kind::Valve, Service::Gas));
+const VALVE: On = (18_276, Told::Entered(40, Kind::Valve, Service::Gas));
 
-const PUMP: Told = Told::Component(18_276, 40, OfComponent::Entered(Kind::Pump, Service::Light));
+const PUMP: On = (18_276, Told::Entered(40, Kind::Pump, Service::Light));
 
 const OF_A_HUNDRED: [Row; 5] = [
     ("two of a hundred", 0, [FIRST, SECOND, NONE], 0, 0),
@@ -1036,10 +895,9 @@ const OF_A_HUNDRED: [Row; 5] = [
         [
             FIRST,
             SECOND,
-            Told::Component(
+            (
                 YEAR_NEXT,
-                3,
-                OfComponent::Classed(Service::Gas, Designation::Difficult),
+                Told::Classed(3, Service::Gas, Designation::Difficult),
             ),
         ],
         3,
@@ -1050,10 +908,9 @@ const OF_A_HUNDRED: [Row; 5] = [
         0,
         [
             FIRST,
-            Told::Component(
+            (
                 YEAR_NEXT,
-                2,
-                OfComponent::Classed(Service::Gas, Designation::Difficult),
+                Told::Classed(2, Service::Gas, Designation::Difficult),
             ),
             THIRD,
         ],
@@ -1063,11 +920,7 @@ const OF_A_HUNDRED: [Row; 5] = [
     (
         "two of 99",
         0,
-        [
-            FIRST,
-            SECOND,
-            Told::Component(YEAR, 3, OfComponent::Retired),
-        ],
+        [FIRST, SECOND, (YEAR, Told::Retired(3))],
         0,
         0,
     ),
