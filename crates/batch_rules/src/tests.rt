@@ -210,7 +210,10 @@ fn unit_near(number: u8) -> u8
     if number == 0 {
         return 1;
     }
-    up_to(number, 64)
+    if number > 64 {
+        return 64;
+    }
+    number
 }
 
 fn classed(day: Day, component: u16, service: Service, designation: Designation) -> Fact
