@@ -66,7 +66,7 @@ fn requests_in_pieces_of_any_size_have_the_same_answers(rt: HostRuntime) -> Resu
     let bytes = three(rt.alloc(), SYNC, VIEW, SYNC)?;
     let want = three(rt.alloc(), RECEIPT, NO_UNIT, RECEIPT)?;
     for size in SIZES {
-        speaks_anew(rt.alloc(), size, &bytes, (Ended::Done, &want))?;
+        speaks_anew(rt.alloc(), size, &bytes, (Ended::Done, want.as_slice()))?;
     }
     Ok(())
 }
@@ -108,7 +108,13 @@ fn refuses(alloc: Global, request: &[u8], answer: &[u8]) -> Result<(), Fail> {
     let bytes = three(alloc, request, SYNC, b"")?;
     let want = three(alloc, answer, RECEIPT, b"")?;
     let mut office = Notebook::new();
-    speaks(alloc, &mut office, 100, &bytes, (Ended::Done, &want))?;
+    speaks(
+        alloc,
+        &mut office,
+        100,
+        &bytes,
+        (Ended::Done, want.as_slice()),
+    )?;
     is(office.made == 1, "one call")
 }
 
@@ -141,7 +147,12 @@ fn end_it(alloc: Global, refused: &[u8], answer: &[u8]) -> Result<(), Fail> {
     let bytes = three(alloc, SYNC, refused, SYNC)?;
     let want = three(alloc, RECEIPT, answer, b"")?;
     for size in [1, 40, 1_000] {
-        speaks_anew(alloc, size, &bytes, (Ended::Refused { at: 174 }, &want))?;
+        speaks_anew(
+            alloc,
+            size,
+            &bytes,
+            (Ended::Refused { at: 174 }, want.as_slice()),
+        )?;
     }
     Ok(())
 }
@@ -162,7 +173,7 @@ fn a_head_without_an_end_is_refused(rt: HostRuntime) -> Result<(), Fail> {
     let mut bytes = Vec::new(rt.alloc());
     bytes.resize(8_191, b'a')?;
     let cut = Ended::CutShort { got: 8_191 };
-    speaks_anew(rt.alloc(), 100, &bytes, (cut, b""))?;
+    speaks_anew(rt.alloc(), 100, &bytes, (cut, b"".as_slice()))?;
     bytes.push(b'a')?;
     let refused = Ended::Refused { at: 0 };
     speaks_anew(rt.alloc(), 100, &bytes, (refused, HEAD_TOO_LARGE))
@@ -175,8 +186,8 @@ const CLOSING: &[u8] =
 fn a_closing_request_is_the_last_that_is_answered(rt: HostRuntime) -> Result<(), Fail> {
     let bytes = three(rt.alloc(), SYNC, b"GET /nothing HTTP/1.0\r\n\r\n", SYNC)?;
     let want = three(rt.alloc(), RECEIPT, CLOSING, b"")?;
-    speaks_anew(rt.alloc(), 1, &bytes, (Ended::Done, &want))?;
-    speaks_anew(rt.alloc(), 1_000, &bytes, (Ended::Done, &want))
+    speaks_anew(rt.alloc(), 1, &bytes, (Ended::Done, want.as_slice()))?;
+    speaks_anew(rt.alloc(), 1_000, &bytes, (Ended::Done, want.as_slice()))
 }
 
 // Requests to keep batches, of one handheld or others, with a view and a request that closes among them.
@@ -314,5 +325,5 @@ fn a_body_of_513_facts_is_refused(rt: HostRuntime) -> Result<(), Fail> {
     let mut bytes = long_sync(rt.alloc(), 513, b"262144", blanks)?;
     bytes.extend_from_slice(SYNC)?;
     let want = three(rt.alloc(), REFUSAL, RECEIPT, b"")?;
-    speaks_anew(rt.alloc(), 100_000, &bytes, (Ended::Done, &want))
+    speaks_anew(rt.alloc(), 100_000, &bytes, (Ended::Done, want.as_slice()))
 }
