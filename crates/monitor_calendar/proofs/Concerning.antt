@@ -1,5 +1,6 @@
 -- What cannot concern a component gives no duty of it.
-use Rattle.std.proofs.Common.{◌≡◌, ℕ, ◌+◌, ◌-◌, ◌*◌, ◌%◌, Bool, true, false, not, ◌&&◌, ◌||◌, nat_eq, nat_le, nat_lt, min, Option, Some, None, option_map, unwrap_or, List, [], ◌∷◌, ◌++◌, cond, refl, sym, ap, subst, ◌∙◌}
+use Rattle.std.proofs.Common.{◌≡◌, ℕ, ◌+◌, ◌-◌, ◌*◌, ◌%◌, Bool, true, false, not, ◌&&◌, ◌||◌, nat_eq, nat_le, nat_lt, min, Option, Some, None, option_map}
+use Rattle.std.proofs.Common.{unwrap_or, List, [], ◌∷◌, ◌++◌, cond, refl, sym, ap, subst, ◌∙◌}
 use Rattle.std.specs.List.{filter_map, list_any}
 use Rattle.std.specs.Option.{option_or}
 use Rattle.std.proofs.lemmas.Bool.{and_left, and_right, or_parts, or_from}
@@ -22,7 +23,9 @@ use Rattle.ldar_law.specs.Happenings.{has_undesignated_drips, is_release, has_ev
 use Rattle.ldar_law.specs.Kinds.{is_valve, is_pump, is_compressor}
 use Rattle.ldar_law.specs.Limits.{regime_of}
 use Rattle.ldar_law.specs.Months.{is_quarterly, month_in_quarter}
-use Rattle.ldar_law.specs.Standing.{are_pump_rules, are_relief_rules, are_heavy_liquid_rules, is_unsafe_designated, is_difficult_designated, is_nde_designated, is_under_valve_rules, is_under_pump_rules, is_under_compressor_rules, is_under_relief_rules, is_under_heavy_liquid_rules, is_plain, is_unsafe}
+use Rattle.ldar_law.specs.Standing.{are_pump_rules, are_relief_rules, are_heavy_liquid_rules, is_unsafe_designated, is_difficult_designated, is_nde_designated}
+use Rattle.ldar_law.specs.Standing.{is_under_valve_rules, is_under_pump_rules, is_under_compressor_rules, is_under_relief_rules, is_under_heavy_liquid_rules}
+use Rattle.ldar_law.specs.Standing.{is_plain, is_unsafe}
 use Rattle.monitor_calendar.specs.Causes as causes
 use Rattle.monitor_calendar.specs.Concern.{has_unsafe_class, is_yearly_designated, has_yearly_class, is_relief, concerns}
 use Rattle.monitor_calendar.specs.Following.{after_event}

@@ -6,7 +6,8 @@ use Rattle.ldar_law.specs.declared.duty.Duty.{Duty}
 use Rattle.ldar_law.specs.declared.event.Event.{Event}
 use Rattle.ldar_law.specs.Duties as law
 use Rattle.ldar_law.specs.Months.{month_in_quarter}
-use Rattle.ldar_law.specs.Standing.{are_valve_rules, are_pump_rules, are_compressor_rules, is_none_designated, is_nde_designated, is_unsafe_designated, is_difficult_designated}
+use Rattle.ldar_law.specs.Standing.{are_valve_rules, are_pump_rules, are_compressor_rules, is_none_designated}
+use Rattle.ldar_law.specs.Standing.{is_nde_designated, is_unsafe_designated, is_difficult_designated}
 use Rattle.monitor_calendar.specs.declared.asked.Asked.{Asked}
 use Rattle.monitor_calendar.specs.declared.asked.Judged.{Judged}
 

@@ -1,5 +1,6 @@
 -- What follows drips, a pressure release or evidence of a potential leak.
-use Rattle.std.specs.Prelude.{◌≡◌, ℕ, ◌+◌, ◌<◌, ◌≤◌, Bool, true, false, not, ◌&&◌, ◌||◌, nat_le, if◌then◌else◌, Option, Some, None, List, length, slice_get, slice_index_or}
+use Rattle.std.specs.Prelude.{◌≡◌, ℕ, ◌+◌, ◌<◌, ◌≤◌, Bool, true, false, not, ◌&&◌, ◌||◌, nat_le}
+use Rattle.std.specs.Prelude.{if◌then◌else◌, Option, Some, None, List, length, slice_get, slice_index_or}
 use Rattle.ldar_days.specs.Calendar.{end_by}
 use Rattle.fact_kinds.specs.declared.key.Key.{Key}
 use Rattle.ldar_law.specs.declared.duty.Duty.{Duty}

@@ -159,7 +159,8 @@ impl Asked<'_> {
     /// The place of the first event whose duty the list can hold.
     fn first_listed(&self) -> usize
         ensures within { result ≤ length self.now.events.now }
-        ensures value { IsPartitionPoint (λ e. nat_lt (e.key.day + 5 + 366) self.now.day ≡ true) (λ e. nat_lt (e.key.day + 5 + 366) self.now.day ≡ false) self.now.events.now result }
+        ensures value { IsPartitionPoint (λ e. nat_lt (e.key.day + 5 + 366) self.now.day ≡ true)
+            (λ e. nat_lt (e.key.day + 5 + 366) self.now.day ≡ false) self.now.events.now result }
     {
         let day = self.day.number();
         self.events
