@@ -26,7 +26,8 @@ pub record IsLastOf (entries : List Entry) (handheld bound link : ℕ) : Type 0 
 -- each entry of a run has the one before it there, and the numbers of a run rise
 pub record AreRuns (entries : List Entry) : Type 0 where
   pub earlier : (at : ℕ) (entry : Entry) → at_position entries at ≡ Some entry → entry.late ≡ false → IsLastOf entries entry.handheld at entry.earlier
-  pub rise : (p q : ℕ) (e f : Entry) → at_position entries p ≡ Some e → at_position entries q ≡ Some f → IsInRun f.handheld e → f.late ≡ false → p < q → e.number < f.number
+  pub rise : (p q : ℕ) (e f : Entry) → at_position entries p ≡ Some e → at_position entries q ≡ Some f
+      → IsInRun f.handheld e → f.late ≡ false → p < q → e.number < f.number
 
 -- the late ones among entries, the first of which stands at this position
 abbrev pub lates_of : ℕ → List Entry → List Late

@@ -21,7 +21,9 @@ child_of path node = if eqb (path % 2) 1 then node.high else node.low
 -- so many steps along a path lead from one node to another, each to one that came later
 abbrev pub Leads : List Node → ℕ → ℕ → ℕ → ℕ → Type 0
 Leads nodes goal zero path link = link ≡ goal
-Leads nodes goal (suc n) path link = (node : Node) × (at_position nodes link ≡ Some node) × (link < child_of path node) × Leads nodes goal n (path / 2) (child_of path node)
+Leads nodes goal (suc n) path link =
+    (node : Node) × (at_position nodes link ≡ Some node) × (link < child_of path node)
+    × Leads nodes goal n (path / 2) (child_of path node)
 
 -- a path leads from one node to another
 abbrev pub IsReached : List Node → ℕ → ℕ → ℕ → Type 0

@@ -128,7 +128,9 @@ fn child_at(nodes: &[Node], place: u32, path: u64) -> Option<u32>
 /// The position of an identity among some nodes, if it is there.
 fn find_in(nodes: &[Node], identity: Identity) -> Option<u32>
     requires tree { IsTree nodes.now }
-    ensures found { IfSome result (λ position. (at : ℕ) × (node : Node) × (at_position nodes.now at ≡ Some node) × (node.late ≡ record { identity = identity; position = position })) }
+    ensures found { IfSome result (λ position. (at : ℕ) × (node : Node)
+        × (at_position nodes.now at ≡ Some node)
+        × (node.late ≡ record { identity = identity; position = position })) }
     ensures none { IsNone result → (at : ℕ) (node : Node) → at_position nodes.now at ≡ Some node → node.late.identity ≢ identity }
 {
     let mut place = 1;

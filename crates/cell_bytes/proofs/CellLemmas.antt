@@ -1,5 +1,6 @@
 -- Bytes that stand at a place of others, and numbers among them.
-use Rattle.std.proofs.Common.{◌≡◌, ℕ, ◌+◌, ◌*◌, ◌/◌, ◌%◌, ◌<◌, ◌≤◌, List, [], ◌∷◌, ◌++◌, take, drop, length, get_or, sym, ap, ap₂, ◌∙◌, take-add, drop-drop, append_assoc, append-nil, Option, Some, None, IfSome, is_none, false, arith}
+use Rattle.std.proofs.Common.{◌≡◌, ℕ, ◌+◌, ◌*◌, ◌/◌, ◌%◌, ◌<◌, ◌≤◌, List, [], ◌∷◌, ◌++◌, take, drop, length, get_or, sym, ap, ap₂}
+use Rattle.std.proofs.Common.{◌∙◌, take-add, drop-drop, append_assoc, append-nil, Option, Some, None, IfSome, is_none, false, arith}
 use Rattle.std.proofs.lemmas.List.{drop_more}
 use Rattle.std.proofs.lemmas.Grind.{flat_map-append}
 use Rattle.std.specs.List.{flat_map}

@@ -1,5 +1,6 @@
 -- Bytes at a place of others, taken apart again: what they were put together from.
-use Rattle.std.proofs.Common.{◌≡◌, ℕ, ◌+◌, ◌*◌, ◌/◌, ◌%◌, ◌^◌, ◌<◌, ◌≤◌, List, [], ◌∷◌, ◌++◌, zero, suc, take, drop, length, get_or, Option, Some, None, IfSome, is_none, true, false, refl, sym, ap, ◌∙◌, take-take, take_at, drop_at, drop-drop, arith}
+use Rattle.std.proofs.Common.{◌≡◌, ℕ, ◌+◌, ◌*◌, ◌/◌, ◌%◌, ◌^◌, ◌<◌, ◌≤◌, List, [], ◌∷◌, ◌++◌, zero, suc, take, drop, length, get_or, Option}
+use Rattle.std.proofs.Common.{Some, None, IfSome, is_none, true, false, refl, sym, ap, ◌∙◌, take-take, take_at, drop_at, drop-drop, arith}
 use Rattle.std.proofs.lemmas.List.{drop_more, drop-take, length-append}
 use Rattle.std.specs.List.{flat_map, AllByRecursion}
 use Rattle.fact_kinds.specs.declared.key.Key.{Key}
@@ -68,7 +69,8 @@ module _ {X : Type 0} (f : X → List ℕ) (width : ℕ) (wide : (x : X) → len
         found.1,
         ap (λ k. take k (x ∷ xs)) next ∙ ap (λ l. x ∷ l) found.2,
         ap (λ k. take width (drop k (f x ++ flat_map f xs))) on
-            ∙ ap (take width) (sym (drop-drop (width * at) width (f x ++ flat_map f xs)) ∙ ap (drop (width * at)) (drop_at (f x) (flat_map f xs) width (wide x)))
+            ∙ ap (take width) (sym (drop-drop (width * at) width (f x ++ flat_map f xs))
+            ∙ ap (drop (width * at)) (drop_at (f x) (flat_map f xs) width (wide x)))
             ∙ found.3,
       )
 

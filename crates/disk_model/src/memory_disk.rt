@@ -1,8 +1,10 @@
-ghost use Rattle.std.specs.Prelude.{◌≡◌, ◌<◌, ◌≤◌, ◌^◌, ◌+◌, ◌-◌, ◌++◌, [], ◌∷◌, ℕ, List, length, reverse, take, min, IfOk, OnOk, OnErr, IsErr, Some, None, MatchResult};
+ghost use Rattle.std.specs.Prelude.{◌≡◌, ◌<◌, ◌≤◌, ◌^◌, ◌+◌, ◌-◌, ◌++◌, [], ◌∷◌, ℕ, List, length, reverse};
+ghost use Rattle.std.specs.Prelude.{take, min, IfOk, OnOk, OnErr, IsErr, Some, None, MatchResult};
 ghost use Rattle.disk_model.specs.Calls.{IsFailing};
 ghost use Rattle.disk_model.specs.Disk.{Reads, Torn, Holds};
 ghost use Rattle.disk_model.specs.Faults.{Rose};
-ghost use Rattle.disk_model.specs.MemoryDisk.{bytes_of, clock_of, images_of, left_of, new_disk, after_failing, after_read, after_write, after_sync, changes, noted_write};
+ghost use Rattle.disk_model.specs.MemoryDisk.{bytes_of, clock_of, images_of, left_of, new_disk, after_failing};
+ghost use Rattle.disk_model.specs.MemoryDisk.{after_read, after_write, after_sync, changes, noted_write};
 ghost use Rattle.disk_model.specs.MomentLaws.{left_counts_now, left_only_now, left_since_earlier};
 ghost use Rattle.disk_model.specs.Stopped.{disk_before, stopped_bytes, IsLeftIn};
 ghost use Rattle.disk_model.specs.Writes.{written};

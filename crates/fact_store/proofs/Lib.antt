@@ -2,6 +2,7 @@ pub mod CountLemmas
 pub mod KeepLemmas
 pub mod ListLemmas
 pub mod ListingLemmas
+pub mod MergeLemmas
 pub mod OrderLemmas
 pub mod PlaceLemmas
 pub mod SortLemmas

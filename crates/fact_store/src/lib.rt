@@ -7,6 +7,7 @@ mod index;
 mod indexes;
 mod listing;
 pub mod lists;
+mod merging;
 mod naming;
 mod place;
 mod put;

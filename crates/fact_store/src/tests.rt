@@ -230,6 +230,32 @@ fn late_facts_are_listed_at_once_as_one_by_one(rt: HostRuntime) -> Result<(), Fa
 }
 
 #[test]
+fn late_facts_go_into_a_long_list(rt: HostRuntime) -> Result<(), Fail> {
+    let alloc = rt.alloc();
+    let day = Day::of_number(20_000).ok_or("day")?;
+    // One late fact and twenty are merged into the list, and a hundred are sorted with it.
+    for late in [1, 20, 100] {
+        let mut entries = Vec::new(alloc);
+        for n in 0..201 {
+            entries.push((at(day, 2 * n, 1, 1, 0), attempt(day)))?;
+        }
+        for n in 0..late {
+            let minute = (n % 401 + 5) * 37 % 401;
+            entries.push((at(day, minute, 1, 2, 0), attempt(day)))?;
+        }
+        let listed = listed_at_each(alloc, &entries, 200)?;
+        let found = keys_at::<Brand>(alloc, Blank::new(1), &listed, listed.of_component(7))?;
+        let mut want = Vec::new(alloc);
+        for entry in &entries {
+            want.push(entry.0)?;
+        }
+        want.sort_unstable();
+        assert_eq!(rt; found.as_slice(), want.as_slice(), "{late} late");
+    }
+    Ok(())
+}
+
+#[test]
 fn a_fact_with_room_comes_after_a_list_was_made(rt: HostRuntime) -> Result<(), Fail> {
     let alloc = rt.alloc();
     let day = Day::of_number(20_000).ok_or("day")?;

@@ -49,7 +49,8 @@ pub(crate) fn latest<S: Alter>(
     unit: u8,
     half: u16,
 ) -> Result<Vec<Row>, Error>
-    ensures rows { HasCleanDisk (state S.Store conn.new) → IfOk result (λ rows. Shown latest_text (key_of unit half) (state S.Store conn.old) (state S.Store conn.new) rows.items) }
+    ensures rows { HasCleanDisk (state S.Store conn.new)
+        → IfOk result (λ rows. Shown latest_text (key_of unit half) (state S.Store conn.old) (state S.Store conn.new) rows.items) }
 {
     conn.query_all(LATEST, params![u32::from(unit), u32::from(half)])
 }

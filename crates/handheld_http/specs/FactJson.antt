@@ -17,7 +17,8 @@ use Rattle.fact_kinds.specs.declared.limits.TheConstants.{LONGEST_SHUTDOWN}
 use Rattle.fact_kinds.specs.declared.body.Sort.{Sort}
 use Rattle.fact_kinds.specs.declared.body.Sort.TheVariants.{Sensor, Evidence}
 use Rattle.fact_kinds.specs.declared.body.FactBody.{FactBody}
-use Rattle.fact_kinds.specs.declared.body.FactBody.TheVariants.{Unit as UnitFact, Component as ComponentFact, Class as ClassFact, Retire, Election, Shutdown, Calibration, Precision, Drift, Reading, Visual, Attempt, Delay, Release, Indication}
+use Rattle.fact_kinds.specs.declared.body.FactBody.TheVariants.{Unit as UnitFact, Component as ComponentFact, Class as ClassFact, Retire, Election, Shutdown}
+use Rattle.fact_kinds.specs.declared.body.FactBody.TheVariants.{Calibration, Precision, Drift, Reading, Visual, Attempt, Delay, Release, Indication}
 use Rattle.handheld_http.specs.Members.{◌>>=◌, has_only, number, flag, word, day, name, number_or_none, day_or_none}
 
 -- ---- words, by their places
@@ -122,7 +123,8 @@ unit_fact d =
 
 unfoldable pub component_fact : Data → Option FactBody
 component_fact d =
-    if has_only (with_common (codes "component" ∷ codes "unit" ∷ codes "type" ∷ codes "monomer" ∷ codes "replaces" ∷ codes "service" ∷ codes "designation" ∷ codes "plan" ∷ codes "month" ∷ [])) d then (do
+    if has_only (with_common (codes "component" ∷ codes "unit" ∷ codes "type" ∷ codes "monomer"
+    ∷ codes "replaces" ∷ codes "service" ∷ codes "designation" ∷ codes "plan" ∷ codes "month" ∷ [])) d then (do
       component ← number 1 60_000 (get (codes "component") d)
       unit ← number 1 64 (get (codes "unit") d)
       kind ← option_map type_at (word type_words (get (codes "type") d))
@@ -140,7 +142,9 @@ class_fact_members d = do
 
 unfoldable pub class_fact : Data → Option FactBody
 class_fact d =
-    if has_only (with_common (codes "component" ∷ codes "service" ∷ codes "designation" ∷ codes "plan" ∷ codes "month" ∷ [])) d then class_fact_members d else None
+    if has_only (with_common (codes "component" ∷ codes "service" ∷ codes "designation" ∷ codes "plan" ∷ codes "month" ∷ [])) d
+    then class_fact_members d
+    else None
 
 unfoldable pub retire : Data → Option FactBody
 retire d =

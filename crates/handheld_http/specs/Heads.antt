@@ -1,5 +1,6 @@
 -- The head of a request: where it ends, and what its fields say of the body and of the connection.
-use Rattle.std.specs.Prelude.{ℕ, ◌+◌, ◌-◌, ◌<◌, ◌≤◌, Bool, ◌||◌, ◌&&◌, ◌==◌, not, nat_eq, nat_lt, List, [], ◌∷◌, length, map, codes, Option, Some, None, Result, Ok, Err, if◌then◌else◌, count_by, find, option_map}
+use Rattle.std.specs.Prelude.{ℕ, ◌+◌, ◌-◌, ◌<◌, ◌≤◌, Bool, ◌||◌, ◌&&◌, ◌==◌, not, nat_eq, nat_lt, List, [], ◌∷◌, length}
+use Rattle.std.specs.Prelude.{map, codes, Option, Some, None, Result, Ok, Err, if◌then◌else◌, count_by, find, option_map}
 use Rattle.std.specs.Char.{is_ascii_digit, to_ascii_lowercase}
 use Rattle.std.specs.Cmp.Lexicographic.{pointwise}
 use Rattle.std.specs.List.{list_all, list_any}

@@ -1,5 +1,6 @@
 -- How the members of a JSON object are read: each gives a value, or nothing where it has another form.
-use Rattle.std.specs.Prelude.{ℕ, Bool, false, ◌&&◌, ◌==◌, not, nat_eq, nat_le, List, [], ◌∷◌, length, Option, Some, None, option_and_then, position, if◌then◌else◌}
+use Rattle.std.specs.Prelude.{ℕ, Bool, false, ◌&&◌, ◌==◌, not, nat_eq, nat_le, List, [], ◌∷◌}
+use Rattle.std.specs.Prelude.{length, Option, Some, None, option_and_then, position, if◌then◌else◌}
 use Rattle.std.specs.List.{list_all, list_any}
 use Rattle.std.specs.Cmp.Lexicographic.{pointwise}
 use Rattle.serde_json.specs.Data.{Data, Members, no_members, member}

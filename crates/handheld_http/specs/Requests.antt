@@ -1,5 +1,6 @@
 -- What a request asks: by its method, its target and its body.
-use Rattle.std.specs.Prelude.{◌≡◌, ◌↔◌, ℕ, ◌+◌, Bool, true, false, ◌&&◌, ◌==◌, not, nat_eq, nat_le, nat_lt, List, get_or, length, take, drop, codes, Option, Some, None, ok_or, Result, Ok, Err, if◌then◌else◌}
+use Rattle.std.specs.Prelude.{◌≡◌, ◌↔◌, ℕ, ◌+◌, Bool, true, false, ◌&&◌, ◌==◌, not, nat_eq, nat_le, nat_lt, List, get_or}
+use Rattle.std.specs.Prelude.{length, take, drop, codes, Option, Some, None, ok_or, Result, Ok, Err, if◌then◌else◌}
 use Rattle.std.specs.List.{before_first, after_first}
 use Rattle.std.specs.Cmp.Lexicographic.{pointwise}
 use Rattle.std.specs.Str.Parse.{digits_value}
@@ -7,7 +8,8 @@ use Rattle.httparse.specs.Grammar.{RequestHead}
 use Rattle.ldar_days.specs.Texts.{day_of}
 use Rattle.fact_kinds.specs.declared.batch.Batch.{Batch}
 use Rattle.ldar_law.specs.declared.request.Request.{Request}
-use Rattle.ldar_law.specs.declared.request.Request.TheVariants.{Sync as SyncRequest, Due as DueRequest, Tags as TagsRequest, Delays as DelaysRequest, Route as RouteRequest, Percent as PercentRequest, Report as ReportRequest}
+use Rattle.ldar_law.specs.declared.request.Request.TheVariants.{Sync as SyncRequest, Due as DueRequest, Tags as TagsRequest, Delays as DelaysRequest}
+use Rattle.ldar_law.specs.declared.request.Request.TheVariants.{Route as RouteRequest, Percent as PercentRequest, Report as ReportRequest}
 use Rattle.ldar_law.specs.declared.request.What.{What}
 use Rattle.ldar_law.specs.declared.request.What.TheVariants.{Unit as NoUnit, Quarter as NoQuarter, Half as NoHalf, Day as NoDay, Stops as NoStops}
 use Rattle.handheld_http.specs.declared.answer.Asked.{Asked}

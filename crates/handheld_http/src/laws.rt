@@ -1,6 +1,7 @@
 //! Laws of the requests of a connection. Each function has an empty body, and its clause says the law.
 
-ghost use Rattle.handheld_http.specs.Items.{OneCut, NoProperFront, ItemsAreInRange, HeadStays, HeadTellsCut, RefusalStays, WholeIsItem, MoreIsNone, RefusedIsNone, ItemIsCut};
+ghost use Rattle.handheld_http.specs.Items.{OneCut, NoProperFront, ItemsAreInRange, HeadStays, HeadTellsCut};
+ghost use Rattle.handheld_http.specs.Items.{RefusalStays, WholeIsItem, MoreIsNone, RefusedIsNone, ItemIsCut};
 ghost use Rattle.handheld_http.specs.Requests.{ItemsMean, OneMeaning};
 ghost use Rattle.handheld_http.specs.RouteLaws.{PartsAreParameters};
 

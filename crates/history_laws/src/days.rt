@@ -1,6 +1,8 @@
 //! The facts up to a day beside all facts: what the register, readings and events are by each.
 
-ghost use Rattle.history_laws.specs.DayLaws.{HistoryIsInOrder, AscendingAreInOrder, PartIsInOrder, PartUpToADay, FactsAreCut, ComponentsUpToADay, UnitsUpToADay, StandingForgetsLaterDays, MembersUpToADay, ComponentsAreOfAllMembers, FitnessForgetsLaterDays, EventsUpToADay, EventsByOwnRegister, EventsAreCut};
+ghost use Rattle.history_laws.specs.DayLaws.{HistoryIsInOrder, AscendingAreInOrder, PartIsInOrder, PartUpToADay, FactsAreCut, ComponentsUpToADay};
+ghost use Rattle.history_laws.specs.DayLaws.{UnitsUpToADay, StandingForgetsLaterDays, MembersUpToADay, ComponentsAreOfAllMembers};
+ghost use Rattle.history_laws.specs.DayLaws.{FitnessForgetsLaterDays, EventsUpToADay, EventsByOwnRegister, EventsAreCut};
 
 /// The facts of a history are in order, and so are facts that ascend, and a part of facts in order.
 pub fn facts_in_order()

@@ -25,7 +25,10 @@ ghost use Rattle.history_laws.specs.DayLaws.{events_to, has_begun, item_on, up_t
 ghost use Rattle.fact_kinds.specs.declared.body.FactBody.TheVariants.{Calibration, Drift, Precision};
 ghost use Rattle.history_laws.specs.KnownLaws.{is_of_matter};
 ghost use Rattle.history_laws.specs.SpanLaws.{detected_by, span_on};
-ghost use Rattle.history_laws.specs.Witnesses.{before_its_unit, beginning_of_1, changing_valve, delayed_leak, due_days_of_1, entered_again, entered_twice, first_of_identity, heavy_from, in_two_units, leak_without_shutdown, leak_without_tests, leaks_again, leaks_in, leaks_of_1, one_retires_one_begins, out_of_order, retirement_of_1, second_of_identity, too_late, unit_of_1, valve_1, without_its_unit};
+ghost use Rattle.history_laws.specs.Witnesses.{before_its_unit, beginning_of_1, changing_valve, delayed_leak, due_days_of_1, entered_again};
+ghost use Rattle.history_laws.specs.Witnesses.{entered_twice, first_of_identity, heavy_from, in_two_units, leak_without_shutdown};
+ghost use Rattle.history_laws.specs.Witnesses.{leak_without_tests, leaks_again, leaks_in, leaks_of_1, one_retires_one_begins, out_of_order};
+ghost use Rattle.history_laws.specs.Witnesses.{retirement_of_1, second_of_identity, too_late, unit_of_1, valve_1, without_its_unit};
 
 /// Where a component was entered twice, a process unit has it twice; the history is not ruly.
 pub fn entered_twice_is_twice_a_member()

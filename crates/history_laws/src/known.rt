@@ -1,6 +1,7 @@
 //! A component is known by its own facts, its instruments' tests and its process unit's shutdowns.
 
-ghost use Rattle.history_laws.specs.KnownLaws.{KnownByItsLists, ComponentsByTheirLists, FitnessIsOfWhatMatters, SameTestsMatter, SameListsKnowAlike, KnownUpToADay};
+ghost use Rattle.history_laws.specs.KnownLaws.{KnownByItsLists, ComponentsByTheirLists, FitnessIsOfWhatMatters};
+ghost use Rattle.history_laws.specs.KnownLaws.{SameTestsMatter, SameListsKnowAlike, KnownUpToADay};
 
 /// What all facts say of a component, the lists say that a store keeps: the facts that name it, the tests of each
 /// instrument, and the facts that name its process unit; and so of all components of a process unit.

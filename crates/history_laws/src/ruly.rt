@@ -1,6 +1,8 @@
 //! What a ruly history gives, in which each batch passes after those before it.
 
-ghost use Rattle.history_laws.specs.RulyLaws.{DaysAreInBound, StartupsAreInBound, BeginningsAreInBound, StartupIsOfFact, BeginningIsOfFact, EachIsEnteredOnce, PartHasEachOnce, PassingBatchEntersFirst, MembersAscend, MembersAreFew, MembersStandInUnit, ComponentsAreMembers, WhatIsAskedWasEntered, UnitOfComponentIsEntered, OneMorePasses, RulyGivesRegister};
+ghost use Rattle.history_laws.specs.RulyLaws.{DaysAreInBound, StartupsAreInBound, BeginningsAreInBound, StartupIsOfFact, BeginningIsOfFact};
+ghost use Rattle.history_laws.specs.RulyLaws.{EachIsEnteredOnce, PartHasEachOnce, PassingBatchEntersFirst, MembersAscend, MembersAreFew, MembersStandInUnit};
+ghost use Rattle.history_laws.specs.RulyLaws.{ComponentsAreMembers, WhatIsAskedWasEntered, UnitOfComponentIsEntered, OneMorePasses, RulyGivesRegister};
 
 /// Each day of a ruly history's facts is at most 2097-12-31 (our own rule).
 pub fn days_in_bound()

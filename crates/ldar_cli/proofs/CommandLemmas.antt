@@ -21,7 +21,8 @@ module _ {D : Type 0} (content_of : D → Option (List ℕ)) (images_of : D → 
       → command ≡ other → Ends content_of images_of left_of clock_of faults_of command status counts filed filed' left left' pieces pieces' old new
       → Ends content_of images_of left_of clock_of faults_of other status counts filed filed' left left' pieces pieces' old new
   ends_for command other status counts filed filed' left left' pieces pieces' old new same ends =
-      subst (λ (c : Option Command). Ends content_of images_of left_of clock_of faults_of c status counts filed filed' left left' pieces pieces' old new) same ends
+      subst (λ (c : Option Command). Ends content_of images_of left_of clock_of faults_of c status counts filed filed' left left' pieces pieces' old new)
+      same ends
 
 module _ {A D : Type 0} (f : A → D) (content_of : D → Option (List ℕ)) (images_of : D → List ℕ → Type 0) (left_of : D → ℕ → List ℕ → Type 0)
     (clock_of faults_of : D → ℕ) where

@@ -14,6 +14,7 @@ module _ {A D : Type 0} (f : A → D) (content_of : D → Option (List ℕ)) (im
       → RunEnds (λ (a : A). content_of (f a)) (λ (a : A). images_of (f a)) (λ (a : A). left_of (f a)) (λ (a : A). clock_of (f a)) (λ (a : A). faults_of (f a))
       command status counts filed filed' left left' pieces pieces' old new
       → RunEnds content_of images_of left_of clock_of faults_of command status counts filed filed' left left' pieces pieces' (f old) now
-  run_ends_at command status counts filed filed' left left' pieces pieces' old new now same (inl wanting) = inl (wanting.0, wanting.1, wanting.2, same ∙ ap f wanting.3)
+  run_ends_at command status counts filed filed' left left' pieces pieces' old new now same (inl wanting) =
+      inl (wanting.0, wanting.1, wanting.2, same ∙ ap f wanting.3)
   run_ends_at command status counts filed filed' left left' pieces pieces' old new now same (inr ends) =
       inr (ends_at f content_of images_of left_of clock_of faults_of command status counts filed filed' left left' pieces pieces' old new now same ends)

@@ -1,5 +1,6 @@
 -- A word that begins with a hyphen is in no command.
-use Rattle.std.proofs.Common.{◌≡◌, ◌∙◌, ◌==◌, ◌&&◌, ◌+◌, ◌/◌, ℕ, Bool, true, false, not, nat_eq, nat_le, Option, Some, None, List, [], ◌∷◌, length, refl, sym, ap, arith, codes, if◌then◌else◌}
+use Rattle.std.proofs.Common.{◌≡◌, ◌∙◌, ◌==◌, ◌&&◌, ◌+◌, ◌/◌, ℕ, Bool, true, false, not, nat_eq, nat_le, Option}
+use Rattle.std.proofs.Common.{Some, None, List, [], ◌∷◌, length, refl, sym, ap, arith, codes, if◌then◌else◌}
 use Rattle.std.proofs.lemmas.Grind.{common_steps}
 use Rattle.std.specs.List.{list_all}
 use Rattle.std.specs.Char.{is_ascii_digit}
@@ -11,7 +12,8 @@ use Rattle.handheld_http.specs.Requests.{decimal_in}
 use Rattle.register_import.specs.declared.limits.TheConstants.{LAST_NUMBER}
 use Rattle.command_words.specs.Parsing.{name_in}
 use Rattle.command_words.specs.Positionals.{is_option, positionals_of}
-use Rattle.ldar_cli.specs.Command.{command_in, command_with, filing_of, import_of, is_word, numbered_view, route_on, showing, sort_named, view_named, view_of_four, view_of_number, view_on}
+use Rattle.ldar_cli.specs.Command.{command_in, command_with, filing_of, import_of, is_word, numbered_view, route_on}
+use Rattle.ldar_cli.specs.Command.{showing, sort_named, view_named, view_of_four, view_of_number, view_on}
 
 -- such a word is a hyphen and the rest
 hyphen_first : (x : ℕ) → (x == 45) ≡ true → x ≡ 45

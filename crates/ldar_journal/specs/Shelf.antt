@@ -48,7 +48,8 @@ IsDoubt frames [] torn = torn ≡ 0
 IsDoubt frames (batch ∷ batches) torn = IsTorn frames (batch ∷ batches) torn
 
 -- What a journal keeps of its disk and its place: the bytes, and each image that a crash may leave, stand as it says.
-pub record IsShelved (content : Option (List ℕ)) (images : List ℕ → Type 0) (place : ℕ) (frames : List (List Batch)) (doubt : List Batch) (torn : ℕ) : Type 0 where
+pub record IsShelved (content : Option (List ℕ)) (images : List ℕ → Type 0) (place : ℕ) (frames : List (List Batch)) (doubt : List Batch)
+    (torn : ℕ) : Type 0 where
   pub stands : OnDisk content images (λ image. Stands image place frames doubt)
   pub counted : IsCounted place frames
   pub in_doubt : IsDoubt frames doubt torn

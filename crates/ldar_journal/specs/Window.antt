@@ -13,7 +13,8 @@ abbrev pub IsAhead : ℕ → List ℕ → List ℕ → Type 0
 IsAhead place bytes all = bytes ≡ take (length bytes) (drop place all)
 
 -- calls that only read: the bytes stay, and so does what a crash may leave, now and since each earlier clock
-pub record OnlyReads {D : Type 0} (content_of : D → Option (List ℕ)) (images_of : D → List ℕ → Type 0) (left_of : D → ℕ → List ℕ → Type 0) (clock_of : D → ℕ) (old new : D) : Type 0 where
+pub record OnlyReads {D : Type 0} (content_of : D → Option (List ℕ)) (images_of : D → List ℕ → Type 0) (left_of : D → ℕ → List ℕ → Type 0)
+    (clock_of : D → ℕ) (old new : D) : Type 0 where
   pub content : BothTold (content_of old) (content_of new) (λ old new. new ≡ old)
   pub images : Same (images_of old) (images_of new)
   pub left : SameSince (clock_of old) (left_of old) (left_of new)

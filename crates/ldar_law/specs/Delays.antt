@@ -1,5 +1,6 @@
 -- Until when a leak must be repaired, and what a delay of repair changes (40 CFR 60.482-9a).
-use Rattle.std.specs.Prelude.{◌≡◌, ◌<◌, slice_get, take, ℕ, ◌+◌, Bool, true, false, ◌&&◌, nat_eq, nat_lt, nat_le, max, Option, Some, None, option_map, if◌then◌else◌, List, [], ◌∷◌, length, reverse, filter}
+use Rattle.std.specs.Prelude.{◌≡◌, ◌<◌, slice_get, take, ℕ, ◌+◌, Bool, true, false, ◌&&◌, nat_eq, nat_lt, nat_le, max}
+use Rattle.std.specs.Prelude.{Option, Some, None, option_map, if◌then◌else◌, List, [], ◌∷◌, length, reverse, filter}
 use Rattle.std.specs.List.{list_any}
 use Rattle.ldar_days.specs.Calendar.{end_by, later_by}
 use Rattle.fact_kinds.specs.declared.key.Key.{Key}

@@ -1,5 +1,6 @@
 -- What has to be done at a component: nine causes, and the rule for lists (40 CFR 60.482-2a, 60.482-3a, 60.482-4a, 60.482-7a, 60.482-8a).
-use Rattle.std.specs.Prelude.{ℕ, ◌+◌, ◌-◌, ◌*◌, ◌/◌, ◌%◌, Bool, false, not, ◌&&◌, ◌||◌, nat_eq, nat_lt, nat_le, min, if◌then◌else◌, Option, Some, None, option_map, is_none, option_to_list, unwrap_or, slice_get, List, ◌++◌, find, filter_map}
+use Rattle.std.specs.Prelude.{ℕ, ◌+◌, ◌-◌, ◌*◌, ◌/◌, ◌%◌, Bool, false, not, ◌&&◌, ◌||◌, nat_eq, nat_lt, nat_le, min, if◌then◌else◌}
+use Rattle.std.specs.Prelude.{Option, Some, None, option_map, is_none, option_to_list, unwrap_or, slice_get, List, ◌++◌, find, filter_map}
 use Rattle.std.specs.List.{list_any}
 use Rattle.std.specs.Option.{option_map_or}
 use Rattle.list_words.specs.Ranges.{from_to}
@@ -13,9 +14,11 @@ use Rattle.ldar_law.specs.declared.equipment.Equipment.{Equipment}
 use Rattle.ldar_law.specs.declared.event.Event.{Event}
 use Rattle.ldar_law.specs.declared.numbers.TheConstants.{EVENT_DAYS, FIRST_DAYS, LISTED_DAYS}
 use Rattle.ldar_law.specs.Force.{class_on, is_in_service}
-use Rattle.ldar_law.specs.Happenings.{is_counting, is_below, is_routine, is_near_background, is_look, is_dry, has_drips, is_designating, has_undesignated_drips, is_release, has_evidence, is_evidence_gone, is_from_to}
+use Rattle.ldar_law.specs.Happenings.{is_counting, is_below, is_routine, is_near_background, is_look, is_dry, has_drips}
+use Rattle.ldar_law.specs.Happenings.{is_designating, has_undesignated_drips, is_release, has_evidence, is_evidence_gone, is_from_to}
 use Rattle.ldar_law.specs.Months.{is_quarterly, month_in_quarter}
-use Rattle.ldar_law.specs.Standing.{is_under_valve_rules, is_under_pump_rules, is_under_compressor_rules, is_under_relief_rules, is_under_heavy_liquid_rules, is_plain, is_nde, is_unsafe, is_difficult}
+use Rattle.ldar_law.specs.Standing.{is_under_valve_rules, is_under_pump_rules, is_under_compressor_rules, is_under_relief_rules}
+use Rattle.ldar_law.specs.Standing.{is_under_heavy_liquid_rules, is_plain, is_nde, is_unsafe, is_difficult}
 
 -- the rule for lists (our own): the period contains the day, or nothing has met the duty and it was due at most 366 days before
 abbrev pub is_listed : ℕ → ℕ → ℕ → Bool → Bool

@@ -1,8 +1,11 @@
 -- The events of a component: its facts in key order, each judged on its own day (40 CFR 60.482-2a(b), 60.482-3a(f), 60.482-7a(b), 60.482-8a(b)).
-use Rattle.std.specs.Prelude.{ℕ, Bool, true, false, not, ◌&&◌, ◌||◌, nat_lt, nat_le, if◌then◌else◌, Option, Some, None, option_map, List, [], ◌∷◌, drop, filter_map}
+use Rattle.std.specs.Prelude.{ℕ, Bool, true, false, not, ◌&&◌, ◌||◌, nat_lt, nat_le, if◌then◌else◌}
+use Rattle.std.specs.Prelude.{Option, Some, None, option_map, List, [], ◌∷◌, drop, filter_map}
 use Rattle.std.specs.List.{cons_option}
 use Rattle.fact_kinds.specs.declared.body.FactBody.{FactBody}
-use Rattle.fact_kinds.specs.declared.body.FactBody.TheVariants.{Unit as UnitFact, Component as ComponentFact, Class as ClassFact, Retire as RetireFact, Election, Shutdown, Calibration, Precision, Drift, Reading, Visual, Attempt as AttemptFact, Delay as DelayFact, Release as ReleaseFact, Indication}
+use Rattle.fact_kinds.specs.declared.body.FactBody.TheVariants.{Unit as UnitFact, Component as ComponentFact, Class as ClassFact, Retire as RetireFact}
+use Rattle.fact_kinds.specs.declared.body.FactBody.TheVariants.{Election, Shutdown, Calibration, Precision, Drift, Reading, Visual}
+use Rattle.fact_kinds.specs.declared.body.FactBody.TheVariants.{Attempt as AttemptFact, Delay as DelayFact, Release as ReleaseFact, Indication}
 use Rattle.fact_kinds.specs.declared.body.Purpose.{Purpose}
 use Rattle.fact_kinds.specs.declared.body.Purpose.TheVariants.{Routine, FollowUp}
 use Rattle.fact_kinds.specs.declared.body.Sort.{Sort}

@@ -1,5 +1,6 @@
 -- The office as a machine: what it answers to a request after a history of accepted batches, and what a fault of the disk leaves in doubt.
-use Rattle.std.specs.Prelude.{◌≡◌, ◌≢◌, ℕ, ◌+◌, ◌-◌, ◌<◌, ◌≤◌, ◌^◌, ◌⊎◌, Bool, true, false, ◌&&◌, if◌then◌else◌, Option, Some, None, is_none, List, [], ◌∷◌, ◌++◌, length, slice_get, IsTrue}
+use Rattle.std.specs.Prelude.{◌≡◌, ◌≢◌, ℕ, ◌+◌, ◌-◌, ◌<◌, ◌≤◌, ◌^◌, ◌⊎◌, Bool, true, false, ◌&&◌, if◌then◌else◌}
+use Rattle.std.specs.Prelude.{Option, Some, None, is_none, List, [], ◌∷◌, ◌++◌, length, slice_get, IsTrue}
 use Rattle.std.specs.List.{AllByRecursion}
 use Rattle.fact_kinds.specs.declared.limits.TheConstants.{FRAME_BATCHES}
 use Rattle.fact_kinds.specs.declared.batch.Batch.{Batch}

@@ -1,5 +1,6 @@
 -- The semiannual report of a process unit (40 CFR 60.487a(c)): its half, its numbers, its lines, and what a later one amends.
-use Rattle.std.specs.Prelude.{ℕ, ◌+◌, ◌-◌, ◌*◌, ◌/◌, ◌%◌, Bool, false, not, ◌&&◌, nat_lt, nat_le, nat_eq, if◌then◌else◌, Option, Some, None, List, [], ◌∷◌, filter, slice_index_or}
+use Rattle.std.specs.Prelude.{ℕ, ◌+◌, ◌-◌, ◌*◌, ◌/◌, ◌%◌, Bool, false, not, ◌&&◌, nat_lt, nat_le, nat_eq}
+use Rattle.std.specs.Prelude.{if◌then◌else◌, Option, Some, None, List, [], ◌∷◌, filter, slice_index_or}
 use Rattle.std.specs.List.{list_any, filter_map, flat_map, count_by}
 use Rattle.list_words.specs.Ranges.{until}
 use Rattle.ldar_days.specs.Calendar.{first_day, month_of}

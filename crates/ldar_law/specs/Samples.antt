@@ -1,7 +1,9 @@
 -- One of each: events, facts, rules, services, designations and kinds, for worked examples of tests.
 use Rattle.std.specs.Prelude.{ℕ, true, false, None, List, [], ◌∷◌, map}
 use Rattle.fact_kinds.specs.declared.body.FactBody.{FactBody}
-use Rattle.fact_kinds.specs.declared.body.FactBody.TheVariants.{Unit as UnitFact, Component as ComponentFact, Class as ClassFact, Retire as RetireFact, Election, Shutdown, Calibration, Precision, Drift, Reading, Visual, Attempt as AttemptFact, Delay as DelayFact, Release as ReleaseFact, Indication}
+use Rattle.fact_kinds.specs.declared.body.FactBody.TheVariants.{Unit as UnitFact, Component as ComponentFact, Class as ClassFact, Retire as RetireFact}
+use Rattle.fact_kinds.specs.declared.body.FactBody.TheVariants.{Election, Shutdown, Calibration, Precision, Drift, Reading, Visual}
+use Rattle.fact_kinds.specs.declared.body.FactBody.TheVariants.{Attempt as AttemptFact, Delay as DelayFact, Release as ReleaseFact, Indication}
 use Rattle.fact_kinds.specs.declared.body.Purpose.TheVariants.{Routine}
 use Rattle.fact_kinds.specs.declared.body.Sort.TheVariants.{Sensor as SensorSort}
 use Rattle.fact_kinds.specs.declared.body.VisualState.TheVariants.{Drips}

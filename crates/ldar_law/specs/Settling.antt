@@ -8,7 +8,8 @@ use Rattle.fact_kinds.specs.declared.class.Kind.{Kind}
 use Rattle.fact_kinds.specs.declared.class.Kind.TheVariants.{Valve, Pump}
 use Rattle.ldar_law.specs.declared.event.Event.{Event}
 use Rattle.ldar_law.specs.declared.numbers.TheConstants.{REPAIR_DAYS}
-use Rattle.ldar_law.specs.Happenings.{is_leak, is_reading_or_drip, is_look, is_sensor, is_below, is_dry, is_attempt, is_complete, delays_with_reading, is_retire}
+use Rattle.ldar_law.specs.Happenings.{is_leak, is_reading_or_drip, is_look, is_sensor, is_below}
+use Rattle.ldar_law.specs.Happenings.{is_dry, is_attempt, is_complete, delays_with_reading, is_retire}
 
 -- a valve or a pump
 abbrev pub is_valve_or_pump : Kind → Bool

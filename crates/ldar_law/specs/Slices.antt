@@ -1,7 +1,8 @@
 -- Parts of the facts, each in key order: of a component, a process unit or an instrument, and of the register.
 use Rattle.std.specs.Prelude.{ℕ, Bool, true, false, List, filter}
 use Rattle.fact_kinds.specs.declared.body.FactBody.{FactBody}
-use Rattle.fact_kinds.specs.declared.body.FactBody.TheVariants.{Unit as UnitFact, Component as ComponentFact, Class as ClassFact, Retire, Election, Shutdown, Calibration, Precision, Drift, Reading, Visual, Attempt, Delay, Release, Indication}
+use Rattle.fact_kinds.specs.declared.body.FactBody.TheVariants.{Unit as UnitFact, Component as ComponentFact, Class as ClassFact, Retire, Election, Shutdown}
+use Rattle.fact_kinds.specs.declared.body.FactBody.TheVariants.{Calibration, Precision, Drift, Reading, Visual, Attempt, Delay, Release, Indication}
 use Rattle.fact_kinds.specs.Facts.{Entry}
 use Rattle.fact_kinds.specs.Named.{component_of, unit_of, tested_instrument, reading_instrument, is_numbered}
 

@@ -10,7 +10,8 @@ use Rattle.fact_kinds.specs.declared.class.Designation.{Designation}
 use Rattle.fact_kinds.specs.declared.class.Designation.TheVariants.{Plain, Difficult}
 use Rattle.fact_kinds.specs.declared.body.Purpose.TheVariants.{Routine}
 use Rattle.fact_kinds.specs.declared.body.FactBody.{FactBody}
-use Rattle.fact_kinds.specs.declared.body.FactBody.TheVariants.{Unit as UnitFact, Component as ComponentFact, Class as ClassFact, Election, Shutdown, Calibration, Precision, Reading, Attempt, Delay}
+use Rattle.fact_kinds.specs.declared.body.FactBody.TheVariants.{Unit as UnitFact, Component as ComponentFact, Class as ClassFact}
+use Rattle.fact_kinds.specs.declared.body.FactBody.TheVariants.{Election, Shutdown, Calibration, Precision, Reading, Attempt, Delay}
 use Rattle.fact_kinds.specs.Stated.{Stated}
 use Rattle.ldar_law.specs.Short.{date}
 
@@ -109,7 +110,8 @@ repaired_on day = leaking ++ sends 3 (on (date 2024 2 22) (Attempt 1 false) ∷ 
 
 -- readings of two valves on 2024-02-20, the second of which leaks and is delayed for want of a shutdown
 abbrev pub two_valves : List Batch
-two_valves = base ++ sends 1 (rounds (date 2024 2 20) 1 20 ++ on (date 2024 2 20) (reads 2 620) ∷ on (date 2024 3 1) (Delay 2 1 9 (Some (date 2024 6 10))) ∷ []) ∷ []
+two_valves = base ++ sends 1 (rounds (date 2024 2 20) 1 20 ++ on (date 2024 2 20) (reads 2 620)
+    ∷ on (date 2024 3 1) (Delay 2 1 9 (Some (date 2024 6 10))) ∷ []) ∷ []
 
 -- a delay for want of a shutdown, entered on a day, with the repair expected on 2024-06-10
 abbrev pub delayed_on : ℕ → List Batch

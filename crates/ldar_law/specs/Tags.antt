@@ -1,5 +1,6 @@
 -- The tags of a component with their due days, and the lines on delayed repairs (40 CFR 60.486a(b), (c), 60.482-9a).
-use Rattle.std.specs.Prelude.{ℕ, ◌+◌, Bool, true, not, ◌&&◌, nat_lt, nat_le, Option, Some, None, option_map, option_and_then, is_none, if◌then◌else◌, List, filter, filter_map, map}
+use Rattle.std.specs.Prelude.{ℕ, ◌+◌, Bool, true, not, ◌&&◌, nat_lt, nat_le, Option, Some, None, option_map}
+use Rattle.std.specs.Prelude.{option_and_then, is_none, if◌then◌else◌, List, filter, filter_map, map}
 use Rattle.std.specs.Option.{option_map_or}
 use Rattle.fact_kinds.specs.declared.class.Kind.{Kind}
 use Rattle.fact_kinds.specs.declared.key.Key.{Key}

@@ -115,139 +115,189 @@ fn input(alloc: Global, batches: &[(u16, u8)]) -> Result<Vec<u8>, AllocError> {
     Ok(bytes)
 }
 
-// The input in pieces of so many bytes.
-fn pieces(
-    alloc: Global,
-    bytes: &[u8],
-    size: usize,
-    failing: &[u64],
-) -> Result<ListSource, AllocError>
-    requires { 0 < size }
-{
+// In pieces of how many bytes the input comes, and which call of the source and of the sink fails.
+#[derive(Clone, Copy)]
+struct Manner {
+    piece: usize,
+    read: u64,
+    write: u64,
+}
+
+// A call that is never made.
+const NEVER: u64 = u64::MAX;
+
+// In pieces of so many bytes, and nothing fails.
+fn by(piece: usize) -> Manner {
+    Manner {
+        piece,
+        read: NEVER,
+        write: NEVER,
+    }
+}
+
+// What a connection reads and puts.
+#[derive(Drop)]
+struct Streams {
+    source: ListSource,
+    sink: StampedSink,
+}
+
+// These bytes in pieces of so many.
+fn pieces_of(alloc: Global, bytes: &[u8], size: usize) -> Result<Vec<Vec<u8>>, AllocError> {
     let mut pieces = Vec::new(alloc);
-    for piece in bytes.chunks(size) {
+    for piece in bytes.chunks(size.max(1)) {
         pieces.push(Vec::from_slice(alloc, piece)?)?;
     }
-    ListSource::new(alloc, &pieces, failing)
+    Ok(pieces)
 }
+
+// The input of a connection.
+fn source_of(alloc: Global, bytes: &[u8], manner: Manner) -> Result<ListSource, AllocError> {
+    let pieces = pieces_of(alloc, bytes, manner.piece)?;
+    ListSource::new(alloc, &pieces, &[manner.read])
+}
+
+// The streams of a connection with this input.
+fn streams_of(alloc: Global, bytes: &[u8], manner: Manner) -> Result<Streams, AllocError> {
+    Ok(Streams {
+        source: source_of(alloc, bytes, manner)?,
+        sink: StampedSink::new(alloc, &[manner.write])?,
+    })
+}
+
+// Whether these bytes were put, and no others.
+fn was_put(sink: &StampedSink, bytes: &[u8]) -> bool {
+    let mut rest = bytes;
+    for piece in sink.pieces() {
+        let Some(behind) = rest.strip_prefix(piece.bytes()) else {
+            return false;
+        };
+        rest = behind;
+    }
+    rest.is_empty()
+}
+
+// A failure that names what is wrong, where something is not so.
+fn is(so: bool, what: &str) -> Result<(), Fail> {
+    if so { Ok(()) } else { Err(Fail::from(what)) }
+}
+
+// Sees that a connection with this input ends so, and puts this.
+fn ends(alloc: Global, manner: Manner, bytes: &[u8], want: Ended, said: &str) -> Result<(), Fail> {
+    let mut streams = streams_of(alloc, bytes, manner)?;
+    let ended = dock(
+        alloc,
+        &mut Notebook::new(),
+        &mut streams.source,
+        &mut streams.sink,
+    );
+    is(
+        ended == want && was_put(&streams.sink, said.as_bytes()),
+        said,
+    )
+}
+
+const OF_ALL_SORTS: &str =
+    "receipt 7 12 12\ndisk fault\ndenied 1 1 60.486a(e)(1)\nreceipt 65535 255 255\n";
 
 #[test]
 fn pieces_of_any_size_give_the_same_bytes(rt: HostRuntime) -> Result<(), Fail> {
-    let alloc = rt.alloc();
-    let bytes = input(alloc, &[(7, 12), (7, 0), (0, 1), (65_535, 255)])?;
-    let want = "receipt 7 12 12\ndisk fault\ndenied 1 1 60.486a(e)(1)\nreceipt 65535 255 255\n";
+    let bytes = input(rt.alloc(), &[(7, 12), (7, 0), (0, 1), (65_535, 255)])?;
     for size in 1..=81 {
-        let mut source = pieces(alloc, &bytes, size, &[])?;
-        let mut sink = StampedSink::new(alloc, &[])?;
-        let ended = dock(alloc, &mut Notebook::new(), &mut source, &mut sink);
-        assert_eq!(rt; ended, Ended::Done);
-        assert_eq!(rt; sink.bytes(alloc)?.as_slice(), want.as_bytes());
+        ends(rt.alloc(), by(size), &bytes, Ended::Done, OF_ALL_SORTS)?;
     }
     Ok(())
 }
+
+// Sees how many batches each call asks together, where these come in pieces of so many bytes.
+fn asks(
+    alloc: Global,
+    batches: &[(u16, u8)],
+    size: usize,
+    calls: [usize; NOTED],
+) -> Result<(), Fail> {
+    let bytes = input(alloc, batches)?;
+    let mut streams = streams_of(alloc, &bytes, by(size))?;
+    let mut office = Notebook::new();
+    let ended = dock(alloc, &mut office, &mut streams.source, &mut streams.sink);
+    is(
+        ended == Ended::Done && office.calls == calls && streams.sink.pieces().len() == office.made,
+        "the calls",
+    )
+}
+
+const OF_SEVEN: [(u16, u8); 17] = [(7, 2); 17];
+
+const MIXED: [(u16, u8); 5] = [(7, 2), (8, 2), (0, 2), (0, 3), (7, 3)];
 
 #[test]
 fn batches_in_hand_are_asked_together(rt: HostRuntime) -> Result<(), Fail> {
-    let alloc = rt.alloc();
-    let of_seven = [(7, 2); 17];
-    let mixed = [(7, 2), (8, 2), (0, 2), (0, 3), (7, 3)];
-    let cases = [
-        (input(alloc, &of_seven)?, 340, [16, 1, 0, 0, 0, 0, 0, 0]),
-        (input(alloc, &of_seven)?, 339, [16, 1, 0, 0, 0, 0, 0, 0]),
-        (input(alloc, &of_seven)?, 110, [5, 6, 5, 1, 0, 0, 0, 0]),
-        (input(alloc, &mixed)?, 100, [2, 1, 1, 1, 0, 0, 0, 0]),
-        (input(alloc, &mixed)?, 20, [1, 1, 1, 1, 1, 0, 0, 0]),
-    ];
-    for (bytes, size, want) in &cases {
-        let mut office = Notebook::new();
-        let mut source = pieces(alloc, bytes, *size, &[])?;
-        let mut sink = StampedSink::new(alloc, &[])?;
-        assert_eq!(rt;
-            dock(alloc, &mut office, &mut source, &mut sink),
-            Ended::Done
-        );
-        assert_eq!(rt; office.calls, *want);
-        assert_eq!(rt; sink.pieces().len(), office.made);
-    }
-    Ok(())
+    asks(rt.alloc(), &OF_SEVEN, 340, [16, 1, 0, 0, 0, 0, 0, 0])?;
+    asks(rt.alloc(), &OF_SEVEN, 339, [16, 1, 0, 0, 0, 0, 0, 0])?;
+    asks(rt.alloc(), &OF_SEVEN, 110, [5, 6, 5, 1, 0, 0, 0, 0])?;
+    asks(rt.alloc(), &MIXED, 100, [2, 1, 1, 1, 0, 0, 0, 0])?;
+    asks(rt.alloc(), &MIXED, 20, [1, 1, 1, 1, 1, 0, 0, 0])
 }
+
+// An input, how the connection ends, and what it puts.
+const INPUTS: [(&[u8], Ended, &str); 6] = [
+    (b"", Ended::Done, ""),
+    (
+        b"B\0\x07\0\0\0\x0c\0\x01\x07M=\x02X\0\x01\0\0\x01",
+        Ended::CutShort { got: 19 },
+        "",
+    ),
+    // A day that is none.
+    (
+        b"B\0\x07\0\0\0\x0c\0\x01\x0766\x02X\0\x01\0\0\x01\xf4",
+        Ended::Refused { at: 11 },
+        "",
+    ),
+    (b"C", Ended::Refused { at: 0 }, ""),
+    (
+        b"B\0\x07\0\0\0\x0c\0\x01\x07M=\x02X\0\x01\0\0\x01\xf4C",
+        Ended::Refused { at: 20 },
+        "receipt 7 12 12\n",
+    ),
+    (
+        b"B\0\x07\0\0\0\x0c\0\x01\x07M=\x02X\0\x01\0\0\x01\xf4B",
+        Ended::CutShort { got: 1 },
+        "receipt 7 12 12\n",
+    ),
+];
 
 #[test]
 fn it_ends_where_the_input_is_cut_or_goes_wrong(rt: HostRuntime) -> Result<(), Fail> {
-    let alloc = rt.alloc();
-    let mut wrong_day = batch(7, 12);
-    wrong_day[10] = 0x36;
-    wrong_day[11] = 0x36;
-    let row = batch(7, 12);
-    let cases = [
-        (Vec::new(alloc), Ended::Done, ""),
-        (
-            Vec::from_slice(alloc, &row[..19])?,
-            Ended::CutShort { got: 19 },
-            "",
-        ),
-        (
-            Vec::from_slice(alloc, &wrong_day)?,
-            Ended::Refused { at: 11 },
-            "",
-        ),
-        (
-            Vec::from_slice(alloc, b"\x43")?,
-            Ended::Refused { at: 0 },
-            "",
-        ),
-    ];
-    for (bytes, want, line) in &cases {
-        assert_eq!(rt; docked(alloc, bytes, &[], &[])?.0, *want);
-        assert_eq!(rt;
-            docked(alloc, bytes, &[], &[])?.1.as_slice(),
-            line.as_bytes()
-        );
-    }
-    for (more, want) in [
-        (0x43, Ended::Refused { at: 20 }),
-        (0x42, Ended::CutShort { got: 1 }),
-    ] {
-        let mut bytes = Vec::from_slice(alloc, &row)?;
-        bytes.push(more)?;
-        let (ended, lines) = docked(alloc, &bytes, &[], &[])?;
-        assert_eq!(rt; ended, want);
-        assert_eq!(rt; lines.as_slice(), b"receipt 7 12 12\n".as_slice());
+    for (bytes, ended, said) in INPUTS {
+        ends(rt.alloc(), by(20), bytes, ended, said)?;
     }
     Ok(())
 }
 
-// How a connection ended, and the lines, where the calls of source and sink with these numbers fail.
-fn docked(
-    alloc: Global,
-    bytes: &[u8],
-    reads: &[u64],
-    writes: &[u64],
-) -> Result<(Ended, Vec<u8>), AllocError> {
-    let mut source = pieces(alloc, bytes, 20, reads)?;
-    let mut sink = StampedSink::new(alloc, writes)?;
-    let ended = dock(alloc, &mut Notebook::new(), &mut source, &mut sink);
-    Ok((ended, sink.bytes(alloc)?))
-}
+const FIRST: &str = "receipt 7 12 12\n";
+
+const ALL: &str = "receipt 7 12 12\ndisk fault\nreceipt 7 13 13\n";
+
+// The call of the source and of the sink that fails, how the connection ends, and what it puts.
+const FAULTS: [(u64, u64, Ended, &str); 6] = [
+    (0, NEVER, Ended::ReadFault, ""),
+    (1, NEVER, Ended::ReadFault, FIRST),
+    (3, NEVER, Ended::ReadFault, ALL),
+    (NEVER, 0, Ended::WriteFault, ""),
+    (NEVER, 1, Ended::WriteFault, FIRST),
+    (NEVER, 3, Ended::Done, ALL),
+];
 
 #[test]
 fn a_fault_of_the_streams_ends_it(rt: HostRuntime) -> Result<(), Fail> {
-    let alloc = rt.alloc();
-    let bytes = input(alloc, &[(7, 12), (7, 0), (7, 13)])?;
-    let first = "receipt 7 12 12\n";
-    let all = "receipt 7 12 12\ndisk fault\nreceipt 7 13 13\n";
-    let cases = [
-        ([0], [9], Ended::ReadFault, ""),
-        ([1], [9], Ended::ReadFault, first),
-        ([3], [9], Ended::ReadFault, all),
-        ([9], [0], Ended::WriteFault, ""),
-        ([9], [1], Ended::WriteFault, first),
-        ([9], [3], Ended::Done, all),
-    ];
-    for (reads, writes, want, said) in cases {
-        let (ended, lines) = docked(alloc, &bytes, &reads, &writes)?;
-        assert_eq!(rt; ended, want);
-        assert_eq!(rt; lines.as_slice(), said.as_bytes());
+    let bytes = input(rt.alloc(), &[(7, 12), (7, 0), (7, 13)])?;
+    for (read, write, ended, said) in FAULTS {
+        let manner = Manner {
+            piece: 20,
+            read,
+            write,
+        };
+        ends(rt.alloc(), manner, &bytes, ended, said)?;
     }
     Ok(())
 }

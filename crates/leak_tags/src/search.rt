@@ -101,7 +101,8 @@ fn push_span(
 ) -> Result<(), Memory>
     requires in_range { place < length events.now }
     requires stands { slice_get events.now place ≡ Some leak.now }
-    ensures pushed { OnOk result (spans.new.items ≡ spans.old.items ++ option_to_list (law.span_at kind events.now (take place events.now) leak.now (drop (place + 1) events.now))) }
+    ensures pushed { OnOk result (spans.new.items ≡ spans.old.items
+        ++ option_to_list (law.span_at kind events.now (take place events.now) leak.now (drop (place + 1) events.now))) }
 {
     if let Some(span) = span_at(kind, events, place, leak) {
         spans.push(span)?;

@@ -3,7 +3,8 @@
 ghost use Rattle.list_words.specs.Order.{InOrderPermutes, InOrderAscends, AscendingIsOne, InOrderForgetsOrder, CutIsByOrder, FrontIsCut, PutEachIsInOrder};
 ghost use Rattle.list_words.specs.Parts.{CutHasParts, CutJoins};
 ghost use Rattle.list_words.specs.Ranges.{UntilHolds, UntilCounts};
-ghost use Rattle.list_words.specs.Words.{SomewhereDecides, FirstWhereIsFirst, FirstWhereFinds, FirstGivenIsFirst, FirstGivenFinds, EachWhereHolds, LastSuchIsLast, LastSuchFinds};
+ghost use Rattle.list_words.specs.Words.{SomewhereDecides, FirstWhereIsFirst, FirstWhereFinds, FirstGivenIsFirst};
+ghost use Rattle.list_words.specs.Words.{FirstGivenFinds, EachWhereHolds, LastSuchIsLast, LastSuchFinds};
 
 /// `somewhere`: some element passes where it stands.
 pub fn some_element<X>()

@@ -1,5 +1,6 @@
 -- A reading is judged alike by all facts of its instrument and by those that matter, each sort apart.
-use Rattle.std.proofs.Common.{◌≡◌, ℕ, ◌+◌, ◌≤◌, Bool, true, false, not, ◌&&◌, nat_eq, nat_lt, nat_le, Option, Some, None, List, [], ◌∷◌, length, take, drop, find}
+use Rattle.std.proofs.Common.{◌≡◌, ℕ, ◌+◌, ◌≤◌, Bool, true, false, not, ◌&&◌, nat_eq, nat_lt}
+use Rattle.std.proofs.Common.{nat_le, Option, Some, None, List, [], ◌∷◌, length, take, drop, find}
 use Rattle.std.proofs.Common.{filter, get_or, option_map, refl, sym, ap, ◌∙◌, inl, inr, arith}
 use Rattle.std.specs.Prelude.{unwrap_or, if◌then◌else◌}
 use Rattle.std.specs.List.{list_any}

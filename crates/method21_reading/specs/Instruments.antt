@@ -48,6 +48,10 @@ fitness_apart calibrations tests drifts limit key instrument ppm =
     else if not (is_tested tests key instrument) then NoPrecision
     else unless_voided (find (is_voided_by calibrations key instrument limit ppm) drifts)
 
+-- why a reading may not be used before which no calibration used a gas within the bound
+abbrev pub without_gas_within : (calibrations : List Entry) → Key → ℕ → Fitness
+without_gas_within calibrations key instrument = if is_calibrated calibrations key instrument then GasTooHigh else NoCalibration
+
 -- why the calibrations and the precision tests that stand apart speak against a reading, if they do
 abbrev pub refusal_apart : (calibrations tests : List Entry) → ℕ → Key → ℕ → Option Fitness
 refusal_apart calibrations tests limit key instrument =

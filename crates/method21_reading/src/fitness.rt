@@ -2,7 +2,7 @@ ghost use Rattle.std.specs.Prelude.{◌≡◌};
 ghost use Rattle.list_words.specs.Order.{Ascends};
 ghost use Rattle.fact_kinds.specs.Facts.{goes_first};
 ghost use Rattle.ldar_law.specs.Fitness.{fitness_of};
-ghost use Rattle.method21_reading.specs.Instruments.{fitness_apart, refusal_apart};
+ghost use Rattle.method21_reading.specs.Instruments.{fitness_apart, refusal_apart, without_gas_within};
 ghost use Rattle.method21_reading.specs.Readings.{fitness_by, IsFitnessAmongAll};
 
 use crate::calibration::{is_calibrated, is_calibrated_within};
@@ -41,7 +41,19 @@ fn judged(facts: &[(Key, Fact)], limit: u32, key: &Key, instrument: u16, ppm: u3
     judged_apart(today, facts, today, limit, key, instrument, ppm)
 }
 
-/// Why the calibrations and the precision tests that stand apart speak against a reading, if they do.
+/// Why a reading may not be used before which no calibration used a gas within the bound.
+fn why_not_within(calibrations: &[(Key, Fact)], key: &Key, instrument: u16) -> Fitness
+    ensures value { result ≡ without_gas_within calibrations.now key.now instrument }
+{
+    if is_calibrated(calibrations, key, instrument) {
+        Fitness::GasTooHigh
+    } else {
+        Fitness::NoCalibration
+    }
+}
+
+/// Why the calibrations and the precision tests that stand apart speak against a reading, if they do. Before most
+/// readings some calibration used a gas within the bound, and no other is looked for.
 pub fn refused(
     calibrations: &[(Key, Fact)],
     tests: &[(Key, Fact)],
@@ -52,12 +64,9 @@ pub fn refused(
     requires ordered { Ascends goes_first tests.now }
     ensures value { result ≡ refusal_apart calibrations.now tests.now limit key.now instrument }
 {
-    if !is_calibrated(calibrations, key, instrument) {
-        return Some(Fitness::NoCalibration);
-    }
     let most = u64::from(limit) + u64::from(GAS_MARGIN);
     if !is_calibrated_within(calibrations, key, instrument, most) {
-        return Some(Fitness::GasTooHigh);
+        return Some(why_not_within(calibrations, key, instrument));
     }
     if !is_tested(tests, key, instrument) {
         return Some(Fitness::NoPrecision);

@@ -91,7 +91,8 @@ impl Instrument {
         instrument: u16,
         ppm: u32,
     ) -> Fitness
-        ensures value { result ≡ unless_voided_by (find (is_voided_by calibrations.now key.now instrument limit ppm) (filter (is_of_day key.now.day) self.now.drifts)) }
+        ensures value { result ≡ unless_voided_by (find (is_voided_by calibrations.now key.now instrument limit ppm)
+            (filter (is_of_day key.now.day) self.now.drifts)) }
     {
         // A drift voids readings below the leak definition alone: for others none is looked for.
         if limit <= ppm {

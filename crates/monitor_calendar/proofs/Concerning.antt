@@ -1,13 +1,15 @@
 -- What cannot concern a component gives no duty of it.
-use Rattle.std.proofs.Common.{◌≡◌, ℕ, ◌-◌, ◌%◌, Bool, true, false, not, ◌&&◌, ◌||◌, nat_eq, nat_le, nat_lt, min, Option, Some, None, option_map, unwrap_or, List, [], ◌∷◌, ◌++◌, cond, refl, sym, ap, subst, ◌∙◌}
-use Rattle.std.specs.List.{filter_map}
+use Rattle.std.proofs.Common.{◌≡◌, ℕ, ◌+◌, ◌-◌, ◌*◌, ◌%◌, Bool, true, false, not, ◌&&◌, ◌||◌, nat_eq, nat_le, nat_lt, min, Option, Some, None, option_map}
+use Rattle.std.proofs.Common.{unwrap_or, List, [], ◌∷◌, ◌++◌, cond, refl, sym, ap, subst, ◌∙◌}
+use Rattle.std.specs.List.{filter_map, list_any}
 use Rattle.std.specs.Option.{option_or}
-use Rattle.std.proofs.lemmas.Bool.{and_left, and_right, or_parts}
+use Rattle.std.proofs.lemmas.Bool.{and_left, and_right, or_parts, or_from}
 use Rattle.std.proofs.lemmas.List.{append-nil}
 use Rattle.list_words.specs.Words.{each_from, each_where, last_such}
 use Rattle.list_words.proofs.WordLemmas.{last_such-cons}
 use Rattle.ldar_days.specs.Calendar.{month_of, last_day, week_last, end_by}
 use Rattle.fact_kinds.specs.declared.class.Class.{Class}
+use Rattle.fact_kinds.specs.declared.class.Designation.{Designation}
 use Rattle.fact_kinds.specs.declared.class.Kind.{Kind}
 use Rattle.fact_kinds.specs.declared.class.Kind.TheVariants.{Valve, Pump, Compressor, Relief}
 use Rattle.fact_kinds.specs.declared.class.Service.{Service}
@@ -21,9 +23,11 @@ use Rattle.ldar_law.specs.Happenings.{has_undesignated_drips, is_release, has_ev
 use Rattle.ldar_law.specs.Kinds.{is_valve, is_pump, is_compressor}
 use Rattle.ldar_law.specs.Limits.{regime_of}
 use Rattle.ldar_law.specs.Months.{is_quarterly, month_in_quarter}
-use Rattle.ldar_law.specs.Standing.{are_pump_rules, are_relief_rules, are_heavy_liquid_rules, is_unsafe_designated, is_under_valve_rules, is_under_pump_rules, is_under_relief_rules, is_under_heavy_liquid_rules, is_plain, is_unsafe}
+use Rattle.ldar_law.specs.Standing.{are_pump_rules, are_relief_rules, are_heavy_liquid_rules, is_unsafe_designated, is_difficult_designated, is_nde_designated}
+use Rattle.ldar_law.specs.Standing.{is_under_valve_rules, is_under_pump_rules, is_under_compressor_rules, is_under_relief_rules, is_under_heavy_liquid_rules}
+use Rattle.ldar_law.specs.Standing.{is_plain, is_unsafe}
 use Rattle.monitor_calendar.specs.Causes as causes
-use Rattle.monitor_calendar.specs.Concern.{is_some_unsafe, has_unsafe_class, is_relief, concerns}
+use Rattle.monitor_calendar.specs.Concern.{has_unsafe_class, is_yearly_designated, has_yearly_class, is_relief, concerns}
 use Rattle.monitor_calendar.specs.Following.{after_event}
 use Rattle.monitor_calendar.specs.declared.after_event.After.{After}
 use Rattle.monitor_calendar.specs.declared.after_event.After.TheVariants.{Drips, Release, Evidence}
@@ -106,40 +110,46 @@ no_heavy_liquid_rules Relief service e = cc
 
 -- ---- classes
 
--- an entered class that is none of what is unsafe
-abbrev pub NoneUnsafe : Option (Key × Class) → Type 0
-NoneUnsafe None = Unit {0}
-NoneUnsafe (Some entered) = is_unsafe_designated entered.1.designation ≡ false
+-- some entered class is of a designation that passes a test
+abbrev is_some_such : (Designation → Bool) → List (Key × Class) → Bool
+is_some_such is_such classes = list_any (λ entered. is_such entered.1.designation) classes
 
--- the later of two
-either : (later earlier : Option (Key × Class)) → NoneUnsafe later → NoneUnsafe earlier → NoneUnsafe (option_or later earlier)
-either None earlier a b = b
-either (Some entered) earlier a b = a
+module _ (is_such : Designation → Bool) where
+  -- an entered class that is not
+  abbrev NoneSuch : Option (Key × Class) → Type 0
+  NoneSuch None = Unit {0}
+  NoneSuch (Some entered) = is_such entered.1.designation ≡ false
 
--- one that is tried
-tried : (passes : Bool) (entered : Key × Class) → is_unsafe_designated entered.1.designation ≡ false → NoneUnsafe (cond passes (Some entered) None)
-tried true entered e = e
-tried false entered e = tt
+  -- the later of two
+  either : (later earlier : Option (Key × Class)) → NoneSuch later → NoneSuch earlier → NoneSuch (option_or later earlier)
+  either None earlier a b = b
+  either (Some entered) earlier a b = a
 
--- the last that passes
-last_safe : (p : Key × Class → Bool) (classes : List (Key × Class)) → is_some_unsafe classes ≡ false → NoneUnsafe (last_such p classes)
-last_safe p [] none = tt
-last_safe p (x ∷ xs) none =
-    let parts = or_parts (is_unsafe_designated x.1.designation) (is_some_unsafe xs) none in
-    subst NoneUnsafe (sym (last_such-cons p x xs))
-    (either (last_such p xs) (cond (p x) (Some x) None) (last_safe p xs parts.1) (tried (p x) x parts.0))
+  -- one that is tried
+  tried : (passes : Bool) (entered : Key × Class) → is_such entered.1.designation ≡ false → NoneSuch (cond passes (Some entered) None)
+  tried true entered e = e
+  tried false entered e = tt
 
--- .. or the one that stands in for it
-safe_or : (found : Option (Key × Class)) (class : Class) → NoneUnsafe found → is_unsafe_designated class.designation ≡ false →
-    is_unsafe_designated (unwrap_or (option_map (λ entered. entered.1) found) class).designation ≡ false
-safe_or None class safe own = own
-safe_or (Some entered) class safe own = safe
+  -- the last that passes
+  last_safe : (p : Key × Class → Bool) (classes : List (Key × Class)) → is_some_such is_such classes ≡ false → NoneSuch (last_such p classes)
+  last_safe p [] none = tt
+  last_safe p (x ∷ xs) none =
+      let parts = or_parts (is_such x.1.designation) (is_some_such is_such xs) none in
+      subst NoneSuch (sym (last_such-cons p x xs))
+      (either (last_such p xs) (cond (p x) (Some x) None) (last_safe p xs parts.1) (tried (p x) x parts.0))
 
--- no class of it is unsafe on any day
-never_unsafe : (item : Equipment) (classes : List (Key × Class)) (day : ℕ) → has_unsafe_class item classes ≡ false → is_unsafe item classes day ≡ false
-never_unsafe item classes day none =
-    let parts = or_parts (is_unsafe_designated item.class.designation) (is_some_unsafe classes) none in
-    safe_or (last_such (λ entered. nat_le entered.0.day day) classes) item.class (last_safe (λ entered. nat_le entered.0.day day) classes parts.1) parts.0
+  -- .. or the one that stands in for it
+  safe_or : (found : Option (Key × Class)) (class : Class) → NoneSuch found → is_such class.designation ≡ false →
+      is_such (unwrap_or (option_map (λ entered. entered.1) found) class).designation ≡ false
+  safe_or None class safe own = own
+  safe_or (Some entered) class safe own = safe
+
+  -- no class of it is such on any day
+  never_such : (item : Equipment) (classes : List (Key × Class)) (day : ℕ) → (is_such item.class.designation || is_some_such is_such classes) ≡ false →
+      is_such (class_on item classes day).designation ≡ false
+  never_such item classes day none =
+      let parts = or_parts (is_such item.class.designation) (is_some_such is_such classes) none in
+      safe_or (last_such (λ entered. nat_le entered.0.day day) classes) item.class (last_safe (λ entered. nat_le entered.0.day day) classes parts.1) parts.0
 
 -- ---- duties
 
@@ -156,7 +166,29 @@ third_fails : (a b c d e f : Bool) → c ≡ false → (a && b && c && d && e &&
 third_fails a b c d e f none =
     and_left (a && b && c && d && e) f (and_left (a && b && c && d) e (and_left (a && b && c) d (and_right (a && b) c none)))
 
+-- a valve is no pump
+valve_no_pump : (kind : Kind) → is_valve kind ≡ true → is_pump kind ≡ false
+valve_no_pump Valve e = refl
+valve_no_pump Pump e = cc
+valve_no_pump Compressor e = refl
+valve_no_pump Relief e = refl
+
 module _ (asked : Asked) where
+  -- a quarterly month of a valve has no monthly duty
+  pub not_monthly : (month : ℕ) → is_valve asked.item.now.kind ≡ true → is_quarterly asked.startup asked.events.now month ≡ true →
+      causes.monthly asked month ≡ None
+  unfolding law.monthly
+  not_monthly month valve quarterly =
+      let item = asked.item.now in
+      let classes = asked.classes.now in
+      let day = min (last_day month) asked.day in
+      let no_pump = no_pump_rules item.kind (class_on item classes day).service (valve_no_pump item.kind valve) in
+      unowed item classes asked.startup asked.events.now asked.skipped.now asked.day 2 _ _ _ _
+      (and_right (is_in_service item day && is_plain item classes day)
+      (is_under_pump_rules item classes day || (is_under_valve_rules item classes day && not (is_quarterly asked.startup asked.events.now month)))
+      (or_from (is_under_pump_rules item classes day) (is_under_valve_rules item classes day && not (is_quarterly asked.startup asked.events.now month)) no_pump
+      (and_right (is_under_valve_rules item classes day) (not (is_quarterly asked.startup asked.events.now month)) (ap not quarterly))))
+
   -- a month that is no quarterly one has no quarterly duty
   pub not_quarterly : (month : ℕ) → is_quarterly asked.startup asked.events.now month ≡ false → causes.quarterly asked month ≡ None
   unfolding law.quarterly
@@ -181,6 +213,23 @@ module _ (asked : Asked) where
       (is_quarterly asked.startup asked.events.now month) (nat_eq (class_on item classes day).month (month_in_quarter asked.startup month))
       (not (causes.is_month_skipped asked month)) (no_valve_rules item.kind (class_on item classes day).service none))
 
+  -- what is never monitored each year has no yearly duty
+  pub never_yearly : has_yearly_class asked.item.now asked.classes.now ≡ false → (year : ℕ) → causes.yearly asked year ≡ None
+  unfolding law.yearly
+  never_yearly none year =
+      let item = asked.item.now in
+      let classes = asked.classes.now in
+      let day = min (last_day (12 * year + 11)) asked.day in
+      let class = class_on item classes day in
+      let parts = or_parts (is_difficult_designated class.designation) (is_nde_designated class.designation)
+      (never_such is_yearly_designated item classes day none) in
+      let valve = is_under_valve_rules item classes day in
+      let ruled = is_under_valve_rules item classes day || is_under_pump_rules item classes day || is_under_compressor_rules item classes day in
+      unowed item classes asked.startup asked.events.now asked.skipped.now asked.day 4 _ _ _ _
+      (and_right (is_in_service item day) ((valve && is_difficult_designated class.designation) || (ruled && is_nde_designated class.designation))
+      (or_from (valve && is_difficult_designated class.designation) (ruled && is_nde_designated class.designation)
+      (and_right valve (is_difficult_designated class.designation) parts.0) (and_right ruled (is_nde_designated class.designation) parts.1)))
+
   -- what is never unsafe has no duty by a plan
   pub never_planned : has_unsafe_class asked.item.now asked.classes.now ≡ false → (month : ℕ) → causes.planned asked month ≡ None
   unfolding law.planned
@@ -191,7 +240,7 @@ module _ (asked : Asked) where
       let plan = (class_on item classes day).plan in
       unowed item classes asked.startup asked.events.now asked.skipped.now asked.day 5 _ _ _ _
       (second_fails (is_in_service item day) (is_unsafe item classes day) (is_under_valve_rules item classes day || is_under_pump_rules item classes day)
-      (nat_lt 0 plan) (nat_eq ((month - month_of item.begin) % plan) 0) (never_unsafe item classes day none))
+      (nat_lt 0 plan) (nat_eq ((month - month_of item.begin) % plan) 0) (never_such is_unsafe_designated item classes day none))
 
   -- on no day is it a pump that is looked at each week
   no_pump : is_pump asked.item.now.kind ≡ false → (day : ℕ) →

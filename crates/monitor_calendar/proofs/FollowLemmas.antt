@@ -21,7 +21,6 @@ use Rattle.ldar_law.specs.Force.{is_in_service}
 use Rattle.ldar_law.specs.Happenings.{is_release, has_evidence}
 use Rattle.ldar_law.specs.Standing.{is_under_relief_rules, is_under_heavy_liquid_rules}
 use Rattle.monitor_calendar.specs.Causes as causes
-use Rattle.monitor_calendar.specs.Dripping.{TellsOfDrips}
 use Rattle.monitor_calendar.specs.Following.{cause_of, meets, IsNext, comes_by, event_by, is_asked_by, after_by, after_event, TellsFor}
 use Rattle.monitor_calendar.specs.declared.after_event.After.{After}
 use Rattle.monitor_calendar.specs.declared.after_event.After.TheVariants.{Drips, Release, Evidence}
@@ -217,17 +216,10 @@ module _ (asked : Asked) (after : After) where
       ap (λ o. (done ++ option_to_list o) ++ each_from f (take (place + 1) events) (drop (place + 1) events)) same
       ∙ each_pushed f done events place e within
 
-  -- what is told of drips goes on, where a cause asks for it
-  tells_with : (which : After) (past more : PastDrips) (front : List Event) (e : Event) → TellsFor which past front
-      → (TellsOfDrips past front → TellsOfDrips more (front ++ e ∷ [])) → TellsFor which more (front ++ e ∷ [])
-  tells_with Drips past more front e tells goes = goes tells
-  tells_with Release past more front e tells goes = tt
-  tells_with Evidence past more front e tells goes = tt
-
-  -- .. at a place of the events
+  -- what is told of drips goes on at a place of the events
   pub tells_on : (past more : PastDrips) (events : List Event) (place : ℕ) (e : Event) → place < length events → get_or events place e ≡ e →
-      TellsFor after past (take place events) → ((front : List Event) → TellsOfDrips past front → TellsOfDrips more (front ++ e ∷ [])) →
+      TellsFor after past (take place events) → ((front : List Event) → TellsFor after past front → TellsFor after more (front ++ e ∷ [])) →
       TellsFor after more (take (place + 1) events)
   tells_on past more events place e within stands tells goes =
       subst (TellsFor after more) (sym (take_more events place e within ∙ ap (λ x. take place events ++ x ∷ []) stands))
-      (tells_with after past more (take place events) e tells (goes (take place events)))
+      (goes (take place events) tells)

@@ -1,5 +1,6 @@
 -- What is owed, by what the component is on the day on which it is judged.
-use Rattle.std.proofs.Common.{◌≡◌, ℕ, ◌+◌, ◌-◌, ◌*◌, ◌%◌, ◌<◌, ◌≤◌, Bool, true, false, not}
+use Rattle.std.specs.Prelude.{if◌then◌else◌}
+use Rattle.std.proofs.Common.{◌≡◌, ℕ, ◌+◌, ◌-◌, ◌*◌, ◌%◌, ◌<◌, ◌≤◌, Bool, true, false, not, Option, Some, None, option_map}
 use Rattle.std.proofs.Common.{◌&&◌, ◌||◌, nat_lt, nat_eq, min, refl, sym, ap, ◌∙◌, inl, inr, mod-eq_of_lt, arith}
 use Rattle.std.proofs.lemmas.Bool.{cases_Bool, and_parts, eqb-true, cases_lt}
 use Rattle.ldar_days.specs.Calendar.{first_day, last_day, end_by, month_of, week_first, week_last}
@@ -7,6 +8,8 @@ use Rattle.fact_kinds.specs.declared.class.Kind.{Kind}
 use Rattle.fact_kinds.specs.declared.class.Kind.TheVariants.{Valve, Pump, Compressor, Relief}
 use Rattle.fact_kinds.specs.declared.class.Service.{Service}
 use Rattle.fact_kinds.specs.declared.class.Service.TheVariants.{Gas, Light, Heavy, Vacuum, Under300}
+use Rattle.fact_kinds.specs.declared.key.Key.{Key}
+use Rattle.ldar_law.specs.declared.event.Event.{Event}
 use Rattle.ldar_law.specs.Duties as law
 use Rattle.ldar_law.specs.Force.{class_on, regime_on, is_in_service}
 use Rattle.ldar_law.specs.Kinds.{is_valve}
@@ -50,7 +53,28 @@ either_month judged a b none =
     ap (λ v. judged.serves && is_none_designated judged.class.designation && (are_pump_rules judged.regime || (v && not a))) none
     ∙ sym (ap (λ v. judged.serves && is_none_designated judged.class.designation && (are_pump_rules judged.regime || (v && not b))) none)
 
+-- what is true beside a test leaves it
+and_true : (a : Bool) → (a && true) ≡ a
+and_true true = refl
+and_true false = refl
+
 module _ (asked : Asked) where
+  -- an owed duty, by what met it or by its key
+  by_its_key : (cause first due : ℕ) (found : Option Event) →
+      causes.duty_met_by asked cause first due (option_map (λ e. e.key) found) ≡ causes.duty asked cause first due true found
+  by_its_key cause first due None =
+      ap (λ b. if b then Some (record { component = asked.item.now.component; cause = cause; due = due; met = None }) else None)
+      (sym (and_true (law.is_listed asked.day first due true)))
+  by_its_key cause first due (Some e) =
+      ap (λ b. if b then Some (record { component = asked.item.now.component; cause = cause; due = due; met = Some e.key }) else None)
+      (sym (and_true (law.is_listed asked.day first due false)))
+
+  -- .. where it is owed
+  pub met_by_key : (cause first due : ℕ) (owed : Bool) (met : Option Key) (found : Option Event) → met ≡ option_map (λ e. e.key) found → owed ≡ true →
+      causes.duty_met_by asked cause first due met ≡ causes.duty asked cause first due owed found
+  met_by_key cause first due owed met found is so =
+      ap (causes.duty_met_by asked cause first due) is ∙ by_its_key cause first due found ∙ ap (λ o. causes.duty asked cause first due o found) (sym so)
+
   -- the judged component is that of a day
   pub record IsOf (judged : Judged) (day : ℕ) : Type 0 where
     pub serves : judged.serves ≡ is_in_service asked.item.now day

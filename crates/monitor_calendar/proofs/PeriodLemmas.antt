@@ -13,7 +13,7 @@ use Rattle.list_words.proofs.Members.{all_weaker}
 use Rattle.fact_kinds.specs.Facts.{is_earlier}
 use Rattle.fact_kinds.proofs.Cuts.{earlier_day}
 use Rattle.ldar_law.specs.declared.event.Event.{Event}
-use Rattle.monitor_calendar.specs.Following.{comes_by}
+use Rattle.monitor_calendar.specs.Following.{comes_by, key_by}
 
 -- in front of a point stands what passes, and behind it what fails
 pub sides_of_point : {X : Type 0} (p : X → Bool) (xs : List X) (n : ℕ) → IsPartitionPoint (λ y. p y ≡ true) (λ y. p y ≡ false) xs n → n ≤ length xs →
@@ -63,11 +63,6 @@ find_among p q (x ∷ xs) =
       | inr f ↦ elim (cases_Bool (p x)) [ inl s ↦ rw (f, s) (find_among p q xs) | inr g ↦ rw (f, g) (find_among p q xs) ]
     ]
 
--- what is left as it is
-pub same_mapped : {X : Type 0} (o : Option X) → option_map (λ x. x) o ≡ o
-same_mapped None = refl
-same_mapped (Some x) = refl
-
 -- the part of a list from a place to its end
 pub to_end : {X : Type 0} (xs : List X) (n : ℕ) → take (length xs - n) (drop n xs) ≡ drop n xs
 to_end xs n = take_all (length xs - n) (drop n xs) (omega (arith, length-drop n xs))
@@ -80,6 +75,11 @@ comes e last by = rw by refl
 
 comes_late : (e : Event) (last : ℕ) → nat_le e.key.day last ≡ false → comes_by (Some e) last ≡ None
 comes_late e last late = rw late refl
+
+-- .. and so does its key
+pub key_of_by : (found : Option Event) (last : ℕ) → option_map (λ e. e.key) (comes_by found last) ≡ key_by (option_map (λ e. e.key) found) last
+key_of_by None last = refl
+key_of_by (Some e) last = elim (cases_Bool (nat_le e.key.day last)) [ inl by ↦ rw by refl | inr late ↦ rw late refl ]
 
 -- of events that are all later none is left
 none_by_day : (last : ℕ) (events : List Event) → AllByRecursion (λ e. last < e.key.day) events → filter (λ e. nat_le e.key.day last) events ≡ []

@@ -1,11 +1,13 @@
 -- The duties of a component by their causes, as `ldar_law` has them, of what is asked.
-use Rattle.std.specs.Prelude.{ℕ, ◌-◌, ◌%◌, Bool, not, ◌&&◌, ◌||◌, nat_lt, nat_eq, if◌then◌else◌, Option, List}
+use Rattle.std.specs.Prelude.{ℕ, ◌-◌, ◌%◌, Bool, not, ◌&&◌, ◌||◌, nat_lt, nat_eq, if◌then◌else◌, Option, Some, None, is_none, List}
 use Rattle.ldar_days.specs.Calendar.{month_of}
+use Rattle.fact_kinds.specs.declared.key.Key.{Key}
 use Rattle.ldar_law.specs.declared.duty.Duty.{Duty}
 use Rattle.ldar_law.specs.declared.event.Event.{Event}
 use Rattle.ldar_law.specs.Duties as law
 use Rattle.ldar_law.specs.Months.{month_in_quarter}
-use Rattle.ldar_law.specs.Standing.{are_valve_rules, are_pump_rules, are_compressor_rules, is_none_designated, is_nde_designated, is_unsafe_designated, is_difficult_designated}
+use Rattle.ldar_law.specs.Standing.{are_valve_rules, are_pump_rules, are_compressor_rules, is_none_designated}
+use Rattle.ldar_law.specs.Standing.{is_nde_designated, is_unsafe_designated, is_difficult_designated}
 use Rattle.monitor_calendar.specs.declared.asked.Asked.{Asked}
 use Rattle.monitor_calendar.specs.declared.asked.Judged.{Judged}
 
@@ -34,6 +36,13 @@ module _ (asked : Asked) where
   abbrev pub duty : ℕ → ℕ → ℕ → Bool → Option Event → Option Duty
   duty cause first due owed met =
       law.duty asked.item.now asked.classes.now asked.startup asked.events.now asked.skipped.now asked.day cause first due owed met
+
+  -- .. one that is owed, by the key of what met it
+  abbrev pub duty_met_by : ℕ → ℕ → ℕ → Option Key → Option Duty
+  duty_met_by cause first due met =
+      if law.is_listed asked.day first due (is_none met)
+      then Some (record { component = asked.item.now.component; cause = cause; due = due; met = met })
+      else None
 
   -- 1 first
   abbrev pub first_monitoring : Option Duty

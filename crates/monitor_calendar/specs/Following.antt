@@ -1,6 +1,8 @@
 -- What follows drips, a pressure release or evidence of a potential leak.
-use Rattle.std.specs.Prelude.{◌≡◌, ℕ, ◌+◌, ◌<◌, ◌≤◌, Bool, true, false, not, ◌&&◌, ◌||◌, nat_le, if◌then◌else◌, Option, Some, None, List, length, slice_get, slice_index_or}
+use Rattle.std.specs.Prelude.{◌≡◌, ℕ, ◌+◌, ◌<◌, ◌≤◌, Bool, true, false, not, ◌&&◌, ◌||◌, nat_le}
+use Rattle.std.specs.Prelude.{if◌then◌else◌, Option, Some, None, List, length, slice_get, slice_index_or}
 use Rattle.ldar_days.specs.Calendar.{end_by}
+use Rattle.fact_kinds.specs.declared.key.Key.{Key}
 use Rattle.ldar_law.specs.declared.duty.Duty.{Duty}
 use Rattle.ldar_law.specs.declared.event.Event.{Event}
 use Rattle.ldar_law.specs.declared.event.Happening.{Happening}
@@ -43,6 +45,11 @@ pub record NoneMeets (after : After) (events : List Event) (from to : ℕ) : Typ
 abbrev pub comes_by : Option Event → ℕ → Option Event
 comes_by None due = None
 comes_by (Some e) due = if nat_le e.key.day due then Some e else None
+
+-- .. and a key
+abbrev pub key_by : Option Key → ℕ → Option Key
+key_by None due = None
+key_by (Some key) due = if nat_le key.day due then Some key else None
 
 -- the event at a place
 abbrev pub event_by : List Event → ℕ → ℕ → Option Event

@@ -2,11 +2,12 @@
 //! 60.482-8a(a)). One walk over the events for each, in which the next event that meets such a duty is looked for where an
 //! event asks for it, and none is looked at twice.
 
-ghost use Rattle.std.specs.Prelude.{◌≡◌, ◌+◌, ◌<◌, ◌≤◌, ◌++◌, Bool, OnOk, true, false, length, take, nat_lt};
+ghost use Rattle.std.specs.Prelude.{◌≡◌, ◌+◌, ◌<◌, ◌≤◌, ◌++◌, Bool, List, [], ◌∷◌, OnOk, option_map, true, false, length, take, nat_lt};
 ghost use Rattle.std.specs.List.Sorted.{IsPartitionPoint};
 ghost use Rattle.list_words.specs.Order.{Ascends};
 ghost use Rattle.list_words.specs.Words.{each_where};
 ghost use Rattle.fact_kinds.specs.Facts.{is_earlier};
+ghost use Rattle.ldar_law.specs.declared.event.Event.{Event as SomeEvent};
 ghost use Rattle.monitor_calendar.specs.Concern.{concerns};
 ghost use Rattle.monitor_calendar.specs.Following as following;
 
@@ -14,7 +15,7 @@ use crate::asked::Asked;
 use crate::drips::PastDrips;
 use crate::duty::put;
 use crate::weekly::is_plain_pump;
-use fact_kinds::{Kind, Memory};
+use fact_kinds::{Key, Kind, Memory};
 use ldar_days::Day;
 use ldar_law::{Duty, EVENT_DAYS, Event, Happening, LISTED_DAYS, is_compressor, is_pump};
 
@@ -60,6 +61,17 @@ impl After {
         }
     }
 
+    /// What the events up to one tell, as far as what follows asks for it: of drips alone.
+    fn told_with(self, past: PastDrips, e: &Event) -> PastDrips
+        ensures value { (front : List SomeEvent) → following.TellsFor self past front → following.TellsFor self result (front ++ e.now ∷ []) }
+    {
+        match self {
+            After::Drips => past.with(e),
+            After::Release => past,
+            After::Evidence => past,
+        }
+    }
+
     /// The place of the first event from one on that would meet it, or the number of events where there is none.
     fn next_place(self, events: &[Event], from: usize) -> usize
         requires from { from ≤ length events.now }
@@ -89,12 +101,12 @@ impl After {
     }
 }
 
-/// The event at a place, if it comes by a day.
-fn event_by(events: &[Event], place: usize, due: Day) -> Option<Event>
-    ensures value { result ≡ following.event_by events.now place due }
+/// The key of the event at a place, if it comes by a day.
+fn key_by(events: &[Event], place: usize, due: Day) -> Option<Key>
+    ensures value { result ≡ option_map (λ e. e.key) (following.event_by events.now place due) }
 {
     match events.get(place) {
-        Some(e) => { if e.key.day <= due { Some(*e) } else { None } }
+        Some(e) => { if e.key.day <= due { Some(e.key) } else { None } }
         None => None,
     }
 }
@@ -140,18 +152,15 @@ impl Asked<'_> {
             return None;
         }
         let due = e.key.day.plus_days(EVENT_DAYS);
-        self.duty(
-            after.cause(),
-            e.key.day,
-            due,
-            &event_by(self.events, next, due),
-        )
+        let met = key_by(self.events, next, due);
+        self.duty(after.cause(), e.key.day, due, &met)
     }
 
     /// The place of the first event whose duty the list can hold.
     fn first_listed(&self) -> usize
         ensures within { result ≤ length self.now.events.now }
-        ensures value { IsPartitionPoint (λ e. nat_lt (e.key.day + 5 + 366) self.now.day ≡ true) (λ e. nat_lt (e.key.day + 5 + 366) self.now.day ≡ false) self.now.events.now result }
+        ensures value { IsPartitionPoint (λ e. nat_lt (e.key.day + 5 + 366) self.now.day ≡ true)
+            (λ e. nat_lt (e.key.day + 5 + 366) self.now.day ≡ false) self.now.events.now result }
     {
         let day = self.day.number();
         self.events
@@ -187,7 +196,7 @@ impl Asked<'_> {
             let is_asked = self.is_asked_by(after, past.repeat, e);
             next = after.next_after(self.events, place, next, is_asked);
             put(duties, &self.after_event(after, is_asked, e, next))?;
-            past = past.with(e);
+            past = after.told_with(past, e);
         }
         Ok(())
     }

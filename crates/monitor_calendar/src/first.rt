@@ -11,13 +11,13 @@ impl Asked<'_> {
     pub fn first_monitoring(&self) -> Option<Duty>
         ensures value { result ≡ causes.first_monitoring self.now }
     {
-        let (begin, due) = (self.item.begin, self.item.first_due());
-        if !self
-            .item
-            .is_first_owed(self.classes, self.startup, due.min(self.day))
-        {
+        let begin = self.item.begin;
+        let due = self.item.first_due();
+        let judged = self.judging_day(due);
+        if !self.item.is_first_owed(self.classes, self.startup, judged) {
             return None;
         }
-        self.duty(1, begin, due, &routine_in(self.events, begin, due))
+        let met = routine_in(self.events, begin, due);
+        self.duty(1, begin, due, &met)
     }
 }

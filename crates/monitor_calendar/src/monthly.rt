@@ -1,6 +1,6 @@
 //! Monthly and quarterly monitoring (40 CFR 60.482-2a(a)(1), 60.482-7a(a)(1), (c)(1)).
 
-ghost use Rattle.std.specs.Prelude.{◌≡◌, ◌++◌, true, OnOk, filter_map};
+ghost use Rattle.std.specs.Prelude.{◌≡◌, ◌++◌, ◌&&◌, true, OnOk, filter_map};
 ghost use Rattle.ldar_law.specs.Kinds.{is_valve as says_valve};
 ghost use Rattle.ldar_law.specs.Months.{is_quarterly as says_quarterly};
 ghost use Rattle.monitor_calendar.specs.Causes as causes;
@@ -50,11 +50,21 @@ impl Asked<'_> {
             && !self.is_month_skipped(month)
     }
 
+    /// Whether a month that is a quarterly one or not is one of a valve, which then has no monthly monitoring.
+    fn is_quarterly_in_place(&self, is_quarterly: bool) -> bool
+        ensures value { result ≡ (is_quarterly && says_valve self.now.item.now.kind) }
+    {
+        is_quarterly && is_valve(self.item.kind)
+    }
+
     /// The monthly monitoring of a month that is a quarterly one of a valve or not.
     fn monthly(&self, month: Month, is_quarterly: bool) -> Option<Duty>
         requires quarterly { says_valve self.now.item.now.kind ≡ true → is_quarterly ≡ says_quarterly self.now.startup self.now.events.now month }
         ensures value { result ≡ causes.monthly self.now month }
     {
+        if self.is_quarterly_in_place(is_quarterly) {
+            return None;
+        }
         let first = month.first_day();
         let due = month.last_day();
         let judged = self.judged(self.judging_day(due));

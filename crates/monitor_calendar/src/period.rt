@@ -1,4 +1,4 @@
-//! The events of a period, and what meets a duty in it. Events in key order stand by their days, so that the first of a
+//! The events of a period, and the key of what meets a duty in it. Events in key order stand by their days, so that the first of a
 //! period is found by halving, and from there on they are few.
 
 ghost use Rattle.std.specs.Prelude.{◌≡◌, ◌&&◌, ◌||◌, filter, find, nat_le, nat_lt, option_map};
@@ -6,8 +6,9 @@ ghost use Rattle.list_words.specs.Order.{Ascends};
 ghost use Rattle.fact_kinds.specs.Facts.{is_earlier};
 ghost use Rattle.ldar_law.specs.Duties as law;
 ghost use Rattle.ldar_law.specs.Happenings.{is_look, is_near_background, is_routine};
-ghost use Rattle.monitor_calendar.specs.Following.{comes_by};
+ghost use Rattle.monitor_calendar.specs.Following.{key_by};
 
+use fact_kinds::Key;
 use ldar_days::Day;
 use ldar_law::Event;
 
@@ -21,58 +22,58 @@ pub fn events_from(events: &[Event], first: Day) -> &[Event]
     &events[count..]
 }
 
-/// The first event that is a counting routine reading, or of a day after the last.
-fn routine_or_later(events: &[Event], last: Day) -> Option<Event>
-    ensures value { result ≡ option_map (λ e. e) (find (λ e. nat_lt last e.key.day || (is_routine e.what)) events.now) }
+/// The key of the first event that is a counting routine reading, or of a day after the last.
+fn routine_or_later(events: &[Event], last: Day) -> Option<Key>
+    ensures value { result ≡ option_map (λ e. e.key) (find (λ e. nat_lt last e.key.day || (is_routine e.what)) events.now) }
 {
     events
         .iter()
         .find(|e| last < e.key.day || e.what.is_routine())
-        .map(|e| *e)
+        .map(|e| e.key)
 }
 
 /// The first that is such a reading less than 500 parts per million above the background, or of a later day.
-fn near_background_or_later(events: &[Event], last: Day) -> Option<Event>
-    ensures value { result ≡ option_map (λ e. e) (find (λ e. nat_lt last e.key.day || (is_routine e.what && is_near_background e.what)) events.now) }
+fn near_background_or_later(events: &[Event], last: Day) -> Option<Key>
+    ensures value { result ≡ option_map (λ e. e.key) (find (λ e. nat_lt last e.key.day || (is_routine e.what && is_near_background e.what)) events.now) }
 {
     events
         .iter()
         .find(|e| last < e.key.day || (e.what.is_routine() && e.what.is_near_background()))
-        .map(|e| *e)
+        .map(|e| e.key)
 }
 
 /// The first that is a visual inspection, or of a later day.
-fn look_or_later(events: &[Event], last: Day) -> Option<Event>
-    ensures value { result ≡ option_map (λ e. e) (find (λ e. nat_lt last e.key.day || (is_look e.what)) events.now) }
+fn look_or_later(events: &[Event], last: Day) -> Option<Key>
+    ensures value { result ≡ option_map (λ e. e.key) (find (λ e. nat_lt last e.key.day || (is_look e.what)) events.now) }
 {
     events
         .iter()
         .find(|e| last < e.key.day || e.what.is_look())
-        .map(|e| *e)
+        .map(|e| e.key)
 }
 
-/// The event, if there is one, and it comes by a day.
-fn by_day(found: Option<Event>, last: Day) -> Option<Event>
-    ensures value { result ≡ comes_by found last }
+/// The key, if there is one, and it comes by a day.
+fn by_day(found: Option<Key>, last: Day) -> Option<Key>
+    ensures value { result ≡ key_by found last }
 {
     match found {
-        Some(e) => { if e.key.day <= last { Some(e) } else { None } }
+        Some(key) => { if key.day <= last { Some(key) } else { None } }
         None => None,
     }
 }
 
-/// The first counting routine reading of a period.
-pub fn routine_in(events: &[Event], first: Day, last: Day) -> Option<Event>
+/// The key of the first counting routine reading of a period.
+pub fn routine_in(events: &[Event], first: Day, last: Day) -> Option<Key>
     requires ordered { Ascends (λ a b. is_earlier a.key b.key) events.now }
-    ensures value { result ≡ law.routine_in events.now first last }
+    ensures value { result ≡ option_map (λ e. e.key) (law.routine_in events.now first last) }
 {
     by_day(routine_or_later(events_from(events, first), last), last)
 }
 
 /// .. that is less than 500 parts per million above the background.
-pub fn routine_near_background(events: &[Event], first: Day, last: Day) -> Option<Event>
+pub fn routine_near_background(events: &[Event], first: Day, last: Day) -> Option<Key>
     requires ordered { Ascends (λ a b. is_earlier a.key b.key) events.now }
-    ensures value { result ≡ law.routine_near_background events.now first last }
+    ensures value { result ≡ option_map (λ e. e.key) (law.routine_near_background events.now first last) }
 {
     by_day(
         near_background_or_later(events_from(events, first), last),
@@ -80,10 +81,10 @@ pub fn routine_near_background(events: &[Event], first: Day, last: Day) -> Optio
     )
 }
 
-/// The first visual inspection of a period.
-pub fn look_in(events: &[Event], first: Day, last: Day) -> Option<Event>
+/// The key of the first visual inspection of a period.
+pub fn look_in(events: &[Event], first: Day, last: Day) -> Option<Key>
     requires ordered { Ascends (λ a b. is_earlier a.key b.key) events.now }
-    ensures value { result ≡ law.look_in events.now first last }
+    ensures value { result ≡ option_map (λ e. e.key) (law.look_in events.now first last) }
 {
     by_day(look_or_later(events_from(events, first), last), last)
 }

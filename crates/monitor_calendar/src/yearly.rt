@@ -1,16 +1,33 @@
 //! Yearly monitoring (40 CFR 60.482-2a(e), 60.482-3a(i), 60.482-7a(f), (h)).
 
-ghost use Rattle.std.specs.Prelude.{◌≡◌, ◌+◌, ◌/◌, ◌++◌, ◌≤◌, OnOk, filter_map};
+ghost use Rattle.std.specs.Prelude.{◌≡◌, ◌+◌, ◌/◌, ◌++◌, ◌≤◌, OnOk, filter_map, option_map};
 ghost use Rattle.list_words.specs.Ranges.{until};
 ghost use Rattle.ldar_days.specs.Calendar.{month_of};
 ghost use Rattle.monitor_calendar.specs.Causes as causes;
+ghost use Rattle.monitor_calendar.specs.Concern as concern;
 
 use crate::asked::{Asked, Judged};
 use crate::duty::put;
 use crate::period::{routine_in, routine_near_background};
-use fact_kinds::Memory;
+use fact_kinds::{Class, Designation, Key, Memory};
 use ldar_days::{Day, Month};
-use ldar_law::{Duty, Event, is_difficult_designated, is_nde_designated};
+use ldar_law::{Duty, is_difficult_designated, is_nde_designated};
+
+/// Whether a designation is one of what is monitored each year.
+fn is_yearly_designated(designation: Designation) -> bool
+    ensures value { result ≡ concern.is_yearly_designated designation }
+{
+    is_difficult_designated(designation) || is_nde_designated(designation)
+}
+
+/// Whether some entered class has such a designation.
+fn is_some_yearly(classes: &[(Key, Class)]) -> bool
+    ensures value { result ≡ concern.is_some_yearly classes.now }
+{
+    classes
+        .iter()
+        .any(|entered| is_yearly_designated(entered.1.designation))
+}
 
 /// Whether what is so judged is monitored each year.
 fn is_yearly(judged: Judged) -> bool
@@ -26,9 +43,9 @@ fn is_yearly(judged: Judged) -> bool
 }
 
 impl Asked<'_> {
-    /// What meets a yearly monitoring of the component, as it is judged.
-    fn yearly_reading(&self, judged: Judged, first: Day, due: Day) -> Option<Event>
-        ensures value { result ≡ causes.yearly_reading_judged self.now judged first due }
+    /// The key of what meets a yearly monitoring of the component, as it is judged.
+    fn yearly_reading(&self, judged: Judged, first: Day, due: Day) -> Option<Key>
+        ensures value { result ≡ option_map (λ e. e.key) (causes.yearly_reading_judged self.now judged first due) }
     {
         if is_nde_designated(judged.class.designation) {
             routine_near_background(self.events, first, due)
@@ -64,10 +81,20 @@ impl Asked<'_> {
         if first < earliest { earliest } else { first }
     }
 
-    /// Adds the yearly monitorings.
+    /// Whether it has a class of such a designation: that with which it was entered, or a later one.
+    fn has_yearly_class(&self) -> bool
+        ensures value { result ≡ concern.has_yearly_class self.now.item.now self.now.classes.now }
+    {
+        is_yearly_designated(self.item.class.designation) || is_some_yearly(self.classes)
+    }
+
+    /// Adds the yearly monitorings. Of what no class has monitored each year no year is looked at.
     pub fn put_yearly(&self, duties: &mut Vec<Duty>) -> Result<(), Memory>
         ensures put { OnOk result (duties.new.items ≡ duties.old.items ++ filter_map (causes.yearly self.now) (causes.years_after self.now)) }
     {
+        if !self.has_yearly_class() {
+            return Ok(());
+        }
         let end = self.day.month().year() + 1;
         for year in self.first_year()..end {
             put(duties, &self.yearly(year))?;

@@ -37,7 +37,8 @@ impl<D: Disk> Book<D> {
 
         // Over a disk with told room, with nothing in doubt before.
         ensures roomy { AnswersInRoom D.room D.clock 6 self.old.disk self.new.disk
-            (λ room. self.old.doubt ≡ [] → HasRoom self.old.frames (added (batches_of self.old.frames) (requests.Sync batch.now ∷ [])) room → IsNoFault result) }
+            (λ room. self.old.doubt ≡ [] → HasRoom self.old.frames (added (batches_of self.old.frames) (requests.Sync batch.now ∷ [])) room
+            → IsNoFault result) }
     {
         if self.settle_first().is_err() {
             return Reply::Fault;
@@ -48,8 +49,8 @@ impl<D: Disk> Book<D> {
     /// Keeps a batch, with nothing in doubt before.
     pub(crate) fn keep(&mut self, alloc: Global, batch: &Batch) -> Reply
         requires settled { self.old.doubt ≡ [] }
-        ensures serves { Serves (Rose (D.faults self.old.disk) (D.faults self.new.disk)) (batches_of self.old.frames) (requests.Sync batch.now ∷ []) (result ∷ [])
-            (state_of self.new) }
+        ensures serves { Serves (Rose (D.faults self.old.disk) (D.faults self.new.disk)) (batches_of self.old.frames)
+            (requests.Sync batch.now ∷ []) (result ∷ []) (state_of self.new) }
         ensures moves { Moves D.content D.images D.left D.clock D.name D.faults self.old self.new 1 }
         ensures roomy { AnswersInRoom D.room D.clock 4 self.old.disk self.new.disk
             (λ room. HasRoom self.old.frames (added (batches_of self.old.frames) (requests.Sync batch.now ∷ [])) room → IsNoFault result) }
@@ -89,8 +90,8 @@ impl<D: Disk> Book<D> {
         requires settled { self.old.doubt ≡ [] }
         requires is_new { IsNew (batches_of self.old.frames) batch.now }
         requires passes { verdict_on (batches_of self.old.frames) batch.now ≡ verdicts.Pass }
-        ensures serves { Serves (Rose (D.faults self.old.disk) (D.faults self.new.disk)) (batches_of self.old.frames) (requests.Sync batch.now ∷ []) (result ∷ [])
-            (state_of self.new) }
+        ensures serves { Serves (Rose (D.faults self.old.disk) (D.faults self.new.disk)) (batches_of self.old.frames)
+            (requests.Sync batch.now ∷ []) (result ∷ []) (state_of self.new) }
         ensures moves { Moves D.content D.images D.left D.clock D.name D.faults self.old self.new 1 }
         ensures roomy { AnswersInRoom D.room D.clock 4 self.old.disk self.new.disk
             (λ room. HasRoom self.old.frames (batch.now ∷ []) room → IsNoFault result) }

@@ -1,5 +1,6 @@
 -- What the register and the lists of a store say of a process unit on a day.
-use Rattle.std.proofs.Common.{◌≡◌, ℕ, Bool, Option, Some, None, false, cond, nat_le, nat_lt, inl, inr, arith, leb-false, option_map, option_and_then, List, ◌++◌, length, take, filter, map, get_or, ◌<◌, ◌≤◌, ◌+◌, Contains, sym, ap, ◌∙◌, subst, length-take-le}
+use Rattle.std.proofs.Common.{◌≡◌, ℕ, Bool, Option, Some, None, false, cond, nat_le, nat_lt, inl, inr, arith, leb-false, option_map, option_and_then}
+use Rattle.std.proofs.Common.{List, ◌++◌, length, take, filter, map, get_or, ◌<◌, ◌≤◌, ◌+◌, Contains, sym, ap, ◌∙◌, subst, length-take-le}
 use Rattle.std.specs.List.{AllByRecursion, filter_map}
 use Rattle.std.proofs.lemmas.Bool.{cases_Bool}
 use Rattle.ldar_law.proofs.Gifts.{cases_Option}

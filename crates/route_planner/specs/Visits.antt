@@ -1,5 +1,6 @@
 -- Visits: what the planner makes of duties.
-use Rattle.std.specs.Prelude.{◌≡◌, ℕ, ◌+◌, ◌≤◌, Bool, nat_eq, nat_lt, is_none, if◌then◌else◌, Option, Some, None, List, [], ◌∷◌, ◌++◌, Contains, filter, map, length, slice_index_or}
+use Rattle.std.specs.Prelude.{◌≡◌, ℕ, ◌+◌, ◌≤◌, Bool, nat_eq, nat_lt, is_none, if◌then◌else◌, Option, Some}
+use Rattle.std.specs.Prelude.{None, List, [], ◌∷◌, ◌++◌, Contains, filter, map, length, slice_index_or}
 use Rattle.std.specs.List.{AllByRecursion, list_any}
 use Rattle.std.specs.Ordering.{is_lt, nat_cmp, then_cmp, on}
 use Rattle.std.specs.declared.cmp.Ordering.{Ordering}

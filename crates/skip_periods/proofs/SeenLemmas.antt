@@ -1,8 +1,7 @@
 -- What is seen of a component, one event after the other, and the marks that it gives.
-use Rattle.std.proofs.Common.{◌≡◌, ◌≢◌, ℕ, ◌+◌, ◌-◌, ◌<◌, ◌≤◌, ◌/◌, Bool, true, false, ◌&&◌, ◌||◌, nat_eq, nat_lt, Option, Some, None, List, [], take, length}
+use Rattle.std.proofs.Common.{◌≡◌, ℕ, ◌+◌, ◌-◌, ◌<◌, ◌≤◌, ◌/◌, Bool, true, false, ◌&&◌, ◌||◌, nat_eq, List, [], take, length}
 use Rattle.std.proofs.Common.{set, get_or, replicate, refl, sym, ap, ◌∙◌, inl, inr, arith}
-use Rattle.std.specs.List.{list_any}
-use Rattle.std.proofs.lemmas.Bool.{and_left, cases_Bool, cases_eq, ne_eqb, eq-eqb}
+use Rattle.std.proofs.lemmas.Bool.{and_left, cases_eq, ne_eqb, eq-eqb, lt-ltb, le-ltb}
 use Rattle.std.proofs.lemmas.List.{get_or_default, get_or-set_same, get_or-set_other, length-set, get_or-replicate, length-replicate}
 use Rattle.std.proofs.lemmas.List.Folds.{list_any_more}
 use Rattle.ldar_days.specs.Calendar.{month_of}
@@ -115,23 +114,17 @@ module _ (startup : ℕ) (e : Event) (seen : List Mark) where
     ];
   }
 
--- quarters are counted from 1
-numbered_from_one : (startup month quarter : ℕ) → Some quarter ≡ quarter_of startup month → 1 ≤ quarter
-numbered_from_one startup month quarter e =
-    elim (cases_Bool (nat_lt month (first_quarter startup))) [
-      | inl early ↦ let none : Some quarter ≡ None = rw early at e in cc
-      | inr on ↦
-          let some : Some quarter ≡ Some ((month - first_quarter startup) / 3 + 1) = rw on at e in
-          let is : quarter ≡ (month - first_quarter startup) / 3 + 1 = cc in
-          omega (arith, is)
-    ]
+-- an event of a month before the first quarter lies in none
+pub lies_nowhere : (startup first month : ℕ) (e : Event) → first ≡ first_quarter startup → month ≡ month_of e.key.day → month < first →
+    (q : ℕ) → is_in_quarter startup q e.key.day ≡ false
+lies_nowhere startup first month e first_is month_is early q =
+    ap (λ m. is_numbered (quarter_of startup m) q) (sym month_is) ∙ rw (sym first_is, lt-ltb month first early) refl
 
--- an event lies in the quarter that is found for its month, whose entry stands one place before its number
-pub lies_in : (startup : ℕ) (e : Event) (month quarter place : ℕ) (found : Option ℕ) → month ≡ month_of e.key.day → found ≡ quarter_of startup month →
-    found ≡ Some quarter → place ≡ quarter - 1 → (q : ℕ) → is_in_quarter startup q e.key.day ≡ nat_eq (place + 1) q
-lies_in startup e month quarter place found month_is found_is is place_is q =
-    let on : place + 1 ≡ quarter = omega (arith, place_is, numbered_from_one startup month quarter (sym is ∙ found_is)) in
-    ap (λ m. is_numbered (quarter_of startup m) q) (sym month_is) ∙ ap (λ o. is_numbered o q) (sym found_is ∙ is) ∙ ap (λ n. nat_eq n q) (sym on)
+-- .. and one of a later month in that whose entry stands behind those of the quarters since then
+pub lies_at : (startup first month place : ℕ) (e : Event) → first ≡ first_quarter startup → month ≡ month_of e.key.day → first ≤ month →
+    place ≡ (month - first) / 3 → (q : ℕ) → is_in_quarter startup q e.key.day ≡ nat_eq (place + 1) q
+lies_at startup first month place e first_is month_is on place_is q =
+    ap (λ m. is_numbered (quarter_of startup m) q) (sym month_is) ∙ rw (sym first_is, le-ltb month first on, place_is) refl
 
 -- nothing is seen without an event
 pub seen_none : (startup quarter : ℕ) (events : List Event) → AreSeen startup (take 0 events) quarter

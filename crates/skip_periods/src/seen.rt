@@ -1,12 +1,13 @@
 //! What is seen of a component in each quarter from the first to one: one walk over its events, in whatever order.
 
-ghost use Rattle.std.specs.Prelude.{◌≡◌, ◌≤◌, ◌||◌, false, IfOk, replicate};
+ghost use Rattle.std.specs.Prelude.{◌≡◌, ◌≤◌, ◌||◌, ℕ, false, IfOk, replicate};
+ghost use Rattle.ldar_days.specs.Quarters.{first_quarter as first_month};
 ghost use Rattle.ldar_law.specs.Happenings as happenings;
 ghost use Rattle.ldar_law.specs.declared.numbers.TheConstants.{LAST_FACT_DAY};
 ghost use Rattle.skip_periods.specs.Seen.{AreSeen, LooksAt};
 
 use fact_kinds::Memory;
-use ldar_days::{Day, quarter_of};
+use ldar_days::{Day, first_quarter};
 use ldar_law::{Event, Mark};
 use std::alloc::Global;
 
@@ -32,18 +33,19 @@ fn seen_with(mark: Mark, e: &Event) -> Mark
     }
 }
 
-/// Looks at an event, which says something of its quarter only, and nothing where it is no counting routine reading.
-fn look_at(seen: &mut Vec<Mark>, startup: Day, e: &Event)
-    requires startup { startup ≤ LAST_FACT_DAY }
-    ensures value { LooksAt startup e.now seen.old.items seen.new.items }
+/// Looks at an event, which says something of its quarter only, and nothing where it is no counting routine reading. `first`
+/// is the number of the first month of quarter 1.
+fn look_at(seen: &mut Vec<Mark>, first: u32, e: &Event)
+    ensures value { (startup : ℕ) → first ≡ first_month startup → LooksAt startup e.now seen.old.items seen.new.items }
 {
     if !e.what.is_routine() {
         return;
     }
-    let Some(quarter) = quarter_of(startup, e.key.day.month()) else {
+    let month = e.key.day.month().number();
+    if month < first {
         return;
-    };
-    let place = usize::from(quarter - 1);
+    }
+    let place = ((month - first) / 3) as usize;
     if place < seen.len() {
         seen[place] = seen_with(seen[place], e);
     }
@@ -60,8 +62,9 @@ pub fn seen_to(
     ensures value { IfOk result (λ seen. AreSeen startup events.now quarter seen.items) }
 {
     let mut seen = unseen(alloc, quarter)?;
+    let first = first_quarter(startup).number();
     for e in events {
-        look_at(&mut seen, startup, e);
+        look_at(&mut seen, first, e);
     }
     Ok(seen)
 }

@@ -11,7 +11,8 @@ use std::alloc::Global;
 
 /// Appends what a line says of a delay (40 CFR 60.486a(c)), in a view and in a report, without the line's end.
 pub fn put_delay_words(text: &mut String, line: &DelayLine) -> Result<(), Memory>
-    ensures value { OnOk result (string_bytes text.new ≡ string_bytes text.old ++ law.delay_words line.now.component line.now.detected line.now.delay line.now.until) }
+    ensures value { OnOk result (string_bytes text.new ≡ string_bytes text.old
+        ++ law.delay_words line.now.component line.now.detected line.now.delay line.now.until) }
 {
     let (component, detected, signer) = (line.component, line.detected, line.delay.signer);
     let (why, until) = (Ground(line.delay), UntilWhen(line.until));

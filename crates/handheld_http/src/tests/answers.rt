@@ -1,5 +1,6 @@
 ghost use Rattle.handheld_http.specs.Answers.{IsSent};
 
+use super::is;
 use crate::{Answer, Refusal, reply_bytes};
 use fact_kinds::Memory;
 use ldar_law::{Reply, Text, What};
@@ -15,6 +16,14 @@ fn written(alloc: Global, answer: Answer, closing: bool) -> Result<Vec<u8>, Memo
     Vec::from_slice(alloc, out.strip_prefix(b"before".as_slice()).unwrap_or(b""))
 }
 
+/// Sees that this is appended for an answer.
+fn writes(alloc: Global, answer: Answer, closing: bool, want: &[u8]) -> Result<(), Fail>
+    requires { IsSent answer }
+{
+    let out = written(alloc, answer, closing)?;
+    is(out.as_slice() == want, "an answer")
+}
+
 #[test]
 fn receipts_and_texts_are_written(rt: HostRuntime) -> Result<(), Fail> {
     let alloc = rt.alloc();
@@ -23,97 +32,96 @@ fn receipts_and_texts_are_written(rt: HostRuntime) -> Result<(), Fail> {
         number: 12,
         position: 3,
     };
-    let out = written(alloc, Answer::Reply(receipt), false)?;
-    assert_eq!(rt;
-        out.as_slice(),
-        b"HTTP/1.1 200 OK\r\nContent-Type: text/plain\r\nContent-Length: 15\r\n\r\nreceipt 7 12 3\n".as_slice()
-    );
+    writes(
+        alloc,
+        Answer::Reply(receipt),
+        false,
+        b"HTTP/1.1 200 OK\r\nContent-Type: text/plain\r\nContent-Length: 15\r\n\r\nreceipt 7 12 3\n",
+    )?;
     let shown = Text::new(Vec::from_slice(alloc, b"end 0\n")?);
-    let out = written(alloc, Answer::Reply(Reply::Shown(shown)), true)?;
-    assert_eq!(rt;
-        out.as_slice(),
-        b"HTTP/1.1 200 OK\r\nContent-Type: text/plain\r\nContent-Length: 6\r\nConnection: close\r\n\r\nend 0\n".as_slice()
-    );
-    let out = written(alloc, Answer::Reply(Reply::Conflict { position: 1 }), false)?;
-    assert_eq!(rt;
-        out.as_slice(),
-        b"HTTP/1.1 409 Conflict\r\nContent-Type: text/plain\r\nContent-Length: 11\r\n\r\nconflict 1\n".as_slice()
-    );
-    let out = written(
+    writes(
+        alloc,
+        Answer::Reply(Reply::Shown(shown)),
+        true,
+        b"HTTP/1.1 200 OK\r\nContent-Type: text/plain\r\nContent-Length: 6\r\nConnection: close\r\n\r\nend 0\n",
+    )?;
+    writes(
+        alloc,
+        Answer::Reply(Reply::Conflict { position: 1 }),
+        false,
+        b"HTTP/1.1 409 Conflict\r\nContent-Type: text/plain\r\nContent-Length: 11\r\n\r\nconflict 1\n",
+    )?;
+    writes(
         alloc,
         Answer::Reply(Reply::Denied { fact: 1, rule: 10 }),
         false,
+        b"HTTP/1.1 422 Unprocessable Entity\r\nContent-Type: text/plain\r\nContent-Length: 25\r\n\r\ndenied 1 10 60.482-9a(d)\n",
     )?;
-    assert_eq!(rt;
-        out.as_slice(),
-        b"HTTP/1.1 422 Unprocessable Entity\r\nContent-Type: text/plain\r\nContent-Length: 25\r\n\r\ndenied 1 10 60.482-9a(d)\n".as_slice()
-    );
     Ok(())
 }
 
 #[test]
 fn other_replies_are_written(rt: HostRuntime) -> Result<(), Fail> {
     let alloc = rt.alloc();
-    let out = written(
+    writes(
         alloc,
         Answer::Reply(Reply::Full { facts: 8_000_001 }),
         false,
+        b"HTTP/1.1 422 Unprocessable Entity\r\nContent-Type: text/plain\r\nContent-Length: 13\r\n\r\nfull 8000001\n",
     )?;
-    assert_eq!(rt;
-        out.as_slice(),
-        b"HTTP/1.1 422 Unprocessable Entity\r\nContent-Type: text/plain\r\nContent-Length: 13\r\n\r\nfull 8000001\n".as_slice()
-    );
-    let out = written(alloc, Answer::Reply(Reply::NoSuch(What::Quarter)), false)?;
-    assert_eq!(rt;
-        out.as_slice(),
-        b"HTTP/1.1 404 Not Found\r\nContent-Type: text/plain\r\nContent-Length: 16\r\n\r\nno such quarter\n".as_slice()
-    );
-    let out = written(alloc, Answer::Reply(Reply::Fault), false)?;
-    assert_eq!(rt;
-        out.as_slice(),
-        b"HTTP/1.1 503 Service Unavailable\r\nContent-Type: text/plain\r\nContent-Length: 11\r\n\r\ndisk fault\n".as_slice()
-    );
-    let out = written(alloc, Answer::Reply(Reply::Memory), false)?;
-    assert_eq!(rt;
-        out.as_slice(),
-        b"HTTP/1.1 507 Insufficient Storage\r\nContent-Type: text/plain\r\nContent-Length: 7\r\n\r\nmemory\n".as_slice()
-    );
+    writes(
+        alloc,
+        Answer::Reply(Reply::NoSuch(What::Quarter)),
+        false,
+        b"HTTP/1.1 404 Not Found\r\nContent-Type: text/plain\r\nContent-Length: 16\r\n\r\nno such quarter\n",
+    )?;
+    writes(
+        alloc,
+        Answer::Reply(Reply::Fault),
+        false,
+        b"HTTP/1.1 503 Service Unavailable\r\nContent-Type: text/plain\r\nContent-Length: 11\r\n\r\ndisk fault\n",
+    )?;
+    writes(
+        alloc,
+        Answer::Reply(Reply::Memory),
+        false,
+        b"HTTP/1.1 507 Insufficient Storage\r\nContent-Type: text/plain\r\nContent-Length: 7\r\n\r\nmemory\n",
+    )?;
     Ok(())
 }
 
+const REFUSALS: [(Refusal, bool, &[u8]); 5] = [
+    (
+        Refusal::BadBatch,
+        false,
+        b"HTTP/1.1 400 Bad Request\r\nContent-Type: text/plain\r\nContent-Length: 12\r\n\r\nbad request\n",
+    ),
+    (
+        Refusal::NoPath,
+        false,
+        b"HTTP/1.1 404 Not Found\r\nContent-Type: text/plain\r\nContent-Length: 13\r\n\r\nno such path\n",
+    ),
+    (
+        Refusal::NoMethod { post: true },
+        true,
+        b"HTTP/1.1 405 Method Not Allowed\r\nContent-Type: text/plain\r\nContent-Length: 15\r\nAllow: POST\r\nConnection: close\r\n\r\nno such method\n",
+    ),
+    (
+        Refusal::NoMethod { post: false },
+        false,
+        b"HTTP/1.1 405 Method Not Allowed\r\nContent-Type: text/plain\r\nContent-Length: 15\r\nAllow: GET\r\n\r\nno such method\n",
+    ),
+    (
+        Refusal::NoSuch(What::Day),
+        false,
+        b"HTTP/1.1 404 Not Found\r\nContent-Type: text/plain\r\nContent-Length: 12\r\n\r\nno such day\n",
+    ),
+];
+
 #[test]
 fn refusals_are_written(rt: HostRuntime) -> Result<(), Fail> {
-    let alloc = rt.alloc();
-    let cases: [(Refusal, bool, &[u8]); 5] = [
-        (
-            Refusal::BadBatch,
-            false,
-            b"HTTP/1.1 400 Bad Request\r\nContent-Type: text/plain\r\nContent-Length: 12\r\n\r\nbad request\n",
-        ),
-        (
-            Refusal::NoPath,
-            false,
-            b"HTTP/1.1 404 Not Found\r\nContent-Type: text/plain\r\nContent-Length: 13\r\n\r\nno such path\n",
-        ),
-        (
-            Refusal::NoMethod { post: true },
-            true,
-            b"HTTP/1.1 405 Method Not Allowed\r\nContent-Type: text/plain\r\nContent-Length: 15\r\nAllow: POST\r\nConnection: close\r\n\r\nno such method\n",
-        ),
-        (
-            Refusal::NoMethod { post: false },
-            false,
-            b"HTTP/1.1 405 Method Not Allowed\r\nContent-Type: text/plain\r\nContent-Length: 15\r\nAllow: GET\r\n\r\nno such method\n",
-        ),
-        (
-            Refusal::NoSuch(What::Day),
-            false,
-            b"HTTP/1.1 404 Not Found\r\nContent-Type: text/plain\r\nContent-Length: 12\r\n\r\nno such day\n",
-        ),
-    ];
-    for (refusal, closing, want) in cases {
-        let out = written(alloc, Answer::Not(refusal), closing)?;
-        assert_eq!(rt; out.as_slice(), want);
+    for (refusal, closing, want) in REFUSALS {
+        writes(rt.alloc(), Answer::Not(refusal), closing, want)?;
     }
     Ok(())
 }
@@ -121,30 +129,35 @@ fn refusals_are_written(rt: HostRuntime) -> Result<(), Fail> {
 #[test]
 fn refused_bytes_are_answered(rt: HostRuntime) -> Result<(), Fail> {
     let alloc = rt.alloc();
-    let out = written(alloc, Answer::Status(400), false)?;
-    assert_eq!(rt;
-        out.as_slice(),
-        b"HTTP/1.1 400 Bad Request\r\nContent-Type: text/plain\r\nContent-Length: 12\r\nConnection: close\r\n\r\nbad request\n".as_slice()
-    );
-    let out = written(alloc, Answer::Status(411), false)?;
-    assert_eq!(rt;
-        out.as_slice(),
-        b"HTTP/1.1 411 Length Required\r\nContent-Type: text/plain\r\nContent-Length: 14\r\nConnection: close\r\n\r\nlength needed\n".as_slice()
-    );
-    let out = written(alloc, Answer::Status(413), false)?;
-    assert_eq!(rt;
-        out.as_slice(),
-        b"HTTP/1.1 413 Payload Too Large\r\nContent-Type: text/plain\r\nContent-Length: 10\r\nConnection: close\r\n\r\ntoo large\n".as_slice()
-    );
-    let out = written(alloc, Answer::Status(431), false)?;
-    assert_eq!(rt;
-        out.as_slice(),
-        b"HTTP/1.1 431 Request Header Fields Too Large\r\nContent-Type: text/plain\r\nContent-Length: 15\r\nConnection: close\r\n\r\nhead too large\n".as_slice()
-    );
-    let out = written(alloc, Answer::Status(501), false)?;
-    assert_eq!(rt;
-        out.as_slice(),
-        b"HTTP/1.1 501 Not Implemented\r\nContent-Type: text/plain\r\nContent-Length: 16\r\nConnection: close\r\n\r\nnot implemented\n".as_slice()
-    );
+    writes(
+        alloc,
+        Answer::Status(400),
+        false,
+        b"HTTP/1.1 400 Bad Request\r\nContent-Type: text/plain\r\nContent-Length: 12\r\nConnection: close\r\n\r\nbad request\n",
+    )?;
+    writes(
+        alloc,
+        Answer::Status(411),
+        false,
+        b"HTTP/1.1 411 Length Required\r\nContent-Type: text/plain\r\nContent-Length: 14\r\nConnection: close\r\n\r\nlength needed\n",
+    )?;
+    writes(
+        alloc,
+        Answer::Status(413),
+        false,
+        b"HTTP/1.1 413 Payload Too Large\r\nContent-Type: text/plain\r\nContent-Length: 10\r\nConnection: close\r\n\r\ntoo large\n",
+    )?;
+    writes(
+        alloc,
+        Answer::Status(431),
+        false,
+        b"HTTP/1.1 431 Request Header Fields Too Large\r\nContent-Type: text/plain\r\nContent-Length: 15\r\nConnection: close\r\n\r\nhead too large\n",
+    )?;
+    writes(
+        alloc,
+        Answer::Status(501),
+        false,
+        b"HTTP/1.1 501 Not Implemented\r\nContent-Type: text/plain\r\nContent-Length: 16\r\nConnection: close\r\n\r\nnot implemented\n",
+    )?;
     Ok(())
 }

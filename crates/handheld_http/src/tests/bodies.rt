@@ -1,3 +1,4 @@
+use super::is;
 use crate::batch_json::batch_in;
 use fact_kinds::Batch;
 use ldar_facts::Read;
@@ -47,62 +48,74 @@ fn bodies_are_read(rt: HostRuntime) -> Result<(), Fail> {
     Ok(())
 }
 
+/// Sees whether a body is a batch.
+fn is_one(alloc: Global, body: &[u8], want: bool) -> Result<(), Fail> {
+    let batch = batch_in(alloc, body)?;
+    is(batch.is_some() == want, "a body")
+}
+
+const OTHERS: [&[u8]; 32] = [
+    b"{\"handheld\":65536,\"number\":12,\"facts\":[{\"kind\":\"retire\",\"day\":\"2024-02-20\",\"minute\":600,\"component\":1}]}",
+    b"{\"handheld\":-1,\"number\":12,\"facts\":[{\"kind\":\"retire\",\"day\":\"2024-02-20\",\"minute\":600,\"component\":1}]}",
+    b"{\"handheld\":1.0,\"number\":12,\"facts\":[{\"kind\":\"retire\",\"day\":\"2024-02-20\",\"minute\":600,\"component\":1}]}",
+    b"{\"handheld\":1e3,\"number\":12,\"facts\":[{\"kind\":\"retire\",\"day\":\"2024-02-20\",\"minute\":600,\"component\":1}]}",
+    b"{\"handheld\":\"7\",\"number\":12,\"facts\":[{\"kind\":\"retire\",\"day\":\"2024-02-20\",\"minute\":600,\"component\":1}]}",
+    b"{\"handheld\":null,\"number\":12,\"facts\":[{\"kind\":\"retire\",\"day\":\"2024-02-20\",\"minute\":600,\"component\":1}]}",
+    b"{\"number\":12,\"facts\":[{\"kind\":\"retire\",\"day\":\"2024-02-20\",\"minute\":600,\"component\":1}]}",
+    b"{\"handheld\":7,\"site\":1,\"number\":12,\"facts\":[{\"kind\":\"retire\",\"day\":\"2024-02-20\",\"minute\":600,\"component\":1}]}",
+    b"{\"handheld\":7,\"number\":4294967296,\"facts\":[{\"kind\":\"retire\",\"day\":\"2024-02-20\",\"minute\":600,\"component\":1}]}",
+    b"{\"handheld\":7,\"number\":-0,\"facts\":[{\"kind\":\"retire\",\"day\":\"2024-02-20\",\"minute\":600,\"component\":1}]}",
+    b"{\"handheld\":7,\"number\":12,\"facts\":[{\"kind\":\"retired\",\"day\":\"2024-02-20\",\"minute\":600,\"component\":1}]}",
+    b"{\"handheld\":7,\"number\":12,\"facts\":[{\"kind\":\"Retire\",\"day\":\"2024-02-20\",\"minute\":600,\"component\":1}]}",
+    b"{\"handheld\":7,\"number\":12,\"facts\":[{\"kind\":\"retire\",\"day\":\"2024-2-20\",\"minute\":600,\"component\":1}]}",
+    b"{\"handheld\":7,\"number\":12,\"facts\":[{\"kind\":\"retire\",\"day\":\"2024-02-30\",\"minute\":600,\"component\":1}]}",
+    b"{\"handheld\":7,\"number\":12,\"facts\":[{\"kind\":\"retire\",\"day\":\"2007-12-31\",\"minute\":600,\"component\":1}]}",
+    b"{\"handheld\":7,\"number\":12,\"facts\":[{\"kind\":\"retire\",\"day\":19773,\"minute\":600,\"component\":1}]}",
+    b"{\"handheld\":7,\"number\":12,\"facts\":[{\"kind\":\"retire\",\"day\":\"2024-02-20\",\"minute\":1440,\"component\":1}]}",
+    b"{\"handheld\":7,\"number\":12,\"facts\":[{\"kind\":\"retire\",\"day\":\"2024-02-20\",\"minute\":600,\"component\":0}]}",
+    b"{\"handheld\":7,\"number\":12,\"facts\":[{\"kind\":\"retire\",\"day\":\"2024-02-20\",\"minute\":600,\"component\":60001}]}",
+    b"{\"handheld\":7,\"number\":12,\"facts\":[{\"kind\":\"retire\",\"day\":\"2024-02-20\",\"minute\":600,\"component\":true}]}",
+    b"{\"handheld\":7,\"number\":12,\"facts\":[{\"kind\":\"retire\",\"day\":\"2024-02-20\",\"minute\":600}]}",
+    b"{\"handheld\":7,\"number\":12,\"facts\":[{\"kind\":\"retire\",\"day\":\"2024-02-20\",\"minute\":600,\"component\":1,\"unit\":1}]}",
+    b"{\"handheld\":7,\"number\":12,\"facts\":[]}",
+    b"{\"handheld\":7,\"number\":12,\"facts\":{}}",
+    b"{\"handheld\":7,\"number\":12,\"facts\":[7,{\"kind\":\"retire\",\"day\":\"2024-02-20\",\"minute\":600,\"component\":1}]}",
+    b"{\"handheld\":7,\"number\":12,\"facts\":[{\"kind\":\"retire\",\"day\":\"2024-02-20\",\"minute\":600,\"component\":1}]",
+    b"{\"handheld\":7,\"number\":12,\"facts\":[{\"kind\":\"retire\",\"day\":\"2024-02-20\",\"minute\":600,\"component\":1}]}x",
+    b"",
+    b"[]",
+    b"[[[[[[[[[[[[[[[[[[[[[[[[[[[[[[[[[[[[[[[[[[[[[[[[[[[[[[[[[[[[[[[[[[[[[[[[[[[[[[[[[[[[[[[[[[[[[[[[[[[[[[[[[[[[[[[[[[[[[[[[[[[[[[[[]]]]]]]]]]]]]]]]]]]]]]]]]]]]]]]]]]]]]]]]]]]]]]]]]]]]]]]]]]]]]]]]]]]]]]]]]]]]]]]]]]]]]]]]]]]]]]]]]]]]]]]]]]]]]]]]]]]]]]]]]]]]]]]]",
+    b"{\"handheld\":7,\"number\":12,\"facts\":[{\"kind\":\"retire\",\"day\":\"2024-02-2\xff\",\"minute\":600,\"component\":1}]}",
+    b"\xef\xbb\xbf{\"handheld\":7,\"number\":12,\"facts\":[{\"kind\":\"retire\",\"day\":\"2024-02-20\",\"minute\":600,\"component\":1}]}",
+];
+
 #[test]
 fn other_bodies_are_none(rt: HostRuntime) -> Result<(), Fail> {
-    let alloc = rt.alloc();
-    let cases: [&[u8]; 32] = [
-        b"{\"handheld\":65536,\"number\":12,\"facts\":[{\"kind\":\"retire\",\"day\":\"2024-02-20\",\"minute\":600,\"component\":1}]}",
-        b"{\"handheld\":-1,\"number\":12,\"facts\":[{\"kind\":\"retire\",\"day\":\"2024-02-20\",\"minute\":600,\"component\":1}]}",
-        b"{\"handheld\":1.0,\"number\":12,\"facts\":[{\"kind\":\"retire\",\"day\":\"2024-02-20\",\"minute\":600,\"component\":1}]}",
-        b"{\"handheld\":1e3,\"number\":12,\"facts\":[{\"kind\":\"retire\",\"day\":\"2024-02-20\",\"minute\":600,\"component\":1}]}",
-        b"{\"handheld\":\"7\",\"number\":12,\"facts\":[{\"kind\":\"retire\",\"day\":\"2024-02-20\",\"minute\":600,\"component\":1}]}",
-        b"{\"handheld\":null,\"number\":12,\"facts\":[{\"kind\":\"retire\",\"day\":\"2024-02-20\",\"minute\":600,\"component\":1}]}",
-        b"{\"number\":12,\"facts\":[{\"kind\":\"retire\",\"day\":\"2024-02-20\",\"minute\":600,\"component\":1}]}",
-        b"{\"handheld\":7,\"site\":1,\"number\":12,\"facts\":[{\"kind\":\"retire\",\"day\":\"2024-02-20\",\"minute\":600,\"component\":1}]}",
-        b"{\"handheld\":7,\"number\":4294967296,\"facts\":[{\"kind\":\"retire\",\"day\":\"2024-02-20\",\"minute\":600,\"component\":1}]}",
-        b"{\"handheld\":7,\"number\":-0,\"facts\":[{\"kind\":\"retire\",\"day\":\"2024-02-20\",\"minute\":600,\"component\":1}]}",
-        b"{\"handheld\":7,\"number\":12,\"facts\":[{\"kind\":\"retired\",\"day\":\"2024-02-20\",\"minute\":600,\"component\":1}]}",
-        b"{\"handheld\":7,\"number\":12,\"facts\":[{\"kind\":\"Retire\",\"day\":\"2024-02-20\",\"minute\":600,\"component\":1}]}",
-        b"{\"handheld\":7,\"number\":12,\"facts\":[{\"kind\":\"retire\",\"day\":\"2024-2-20\",\"minute\":600,\"component\":1}]}",
-        b"{\"handheld\":7,\"number\":12,\"facts\":[{\"kind\":\"retire\",\"day\":\"2024-02-30\",\"minute\":600,\"component\":1}]}",
-        b"{\"handheld\":7,\"number\":12,\"facts\":[{\"kind\":\"retire\",\"day\":\"2007-12-31\",\"minute\":600,\"component\":1}]}",
-        b"{\"handheld\":7,\"number\":12,\"facts\":[{\"kind\":\"retire\",\"day\":19773,\"minute\":600,\"component\":1}]}",
-        b"{\"handheld\":7,\"number\":12,\"facts\":[{\"kind\":\"retire\",\"day\":\"2024-02-20\",\"minute\":1440,\"component\":1}]}",
-        b"{\"handheld\":7,\"number\":12,\"facts\":[{\"kind\":\"retire\",\"day\":\"2024-02-20\",\"minute\":600,\"component\":0}]}",
-        b"{\"handheld\":7,\"number\":12,\"facts\":[{\"kind\":\"retire\",\"day\":\"2024-02-20\",\"minute\":600,\"component\":60001}]}",
-        b"{\"handheld\":7,\"number\":12,\"facts\":[{\"kind\":\"retire\",\"day\":\"2024-02-20\",\"minute\":600,\"component\":true}]}",
-        b"{\"handheld\":7,\"number\":12,\"facts\":[{\"kind\":\"retire\",\"day\":\"2024-02-20\",\"minute\":600}]}",
-        b"{\"handheld\":7,\"number\":12,\"facts\":[{\"kind\":\"retire\",\"day\":\"2024-02-20\",\"minute\":600,\"component\":1,\"unit\":1}]}",
-        b"{\"handheld\":7,\"number\":12,\"facts\":[]}",
-        b"{\"handheld\":7,\"number\":12,\"facts\":{}}",
-        b"{\"handheld\":7,\"number\":12,\"facts\":[7,{\"kind\":\"retire\",\"day\":\"2024-02-20\",\"minute\":600,\"component\":1}]}",
-        b"{\"handheld\":7,\"number\":12,\"facts\":[{\"kind\":\"retire\",\"day\":\"2024-02-20\",\"minute\":600,\"component\":1}]",
-        b"{\"handheld\":7,\"number\":12,\"facts\":[{\"kind\":\"retire\",\"day\":\"2024-02-20\",\"minute\":600,\"component\":1}]}x",
-        b"",
-        b"[]",
-        b"[[[[[[[[[[[[[[[[[[[[[[[[[[[[[[[[[[[[[[[[[[[[[[[[[[[[[[[[[[[[[[[[[[[[[[[[[[[[[[[[[[[[[[[[[[[[[[[[[[[[[[[[[[[[[[[[[[[[[[[[[[[[[[[[]]]]]]]]]]]]]]]]]]]]]]]]]]]]]]]]]]]]]]]]]]]]]]]]]]]]]]]]]]]]]]]]]]]]]]]]]]]]]]]]]]]]]]]]]]]]]]]]]]]]]]]]]]]]]]]]]]]]]]]]]]]]]]]]",
-        b"{\"handheld\":7,\"number\":12,\"facts\":[{\"kind\":\"retire\",\"day\":\"2024-02-2\xff\",\"minute\":600,\"component\":1}]}",
-        b"\xef\xbb\xbf{\"handheld\":7,\"number\":12,\"facts\":[{\"kind\":\"retire\",\"day\":\"2024-02-20\",\"minute\":600,\"component\":1}]}",
-    ];
-    for body in cases {
-        assert!(rt; batch_in(alloc, body)?.is_none());
+    for body in OTHERS {
+        is_one(rt.alloc(), body, false)?;
     }
     Ok(())
 }
 
+const FACT: &[u8] = b"{\"kind\":\"retire\",\"day\":\"2024-02-20\",\"minute\":600,\"component\":1}";
+
+/// The body of a batch with so many facts and one more.
+fn and_one_more(alloc: Global, count: usize) -> Result<Vec<u8>, Fail> {
+    let mut body = Vec::from_slice(alloc, b"{\"handheld\":7,\"number\":12,\"facts\":[")?;
+    for _ in 0..count {
+        body.extend_from_slice(FACT)?;
+        body.push(b',')?;
+    }
+    body.extend_from_slice(FACT)?;
+    body.extend_from_slice(b"]}")?;
+    Ok(body)
+}
+
 #[test]
 fn a_batch_has_1_to_512_facts(rt: HostRuntime) -> Result<(), Fail> {
-    let alloc = rt.alloc();
-    for (count, want) in [(1usize, true), (512, true), (513, false)] {
-        let fact = b"{\"kind\":\"retire\",\"day\":\"2024-02-20\",\"minute\":600,\"component\":1}";
-        let mut body = Vec::from_slice(alloc, b"{\"handheld\":7,\"number\":12,\"facts\":[")?;
-        for _ in 1..count {
-            body.extend_from_slice(fact)?;
-            body.extend_from_slice(b",")?;
-        }
-        body.extend_from_slice(fact)?;
-        body.extend_from_slice(b"]}")?;
-        assert_eq!(rt; batch_in(alloc, &body)?.is_some(), want);
+    for (count, want) in [(0, true), (511, true), (512, false)] {
+        let body = and_one_more(rt.alloc(), count)?;
+        is_one(rt.alloc(), &body, want)?;
     }
     Ok(())
 }

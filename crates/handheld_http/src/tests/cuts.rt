@@ -7,69 +7,111 @@ const GET: &[u8] = b"GET /due/1/2024-02-20 HTTP/1.1\r\nHost: office\r\n\r\n";
 const POST: &[u8] =
     b"POST /sync HTTP/1.1\r\nHost: office\r\nAccept-Encoding: identity\r\nContent-Length: 2\r\n\r\n{}";
 
+const CUTS: [(&[u8], Cut); 22] = [
+    (b"", Cut::More),
+    (
+        GET,
+        Cut::Whole {
+            head: 48,
+            body: 0,
+            closing: false,
+        },
+    ),
+    (
+        b"GET / HTTP/1.0\r\n\r\nmore",
+        Cut::Whole {
+            head: 18,
+            body: 0,
+            closing: true,
+        },
+    ),
+    (
+        POST,
+        Cut::Whole {
+            head: 83,
+            body: 2,
+            closing: false,
+        },
+    ),
+    (
+        b"GET / HTTP/1.1\r\nConnection: keep-alive\r\nConnection: \t CLOSE \r\n\r\n",
+        Cut::Whole {
+            head: 64,
+            body: 0,
+            closing: true,
+        },
+    ),
+    (
+        b"GET / HTTP/1.1\r\nConnection: close, upgrade\r\n\r\n",
+        Cut::Whole {
+            head: 46,
+            body: 0,
+            closing: false,
+        },
+    ),
+    (
+        b"POST / HTTP/1.1\r\ncontent-length:  3\t\r\n\r\nabcd",
+        Cut::Whole {
+            head: 40,
+            body: 3,
+            closing: false,
+        },
+    ),
+    (b"POST / HTTP/1.1\r\nContent-Length: 3\r\n\r\nab", Cut::More),
+    (
+        b"POST / HTTP/1.1\r\nContent-Length: 0003\r\n\r\nabc",
+        Cut::Whole {
+            head: 41,
+            body: 3,
+            closing: false,
+        },
+    ),
+    (b"GET / HTTP/1.1\r\nHost: office\r\n", Cut::More),
+    (b"GET / HTTP/1.1\n\n\r\n\r\n", Cut::Refused { status: 400 }),
+    (b"GET  / HTTP/1.1\r\n\r\n", Cut::Refused { status: 400 }),
+    (b"GET / HTTP/2.0\r\n\r\n", Cut::Refused { status: 400 }),
+    (
+        b"POST / HTTP/1.1\r\nTransfer-Encoding: chunked\r\nContent-Length: x\r\n\r\n",
+        Cut::Refused { status: 501 },
+    ),
+    (
+        b"POST / HTTP/1.1\r\nContent-Length: 5\r\nContent-Length: 5\r\n\r\nabcde",
+        Cut::Refused { status: 400 },
+    ),
+    (
+        b"POST / HTTP/1.1\r\nContent-Length: +5\r\n\r\n",
+        Cut::Refused { status: 400 },
+    ),
+    (
+        b"POST / HTTP/1.1\r\nContent-Length:\r\n\r\n",
+        Cut::Refused { status: 400 },
+    ),
+    (b"POST / HTTP/1.1\r\n\r\n", Cut::Refused { status: 411 }),
+    (
+        b"post / HTTP/1.1\r\n\r\n",
+        Cut::Whole {
+            head: 19,
+            body: 0,
+            closing: false,
+        },
+    ),
+    (
+        b"GET / HTTP/1.1\r\nContent-Length: 262144\r\n\r\n",
+        Cut::More,
+    ),
+    (
+        b"GET / HTTP/1.1\r\nContent-Length: 262145\r\n\r\n",
+        Cut::Refused { status: 413 },
+    ),
+    (
+        b"GET / HTTP/1.1\r\nContent-Length: 99999999999999999999999999\r\n\r\n",
+        Cut::Refused { status: 413 },
+    ),
+];
+
 #[test]
 fn requests_are_cut(rt: HostRuntime) -> Result<(), Fail> {
-    let refused = |status: u16| Cut::Refused { status };
-    let whole = |head: usize, body: usize, closing: bool| Cut::Whole {
-        head,
-        body,
-        closing,
-    };
-    let cases: [(&[u8], Cut); 22] = [
-        (b"", Cut::More),
-        (GET, whole(48, 0, false)),
-        (b"GET / HTTP/1.0\r\n\r\nmore", whole(18, 0, true)),
-        (POST, whole(83, 2, false)),
-        (
-            b"GET / HTTP/1.1\r\nConnection: keep-alive\r\nConnection: \t CLOSE \r\n\r\n",
-            whole(64, 0, true),
-        ),
-        (
-            b"GET / HTTP/1.1\r\nConnection: close, upgrade\r\n\r\n",
-            whole(46, 0, false),
-        ),
-        (
-            b"POST / HTTP/1.1\r\ncontent-length:  3\t\r\n\r\nabcd",
-            whole(40, 3, false),
-        ),
-        (b"POST / HTTP/1.1\r\nContent-Length: 3\r\n\r\nab", Cut::More),
-        (
-            b"POST / HTTP/1.1\r\nContent-Length: 0003\r\n\r\nabc",
-            whole(41, 3, false),
-        ),
-        (b"GET / HTTP/1.1\r\nHost: office\r\n", Cut::More),
-        (b"GET / HTTP/1.1\n\n\r\n\r\n", refused(400)),
-        (b"GET  / HTTP/1.1\r\n\r\n", refused(400)),
-        (b"GET / HTTP/2.0\r\n\r\n", refused(400)),
-        (
-            b"POST / HTTP/1.1\r\nTransfer-Encoding: chunked\r\nContent-Length: x\r\n\r\n",
-            refused(501),
-        ),
-        (
-            b"POST / HTTP/1.1\r\nContent-Length: 5\r\nContent-Length: 5\r\n\r\nabcde",
-            refused(400),
-        ),
-        (
-            b"POST / HTTP/1.1\r\nContent-Length: +5\r\n\r\n",
-            refused(400),
-        ),
-        (b"POST / HTTP/1.1\r\nContent-Length:\r\n\r\n", refused(400)),
-        (b"POST / HTTP/1.1\r\n\r\n", refused(411)),
-        (b"post / HTTP/1.1\r\n\r\n", whole(19, 0, false)),
-        (
-            b"GET / HTTP/1.1\r\nContent-Length: 262144\r\n\r\n",
-            Cut::More,
-        ),
-        (
-            b"GET / HTTP/1.1\r\nContent-Length: 262145\r\n\r\n",
-            refused(413),
-        ),
-        (
-            b"GET / HTTP/1.1\r\nContent-Length: 99999999999999999999999999\r\n\r\n",
-            refused(413),
-        ),
-    ];
-    for (bytes, want) in cases {
+    for (bytes, want) in CUTS {
         assert_eq!(rt; cut(bytes), want);
     }
     Ok(())

@@ -1,3 +1,4 @@
+use super::is;
 use crate::{Asked, Cut, Refusal, cut, request_of};
 use ldar_law::{Request, What};
 use std::alloc::Global;
@@ -61,78 +62,84 @@ fn told_of(alloc: Global, line: &[u8]) -> Result<Told, Fail> {
     told(alloc, &bytes)
 }
 
+/// Sees what a request without a body asks, whose first line begins so.
+fn asks(alloc: Global, line: &[u8], want: Told) -> Result<(), Fail> {
+    let told = told_of(alloc, line)?;
+    is(told == want, want.0)
+}
+
+const VIEWS: [(&[u8], Told); 11] = [
+    (b"GET /due/1/2024-02-20", ("due", 1, 0, 19_773)),
+    (b"GET /tags/0/2008-01-01", ("tags", 0, 0, 13_879)),
+    (b"GET /delays/255/2099-12-31", ("delays", 255, 0, 47_481)),
+    (
+        b"GET /route/1/2024-02-20/65535",
+        ("route", 1, 65_535, 19_773),
+    ),
+    (b"GET /route/1/2024-02-20/0", ("route", 1, 0, 19_773)),
+    (b"GET /percent/1/16/2024-03-31", ("percent", 1, 16, 19_813)),
+    (b"GET /report/1/8/2024-03-31", ("report", 1, 8, 19_813)),
+    (b"GET /due/1/2024-02-20?", ("due", 1, 0, 19_773)),
+    (b"GET /due/1/2024-02-20?day=/x?y", ("due", 1, 0, 19_773)),
+    (b"\r\nGET /due/1/2024-02-20", ("due", 1, 0, 19_773)),
+    (b"GET /percent/10/0/2024-03-31", ("percent", 10, 0, 19_813)),
+];
+
 #[test]
 fn views_are_asked(rt: HostRuntime) -> Result<(), Fail> {
-    let alloc = rt.alloc();
-    let cases: [(&[u8], Told); 11] = [
-        (b"GET /due/1/2024-02-20", ("due", 1, 0, 19_773)),
-        (b"GET /tags/0/2008-01-01", ("tags", 0, 0, 13_879)),
-        (b"GET /delays/255/2099-12-31", ("delays", 255, 0, 47_481)),
-        (
-            b"GET /route/1/2024-02-20/65535",
-            ("route", 1, 65_535, 19_773),
-        ),
-        (b"GET /route/1/2024-02-20/0", ("route", 1, 0, 19_773)),
-        (b"GET /percent/1/16/2024-03-31", ("percent", 1, 16, 19_813)),
-        (b"GET /report/1/8/2024-03-31", ("report", 1, 8, 19_813)),
-        (b"GET /due/1/2024-02-20?", ("due", 1, 0, 19_773)),
-        (b"GET /due/1/2024-02-20?day=/x?y", ("due", 1, 0, 19_773)),
-        (b"\r\nGET /due/1/2024-02-20", ("due", 1, 0, 19_773)),
-        (b"GET /percent/10/0/2024-03-31", ("percent", 10, 0, 19_813)),
-    ];
-    for (line, want) in cases {
-        assert_eq!(rt; told_of(alloc, line)?, want);
+    for (line, want) in VIEWS {
+        asks(rt.alloc(), line, want)?;
     }
     Ok(())
 }
 
+const OTHERS: [(&[u8], &'static str); 40] = [
+    (b"GET /nothing", "no path"),
+    (b"POST /nothing", "no path"),
+    (b"GET /", "no path"),
+    (b"GET *", "no path"),
+    (b"GET ?/sync", "no path"),
+    (b"GET /Sync", "no path"),
+    (b"GET /sync/", "no path"),
+    (b"GET //sync", "no path"),
+    (b"GET http://office/sync", "no path"),
+    (b"GET /due", "no path"),
+    (b"GET /due/1", "no path"),
+    (b"GET /due/1/", "no path"),
+    (b"GET /due//2024-02-20", "no path"),
+    (b"GET /due/1/2024-02-20/", "no path"),
+    (b"GET /route/1/2024-02-20", "no path"),
+    (b"GET /due/1/?2024-02-20", "no path"),
+    (b"GET /%64ue/1/2024-02-20", "no path"),
+    (b"GET /sync", "POST alone"),
+    (b"PUT /sync?x", "POST alone"),
+    (b"post /sync", "POST alone"),
+    (b"POST /due/1/2024-02-20", "GET alone"),
+    (b"HEAD /due/x/y", "GET alone"),
+    (b"get /tags/1/2024-02-20", "GET alone"),
+    (b"GET /due/01/2024-02-20", "no unit"),
+    (b"GET /due/256/x", "no unit"),
+    (b"GET /due/-1/2024-02-20", "no unit"),
+    (b"GET /due/+1/2024-02-20", "no unit"),
+    (b"GET /due/1.0/2024-02-20", "no unit"),
+    (b"GET /due/%31/2024-02-20", "no unit"),
+    (b"GET /due/\xc3\xa9/2024-02-20", "no unit"),
+    (b"GET /due/99999999999999999999999/2024-02-20", "no unit"),
+    (b"GET /due/1/x", "no day"),
+    (b"GET /due/1/2024-2-20", "no day"),
+    (b"GET /due/1/2023-02-29", "no day"),
+    (b"GET /due/1/2007-12-31", "no day"),
+    (b"GET /percent/1/65536/x", "no quarter"),
+    (b"GET /percent/1/00/2024-03-31", "no quarter"),
+    (b"GET /report/1/08/2024-03-31", "no half"),
+    (b"GET /route/1/2024-02-30/x", "no day"),
+    (b"GET /route/1/2024-02-20/x", "no stops"),
+];
+
 #[test]
 fn other_requests_ask_nothing(rt: HostRuntime) -> Result<(), Fail> {
-    let alloc = rt.alloc();
-    let cases: [(&[u8], &'static str); 40] = [
-        (b"GET /nothing", "no path"),
-        (b"POST /nothing", "no path"),
-        (b"GET /", "no path"),
-        (b"GET *", "no path"),
-        (b"GET ?/sync", "no path"),
-        (b"GET /Sync", "no path"),
-        (b"GET /sync/", "no path"),
-        (b"GET //sync", "no path"),
-        (b"GET http://office/sync", "no path"),
-        (b"GET /due", "no path"),
-        (b"GET /due/1", "no path"),
-        (b"GET /due/1/", "no path"),
-        (b"GET /due//2024-02-20", "no path"),
-        (b"GET /due/1/2024-02-20/", "no path"),
-        (b"GET /route/1/2024-02-20", "no path"),
-        (b"GET /due/1/?2024-02-20", "no path"),
-        (b"GET /%64ue/1/2024-02-20", "no path"),
-        (b"GET /sync", "POST alone"),
-        (b"PUT /sync?x", "POST alone"),
-        (b"post /sync", "POST alone"),
-        (b"POST /due/1/2024-02-20", "GET alone"),
-        (b"HEAD /due/x/y", "GET alone"),
-        (b"get /tags/1/2024-02-20", "GET alone"),
-        (b"GET /due/01/2024-02-20", "no unit"),
-        (b"GET /due/256/x", "no unit"),
-        (b"GET /due/-1/2024-02-20", "no unit"),
-        (b"GET /due/+1/2024-02-20", "no unit"),
-        (b"GET /due/1.0/2024-02-20", "no unit"),
-        (b"GET /due/%31/2024-02-20", "no unit"),
-        (b"GET /due/\xc3\xa9/2024-02-20", "no unit"),
-        (b"GET /due/99999999999999999999999/2024-02-20", "no unit"),
-        (b"GET /due/1/x", "no day"),
-        (b"GET /due/1/2024-2-20", "no day"),
-        (b"GET /due/1/2023-02-29", "no day"),
-        (b"GET /due/1/2007-12-31", "no day"),
-        (b"GET /percent/1/65536/x", "no quarter"),
-        (b"GET /percent/1/00/2024-03-31", "no quarter"),
-        (b"GET /report/1/08/2024-03-31", "no half"),
-        (b"GET /route/1/2024-02-30/x", "no day"),
-        (b"GET /route/1/2024-02-20/x", "no stops"),
-    ];
-    for (line, want) in cases {
-        assert_eq!(rt; told_of(alloc, line)?, (want, 0, 0, 0));
+    for (line, want) in OTHERS {
+        asks(rt.alloc(), line, (want, 0, 0, 0))?;
     }
     Ok(())
 }
@@ -156,27 +163,34 @@ fn batches_are_asked(rt: HostRuntime) -> Result<(), Fail> {
     Ok(())
 }
 
+/// A request with a body of 262,144 bytes that has so many facts.
+fn of_facts(alloc: Global, count: usize) -> Result<Vec<u8>, Fail> {
+    let mut bytes = Vec::from_slice(
+        alloc,
+        b"POST /sync HTTP/1.1\r\nContent-Length: 262144\r\n\r\n{\"handheld\":7,\"number\":12,\"facts\":[",
+    )?;
+    for i in 0..count {
+        if i > 0 {
+            bytes.push(b',')?;
+        }
+        bytes.extend_from_slice(
+            b"{\"kind\":\"release\",\"day\":\"2024-02-20\",\"minute\":0,\"component\":8}",
+        )?;
+    }
+    bytes.extend_from_slice(b"]}")?;
+    bytes.resize(47 + 262_144, b' ')?;
+    Ok(bytes)
+}
+
+/// Sees what a request with so many facts asks.
+fn asks_with(alloc: Global, count: usize, want: &str) -> Result<(), Fail> {
+    let bytes = of_facts(alloc, count)?;
+    let told = told(alloc, &bytes)?;
+    is(told.0 == want, want)
+}
+
 #[test]
 fn a_body_has_512_facts_and_262144_bytes(rt: HostRuntime) -> Result<(), Fail> {
-    let alloc = rt.alloc();
-    for (count, want) in [(512usize, "sync"), (513, "bad batch")] {
-        let mut bytes = Vec::from_slice(
-            alloc,
-            b"POST /sync HTTP/1.1\r\nContent-Length: 262144\r\n\r\n{\"handheld\":7,\"number\":12,\"facts\":[",
-        )?;
-        for i in 0..count {
-            if i > 0 {
-                bytes.push(b',')?;
-            }
-            bytes.extend_from_slice(
-                b"{\"kind\":\"release\",\"day\":\"2024-02-20\",\"minute\":0,\"component\":8}",
-            )?;
-        }
-        bytes.extend_from_slice(b"]}")?;
-        for _ in bytes.len()..47 + 262_144 {
-            bytes.push(b' ')?;
-        }
-        assert_eq!(rt; told(alloc, &bytes)?.0, want);
-    }
-    Ok(())
+    asks_with(rt.alloc(), 512, "sync")?;
+    asks_with(rt.alloc(), 513, "bad batch")
 }

@@ -2,7 +2,8 @@
 #![tactic(auto, unfolding(ldar_days::specs::Calendar::first_day, ldar_days::specs::Calendar::month_of, ldar_days::specs::Calendar::month_length, ldar_days::specs::Quarters::last_whole, ldar_days::specs::Quarters::first_quarter, crate::specs::Judged::register_with))]
 
 ghost use Rattle.std.specs.Prelude.{◌≡◌, None, Some, [], codes, false, true, ◌++◌, ◌∷◌};
-ghost use Rattle.fact_kinds.specs.declared.body.FactBody.TheVariants.{Attempt as AttemptFact, Class as ClassFact, Component as ComponentFact, Delay, Election, Indication, Release, Retire, Shutdown, Unit as UnitFact, Visual};
+ghost use Rattle.fact_kinds.specs.declared.body.FactBody.TheVariants.{Attempt as AttemptFact, Class as ClassFact, Component as ComponentFact, Delay};
+ghost use Rattle.fact_kinds.specs.declared.body.FactBody.TheVariants.{Election, Indication, Release, Retire, Shutdown, Unit as UnitFact, Visual};
 ghost use Rattle.fact_kinds.specs.declared.body.Sort.TheVariants.{Sensor};
 ghost use Rattle.fact_kinds.specs.declared.body.VisualState.TheVariants.{Drips};
 ghost use Rattle.fact_kinds.specs.declared.class.Designation.TheVariants.{Difficult, Nde, Unsafe};
@@ -10,7 +11,8 @@ ghost use Rattle.fact_kinds.specs.declared.class.Kind.TheVariants.{Compressor, P
 ghost use Rattle.fact_kinds.specs.declared.class.Service.TheVariants.{Gas, Heavy, Light, Under300, Vacuum};
 ghost use Rattle.ldar_law.specs.declared.verdict.Verdict.TheVariants.{Denied, Full, Pass};
 ghost use Rattle.ldar_law.specs.Short.{class, date};
-ghost use Rattle.ldar_law.specs.SmallOffice.{base, component, crude, designated, enters, in_service, makes_difficult, on, one_difficult, reads, sends, valves, valves_of};
+ghost use Rattle.ldar_law.specs.SmallOffice.{base, component, crude, designated, enters, in_service};
+ghost use Rattle.ldar_law.specs.SmallOffice.{makes_difficult, on, one_difficult, reads, sends, valves, valves_of};
 ghost use Rattle.ldar_law.specs.Verdicts.{facts_with, verdict_by, verdict_on};
 
 /// Facts of each kind that ask for a component which was not entered.

@@ -9,10 +9,12 @@ ghost use Rattle.fact_kinds.specs.declared.class.Designation.TheVariants.{Nde, D
 ghost use Rattle.fact_kinds.specs.declared.body.Purpose.TheVariants.{Routine};
 ghost use Rattle.fact_kinds.specs.declared.body.VisualState.TheVariants.{Drips};
 ghost use Rattle.fact_kinds.specs.declared.body.Sort.TheVariants.{Sensor, Evidence};
-ghost use Rattle.fact_kinds.specs.declared.body.FactBody.TheVariants.{Component as ComponentFact, Class as ClassFact, Retire, Election, Shutdown, Reading, Visual, Delay, Release, Indication};
+ghost use Rattle.fact_kinds.specs.declared.body.FactBody.TheVariants.{Component as ComponentFact, Class as ClassFact, Retire};
+ghost use Rattle.fact_kinds.specs.declared.body.FactBody.TheVariants.{Election, Shutdown, Reading, Visual, Delay, Release, Indication};
 ghost use Rattle.ldar_law.specs.declared.verdict.Verdict.TheVariants.{Pass, Denied};
 ghost use Rattle.ldar_law.specs.Short.{date};
-ghost use Rattle.ldar_law.specs.SmallOffice.{on, enters, sends, in_service, designated, component, crude, register, base, reads, hundred_valves, makes_difficult};
+ghost use Rattle.ldar_law.specs.SmallOffice.{on, enters, sends, in_service, designated, component, crude};
+ghost use Rattle.ldar_law.specs.SmallOffice.{register, base, reads, hundred_valves, makes_difficult};
 ghost use Rattle.ldar_law.specs.Verdicts.{verdict_on, is_ruly, first_unruly, paragraph_of};
 
 /// A reading of a component that was not entered (40 CFR 60.486a(e)(1)).

@@ -167,8 +167,13 @@ pub fn a_release_is_followed_by_a_reading()
 
 /// Evidence of a leak in heavy liquid service is read within five days, or found gone (40 CFR 60.482-8a(a)).
 pub fn evidence_is_read_or_gone()
-    ensures open { duties_on (date 2024 2 21) (gear 7 Pump (class Heavy Plain) (date 2020 1 15)) (shows_evidence (date 2024 2 20) true ∷ []) ≡ owes 7 9 (date 2024 2 25) ∷ [] }
-    ensures gone { duties_on (date 2024 2 23) (gear 7 Pump (class Heavy Plain) (date 2020 1 15)) (shows_evidence (date 2024 2 20) true ∷ shows_evidence (date 2024 2 22) false ∷ []) ≡ has_done 7 9 (date 2024 2 25) (date 2024 2 22) ∷ [] }
-    ensures read { duties_on (date 2024 2 23) (gear 7 Pump (class Heavy Plain) (date 2020 1 15)) (shows_evidence (date 2024 2 20) true ∷ reads_by 10_000 (date 2024 2 23) 9_000 ∷ []) ≡ has_done 7 9 (date 2024 2 25) (date 2024 2 23) ∷ [] }
+    ensures open { duties_on (date 2024 2 21) (gear 7 Pump (class Heavy Plain) (date 2020 1 15)) (shows_evidence (date 2024 2 20) true ∷ [])
+        ≡ owes 7 9 (date 2024 2 25) ∷ [] }
+    ensures gone { duties_on (date 2024 2 23) (gear 7 Pump (class Heavy Plain) (date 2020 1 15))
+        (shows_evidence (date 2024 2 20) true ∷ shows_evidence (date 2024 2 22) false ∷ [])
+        ≡ has_done 7 9 (date 2024 2 25) (date 2024 2 22) ∷ [] }
+    ensures read { duties_on (date 2024 2 23) (gear 7 Pump (class Heavy Plain) (date 2020 1 15))
+        (shows_evidence (date 2024 2 20) true ∷ reads_by 10_000 (date 2024 2 23) 9_000 ∷ [])
+        ≡ has_done 7 9 (date 2024 2 25) (date 2024 2 23) ∷ [] }
     ensures other { duties_on (date 2024 2 21) (gear 9 Compressor (class Gas Plain) (date 2020 1 15)) (shows_evidence (date 2024 2 20) true ∷ []) ≡ [] }
 {}

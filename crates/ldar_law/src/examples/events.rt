@@ -3,7 +3,8 @@
 
 ghost use Rattle.std.specs.Prelude.{◌≡◌, None, [], false, map, true, ◌∷◌};
 ghost use Rattle.std.specs.List.{filter_map};
-ghost use Rattle.fact_kinds.specs.declared.body.FactBody.TheVariants.{Attempt as AttemptFact, Class as ClassFact, Delay as DelayFact, Indication, Reading, Release as ReleaseFact, Retire as RetireFact, Visual};
+ghost use Rattle.fact_kinds.specs.declared.body.FactBody.TheVariants.{Attempt as AttemptFact, Class as ClassFact, Delay as DelayFact};
+ghost use Rattle.fact_kinds.specs.declared.body.FactBody.TheVariants.{Indication, Reading, Release as ReleaseFact, Retire as RetireFact, Visual};
 ghost use Rattle.fact_kinds.specs.declared.body.Purpose.TheVariants.{FollowUp, Routine};
 ghost use Rattle.fact_kinds.specs.declared.body.Sort.TheVariants.{Evidence as EvidenceSort, Sensor as SensorSort};
 ghost use Rattle.fact_kinds.specs.declared.body.VisualState.TheVariants.{Designated, Drips, Dry};
@@ -13,7 +14,8 @@ ghost use Rattle.fact_kinds.specs.declared.class.Service.TheVariants.{Gas, Heavy
 ghost use Rattle.ldar_law.specs.declared.event.Happening.TheVariants.{Attempt, Delay, Evidence, Look, Read, Release, Retire, Sensor};
 ghost use Rattle.ldar_law.specs.declared.fitness.Fitness.TheVariants.{Fit, NoCalibration, NoPrecision};
 ghost use Rattle.ldar_law.specs.Events.{events_with, fitness_in};
-ghost use Rattle.ldar_law.specs.Short.{calibrated_twice, class, compressor, date, entered_on, events_on, events_with_gas, gear, pump, relief, three_readings, valve};
+ghost use Rattle.ldar_law.specs.Short.{calibrated_twice, class, compressor, date, entered_on, events_on};
+ghost use Rattle.ldar_law.specs.Short.{events_with_gas, gear, pump, relief, three_readings, valve};
 
 /// A reading has its numbers, its purpose, whether it counts, and on which side of the leak definition it is.
 pub fn a_reading_as_an_event()

@@ -7,7 +7,8 @@ ghost use Rattle.fact_kinds.specs.declared.class.Kind.TheVariants.{Compressor, P
 ghost use Rattle.fact_kinds.specs.declared.class.Service.TheVariants.{Gas, Light};
 ghost use Rattle.ldar_law.specs.Duties.{duties_of};
 ghost use Rattle.ldar_law.specs.Months.{is_quarterly, month_in_quarter};
-ghost use Rattle.ldar_law.specs.Short.{class, date, entered_on, gear, key, month, planned_difficult, pump, relief, retired_gear, retired_valve, second_months, unsafe_by, valve};
+ghost use Rattle.ldar_law.specs.Short.{class, date, entered_on, gear, key, month, planned_difficult, pump};
+ghost use Rattle.ldar_law.specs.Short.{relief, retired_gear, retired_valve, second_months, unsafe_by, valve};
 ghost use Rattle.ldar_law.specs.ShortEvents.{designates, dry, follows_up, reads, reads_by, reads_in_vain, releases};
 ghost use Rattle.ldar_law.specs.ShortLists.{duties_on, duties_with, has_done, of_cause, owes};
 

@@ -10,7 +10,8 @@ ghost use Rattle.ldar_law.specs.Equipment.{elections_of, equipment_of, members_o
 ghost use Rattle.ldar_law.specs.Force.{class_in_force};
 ghost use Rattle.ldar_law.specs.Limits.{limit_of, regime_of};
 ghost use Rattle.ldar_law.specs.Short.{date};
-ghost use Rattle.ldar_law.specs.SmallRegister.{elections, plain, reaches, retired_valve, serves, service_on, shutdowns, three_units, two_classes, two_units, valve_that_changes};
+ghost use Rattle.ldar_law.specs.SmallRegister.{elections, plain, reaches, retired_valve, serves, service_on};
+ghost use Rattle.ldar_law.specs.SmallRegister.{shutdowns, three_units, two_classes, two_units, valve_that_changes};
 
 /// Readings just below the leak definition and at it.
 pub fn limits_at_the_edges()

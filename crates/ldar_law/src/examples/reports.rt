@@ -4,7 +4,8 @@
 ghost use Rattle.std.specs.Prelude.{◌≡◌, None, Some, [], false, replicate, true, ◌*◌, ◌++◌, ◌+◌, ◌∷◌};
 ghost use Rattle.fact_kinds.specs.declared.class.Kind.TheVariants.{Compressor, Pump, Relief, Valve};
 ghost use Rattle.ldar_law.specs.declared.delay.Until.TheVariants.{Date, Shutdown};
-ghost use Rattle.ldar_law.specs.Reports.{amended, cells_of, delay_of, half_first, half_last, half_month, has_half_begun, has_quarter_begun, is_stop_in, month_cells};
+ghost use Rattle.ldar_law.specs.Reports.{amended, cells_of, delay_of, half_first, half_last, half_month};
+ghost use Rattle.ldar_law.specs.Reports.{has_half_begun, has_quarter_begun, is_stop_in, month_cells};
 ghost use Rattle.ldar_law.specs.Short.{date};
 ghost use Rattle.ldar_law.specs.SmallReport.{delayed, delayed_line, filed_months, repaired_late, sheet_of, two_stops, with_closing};
 ghost use Rattle.ldar_law.specs.Tags.{delay_lines, is_late};

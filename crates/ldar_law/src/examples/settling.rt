@@ -7,7 +7,9 @@ ghost use Rattle.ldar_law.specs.declared.event.Happening.TheVariants.{Look};
 ghost use Rattle.ldar_law.specs.Months.{is_clean, is_clean_twice};
 ghost use Rattle.ldar_law.specs.Settling.{is_settled};
 ghost use Rattle.ldar_law.specs.Short.{date, key, month};
-ghost use Rattle.ldar_law.specs.ShortEvents.{attempts, completes, counts_above, delays, designates, drips, dry, event, far_below, follows_up, leaks_in_a_follow_up, reads, reads_by, reads_in_vain, releases, retires, sensor_leak, sensor_silent, shows_evidence, span};
+ghost use Rattle.ldar_law.specs.ShortEvents.{attempts, completes, counts_above, delays, designates, drips, dry, event};
+ghost use Rattle.ldar_law.specs.ShortEvents.{far_below, follows_up, leaks_in_a_follow_up, reads, reads_by, reads_in_vain};
+ghost use Rattle.ldar_law.specs.ShortEvents.{releases, retires, sensor_leak, sensor_silent, shows_evidence, span};
 ghost use Rattle.ldar_law.specs.Spans.{spans_of};
 
 /// A follow-up reading settles a leak after an attempt, and a reading that doesn't count, or counts at the leak definition, doesn't.

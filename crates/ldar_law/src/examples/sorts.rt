@@ -2,7 +2,9 @@
 #![tactic(auto)]
 
 ghost use Rattle.std.specs.Prelude.{◌≡◌, None, [], false, filter, is_some, length, map, true, ◌∷◌};
-ghost use Rattle.fact_kinds.specs.declared.body.FactBody.TheVariants.{Attempt as AttemptFact, Calibration, Class as ClassFact, Component as ComponentFact, Delay as DelayFact, Drift, Election, Indication, Precision, Reading, Release as ReleaseFact, Retire as RetireFact, Shutdown, Unit as UnitFact, Visual};
+ghost use Rattle.fact_kinds.specs.declared.body.FactBody.TheVariants.{Attempt as AttemptFact, Calibration, Class as ClassFact, Component as ComponentFact};
+ghost use Rattle.fact_kinds.specs.declared.body.FactBody.TheVariants.{Delay as DelayFact, Drift, Election, Indication, Precision, Reading};
+ghost use Rattle.fact_kinds.specs.declared.body.FactBody.TheVariants.{Release as ReleaseFact, Retire as RetireFact, Shutdown, Unit as UnitFact, Visual};
 ghost use Rattle.fact_kinds.specs.declared.body.Purpose.TheVariants.{Routine};
 ghost use Rattle.fact_kinds.specs.declared.body.Sort.TheVariants.{Sensor as SensorSort};
 ghost use Rattle.fact_kinds.specs.declared.body.VisualState.TheVariants.{Drips};
@@ -19,7 +21,9 @@ ghost use Rattle.ldar_law.specs.Denials.{component_asked, component_looked_at, i
 ghost use Rattle.ldar_law.specs.Equipment.{retires};
 ghost use Rattle.ldar_law.specs.Events.{is_reading};
 ghost use Rattle.ldar_law.specs.Fitness.{is_calibration, is_calibration_within, is_drift_past, is_fit, is_passed_precision};
-ghost use Rattle.ldar_law.specs.Happenings.{delays_with_reading, has_drips, has_evidence, has_undesignated_drips, is_attempt, is_below, is_complete, is_counting, is_designating, is_dry, is_evidence_gone, is_leak, is_look, is_near_background, is_reading_or_drip, is_release, is_retire, is_routine, is_routine_below, is_routine_leak, is_sensor};
+ghost use Rattle.ldar_law.specs.Happenings.{delays_with_reading, has_drips, has_evidence, has_undesignated_drips, is_attempt, is_below, is_complete};
+ghost use Rattle.ldar_law.specs.Happenings.{is_counting, is_designating, is_dry, is_evidence_gone, is_leak, is_look, is_near_background};
+ghost use Rattle.ldar_law.specs.Happenings.{is_reading_or_drip, is_release, is_retire, is_routine, is_routine_below, is_routine_leak, is_sensor};
 ghost use Rattle.ldar_law.specs.Kinds.{is_compressor, is_pump};
 ghost use Rattle.ldar_law.specs.Reports.{is_date_in};
 ghost use Rattle.ldar_law.specs.Samples.{delay_of_ground, each_designation, each_entry, each_fact, each_happening, each_kind, each_regime, each_service};
@@ -27,7 +31,8 @@ ghost use Rattle.ldar_law.specs.Settling.{is_valve_or_pump};
 ghost use Rattle.ldar_law.specs.Short.{class, key};
 ghost use Rattle.ldar_law.specs.Slices.{facts_of_component, facts_of_instrument, facts_of_unit, is_registered, readings_of_instrument, register_facts};
 ghost use Rattle.ldar_law.specs.Spans.{is_valve};
-ghost use Rattle.ldar_law.specs.Standing.{are_compressor_rules, are_heavy_liquid_rules, are_pump_rules, are_relief_rules, are_valve_rules, is_difficult_designated, is_nde_designated, is_none_designated, is_unsafe_designated, leave_out};
+ghost use Rattle.ldar_law.specs.Standing.{are_compressor_rules, are_heavy_liquid_rules, are_pump_rules, are_relief_rules, are_valve_rules};
+ghost use Rattle.ldar_law.specs.Standing.{is_difficult_designated, is_nde_designated, is_none_designated, is_unsafe_designated, leave_out};
 ghost use Rattle.ldar_law.specs.Verdicts.{is_pass};
 
 /// Which events are leaks, readings, inspections and what a sensor tells.

@@ -133,13 +133,16 @@ pub fn paragraphs()
 
 /// Each of the 36 numbers of a report stands in its place.
 pub fn report_of_all_numbers()
-    ensures { report_text (12 * 2023 + 9) (record { unit = 1; name = codes "CRUDE"; half = 8; day = date 2024 3 31; cells = record { months = from_to 1 36; delays = []; stops = [] } })
+    ensures { report_text (12 * 2023 + 9)
+        (record { unit = 1; name = codes "CRUDE"; half = 8; day = date 2024 3 31; cells = record { months = from_to 1 36; delays = []; stops = [] } })
         ≡ codes "report CRUDE unit 1 half 8 as of 2024-03-31\n2023-10 valves 1 2 pumps 3 4 compressors 5 6\n2023-11 valves 7 8 pumps 9 10 compressors 11 12\n2023-12 valves 13 14 pumps 15 16 compressors 17 18\n2024-01 valves 19 20 pumps 21 22 compressors 23 24\n2024-02 valves 25 26 pumps 27 28 compressors 29 30\n2024-03 valves 31 32 pumps 33 34 compressors 35 36\nend 6\n" }
 {}
 
 /// A delay that nobody signed, with no expected day; and a number that is no ground has no word.
 pub fn delay_of_nobody()
     ensures no_ground { ground_text (delay_entry 6) ≡ [] }
-    ensures signer { delays_text 1 (date 2024 3 2) (record { component = 1; detected = date 2024 2 20; delay = delay_entered (key (date 2024 3 1) 600) 2 0 None; until = WhileIsolated; closed = None } ∷ [])
+    ensures signer { delays_text 1 (date 2024 3 2)
+        (record { component = 1; detected = date 2024 2 20; delay = delay_entered (key (date 2024 3 1) 600) 2 0 None; until = WhileIsolated; closed = None }
+        ∷ [])
         ≡ codes "delays 1 2024-03-02\n1 detected 2024-02-20 ground b signer 0 expected - until isolated\nend 1\n" }
 {}

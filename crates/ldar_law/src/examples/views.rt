@@ -11,7 +11,8 @@ ghost use Rattle.ldar_law.specs.declared.request.Request.TheVariants.{Delays, Du
 ghost use Rattle.ldar_law.specs.declared.request.What.TheVariants.{Half as NoHalf, Quarter as NoQuarter, Stops as NoStops, Unit as NoUnit};
 ghost use Rattle.ldar_law.specs.Short.{date};
 ghost use Rattle.ldar_law.specs.Shown.{shown};
-ghost use Rattle.ldar_law.specs.SmallOffice.{base, coker, coker_election, coker_leak, coker_readings, coker_rounds, coker_with, delayed_on, designated, enters, in_service, last_unit, leak_found, leaking, on, register, repaired_on, rounds, sends, shut_down, two_valves};
+ghost use Rattle.ldar_law.specs.SmallOffice.{base, coker, coker_election, coker_leak, coker_readings, coker_rounds, coker_with, delayed_on, designated, enters};
+ghost use Rattle.ldar_law.specs.SmallOffice.{in_service, last_unit, leak_found, leaking, on, register, repaired_on, rounds, sends, shut_down, two_valves};
 
 /// The percent view of a quarter without readings.
 pub fn percent_of_no_reading()
@@ -126,7 +127,8 @@ pub fn percent_of_two_readings()
 pub fn shutdown_of_the_unit()
     ensures of_valve_2 { shown (two_valves ++ shut_down ∷ []) (Tags 1 (date 2024 7 1))
         ≡ Some (Shown (codes "tags 1 2024-07-01\n2 detected 2024-02-20 attempt 2024-02-25 - repair 2024-06-14 - tagged\nend 1\n")) }
-    ensures heavy { shown (two_valves ++ enters 2 (on (date 2024 2 1) (ClassFact 2 (in_service Heavy)) ∷ []) ∷ []) (Tags 1 (date 2024 7 1)) ≡ Some (Shown (codes "tags 1 2024-07-01\nend 0\n")) }
+    ensures heavy { shown (two_valves ++ enters 2 (on (date 2024 2 1) (ClassFact 2 (in_service Heavy)) ∷ []) ∷ []) (Tags 1 (date 2024 7 1))
+        ≡ Some (Shown (codes "tags 1 2024-07-01\nend 0\n")) }
 {}
 
 /// A closed tag leaves the list after 366 days.
@@ -138,9 +140,11 @@ pub fn tag_closed_a_year_ago()
 
 /// A valve that was monitored once a year when it was entered is counted in the quarters by its class since, and they are skipped.
 pub fn quarters_by_the_class_in_force()
-    ensures percent { shown (coker_with (designated Nde) ++ coker_readings ∷ enters 4 (on (date 2024 1 16) (ClassFact 30 (in_service Gas)) ∷ []) ∷ coker_election ∷ []) (Percent 2 3 (date 2024 10 5))
+    ensures percent { shown (coker_with (designated Nde) ++ coker_readings
+        ∷ enters 4 (on (date 2024 1 16) (ClassFact 30 (in_service Gas)) ∷ []) ∷ coker_election ∷ []) (Percent 2 3 (date 2024 10 5))
         ≡ Some (Shown (codes "percent 2 3 leaking 0 monitored 0 not good skipped\n")) }
-    ensures due { shown (coker_with (designated Nde) ++ coker_readings ∷ enters 4 (on (date 2024 1 16) (ClassFact 30 (in_service Gas)) ∷ []) ∷ coker_election ∷ []) (Due 2 (date 2024 10 5))
+    ensures due { shown (coker_with (designated Nde) ++ coker_readings
+        ∷ enters 4 (on (date 2024 1 16) (ClassFact 30 (in_service Gas)) ∷ []) ∷ coker_election ∷ []) (Due 2 (date 2024 10 5))
         ≡ Some (Shown (codes "due 2 2024-10-05\nend 0\n")) }
 {}
 
@@ -159,5 +163,6 @@ pub fn election_of_the_next_quarter()
 
 /// Routes of two stops: the pumps have missed a week, and the valves have their month.
 pub fn routes_of_two_stops()
-    ensures { shown (register ∷ []) (Route 1 (date 2020 2 20) 2) ≡ Some (Shown (codes "route 1 2020-02-20 2\nroute 1: 5 6\nroute 2: 1 2\nroute 3: 3 4\nend 3\n")) }
+    ensures { shown (register ∷ []) (Route 1 (date 2020 2 20) 2)
+        ≡ Some (Shown (codes "route 1 2020-02-20 2\nroute 1: 5 6\nroute 2: 1 2\nroute 3: 3 4\nend 3\n")) }
 {}

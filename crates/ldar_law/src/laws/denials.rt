@@ -1,6 +1,7 @@
 //! What the verdict on a batch means: functions with nothing to do, whose contracts are the laws.
 
-ghost use Rattle.ldar_law.specs.DenialLaws.{LeastRuleIsTold, NoRuleDenies, FirstFactIsTold, PassesUndenied, FullUndenied, RulyIsEach, RulyHasNoUnruly, VerdictForgetsOrder, RegisterDecides, ClassAfterFacts};
+ghost use Rattle.ldar_law.specs.DenialLaws.{LeastRuleIsTold, NoRuleDenies, FirstFactIsTold, PassesUndenied, FullUndenied};
+ghost use Rattle.ldar_law.specs.DenialLaws.{RulyIsEach, RulyHasNoUnruly, VerdictForgetsOrder, RegisterDecides, ClassAfterFacts};
 
 /// A fact is denied by the least of the rules that deny it.
 pub fn least_rule()

@@ -1,6 +1,7 @@
 //! Laws of what the register holds.
 
-ghost use Rattle.ldar_law.specs.RegisterLaws.{OwnFactsSuffice, UnitFactsSuffice, RegisterFactsSuffice, ComponentWhereEntered, UnitWhereEntered, ClassWhereEntered, MembersAreEntered, RetiredBySome, OneMoreFactInForce};
+ghost use Rattle.ldar_law.specs.RegisterLaws.{OwnFactsSuffice, UnitFactsSuffice, RegisterFactsSuffice, ComponentWhereEntered};
+ghost use Rattle.ldar_law.specs.RegisterLaws.{UnitWhereEntered, ClassWhereEntered, MembersAreEntered, RetiredBySome, OneMoreFactInForce};
 
 /// The facts that name a component have all that the register holds of it.
 pub fn own_facts_suffice()

@@ -1,6 +1,4 @@
-ghost use Rattle.std.specs.Prelude.{◌<◌};
-
-use super::{Notebook, pieces};
+use super::{Manner, NEVER, Notebook, by, is, streams_of, was_put};
 use crate::{Ended, session};
 use ldar_ports::StampedSink;
 use std::alloc::{AllocError, Global};
@@ -18,28 +16,33 @@ const RECEIPT: &[u8] =
 const NO_UNIT: &[u8] =
     b"HTTP/1.1 404 Not Found\r\nContent-Type: text/plain\r\nContent-Length: 13\r\n\r\nno such unit\n";
 
-// The bytes of some parts, one after the other.
-fn joined(alloc: Global, parts: &[&[u8]]) -> Result<Vec<u8>, AllocError> {
-    let mut bytes = Vec::new(alloc);
-    for part in parts {
-        bytes.extend_from_slice(part)?;
-    }
+// Three parts, one after the other.
+fn three(alloc: Global, first: &[u8], second: &[u8], third: &[u8]) -> Result<Vec<u8>, AllocError> {
+    let mut bytes = Vec::from_slice(alloc, first)?;
+    bytes.extend_from_slice(second)?;
+    bytes.extend_from_slice(third)?;
     Ok(bytes)
 }
 
-// How a connection ended, and what was said, where the bytes come in pieces of a size.
-fn spoken(
+// Sees that a session ends so and puts this, where the bytes come in pieces of a size.
+fn speaks(
     alloc: Global,
     office: &mut Notebook,
-    bytes: &[u8],
     size: usize,
-) -> Result<(Ended, Vec<u8>), AllocError>
-    requires { 0 < size }
-{
-    let mut source = pieces(alloc, bytes, size, &[])?;
-    let mut sink = StampedSink::new(alloc, &[])?;
-    let ended = session(alloc, office, &mut source, &mut sink);
-    Ok((ended, sink.bytes(alloc)?))
+    bytes: &[u8],
+    ends: (Ended, &[u8]),
+) -> Result<(), Fail> {
+    let mut streams = streams_of(alloc, bytes, by(size))?;
+    let ended = session(alloc, office, &mut streams.source, &mut streams.sink);
+    is(
+        ended == ends.0 && was_put(&streams.sink, ends.1),
+        "a session",
+    )
+}
+
+// .. with an office that was asked nothing.
+fn speaks_anew(alloc: Global, size: usize, bytes: &[u8], ends: (Ended, &[u8])) -> Result<(), Fail> {
+    speaks(alloc, &mut Notebook::new(), size, bytes, ends)
 }
 
 // Appends a request that asks to keep a batch, with a handheld and a number of one digit.
@@ -56,136 +59,139 @@ fn add_sync(bytes: &mut Vec<u8>, handheld: u8, number: u8, field: &[u8]) -> Resu
     Ok(())
 }
 
+const SIZES: [usize; 10] = [1, 2, 3, 5, 57, 58, 59, 174, 230, 404];
+
 #[test]
 fn requests_in_pieces_of_any_size_have_the_same_answers(rt: HostRuntime) -> Result<(), Fail> {
-    let alloc = rt.alloc();
-    let bytes = joined(alloc, &[SYNC, VIEW, SYNC])?;
-    let want = joined(alloc, &[RECEIPT, NO_UNIT, RECEIPT])?;
-    for size in [1, 2, 3, 5, 57, 58, 59, 174, 230, 404] {
-        let (ended, said) = spoken(alloc, &mut Notebook::new(), &bytes, size)?;
-        assert_eq!(rt; ended, Ended::Done);
-        assert_eq!(rt; said.as_slice(), want.as_slice());
+    let bytes = three(rt.alloc(), SYNC, VIEW, SYNC)?;
+    let want = three(rt.alloc(), RECEIPT, NO_UNIT, RECEIPT)?;
+    for size in SIZES {
+        speaks_anew(rt.alloc(), size, &bytes, (Ended::Done, want.as_slice()))?;
     }
     Ok(())
 }
 
+// Requests that are refused, and their answers.
+const REFUSALS: [(&[u8], &[u8]); 7] = [
+    (
+        b"GET /sync HTTP/1.1\r\n\r\n",
+        b"HTTP/1.1 405 Method Not Allowed\r\nContent-Type: text/plain\r\nContent-Length: 15\r\nAllow: POST\r\n\r\nno such method\n",
+    ),
+    (
+        b"POST /due/1/2024-02-20 HTTP/1.1\r\nContent-Length: 0\r\n\r\n",
+        b"HTTP/1.1 405 Method Not Allowed\r\nContent-Type: text/plain\r\nContent-Length: 15\r\nAllow: GET\r\n\r\nno such method\n",
+    ),
+    (
+        b"GET /due/01/2024-02-20 HTTP/1.1\r\n\r\n",
+        b"HTTP/1.1 404 Not Found\r\nContent-Type: text/plain\r\nContent-Length: 13\r\n\r\nno such unit\n",
+    ),
+    (
+        b"GET /due/256/x HTTP/1.1\r\n\r\n",
+        b"HTTP/1.1 404 Not Found\r\nContent-Type: text/plain\r\nContent-Length: 13\r\n\r\nno such unit\n",
+    ),
+    (
+        b"GET /due/1/x HTTP/1.1\r\n\r\n",
+        b"HTTP/1.1 404 Not Found\r\nContent-Type: text/plain\r\nContent-Length: 12\r\n\r\nno such day\n",
+    ),
+    (
+        b"GET /nothing HTTP/1.1\r\n\r\n",
+        b"HTTP/1.1 404 Not Found\r\nContent-Type: text/plain\r\nContent-Length: 13\r\n\r\nno such path\n",
+    ),
+    (
+        b"POST /sync HTTP/1.1\r\nContent-Length: 2\r\n\r\n{}",
+        b"HTTP/1.1 400 Bad Request\r\nContent-Type: text/plain\r\nContent-Length: 12\r\n\r\nbad request\n",
+    ),
+];
+
+// Sees that this is answered to a request, and that the next is kept.
+fn refuses(alloc: Global, request: &[u8], answer: &[u8]) -> Result<(), Fail> {
+    let bytes = three(alloc, request, SYNC, b"")?;
+    let want = three(alloc, answer, RECEIPT, b"")?;
+    let mut office = Notebook::new();
+    speaks(
+        alloc,
+        &mut office,
+        100,
+        &bytes,
+        (Ended::Done, want.as_slice()),
+    )?;
+    is(office.made == 1, "one call")
+}
+
 #[test]
 fn each_refusal_has_its_answer(rt: HostRuntime) -> Result<(), Fail> {
-    let alloc = rt.alloc();
-    let cases: [(&[u8], &[u8], &[u8]); 7] = [
-        (
-            b"GET /sync HTTP/1.1\r\n\r\n",
-            b"405 Method Not Allowed\r\nContent-Type: text/plain\r\nContent-Length: 15\r\nAllow: POST\r\n",
-            b"no such method\n",
-        ),
-        (
-            b"POST /due/1/2024-02-20 HTTP/1.1\r\nContent-Length: 0\r\n\r\n",
-            b"405 Method Not Allowed\r\nContent-Type: text/plain\r\nContent-Length: 15\r\nAllow: GET\r\n",
-            b"no such method\n",
-        ),
-        (
-            b"GET /due/01/2024-02-20 HTTP/1.1\r\n\r\n",
-            b"404 Not Found\r\nContent-Type: text/plain\r\nContent-Length: 13\r\n",
-            b"no such unit\n",
-        ),
-        (
-            b"GET /due/256/x HTTP/1.1\r\n\r\n",
-            b"404 Not Found\r\nContent-Type: text/plain\r\nContent-Length: 13\r\n",
-            b"no such unit\n",
-        ),
-        (
-            b"GET /due/1/x HTTP/1.1\r\n\r\n",
-            b"404 Not Found\r\nContent-Type: text/plain\r\nContent-Length: 12\r\n",
-            b"no such day\n",
-        ),
-        (
-            b"GET /nothing HTTP/1.1\r\n\r\n",
-            b"404 Not Found\r\nContent-Type: text/plain\r\nContent-Length: 13\r\n",
-            b"no such path\n",
-        ),
-        (
-            b"POST /sync HTTP/1.1\r\nContent-Length: 2\r\n\r\n{}",
-            b"400 Bad Request\r\nContent-Type: text/plain\r\nContent-Length: 12\r\n",
-            b"bad request\n",
-        ),
-    ];
-    for (request, head, body) in &cases {
-        let bytes = joined(alloc, &[request, SYNC])?;
-        let want = joined(alloc, &[b"HTTP/1.1 ", head, b"\r\n", body, RECEIPT])?;
-        let mut office = Notebook::new();
-        let (ended, said) = spoken(alloc, &mut office, &bytes, 100)?;
-        assert_eq!(rt; ended, Ended::Done);
-        assert_eq!(rt; said.as_slice(), want.as_slice());
-        assert_eq!(rt; office.made, 1);
+    for (request, answer) in REFUSALS {
+        refuses(rt.alloc(), request, answer)?;
+    }
+    Ok(())
+}
+
+// Bytes that end a session, and their answers.
+const ENDS: [(&[u8], &[u8]); 3] = [
+    (
+        b"POST /sync HTTP/1.1\r\n\r\n",
+        b"HTTP/1.1 411 Length Required\r\nContent-Type: text/plain\r\nContent-Length: 14\r\nConnection: close\r\n\r\nlength needed\n",
+    ),
+    (
+        b"POST /sync HTTP/1.1\r\nContent-Length: 5\r\nContent-Length: 5\r\n\r\nabcde",
+        b"HTTP/1.1 400 Bad Request\r\nContent-Type: text/plain\r\nContent-Length: 12\r\nConnection: close\r\n\r\nbad request\n",
+    ),
+    (
+        b"POST /sync HTTP/1.1\r\nContent-Length: 262145\r\n\r\n",
+        b"HTTP/1.1 413 Payload Too Large\r\nContent-Type: text/plain\r\nContent-Length: 10\r\nConnection: close\r\n\r\ntoo large\n",
+    ),
+];
+
+// Sees that these bytes behind a request end the session with this answer.
+fn end_it(alloc: Global, refused: &[u8], answer: &[u8]) -> Result<(), Fail> {
+    let bytes = three(alloc, SYNC, refused, SYNC)?;
+    let want = three(alloc, RECEIPT, answer, b"")?;
+    for size in [1, 40, 1_000] {
+        speaks_anew(
+            alloc,
+            size,
+            &bytes,
+            (Ended::Refused { at: 174 }, want.as_slice()),
+        )?;
     }
     Ok(())
 }
 
 #[test]
 fn refused_bytes_end_it(rt: HostRuntime) -> Result<(), Fail> {
-    let alloc = rt.alloc();
-    let cases: [(&[u8], &[u8]); 3] = [
-        (
-            b"POST /sync HTTP/1.1\r\n\r\n",
-            b"HTTP/1.1 411 Length Required\r\nContent-Type: text/plain\r\nContent-Length: 14\r\nConnection: close\r\n\r\nlength needed\n",
-        ),
-        (
-            b"POST /sync HTTP/1.1\r\nContent-Length: 5\r\nContent-Length: 5\r\n\r\nabcde",
-            b"HTTP/1.1 400 Bad Request\r\nContent-Type: text/plain\r\nContent-Length: 12\r\nConnection: close\r\n\r\nbad request\n",
-        ),
-        (
-            b"POST /sync HTTP/1.1\r\nContent-Length: 262145\r\n\r\n",
-            b"HTTP/1.1 413 Payload Too Large\r\nContent-Type: text/plain\r\nContent-Length: 10\r\nConnection: close\r\n\r\ntoo large\n",
-        ),
-    ];
-    for (refused, answer) in &cases {
-        let bytes = joined(alloc, &[SYNC, refused, SYNC])?;
-        let want = joined(alloc, &[RECEIPT, answer])?;
-        for size in [1, 40, 1_000] {
-            let (ended, said) = spoken(alloc, &mut Notebook::new(), &bytes, size)?;
-            assert_eq!(rt; ended, Ended::Refused { at: 174 });
-            assert_eq!(rt; said.as_slice(), want.as_slice());
-        }
+    for (refused, answer) in ENDS {
+        end_it(rt.alloc(), refused, answer)?;
     }
     Ok(())
 }
+
+const HEAD_TOO_LARGE: &[u8] =
+    b"HTTP/1.1 431 Request Header Fields Too Large\r\nContent-Type: text/plain\r\nContent-Length: 15\r\nConnection: close\r\n\r\nhead too large\n";
 
 #[test]
 fn a_head_without_an_end_is_refused(rt: HostRuntime) -> Result<(), Fail> {
-    let alloc = rt.alloc();
-    let want =
-        b"HTTP/1.1 431 Request Header Fields Too Large\r\nContent-Type: text/plain\r\nContent-Length: 15\r\nConnection: close\r\n\r\nhead too large\n";
-    let mut bytes = Vec::new(alloc);
+    let mut bytes = Vec::new(rt.alloc());
     bytes.resize(8_191, b'a')?;
-    let (ended, said) = spoken(alloc, &mut Notebook::new(), &bytes, 100)?;
-    assert_eq!(rt; ended, Ended::CutShort { got: 8_191 });
-    assert!(rt; said.is_empty());
+    let cut = Ended::CutShort { got: 8_191 };
+    speaks_anew(rt.alloc(), 100, &bytes, (cut, b"".as_slice()))?;
     bytes.push(b'a')?;
-    let (ended, said) = spoken(alloc, &mut Notebook::new(), &bytes, 100)?;
-    assert_eq!(rt; ended, Ended::Refused { at: 0 });
-    assert_eq!(rt; said.as_slice(), want.as_slice());
-    Ok(())
+    let refused = Ended::Refused { at: 0 };
+    speaks_anew(rt.alloc(), 100, &bytes, (refused, HEAD_TOO_LARGE))
 }
+
+const CLOSING: &[u8] =
+    b"HTTP/1.1 404 Not Found\r\nContent-Type: text/plain\r\nContent-Length: 13\r\nConnection: close\r\n\r\nno such path\n";
 
 #[test]
 fn a_closing_request_is_the_last_that_is_answered(rt: HostRuntime) -> Result<(), Fail> {
-    let alloc = rt.alloc();
-    let old = b"GET /nothing HTTP/1.0\r\n\r\n".as_slice();
-    let answer =
-        b"HTTP/1.1 404 Not Found\r\nContent-Type: text/plain\r\nContent-Length: 13\r\nConnection: close\r\n\r\nno such path\n";
-    let bytes = joined(alloc, &[SYNC, old, SYNC])?;
-    let want = joined(alloc, &[RECEIPT, answer])?;
-    for size in [1, 1_000] {
-        let (ended, said) = spoken(alloc, &mut Notebook::new(), &bytes, size)?;
-        assert_eq!(rt; ended, Ended::Done);
-        assert_eq!(rt; said.as_slice(), want.as_slice());
-    }
-    Ok(())
+    let bytes = three(rt.alloc(), SYNC, b"GET /nothing HTTP/1.0\r\n\r\n", SYNC)?;
+    let want = three(rt.alloc(), RECEIPT, CLOSING, b"")?;
+    speaks_anew(rt.alloc(), 1, &bytes, (Ended::Done, want.as_slice()))?;
+    speaks_anew(rt.alloc(), 1_000, &bytes, (Ended::Done, want.as_slice()))
 }
 
-#[test]
-fn batches_whose_requests_are_in_hand_are_asked_together(rt: HostRuntime) -> Result<(), Fail> {
-    let alloc = rt.alloc();
+// Requests to keep batches, of one handheld or others, with a view and a request that closes among them.
+fn many_syncs(alloc: Global) -> Result<Vec<u8>, AllocError> {
     let mut bytes = Vec::new(alloc);
     for _ in 0..17 {
         add_sync(&mut bytes, b'7', b'2', b"")?;
@@ -197,48 +203,79 @@ fn batches_whose_requests_are_in_hand_are_asked_together(rt: HostRuntime) -> Res
     add_sync(&mut bytes, b'7', b'3', b"")?;
     add_sync(&mut bytes, b'7', b'4', b"Connection: close\r\n")?;
     add_sync(&mut bytes, b'7', b'5', b"")?;
-    let mut office = Notebook::new();
-    let (ended, said) = spoken(alloc, &mut office, &bytes, 10_000)?;
-    assert_eq!(rt; ended, Ended::Done);
-    assert_eq!(rt; office.calls, [16, 1, 1, 2, 1, 2, 0, 0]);
-    let end =
-        b"503 Service Unavailable\r\nContent-Type: text/plain\r\nContent-Length: 11\r\n\r\ndisk fault\nHTTP/1.1 422 Unprocessable Entity\r\nContent-Type: text/plain\r\nContent-Length: 25\r\n\r\ndenied 1 1 60.486a(e)(1)\nHTTP/1.1 404 Not Found\r\nContent-Type: text/plain\r\nContent-Length: 13\r\n\r\nno such unit\nHTTP/1.1 200 OK\r\nContent-Type: text/plain\r\nContent-Length: 14\r\n\r\nreceipt 7 3 3\nHTTP/1.1 200 OK\r\nContent-Type: text/plain\r\nContent-Length: 14\r\nConnection: close\r\n\r\nreceipt 7 4 4\n";
-    assert!(rt; said.ends_with(end.as_slice()));
-    Ok(())
+    Ok(bytes)
 }
 
-// How a connection ended, and how many answers were put, where each piece is as long as a batch's request, and the calls of
-// source and sink with these numbers fail.
-fn answered(
+// The end of what is answered to them.
+const END: &[u8] =
+    b"503 Service Unavailable\r\nContent-Type: text/plain\r\nContent-Length: 11\r\n\r\ndisk fault\nHTTP/1.1 422 Unprocessable Entity\r\nContent-Type: text/plain\r\nContent-Length: 25\r\n\r\ndenied 1 1 60.486a(e)(1)\nHTTP/1.1 404 Not Found\r\nContent-Type: text/plain\r\nContent-Length: 13\r\n\r\nno such unit\nHTTP/1.1 200 OK\r\nContent-Type: text/plain\r\nContent-Length: 14\r\n\r\nreceipt 7 3 3\nHTTP/1.1 200 OK\r\nContent-Type: text/plain\r\nContent-Length: 14\r\nConnection: close\r\n\r\nreceipt 7 4 4\n";
+
+// Whether what was put ends so.
+fn ends_with(alloc: Global, sink: &StampedSink, end: &[u8]) -> Result<bool, Fail> {
+    Ok(sink.bytes(alloc)?.ends_with(end))
+}
+
+#[test]
+fn batches_whose_requests_are_in_hand_are_asked_together(rt: HostRuntime) -> Result<(), Fail> {
+    let bytes = many_syncs(rt.alloc())?;
+    let mut streams = streams_of(rt.alloc(), &bytes, by(10_000))?;
+    let mut office = Notebook::new();
+    let ended = session(
+        rt.alloc(),
+        &mut office,
+        &mut streams.source,
+        &mut streams.sink,
+    );
+    let ends_so = ends_with(rt.alloc(), &streams.sink, END)?;
+    is(
+        ends_so && ended == Ended::Done && office.calls == [16, 1, 1, 2, 1, 2, 0, 0],
+        "the calls",
+    )
+}
+
+// The call of the source and of the sink that fails, how the session ends, and how many answers are put.
+const FAULTS: [(u64, u64, Ended, usize); 7] = [
+    (0, NEVER, Ended::ReadFault, 0),
+    (1, NEVER, Ended::ReadFault, 1),
+    (2, NEVER, Ended::ReadFault, 2),
+    (NEVER, 0, Ended::WriteFault, 0),
+    (NEVER, 1, Ended::WriteFault, 1),
+    (NEVER, 2, Ended::WriteFault, 2),
+    (NEVER, 3, Ended::Refused { at: 348 }, 3),
+];
+
+// Sees how a session ends and how many answers are put.
+fn answers(
     alloc: Global,
+    manner: Manner,
     bytes: &[u8],
-    reads: &[u64],
-    writes: &[u64],
-) -> Result<(Ended, usize), AllocError> {
-    let mut source = pieces(alloc, bytes, 174, reads)?;
-    let mut sink = StampedSink::new(alloc, writes)?;
-    let ended = session(alloc, &mut Notebook::new(), &mut source, &mut sink);
-    Ok((ended, sink.pieces().len()))
+    want: Ended,
+    count: usize,
+) -> Result<(), Fail> {
+    let mut streams = streams_of(alloc, bytes, manner)?;
+    let ended = session(
+        alloc,
+        &mut Notebook::new(),
+        &mut streams.source,
+        &mut streams.sink,
+    );
+    is(
+        ended == want && streams.sink.pieces().len() == count,
+        "a fault",
+    )
 }
 
 #[test]
 fn a_fault_of_the_streams_ends_a_session(rt: HostRuntime) -> Result<(), Fail> {
-    let alloc = rt.alloc();
-    let refused = b"POST /sync HTTP/1.1\r\n\r\n".as_slice();
-    let bytes = joined(alloc, &[SYNC, SYNC, refused])?;
-    let cases = [
-        ([0], [9], Ended::ReadFault, 0),
-        ([1], [9], Ended::ReadFault, 1),
-        ([2], [9], Ended::ReadFault, 2),
-        ([9], [0], Ended::WriteFault, 0),
-        ([9], [1], Ended::WriteFault, 1),
-        ([9], [2], Ended::WriteFault, 2),
-        ([9], [3], Ended::Refused { at: 348 }, 3),
-    ];
-    for (reads, writes, want, answers) in cases {
-        let (ended, put) = answered(alloc, &bytes, &reads, &writes)?;
-        assert_eq!(rt; ended, want);
-        assert_eq!(rt; put, answers);
+    let bytes = three(rt.alloc(), SYNC, SYNC, b"POST /sync HTTP/1.1\r\n\r\n")?;
+    for (read, write, ended, count) in FAULTS {
+        // A batch's request in each piece.
+        let manner = Manner {
+            piece: 174,
+            read,
+            write,
+        };
+        answers(rt.alloc(), manner, &bytes, ended, count)?;
     }
     Ok(())
 }
@@ -250,13 +287,11 @@ fn long_sync(
     length: &[u8],
     blanks: usize,
 ) -> Result<Vec<u8>, AllocError> {
-    let mut bytes = joined(
+    let mut bytes = three(
         alloc,
-        &[
-            b"POST /sync HTTP/1.1\r\nContent-Length: ",
-            length,
-            b"\r\n\r\n{\"handheld\":7,\"number\":12,\"facts\":[",
-        ],
+        b"POST /sync HTTP/1.1\r\nContent-Length: ",
+        length,
+        b"\r\n\r\n{\"handheld\":7,\"number\":12,\"facts\":[",
     )?;
     for n in 0..facts {
         if n > 0 {
@@ -275,19 +310,20 @@ fn long_sync(
 
 #[test]
 fn the_longest_body_is_read(rt: HostRuntime) -> Result<(), Fail> {
-    let alloc = rt.alloc();
     // 35 bytes before the facts, 512 of 79 with 511 commas, and 2 behind them.
-    let bytes = long_sync(alloc, 512, b"262144", 262_144 - 35 - 512 * 79 - 511 - 2)?;
-    let (ended, said) = spoken(alloc, &mut Notebook::new(), &bytes, 4_096)?;
-    assert_eq!(rt; ended, Ended::Done);
-    assert_eq!(rt; said.as_slice(), RECEIPT);
-    let bytes = long_sync(alloc, 513, b"262144", 262_144 - 35 - 513 * 79 - 512 - 2)?;
-    let bytes = joined(alloc, &[&bytes, SYNC])?;
-    let (ended, said) = spoken(alloc, &mut Notebook::new(), &bytes, 100_000)?;
-    let refusal =
-        b"HTTP/1.1 400 Bad Request\r\nContent-Type: text/plain\r\nContent-Length: 12\r\n\r\nbad request\n";
-    let want = joined(alloc, &[refusal, RECEIPT])?;
-    assert_eq!(rt; ended, Ended::Done);
-    assert_eq!(rt; said.as_slice(), want.as_slice());
-    Ok(())
+    let blanks = 262_144 - 35 - 512 * 79 - 511 - 2;
+    let bytes = long_sync(rt.alloc(), 512, b"262144", blanks)?;
+    speaks_anew(rt.alloc(), 4_096, &bytes, (Ended::Done, RECEIPT))
+}
+
+const REFUSAL: &[u8] =
+    b"HTTP/1.1 400 Bad Request\r\nContent-Type: text/plain\r\nContent-Length: 12\r\n\r\nbad request\n";
+
+#[test]
+fn a_body_of_513_facts_is_refused(rt: HostRuntime) -> Result<(), Fail> {
+    let blanks = 262_144 - 35 - 513 * 79 - 512 - 2;
+    let mut bytes = long_sync(rt.alloc(), 513, b"262144", blanks)?;
+    bytes.extend_from_slice(SYNC)?;
+    let want = three(rt.alloc(), REFUSAL, RECEIPT, b"")?;
+    speaks_anew(rt.alloc(), 100_000, &bytes, (Ended::Done, want.as_slice()))
 }

@@ -39,14 +39,22 @@ returns c =
     let bytes = c.args.bytes.now in
     let at = c.args.at in
     let closed = (rw c.in-Some-day_or_none_at.is at c.day_or_none_at.ensures.value) in
-    let until = joined bytes (until_bytes c.in-Some-until_at.until) _ (at + 21) 3 2 (at + 24) (omega arith) (rw c.in-Some-until_at.is at c.until_at.ensures.value) closed in
-    let delay = joined bytes (delay_bytes c.in-Some-delay_at.delay) _ (at + 4) 17 5 (at + 21) (omega arith) (rw c.in-Some-delay_at.is at c.delay_at.ensures.value) until in
+    let until = joined bytes (until_bytes c.in-Some-until_at.until) _ (at + 21) 3 2 (at + 24) (omega arith)
+    (rw c.in-Some-until_at.is at c.until_at.ensures.value) closed in
+    let delay = joined bytes (delay_bytes c.in-Some-delay_at.delay) _ (at + 4) 17 5 (at + 21) (omega arith)
+    (rw c.in-Some-delay_at.is at c.delay_at.ensures.value) until in
     let detected = joined bytes (big_endian 2 c.in-Some.detected) _ (at + 2) 2 22 (at + 4) (omega arith) (rw c.in-Some.is at c.day_at.ensures.value) delay in
     let whole = joined bytes (big_endian 2 c.two_at.result) _ at 2 24 (at + 2) (omega arith) c.two_at.ensures.value detected in
     record {
       more = λ stands.
           one_more line_bytes c.args.lines.now.items bytes 26 at (at + 26) refl c.requires.so_far
-          (record { component = c.two_at.result; detected = c.in-Some.detected; delay = c.in-Some-delay_at.delay; until = c.in-Some-until_at.until; closed = c.in-Some-day_or_none_at.closed }) whole
+          (record {
+            component = c.two_at.result;
+            detected = c.in-Some.detected;
+            delay = c.in-Some-delay_at.delay;
+            until = c.in-Some-until_at.until;
+            closed = c.in-Some-day_or_none_at.closed;
+          }) whole
           ∙ ap (flat_map line_bytes) (sym c.in_ok-push.ensures.items);
       reads_back = λ line fits is.
           let parts = line_parts bytes at line is in (

@@ -16,7 +16,8 @@ loop-at-preserved c =
       λ given all is.
           let next = next_stop given bytes at all is (omega arith) in
           c.in_ok-put.ensures.put
-          ∙ ap₂ (λ front item. front ++ option_to_list item) (c.loop-at.invariant.1 given all is) (c.stop_at-stop.ensures.reads_back next.item next.fits next.stands)
+          ∙ ap₂ (λ front item. front ++ option_to_list item) (c.loop-at.invariant.1 given all is)
+          (c.stop_at-stop.ensures.reads_back next.item next.fits next.stands)
           ∙ sym next.follows,
     )
 

@@ -8,7 +8,8 @@ overflow_add-index_mut c =
     let grown = c.grow_counts.new.counts in
     let at = c.from-at.result in
     let within : at < length grown.items = omega (arith, c.in_ok-grow_counts.ensures.long, grown.ok.0) in
-    let read : value_at (λ c. c) 0 grown.items at ≡ c.index_mut.result.now = value_at-read (λ c. c) 0 grown.items at c.index_mut.result.now within c.index_mut.ensures.value in
+    let read : value_at (λ c. c) 0 grown.items at ≡ c.index_mut.result.now =
+    value_at-read (λ c. c) 0 grown.items at c.index_mut.result.now within c.index_mut.ensures.value in
     omega (arith, read, c.in_ok-grow_counts.ensures.same at, c.requires.few at)
 
 pub returns-in_ok-grow_counts : goal.returns-in_ok-grow_counts

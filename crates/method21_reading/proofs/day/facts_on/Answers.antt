@@ -31,6 +31,7 @@ returns c =
     IsPartitionPoint-from_clause (λ e. nat_lt e.0.day day) facts from.result from.ensures.partitioned
     (stands_in_front goes_first (λ e. nat_lt e.0.day day)
     (λ x y before t. lt-ltb x.0.day day (omega (arith, earlier_day x.0 y.0 before, ltb-true y.0.day day t))) facts c.requires.ordered) (search rules) in
-    let here = subst (λ es. IsPartitionPoint (λ e. nat_le e.0.day day ≡ true) (λ e. nat_le e.0.day day ≡ false) es count.result) same count.ensures.partitioned in
+    let here = subst (λ es. IsPartitionPoint (λ e. nat_le e.0.day day ≡ true) (λ e. nat_le e.0.day day ≡ false) es count.result)
+    same count.ensures.partitioned in
     let within : count.result ≤ length (drop from.result facts) = subst (λ es. count.result ≤ length es) same count.ensures.bound in
     record { value = ap (take count.result) same ∙ day_part facts day from.result count.result from.ensures.bound within early here }

@@ -19,8 +19,8 @@ loop-number-init g c = record {
 pub known_at-requires-clause-member : goal.known_at-requires-clause-member
 known_at-requires-clause-member g c =
     let lists = c.args.lists.now in
-    member_at c.args.unit.now.unit (facts_in lists.store.now) (facts_in c.args.register.now) c.members-number-items.result.now c.loop-number.number-index c.requires.kept
-    c.members-number-items.ensures.value c.loop-number-test.true
+    member_at c.args.unit.now.unit (facts_in lists.store.now) (facts_in c.args.register.now) c.members-number-items.result.now c.loop-number.number-index
+    c.requires.kept c.members-number-items.ensures.value c.loop-number-test.true
 
 pub loop-number-preserved : goal.loop-number-preserved
 loop-number-preserved g c =
@@ -30,7 +30,8 @@ loop-number-preserved g c =
     let l = c.loop-number in
     let known = option_to_list (option_map in_law c.in_ok-known.known) in
     record {
-      listed = list_more (facts_by lists) c.members-number-items.result.now l.number-index c.loop-number-test.true known (ap option_to_list c.in_ok-known.ensures.value)
+      listed = list_more (facts_by lists) c.members-number-items.result.now l.number-index c.loop-number-test.true
+          known (ap option_to_list c.in_ok-known.ensures.value)
           (due_list startup lists.day skipped) (due_list-append startup lists.day skipped) l.all.items c.add_duties.new.all.items l.invariant.listed
           (c.in_ok-add_duties.ensures.put ∙ ap (λ sk. l.all.items ++ due_list startup lists.day sk known) c.deref-in-loop-number.ensures.value);
       ready = c.in_ok-known.ensures.ready;
@@ -43,7 +44,7 @@ returns g c =
     let l = c.loop-number in
     record {
       value = all_listed (due_list unit.startup lists.day c.in_ok-skipped.skipped.items) lists.day unit.unit l.number-index (facts_in lists.store.now)
-          (facts_in c.args.register.now) c.members-number-items.result.now l.all.items lists.ordered c.requires.kept c.members-number-items.ensures.value (omega arith)
-          l.invariant.listed
+          (facts_in c.args.register.now) c.members-number-items.result.now l.all.items lists.ordered c.requires.kept
+          c.members-number-items.ensures.value (omega arith) l.invariant.listed
           ∙ ap (λ sk. due_list unit.startup lists.day sk (components_of unit.unit (facts_by lists))) c.in_ok-skipped.ensures.value;
     }

@@ -18,8 +18,8 @@ loop-number-init g c = record {
 pub known_at-requires-clause-member : goal.known_at-requires-clause-member
 known_at-requires-clause-member g c =
     let lists = c.args.lists.now in
-    member_at c.args.unit.now.unit (facts_in lists.store.now) (facts_in c.args.register.now) c.members-number-items.result.now c.loop-number.number-index c.requires.kept
-    c.members-number-items.ensures.value c.loop-number-test.true
+    member_at c.args.unit.now.unit (facts_in lists.store.now) (facts_in c.args.register.now) c.members-number-items.result.now c.loop-number.number-index
+    c.requires.kept c.members-number-items.ensures.value c.loop-number-test.true
 
 pub loop-number-preserved : goal.loop-number-preserved
 loop-number-preserved g c =

@@ -17,8 +17,8 @@ loop-number-init g c = record {
 pub known_at-requires-clause-member : goal.known_at-requires-clause-member
 known_at-requires-clause-member g c =
     let lists = c.args.lists.now in
-    member_at c.args.unit.now.unit (facts_in lists.store.now) (facts_in c.args.register.now) c.members-number-items.result.now c.loop-number.number-index c.requires.kept
-    c.members-number-items.ensures.value c.loop-number-test.true
+    member_at c.args.unit.now.unit (facts_in lists.store.now) (facts_in c.args.register.now) c.members-number-items.result.now c.loop-number.number-index
+    c.requires.kept c.members-number-items.ensures.value c.loop-number-test.true
 
 pub add_component-requires-clause-count : goal.add_component-requires-clause-count
 add_component-requires-clause-count g c = omega (arith, c.loop-number.tallies.ok, c.loop-number.invariant.counted.count)
@@ -49,8 +49,9 @@ returns g c =
     let l = c.loop-number in
     record {
       value = all_listed (λ cs. tallies_to unit.startup lists.day cs c.args.quarter) lists.day unit.unit l.number-index (facts_in lists.store.now)
-          (facts_in c.args.register.now) c.members-number-items.result.now l.tallies.items lists.ordered c.requires.kept c.members-number-items.ensures.value (omega arith)
-          (tallies_are unit.startup lists.day c.args.quarter (known_among (facts_by lists) (take l.number-index c.members-number-items.result.now)) l.tallies.items
-          l.invariant.counted);
+          (facts_in c.args.register.now) c.members-number-items.result.now l.tallies.items lists.ordered c.requires.kept
+          c.members-number-items.ensures.value (omega arith)
+          (tallies_are unit.startup lists.day c.args.quarter (known_among (facts_by lists) (take l.number-index c.members-number-items.result.now))
+          l.tallies.items l.invariant.counted);
       ready = l.invariant.ready;
     }

@@ -16,8 +16,8 @@ loop-number-init g c = record {
 pub known_at-requires-clause-member : goal.known_at-requires-clause-member
 known_at-requires-clause-member g c =
     let lists = c.args.lists.now in
-    member_at c.args.unit.now.unit (facts_in lists.store.now) (facts_in c.args.register.now) c.members-number-items.result.now c.loop-number.number-index c.requires.kept
-    c.members-number-items.ensures.value c.loop-number-test.true
+    member_at c.args.unit.now.unit (facts_in lists.store.now) (facts_in c.args.register.now) c.members-number-items.result.now c.loop-number.number-index
+    c.requires.kept c.members-number-items.ensures.value c.loop-number-test.true
 
 pub loop-number-preserved : goal.loop-number-preserved
 loop-number-preserved g c =
@@ -25,7 +25,8 @@ loop-number-preserved g c =
     let l = c.loop-number in
     record {
       listed = list_more (facts_by lists) c.members-number-items.result.now l.number-index c.loop-number-test.true
-          (option_to_list (option_map in_law c.in_ok-known.known)) (ap option_to_list c.in_ok-known.ensures.value) (tag_list lists.day) (tag_list-append lists.day)
+          (option_to_list (option_map in_law c.in_ok-known.known)) (ap option_to_list c.in_ok-known.ensures.value)
+          (tag_list lists.day) (tag_list-append lists.day)
           l.tags.items c.add_tags.new.tags.items l.invariant.listed c.in_ok-add_tags.ensures.put;
       ready = c.in_ok-known.ensures.ready;
     }
@@ -34,6 +35,7 @@ pub returns : goal.returns
 returns g c =
     let lists = c.args.lists.now in
     record {
-      value = all_listed (tag_list lists.day) lists.day c.args.unit.now.unit c.loop-number.number-index (facts_in lists.store.now) (facts_in c.args.register.now)
-          c.members-number-items.result.now c.loop-number.tags.items lists.ordered c.requires.kept c.members-number-items.ensures.value (omega arith) c.loop-number.invariant.listed;
+      value = all_listed (tag_list lists.day) lists.day c.args.unit.now.unit c.loop-number.number-index (facts_in lists.store.now)
+          (facts_in c.args.register.now) c.members-number-items.result.now c.loop-number.tags.items lists.ordered c.requires.kept
+          c.members-number-items.ensures.value (omega arith) c.loop-number.invariant.listed;
     }

@@ -10,7 +10,8 @@ loop-past-init c =
     let a = c.args in
     record {
       stands = c.on-standing.ensures.value;
-      marked = marked_none a.equipment.now a.classes.now a.startup a.events.now a.delayed.now a.day a.quarter c.in_ok-marks.marks.items c.in_ok-marks.ensures.value;
+      marked = marked_none a.equipment.now a.classes.now a.startup a.events.now a.delayed.now a.day a.quarter
+          c.in_ok-marks.marks.items c.in_ok-marks.ensures.value;
     }
 
 pub loop-past-preserved : goal.loop-past-preserved

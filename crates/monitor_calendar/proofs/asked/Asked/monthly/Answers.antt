@@ -1,8 +1,11 @@
-use Rattle.std.proofs.Common.{◌≡◌, true, min, sym, ap, subst, ◌∙◌}
+use Rattle.std.proofs.Common.{◌≡◌, min, sym, subst, ◌∙◌}
 use Rattle.ldar_days.specs.Calendar.{first_day, last_day}
+use Rattle.std.proofs.lemmas.Bool.{and_parts}
 use Rattle.ldar_law.specs.Duties.{routine_in}
+use Rattle.ldar_law.specs.Kinds.{is_valve}
 use Rattle.monitor_calendar.specs.Causes as causes
-use Rattle.monitor_calendar.proofs.Judging.{IsOf, monthly_by}
+use Rattle.monitor_calendar.proofs.Judging.{IsOf, met_by_key, monthly_by}
+use Rattle.monitor_calendar.proofs.Concerning.{not_monthly}
 use Rattle.monitor_calendar.proofs.Listing.{unowed}
 use Rattle.monitor_calendar.proofs.asked.Asked.monthly.Goals as goal
 
@@ -52,7 +55,14 @@ returns c =
     monthly_by asked judged c.args.month c.first_day-first.result c.last_day-due.result c.args.is_quarterly from to c.requires.quarterly is in
     record {
       value = c.duty.ensures.value
-          ∙ ap (λ m. causes.duty asked 2 c.first_day-first.result c.last_day-due.result true m) c.routine_in-met.ensures.value
-          ∙ ap (λ o. causes.duty asked 2 c.first_day-first.result c.last_day-due.result o met) (sym c.if-not-is_monthly.false ∙ c.is_monthly.ensures.value)
+          ∙ met_by_key asked 2 c.first_day-first.result c.last_day-due.result owed c.routine_in-met.result met c.routine_in-met.ensures.value
+          (sym c.is_monthly.ensures.value ∙ c.if-not-is_monthly.false)
           ∙ sym form;
     }
+
+pub returns-then-is_quarterly_in_place : goal.returns-then-is_quarterly_in_place
+returns-then-is_quarterly_in_place c =
+    let a = c.args in
+    let asked = a.self.now in
+    let parts = and_parts a.is_quarterly (is_valve asked.item.now.kind) (sym c.is_quarterly_in_place.ensures.value ∙ c.if-is_quarterly_in_place.true) in
+    record { value = sym (not_monthly asked a.month parts.1 (sym (c.requires.quarterly parts.1) ∙ parts.0)) }

@@ -1,8 +1,8 @@
-use Rattle.std.proofs.Common.{◌≡◌, ◌+◌, ◌-◌, ◌<◌, true, rules, min, sym, ap, subst, ◌∙◌, arith}
+use Rattle.std.proofs.Common.{◌≡◌, ◌+◌, ◌-◌, ◌<◌, true, rules, min, refl, sym, ap, subst, ◌∙◌, arith}
 use Rattle.ldar_days.specs.Calendar.{first_day}
 use Rattle.ldar_law.specs.Duties.{routine_in}
 use Rattle.monitor_calendar.specs.Causes as causes
-use Rattle.monitor_calendar.proofs.Judging.{IsOf, planned_by, plan_fits}
+use Rattle.monitor_calendar.proofs.Judging.{IsOf, met_by_key, planned_by, plan_fits}
 use Rattle.monitor_calendar.proofs.Listing.{unowed, not_begun, ends_before}
 use Rattle.monitor_calendar.proofs.asked.Asked.planned.Goals as goal
 
@@ -90,7 +90,8 @@ returns c =
     ∙ ap (λ p. first_day (month + 1 - p)) plan in
     record {
       value = c.duty.ensures.value
-          ∙ ap (λ m. causes.duty asked 5 c.first_day-first.result due true m) c.routine_in-met.ensures.value
+          ∙ met_by_key asked 5 c.first_day-first.result due true c.routine_in-met.result (routine_in asked.events.now c.first_day-first.result due)
+          c.routine_in-met.ensures.value refl
           ∙ ap (λ f. causes.duty asked 5 f due true (routine_in asked.events.now f due)) from
           ∙ ap (λ o. causes.duty asked 5 first due o met) (sym c.if-not-is_planned.false ∙ c.is_planned.ensures.value)
           ∙ sym form;

@@ -1,9 +1,8 @@
 use Rattle.std.proofs.Common.{◌+◌, ◌++◌, List, [], ◌∷◌, subst, take, drop, sym, ap, ◌∙◌, arith}
 use Rattle.list_words.specs.Words.{each_from}
 use Rattle.list_words.proofs.WordLemmas.{each_done}
-use Rattle.monitor_calendar.specs.Following.{after_event, after_by, is_asked_by}
+use Rattle.monitor_calendar.specs.Following.{after_event, after_by, is_asked_by, TellsFor}
 use Rattle.ldar_law.specs.declared.event.Event.{Event}
-use Rattle.monitor_calendar.specs.Dripping.{TellsOfDrips}
 use Rattle.monitor_calendar.proofs.FollowLemmas.{begins_at, one_event_on, tells_on}
 use Rattle.monitor_calendar.proofs.Concerning.{each_left_so, never_after}
 use Rattle.monitor_calendar.proofs.asked.Asked.put_after.Goals as goal
@@ -33,9 +32,9 @@ loop-place-preserved c =
           (c.after_event.ensures.value l.past.repeat c.is_asked_by-is_asked.ensures.value
           ∙ ap (λ x. after_by asked c.args.after l.past.repeat x c.next_after-next.result) (sym c.index-self-place.is))
           ∙ l.invariant.done;
-      tells = tells_on asked c.args.after l.past c.with-past.result events l.place e c.loop-place-test.true (sym c.index-self-place.is) l.invariant.tells
-          (subst (λ x. (front : List Event) → TellsOfDrips l.past front → TellsOfDrips c.with-past.result (front ++ x ∷ []))
-          (sym c.index-self-place.is) c.with-past.ensures.value);
+      tells = tells_on asked c.args.after l.past c.told_with-past.result events l.place e c.loop-place-test.true (sym c.index-self-place.is) l.invariant.tells
+          (subst (λ x. (front : List Event) → TellsFor c.args.after l.past front → TellsFor c.args.after c.told_with-past.result (front ++ x ∷ []))
+          (sym c.index-self-place.is) c.told_with-past.ensures.value);
       next = c.next_after-next.ensures.none;
     }
 

@@ -1,10 +1,11 @@
-use Rattle.std.proofs.Common.{◌≡◌, ◌+◌, ◌/◌, ◌++◌, ap, ◌∙◌, arith}
+use Rattle.std.proofs.Common.{◌≡◌, ◌+◌, ◌/◌, ◌++◌, sym, ap, ◌∙◌, arith}
 use Rattle.std.specs.List.{filter_map}
 use Rattle.std.specs.Option.{option_to_list}
 use Rattle.list_words.specs.Ranges.{until}
 use Rattle.list_words.proofs.RangeLemmas.{filter_map_until, filter_map_done}
 use Rattle.ldar_days.specs.Calendar.{month_of}
 use Rattle.monitor_calendar.specs.Causes as causes
+use Rattle.monitor_calendar.proofs.Concerning.{left_so, never_yearly}
 use Rattle.monitor_calendar.proofs.asked.Asked.put_yearly.Goals as goal
 
 pub loop-year-init : goal.loop-year-init
@@ -29,4 +30,12 @@ returns c =
     record {
       put = filter_map_done (causes.yearly c.args.self.now) l.duties.items _ l.year (c.year-end.result + 1) (omega
           (arith, c.loop-year-test.false)) l.invariant;
+    }
+
+pub returns-then-not-has_yearly_class : goal.returns-then-not-has_yearly_class
+returns-then-not-has_yearly_class c =
+    let asked = c.args.self.now in
+    record {
+      put = sym (left_so (causes.yearly asked) (causes.years_after asked) c.args.duties.now.items
+          (never_yearly asked (sym c.has_yearly_class.ensures.value ∙ c.if-not-has_yearly_class.true)));
     }

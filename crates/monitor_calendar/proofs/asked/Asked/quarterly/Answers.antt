@@ -1,8 +1,8 @@
-use Rattle.std.proofs.Common.{◌≡◌, true, min, sym, ap, subst, ◌∙◌}
+use Rattle.std.proofs.Common.{◌≡◌, min, sym, subst, ◌∙◌}
 use Rattle.ldar_days.specs.Calendar.{first_day, last_day}
 use Rattle.ldar_law.specs.Duties.{routine_in}
 use Rattle.monitor_calendar.specs.Causes as causes
-use Rattle.monitor_calendar.proofs.Judging.{IsOf, quarterly_by}
+use Rattle.monitor_calendar.proofs.Judging.{IsOf, met_by_key, quarterly_by}
 use Rattle.monitor_calendar.proofs.Listing.{unowed}
 use Rattle.monitor_calendar.proofs.Concerning.{not_quarterly}
 use Rattle.monitor_calendar.proofs.asked.Asked.quarterly.Goals as goal
@@ -53,9 +53,8 @@ returns c =
     quarterly_by asked judged c.args.month c.first_day-first.result c.last_day-due.result c.args.is_quarterly from to c.requires.quarterly is in
     record {
       value = c.duty.ensures.value
-          ∙ ap (λ m. causes.duty asked 3 c.first_day-first.result c.last_day-due.result true m) c.routine_in-met.ensures.value
-          ∙ ap (λ o. causes.duty asked 3 c.first_day-first.result c.last_day-due.result o met) (sym c.if-not-is_quarter_month.false
-          ∙ c.is_quarter_month.ensures.value)
+          ∙ met_by_key asked 3 c.first_day-first.result c.last_day-due.result owed c.routine_in-met.result met c.routine_in-met.ensures.value
+          (sym c.is_quarter_month.ensures.value ∙ c.if-not-is_quarter_month.false)
           ∙ sym form;
     }
 

@@ -1,8 +1,8 @@
-use Rattle.std.proofs.Common.{◌≡◌, true, min, sym, ap, subst, ◌∙◌, arith}
+use Rattle.std.proofs.Common.{◌≡◌, min, sym, subst, ◌∙◌, arith}
 use Rattle.ldar_days.specs.Calendar.{week_first, week_last}
 use Rattle.ldar_law.specs.Duties.{look_in}
 use Rattle.monitor_calendar.specs.Causes as causes
-use Rattle.monitor_calendar.proofs.Judging.{IsOf, weekly_by}
+use Rattle.monitor_calendar.proofs.Judging.{IsOf, met_by_key, weekly_by}
 use Rattle.monitor_calendar.proofs.Listing.{unowed}
 use Rattle.monitor_calendar.proofs.asked.Asked.weekly.Goals as goal
 
@@ -52,7 +52,7 @@ returns c =
     weekly_by asked judged c.args.week c.at-first.result c.plus_days-due.result from to is in
     record {
       value = c.duty.ensures.value
-          ∙ ap (λ m. causes.duty asked 6 c.at-first.result c.plus_days-due.result true m) c.look_in-met.ensures.value
-          ∙ ap (λ o. causes.duty asked 6 c.at-first.result c.plus_days-due.result o met) (sym c.if-not-is_plain_pump.false ∙ c.is_plain_pump.ensures.value)
+          ∙ met_by_key asked 6 c.at-first.result c.plus_days-due.result owed c.look_in-met.result met c.look_in-met.ensures.value
+          (sym c.is_plain_pump.ensures.value ∙ c.if-not-is_plain_pump.false)
           ∙ sym form;
     }

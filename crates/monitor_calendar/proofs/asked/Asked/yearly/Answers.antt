@@ -1,7 +1,7 @@
-use Rattle.std.proofs.Common.{◌≡◌, ◌+◌, ◌*◌, true, min, sym, ap, subst, ◌∙◌}
+use Rattle.std.proofs.Common.{◌≡◌, ◌+◌, ◌*◌, min, sym, subst, ◌∙◌}
 use Rattle.ldar_days.specs.Calendar.{first_day, last_day}
 use Rattle.monitor_calendar.specs.Causes as causes
-use Rattle.monitor_calendar.proofs.Judging.{IsOf, yearly_by}
+use Rattle.monitor_calendar.proofs.Judging.{IsOf, met_by_key, yearly_by}
 use Rattle.monitor_calendar.proofs.Listing.{unowed}
 use Rattle.monitor_calendar.proofs.asked.Asked.yearly.Goals as goal
 
@@ -51,7 +51,7 @@ returns c =
     yearly_by asked judged c.args.year c.first_day-first.result c.last_day-due.result from to is in
     record {
       value = c.duty.ensures.value
-          ∙ ap (λ m. causes.duty asked 4 c.first_day-first.result c.last_day-due.result true m) c.yearly_reading-met.ensures.value
-          ∙ ap (λ o. causes.duty asked 4 c.first_day-first.result c.last_day-due.result o met) (sym c.if-not-is_yearly.false ∙ c.is_yearly.ensures.value)
+          ∙ met_by_key asked 4 c.first_day-first.result c.last_day-due.result owed c.yearly_reading-met.result met c.yearly_reading-met.ensures.value
+          (sym c.is_yearly.ensures.value ∙ c.if-not-is_yearly.false)
           ∙ sym form;
     }

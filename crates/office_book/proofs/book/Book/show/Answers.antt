@@ -19,7 +19,8 @@ returns-clause-serves g c =
     let stays = certain_state c.self.inside.journal history (ap (λ s. batches_of s.frames) c.self.view_is)
     (ap (λ s. s.doubt) c.self.view_is ∙ c.requires.settled) in
     let d = g.D.Disk in
-    serves_shown (Rose (d.faults c.args.self.now.disk) (d.faults c.self.inside.journal.disk)) history request (state_of c.self.inside.journal) c.requires.view stays c.show.result c.reply_to.result c.reply_to.ensures.value
+    serves_shown (Rose (d.faults c.args.self.now.disk) (d.faults c.self.inside.journal.disk)) history request
+    (state_of c.self.inside.journal) c.requires.view stays c.show.result c.reply_to.result c.reply_to.ensures.value
     (subst (λ (l : List Batch). IsShown c.show.result (shown l request)) adopted c.show.ensures.value)
 
 pub returns-clause-moves : goal.returns-clause-moves
