@@ -1,4 +1,5 @@
 ghost use Rattle.std.specs.Prelude.{◌≡◌, ◌<◌, ◌≤◌, ◌^◌, Some, length};
+ghost use Rattle.std.specs.Option.{is_some};
 ghost use Rattle.list_words.specs.Order as order;
 ghost use Rattle.ldar_law.specs.RegisterLaws.{class_first, with_class};
 ghost use Rattle.ldar_law.specs.Equipment as law;
@@ -23,14 +24,25 @@ pub struct Known<'a> {
     pub front: &'a [Fact],
 }
 
+/// Whether a fact enters the component.
+fn enters(component: u16, body: &FactBody) -> bool
+    ensures value { (day : ℕ) → is_some (law.component_entered component None day body.now) ≡ result }
+{
+    match *body {
+        FactBody::Component {
+            component: entered, ..
+        } => entered == component,
+        _ => false,
+    }
+}
+
 /// The component as the first of some facts enters it.
 fn first_component(facts: &[Fact], component: u16) -> Option<Equipment>
     ensures value { result ≡ entered_among component facts.now }
 {
     for fact in facts {
-        let item = component_entered(component, &None, fact.day, &fact.body);
-        if item.is_some() {
-            return item;
+        if enters(component, &fact.body) {
+            return component_entered(component, &None, fact.day, &fact.body);
         }
     }
     None

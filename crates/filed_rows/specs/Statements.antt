@@ -32,9 +32,9 @@ abbrev pub key_of : ℕ → ℕ → List Value
 key_of unit half = number unit ∷ number half ∷ []
 
 -- what a row that was found reads as
-pub record ReadsAs (row : Row) (found : FiledRow) : Type 0 where
-  pub revision : column row 0 ≡ number found.revision
-  pub day : column row 1 ≡ number found.day
-  pub months : column row 2 ≡ Blob found.months.items
-  pub delays : column row 3 ≡ Blob found.delays.items
-  pub stops : column row 4 ≡ Blob found.stops.items
+pub record ReadsAs (kept : Row) (found : FiledRow) : Type 0 where
+  pub revision : column kept 0 ≡ number found.revision
+  pub day : column kept 1 ≡ number found.day
+  pub months : column kept 2 ≡ Blob found.months.items
+  pub delays : column kept 3 ≡ Blob found.delays.items
+  pub stops : column kept 4 ≡ Blob found.stops.items

@@ -1,6 +1,8 @@
 ghost use Rattle.std.specs.Prelude.{◌≡◌, ◌≤◌, IfOk};
 ghost use Rattle.cell_bytes.specs.CellBytes.{months_bytes, delays_bytes, stops_bytes};
-ghost use Rattle.filed_table.specs.Rows.{IsRowOf};
+ghost use Rattle.ldar_law.specs.declared.report.Cells.{Cells as GivenCells};
+ghost use Rattle.ldar_law.specs.declared.report.Filed.{Filed as FiledReport};
+ghost use Rattle.filed_table.specs.Rows.{AreCells, CanBeKept, IsReadBack, IsRowOf};
 
 use cell_bytes::{Memory, delays_bytes, delays_of, months_bytes, months_of, stops_bytes, stops_of};
 use filed_rows::FiledRow;
@@ -28,6 +30,7 @@ pub(crate) fn row_of(alloc: Global, filed: &Filed) -> Result<FiledRow, Memory>
 pub(crate) fn filed_of(alloc: Global, row: &FiledRow) -> Result<Filed, FilingFault>
     ensures value { IfOk result (λ filed. IsRowOf filed row.now) }
     ensures numbered { IfOk result (λ filed. 1 ≤ filed.revision) }
+    ensures reads_back { (given : FiledReport) → CanBeKept given → IsRowOf given row.now → IsReadBack result given }
 {
     if row.revision == 0 {
         return Err(FilingFault::Failed);
@@ -50,6 +53,8 @@ fn cells_of(alloc: Global, row: &FiledRow) -> Result<Cells, FilingFault>
     ensures months { IfOk result (λ cells. row.now.months.items ≡ months_bytes cells.months) }
     ensures delays { IfOk result (λ cells. row.now.delays.items ≡ delays_bytes cells.delays) }
     ensures stops { IfOk result (λ cells. row.now.stops.items ≡ stops_bytes cells.stops) }
+    ensures reads_back { (given : GivenCells) → AreCells given → row.now.months.items ≡ months_bytes given.months
+        → row.now.delays.items ≡ delays_bytes given.delays → row.now.stops.items ≡ stops_bytes given.stops → IsReadBack result given }
 {
     let Some(months) = months_of(&row.months) else {
         return Err(FilingFault::Failed);
