@@ -1,21 +1,24 @@
 -- The counts of quarters: their list, their room, and one component more.
-use Rattle.std.proofs.Common.{◌≡◌, ℕ, ◌+◌, ◌-◌, ◌<◌, ◌≤◌, Bool, false, List, [], ◌∷◌, ◌++◌, length}
+use Rattle.std.proofs.Common.{◌≡◌, ℕ, ◌+◌, ◌-◌, ◌<◌, ◌≤◌, Bool, true, false, ◌&&◌, ◌||◌, List, [], ◌∷◌, ◌++◌, length}
 use Rattle.std.proofs.Common.{map, get_or, set, replicate, refl, sym, ap, ◌∙◌, subst, inl, inr, arith}
 use Rattle.std.specs.Prelude.{fold}
+use Rattle.std.specs.List.{list_any}
 use Rattle.std.proofs.lemmas.Bool.{cases_eq}
 use Rattle.std.proofs.lemmas.List.{ext_get_or, get_or_default, get_or-set_same, get_or-set_other}
 use Rattle.std.proofs.lemmas.List.{length-set, get_or-replicate, length-replicate, length-map, map-append}
 use Rattle.std.proofs.lemmas.List.Sums.{count_by-le-length, fold-append}
 use Rattle.list_words.specs.Ranges.{from_to}
 use Rattle.ldar_law.specs.declared.numbers.TheConstants.{MOST_COMPONENTS}
+use Rattle.ldar_law.specs.declared.tag.Tag.{Tag}
 use Rattle.ldar_law.specs.declared.tally.Mark.{Mark}
 use Rattle.ldar_law.specs.declared.tally.Tally.{Tally}
-use Rattle.ldar_law.specs.Percent.{has_delay_on, judging_day, mark_of}
+use Rattle.ldar_law.specs.Percent.{has_delay_on, is_open_on, judging_day, mark_of}
+use Rattle.ldar_law.specs.Tags.{is_delayed}
 use Rattle.ldar_law.specs.Tallies.{with_mark}
 use Rattle.ldar_law.specs.Units.{Known, mark_in, tally_in, tallies_to}
 use Rattle.ldar_law.proofs.QuarterLemmas.{tally_counts}
 use Rattle.skip_periods.specs.Seen.{mark_for}
-use Rattle.office_views.specs.Tallied.{AreTallies, Counts, CountsMore, HasRoom, HaveRoom}
+use Rattle.office_views.specs.Tallied.{AreTallies, Counts, CountsMore, HasRoom, HaveRoom, TellDelays}
 use Rattle.office_views.proofs.ListLemmas.{alike_numbers, numbers_long, number_at}
 
 abbrev none : Tally
@@ -24,17 +27,35 @@ none = record { leaking = 0; monitored = 0 }
 abbrev no_mark : Mark
 no_mark = record { leaking = false; monitored = false }
 
--- the marks of a component, whose delays are told for each quarter
-pub marks_are : (startup day quarter : ℕ) (c : Known) (delayed : List Bool)
-    → delayed ≡ map (λ q. has_delay_on (judging_day startup q day) c.tags) (from_to 1 quarter)
+-- the marks of a component, whose delays are told
+pub marks_are : (startup day quarter : ℕ) (c : Known) (delayed : List Bool) → TellDelays startup quarter day c.tags delayed
     → map (mark_for c.item c.classes startup c.events delayed day) (from_to 1 quarter) ≡ map (λ q. mark_in startup day q c) (from_to 1 quarter)
-marks_are startup day quarter c delayed is =
-    let told : ℕ → Bool = λ q. has_delay_on (judging_day startup q day) c.tags in
+marks_are startup day quarter c delayed told =
     alike_numbers (mark_for c.item c.classes startup c.events delayed day) (λ q. mark_in startup day q c) quarter (λ q first last.
-    let before : q - 1 < quarter = omega (arith, first, last) in
-    let same : q - 1 + 1 ≡ q = omega (arith, first) in
-    ap (λ b. mark_of c.item c.classes startup c.events b q day)
-    (ap (λ ds. get_or ds (q - 1) false) is ∙ number_at told quarter (q - 1) false before ∙ ap told same))
+    ap (λ b. mark_of c.item c.classes startup c.events b q day) (told q first last))
+
+-- a list of all quarters tells of each
+pub told_of_all : (startup day quarter : ℕ) (tags : List Tag) (delayed : List Bool)
+    → delayed ≡ map (λ q. has_delay_on (judging_day startup q day) tags) (from_to 1 quarter) → TellDelays startup quarter day tags delayed
+told_of_all startup day quarter tags delayed is =
+    let told : ℕ → Bool = λ q. has_delay_on (judging_day startup q day) tags in
+    λ q first last.
+    ap (λ ds. get_or ds (q - 1) false) is ∙ number_at told quarter (q - 1) false (omega (arith, first, last)) ∙ ap told (omega (arith, first))
+
+none_of_both : (a b c d : Bool) → (b || c) ≡ false → (c ≡ false → d ≡ false) → (a && b || d) ≡ false
+none_of_both false false c d none rest = rest none
+none_of_both true false c d none rest = rest none
+none_of_both a true c d none rest = absurd cc
+
+-- where no repair is delayed none is on a day
+pub none_delayed_on : (day : ℕ) (tags : List Tag) → list_any is_delayed tags ≡ false → has_delay_on day tags ≡ false
+none_delayed_on day [] none = refl
+none_delayed_on day (tag ∷ tags) none =
+    none_of_both (is_open_on day tag) (is_delayed tag) (list_any is_delayed tags) (has_delay_on day tags) none (none_delayed_on day tags)
+
+-- .. and nothing has to be told
+pub told_of_none : (startup day quarter : ℕ) (tags : List Tag) → list_any is_delayed tags ≡ false → TellDelays startup quarter day tags []
+told_of_none startup day quarter tags none = λ q first last. sym (none_delayed_on (judging_day startup q day) tags none)
 
 -- no quarter counts anything of no component
 pub none_tallied : (startup day quarter : ℕ) → AreTallies startup day [] quarter (replicate quarter none)

@@ -1,8 +1,10 @@
 -- Counts of quarters that stand at their places: those of some components, and with one component more.
-use Rattle.std.specs.Prelude.{◌≡◌, ℕ, ◌+◌, ◌<◌, List, length, map, fold, slice_index_or}
+use Rattle.std.specs.Prelude.{◌≡◌, ℕ, ◌+◌, ◌-◌, ◌<◌, ◌≤◌, Bool, false, List, length, map, fold, slice_index_or}
 use Rattle.ldar_law.specs.declared.numbers.TheConstants.{MOST_COMPONENTS}
+use Rattle.ldar_law.specs.declared.tag.Tag.{Tag}
 use Rattle.ldar_law.specs.declared.tally.Mark.{Mark}
 use Rattle.ldar_law.specs.declared.tally.Tally.{Tally}
+use Rattle.ldar_law.specs.Percent.{has_delay_on, judging_day}
 use Rattle.ldar_law.specs.Tallies.{with_mark}
 use Rattle.ldar_law.specs.Units.{Known, mark_in, tally_in}
 
@@ -30,3 +32,8 @@ pub record HasRoom (tally : Tally) : Type 0 where
 -- .. in each quarter
 abbrev pub HaveRoom : List Tally → Type 0
 HaveRoom tallies = (k : ℕ) (d : Tally) → k < length tallies → HasRoom (slice_index_or tallies k d)
+
+-- of each quarter up to one it is told whether a repair is delayed on the day on which the quarter is judged; of one that isn't told none is
+abbrev pub TellDelays : ℕ → ℕ → ℕ → List Tag → List Bool → Type 0
+TellDelays startup quarter day tags delayed =
+    (q : ℕ) → 1 ≤ q → q ≤ quarter → slice_index_or delayed (q - 1) false ≡ has_delay_on (judging_day startup q day) tags

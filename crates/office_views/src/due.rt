@@ -1,4 +1,4 @@
-ghost use Rattle.std.specs.Prelude.{◌≡◌, ◌++◌, ◌≤◌, IfOk, IfSome, OnOk};
+ghost use Rattle.std.specs.Prelude.{◌≡◌, ◌-◌, ◌++◌, ◌≤◌, IfOk, IfSome, OnOk};
 ghost use Rattle.std.specs.BTreeMap.{get};
 ghost use Rattle.std.specs.Option.{option_map, option_to_list};
 ghost use Rattle.std.specs.Ordering.{nat_cmp};
@@ -6,6 +6,7 @@ ghost use Rattle.fact_store.specs.Kept.{facts_in};
 ghost use Rattle.ldar_law.specs.declared.numbers.TheConstants.{LAST_FACT_DAY};
 ghost use Rattle.ldar_law.specs.Duties as duties;
 ghost use Rattle.ldar_law.specs.Equipment as equipment;
+ghost use Rattle.ldar_law.specs.Skips.{skipped_to};
 ghost use Rattle.ldar_law.specs.Units as law;
 ghost use Rattle.office_views.specs.Known.{in_law, IsOrdered};
 ghost use Rattle.office_views.specs.Lists.{AreKept, AreReady, facts_by};
@@ -19,7 +20,7 @@ use component_register::Register;
 use fact_kinds::Memory;
 use fact_store::Steps;
 use ldar_days::{Day, quarter_of};
-use ldar_law::{Duty, UnitEntry};
+use ldar_law::{Duty, ElectionEntry, Tally, UnitEntry};
 use monitor_calendar::duties_of;
 use skip_periods::all_skipped;
 use std::alloc::Global;
@@ -34,6 +35,37 @@ fn quarter_at(startup: Day, day: Day) -> u16
         Some(quarter) => quarter,
         None => 0,
     }
+}
+
+/// The counts by which quarters up to one are skipped: none where no programme of skip periods was elected.
+fn tallies_asked<L: Ledger>(
+    ready: &mut Instruments,
+    lists: &Lists<'_>,
+    register: &Register,
+    unit: &UnitEntry,
+    quarter: u16,
+    elections: &[ElectionEntry],
+    steps: &mut Steps<L>,
+) -> Result<Vec<Tally>, Memory>
+    requires kept { AreKept (facts_in lists.now.store.now) (facts_in register.now) }
+    requires startup { unit.now.startup ≤ LAST_FACT_DAY }
+    requires ready { AreReady (λ n. get nat_cmp ready.old n) (facts_by lists.now) }
+    ensures value { IfOk result (λ tallies. skipped_to tallies.items elections.now unit.now.startup quarter
+        ≡ skipped_to (law.tallies_to unit.now.startup lists.now.day (law.components_of unit.now.unit (facts_by lists.now)) (quarter - 1))
+            elections.now unit.now.startup quarter) }
+    ensures ready { OnOk result (AreReady (λ n. get nat_cmp ready.new n) (facts_by lists.now)) }
+{
+    if elections.is_empty() {
+        return Ok(Vec::new(lists.alloc));
+    }
+    tallies_of_unit(
+        ready,
+        lists,
+        register,
+        unit,
+        quarter.saturating_sub(1),
+        steps,
+    )
 }
 
 /// Which quarters of a process unit are skipped, from the first to the one of the day (40 CFR 60.483-2a).
@@ -52,15 +84,8 @@ fn skipped_on<L: Ledger>(
     ensures ready { OnOk result (AreReady (λ n. get nat_cmp ready.new n) (facts_by lists.now)) }
 {
     let quarter = quarter_at(unit.startup, lists.day);
-    let tallies = tallies_of_unit(
-        ready,
-        lists,
-        register,
-        unit,
-        quarter.saturating_sub(1),
-        steps,
-    )?;
     let elections = elections_on(lists, unit.unit, steps)?;
+    let tallies = tallies_asked(ready, lists, register, unit, quarter, &elections, steps)?;
     all_skipped(lists.alloc, &tallies, &elections, unit.startup, quarter)
 }
 

@@ -63,7 +63,7 @@ fn fitness_of_all<L: Ledger>(
     ensures value { IfOk result (λ fitness. fitness.items ≡ filter_map (fitness_in item.now classes.now (facts_by lists.now)) own.now) }
     ensures ready { OnOk result (AreReady (λ n. get nat_cmp ready.new n) (facts_by lists.now)) }
 {
-    let mut fitness = Vec::new(lists.alloc);
+    let mut fitness = Vec::with_capacity(lists.alloc, own.len())?;
     for e in own {
         add_fitness(&mut fitness, ready, lists, item, classes, e, steps)?;
     }

@@ -36,7 +36,7 @@ fn read_to<L: Ledger>(
     requires held { All (λ place. place.at < length store.now.arrived) places.now }
     ensures value { IfOk result (λ facts. facts.items ≡ up_to day (entries_at store.now.arrived places.now)) }
 {
-    let mut facts = Vec::new(alloc);
+    let mut facts = Vec::with_capacity(alloc, places.len())?;
     for place in places {
         let (key, fact) = store.fact(*place, steps);
         add(&mut facts, &if_come(day, key, fact))?;

@@ -10,7 +10,7 @@ ghost use Rattle.ldar_law.specs.Tallies as counts;
 ghost use Rattle.ldar_law.specs.Units as law;
 ghost use Rattle.office_views.specs.Known.{in_law, IsOrdered};
 ghost use Rattle.office_views.specs.Lists.{AreKept, AreReady, facts_by};
-ghost use Rattle.office_views.specs.Tallied.{AreTallies, Counts, CountsMore, HasRoom, HaveRoom};
+ghost use Rattle.office_views.specs.Tallied.{AreTallies, Counts, CountsMore, HasRoom, HaveRoom, TellDelays};
 
 use crate::instruments::Instruments;
 use crate::known::Known;
@@ -52,6 +52,24 @@ fn delayed_to(
     Ok(delayed)
 }
 
+/// The same, for a count of quarters: one that is not told has no delayed repair, and none is told where no repair is
+/// delayed, as with most components.
+fn told_delays(
+    alloc: Global,
+    startup: Day,
+    quarter: u16,
+    day: Day,
+    tags: &[Tag],
+) -> Result<Vec<bool>, Memory>
+    requires startup { startup ≤ LAST_FACT_DAY }
+    ensures value { IfOk result (λ delayed. TellDelays startup quarter day tags.now delayed.items) }
+{
+    if !tags.iter().any(|tag| tag.is_delayed()) {
+        return Ok(Vec::new(alloc));
+    }
+    delayed_to(alloc, startup, quarter, day, tags)
+}
+
 /// What a component adds to the counts of each quarter up to one.
 fn marks_of(
     alloc: Global,
@@ -64,7 +82,7 @@ fn marks_of(
     requires ordered { IsOrdered known.now }
     ensures value { IfOk result (λ marks. marks.items ≡ map (λ q. law.mark_in startup day q (in_law known.now)) (from_to 1 quarter)) }
 {
-    let delayed = delayed_to(alloc, startup, quarter, day, known.tags.as_slice())?;
+    let delayed = told_delays(alloc, startup, quarter, day, known.tags.as_slice())?;
     marks_to(
         alloc,
         &known.item,

@@ -1,5 +1,4 @@
 use Rattle.std.proofs.Common.{◌≡◌, ◌+◌, get_or, ap, ◌∙◌, arith}
-use Rattle.ldar_law.specs.Force.{class_on}
 use Rattle.skip_periods.specs.Seen.{seen_in, counts_class}
 use Rattle.skip_periods.proofs.MarkLemmas.{marked_none, marked_more, marked_all}
 use Rattle.skip_periods.proofs.SeenLemmas.{mark_is}
@@ -32,7 +31,7 @@ loop-past-preserved c =
           c.is_counted_of-is_counted.result c.is_delayed_in-is_delayed.result c.is_numbered-is_missed.result
           (c.is_counted_of-is_counted.ensures.value
           ∙ ap (counts_class a.equipment.now)
-          (c.moved_to-standing.ensures.today ∙ ap (class_on a.equipment.now a.classes.now) c.judging_day.ensures.value))
+          (c.moved_to-standing.ensures.today ∙ c.class_day-class_day.ensures.value))
           seen c.is_delayed_in-is_delayed.ensures.value
           (c.is_numbered-is_missed.ensures.value ∙ c.missed_quarter-missed.ensures.value (l.past + 1)) mark.ensures.leaking mark.ensures.monitored);
     }
