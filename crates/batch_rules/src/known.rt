@@ -1,4 +1,4 @@
-ghost use Rattle.std.specs.Prelude.{◌≡◌, ◌<◌, ◌≤◌, ◌^◌, Some, length};
+ghost use Rattle.std.specs.Prelude.{◌≡◌, ℕ, ◌<◌, ◌≤◌, ◌^◌, Some, length};
 ghost use Rattle.std.specs.Option.{is_some};
 ghost use Rattle.list_words.specs.Order as order;
 ghost use Rattle.ldar_law.specs.RegisterLaws.{class_first, with_class};
