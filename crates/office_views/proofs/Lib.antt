@@ -9,6 +9,7 @@ pub mod MonthLemmas
 pub mod PlaceLemmas
 pub mod ReadLemmas
 pub mod ReadyLemmas
+pub mod SkipLemmas
 pub mod SoundLemmas
 pub mod TagLemmas
 pub mod TakingLemmas

@@ -43,19 +43,19 @@ told_of_all startup day quarter tags delayed is =
     ap (λ ds. get_or ds (q - 1) false) is ∙ number_at told quarter (q - 1) false (omega (arith, first, last)) ∙ ap told (omega (arith, first))
 
 none_of_both : (a b c d : Bool) → (b || c) ≡ false → (c ≡ false → d ≡ false) → (a && b || d) ≡ false
-none_of_both false false c d none rest = rest none
-none_of_both true false c d none rest = rest none
-none_of_both a true c d none rest = absurd cc
+none_of_both false false c d not_one rest = rest not_one
+none_of_both true false c d not_one rest = rest not_one
+none_of_both a true c d not_one rest = absurd cc
 
 -- where no repair is delayed none is on a day
 pub none_delayed_on : (day : ℕ) (tags : List Tag) → list_any is_delayed tags ≡ false → has_delay_on day tags ≡ false
-none_delayed_on day [] none = refl
-none_delayed_on day (tag ∷ tags) none =
-    none_of_both (is_open_on day tag) (is_delayed tag) (list_any is_delayed tags) (has_delay_on day tags) none (none_delayed_on day tags)
+none_delayed_on day [] not_one = refl
+none_delayed_on day (tag ∷ tags) not_one =
+    none_of_both (is_open_on day tag) (is_delayed tag) (list_any is_delayed tags) (has_delay_on day tags) not_one (none_delayed_on day tags)
 
 -- .. and nothing has to be told
 pub told_of_none : (startup day quarter : ℕ) (tags : List Tag) → list_any is_delayed tags ≡ false → TellDelays startup quarter day tags []
-told_of_none startup day quarter tags none = λ q first last. sym (none_delayed_on (judging_day startup q day) tags none)
+told_of_none startup day quarter tags not_one = λ q first last. sym (none_delayed_on (judging_day startup q day) tags not_one)
 
 -- no quarter counts anything of no component
 pub none_tallied : (startup day quarter : ℕ) → AreTallies startup day [] quarter (replicate quarter none)

@@ -1,11 +1,13 @@
 ghost use Rattle.std.specs.Prelude.{◌≡◌, ◌<◌, ◌≤◌, ℕ, [], IfOk, IfSome, OnOk, length, map, vec_len};
 ghost use Rattle.std.specs.BTreeMap.{get};
+ghost use Rattle.std.specs.List.{list_any};
 ghost use Rattle.std.specs.Option.{option_map, option_to_list};
 ghost use Rattle.std.specs.Ordering.{nat_cmp};
 ghost use Rattle.list_words.specs.Ranges.{from_to};
 ghost use Rattle.fact_store.specs.Kept.{facts_in};
 ghost use Rattle.ldar_law.specs.declared.numbers.TheConstants.{LAST_FACT_DAY};
 ghost use Rattle.ldar_law.specs.Percent as percent;
+ghost use Rattle.ldar_law.specs.Tags.{is_delayed};
 ghost use Rattle.ldar_law.specs.Tallies as counts;
 ghost use Rattle.ldar_law.specs.Units as law;
 ghost use Rattle.office_views.specs.Known.{in_law, IsOrdered};
@@ -52,6 +54,13 @@ fn delayed_to(
     Ok(delayed)
 }
 
+/// Whether the repair of some leak is delayed.
+fn has_delay(tags: &[Tag]) -> bool
+    ensures value { result ≡ list_any is_delayed tags.now }
+{
+    tags.iter().any(|tag| tag.is_delayed())
+}
+
 /// The same, for a count of quarters: one that is not told has no delayed repair, and none is told where no repair is
 /// delayed, as with most components.
 fn told_delays(
@@ -64,7 +73,7 @@ fn told_delays(
     requires startup { startup ≤ LAST_FACT_DAY }
     ensures value { IfOk result (λ delayed. TellDelays startup quarter day tags.now delayed.items) }
 {
-    if !tags.iter().any(|tag| tag.is_delayed()) {
+    if !has_delay(tags) {
         return Ok(Vec::new(alloc));
     }
     delayed_to(alloc, startup, quarter, day, tags)
