@@ -30,7 +30,8 @@ fn enters(component: u16, body: &FactBody) -> bool
 {
     match *body {
         FactBody::Component {
-            component: entered, ..
+            component: entered,
+            ..
         } => entered == component,
         _ => false,
     }

@@ -52,7 +52,7 @@ fn tallies_asked<L: Ledger>(
     requires ready { AreReady (λ n. get nat_cmp ready.old n) (facts_by lists.now) }
     ensures value { IfOk result (λ tallies. skipped_to tallies.items elections.now unit.now.startup quarter
         ≡ skipped_to (law.tallies_to unit.now.startup lists.now.day (law.components_of unit.now.unit (facts_by lists.now)) (quarter - 1))
-            elections.now unit.now.startup quarter) }
+        elections.now unit.now.startup quarter) }
     ensures ready { OnOk result (AreReady (λ n. get nat_cmp ready.new n) (facts_by lists.now)) }
 {
     if elections.is_empty() {
