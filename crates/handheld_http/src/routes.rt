@@ -69,8 +69,18 @@ fn office_routes(alloc: Global) -> Result<Router<Resource>, Memory>
     Ok(routes)
 }
 
-/// What a path names, if it has a route.
+/// What a path names, if it has a route. Most requests send a batch, and for those no routes are made.
 pub(crate) fn resource_of(alloc: Global, path: &str) -> Result<Option<Resource>, Memory>
+    ensures { IfOk result (λ resource. resource ≡ spec.resource_of path.now) }
+{
+    if path == "/sync" {
+        return Ok(Some(Resource::Sync));
+    }
+    routed(alloc, path)
+}
+
+/// What a path names by the routes of the office, if it has one.
+fn routed(alloc: Global, path: &str) -> Result<Option<Resource>, Memory>
     ensures { IfOk result (λ resource. resource ≡ spec.resource_of path.now) }
 {
     let routes = office_routes(alloc)?;
