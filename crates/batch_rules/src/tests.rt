@@ -147,14 +147,151 @@ fn register_of(alloc: Global, facts: &[Fact]) -> Result<Register, Memory> {
     Ok(register)
 }
 
+/// The register of the small office.
+fn small_register(alloc: Global) -> Result<Register, Fail> {
+    let facts = small_office(alloc)?;
+    Ok(register_of(alloc, &facts)?)
+}
+
 fn class_of(component: u16, class: Class) -> FactBody
     ensures { result ≡ ClassFact component class }
 {
     FactBody::Class { component, class }
 }
 
-/// Up to three facts.
-type Few = [Option<Fact>; 3];
+/// What is told on a day at ten o'clock: of a component or a unit, whose number stands first.
+#[derive(Clone, Copy)]
+enum Told {
+    /// A reading, of this instrument and operator.
+    Read(u16, u16, u16),
+    Seen(u16),
+    Indicated(u16, Sort),
+    Released(u16),
+    Retired(u16),
+    Classed(u16, Service, Designation),
+    /// The component is entered, in unit 1.
+    Entered(u16, Kind, Service),
+    /// The repair is delayed for this ground, by this signer, up to the day with this number, if there is one.
+    Delayed(u16, u8, u16, u32),
+    /// The unit is entered.
+    Unit(u8),
+    Shut(u8),
+    /// Skip periods are elected in this mode, of which notice was given on the day with this number.
+    Elected(u8, u8, u32),
+}
+
+/// The number of a day and what is told on it.
+type On = (u32, Told);
+
+/// The number of a component that is nearest to this one.
+fn item(number: u16) -> u16
+    ensures { (1 ≤ result) × (result ≤ 60_000) }
+{
+    if number == 0 {
+        return 1;
+    }
+    if number > 60_000 {
+        return 60_000;
+    }
+    number
+}
+
+/// The smaller of two numbers.
+fn up_to(number: u8, most: u8) -> u8
+    ensures { result ≤ most }
+{
+    if number < most { number } else { most }
+}
+
+/// The number of a unit that is nearest to this one.
+fn unit_near(number: u8) -> u8
+    ensures { (1 ≤ result) × (result ≤ 64) }
+{
+    if number == 0 {
+        return 1;
+    }
+    if number > 64 {
+        return 64;
+    }
+    number
+}
+
+/// A class without a plan on a day: where the designation asks for one it is left out.
+fn classed(day: Day, component: u16, service: Service, designation: Designation) -> Fact
+    requires { (1 ≤ component) × (component ≤ 60_000) }
+{
+    let plain = class(service, Designation::Plain);
+    let class = match designation {
+        Designation::Nde => class(service, Designation::Nde),
+        Designation::Difficult => class(service, Designation::Difficult),
+        Designation::Plain | Designation::Unsafe => plain,
+    };
+    on(day, class_of(component, class))
+}
+
+fn entered(day: Day, number: u16, kind: Kind, service: Service) -> Fact
+    requires { (1 ≤ number) × (number ≤ 60_000) }
+{
+    on(day, component(number, kind, false, service))
+}
+
+/// A shutdown of three days.
+fn shut(day: Day, unit: u8) -> Fact
+    requires { (1 ≤ unit) × (unit ≤ 64) }
+{
+    on(day, FactBody::Shutdown { unit, days: 3 })
+}
+
+/// The fact, if there is one.
+fn fact_on(day: Day, told: Told) -> Option<Fact> {
+    match told {
+        Told::Delayed(number, ground, signer, expected) => {
+            let expected = Day::of_number(expected);
+            Some(delay(item(number), up_to(ground, 5), signer, day, expected))
+        }
+        Told::Unit(number) => Some(unit(day, unit_near(number), Name::new(b"COKER")?)),
+        Told::Shut(number) => Some(shut(day, unit_near(number))),
+        Told::Elected(number, mode, notified) => {
+            let notified = Day::of_number(notified)?;
+            Some(election(day, unit_near(number), up_to(mode, 1), notified))
+        }
+        of_component => fact_of_component(day, of_component),
+    }
+}
+
+/// The fact, if it is one that needs no other day.
+fn fact_of_component(day: Day, told: Told) -> Option<Fact> {
+    match told {
+        Told::Read(number, instrument, operator) => {
+            Some(reading(day, item(number), instrument, operator))
+        }
+        Told::Seen(number) => Some(visual(day, item(number))),
+        Told::Indicated(number, sort) => Some(indication(day, item(number), sort)),
+        Told::Released(number) => Some(release(day, item(number))),
+        Told::Retired(number) => Some(retired(day, item(number))),
+        Told::Classed(number, service, designation) => {
+            Some(classed(day, item(number), service, designation))
+        }
+        Told::Entered(number, kind, service) => Some(entered(day, item(number), kind, service)),
+        _ => None,
+    }
+}
+
+/// The facts of a batch.
+fn facts_of(alloc: Global, told: &[On]) -> Result<Vec<Fact>, Memory> {
+    let mut facts = Vec::new(alloc);
+    for (number, told) in told {
+        if let Some(fact) = fact_of(*number, *told) {
+            facts.push(fact)?;
+        }
+    }
+    Ok(facts)
+}
+
+/// The fact, if this is the number of a day.
+fn fact_of(number: u32, told: Told) -> Option<Fact> {
+    fact_on(Day::of_number(number)?, told)
+}
 
 /// What is said of a batch of these facts, which a handheld sends.
 fn said_of(
@@ -162,31 +299,54 @@ fn said_of(
     register: &Register,
     held: u64,
     handheld: u16,
-    few: &Few,
+    told: &[On],
 ) -> Result<Verdict, Fail>
     requires { held ≤ 8_000_000 }
 {
-    let mut facts = Vec::new(alloc);
-    for fact in few {
-        if let Some(fact) = fact {
-            facts.push(*fact)?;
-        }
+    let facts = facts_of(alloc, told)?;
+    match Batch::new(handheld, 2, facts) {
+        Some(batch) => Ok(verdict(register, held, &batch)),
+        None => Err(Fail::from("a batch")),
     }
-    let batch = Batch::new(handheld, 2, facts).ok_or("batch")?;
-    Ok(verdict(register, held, &batch))
 }
 
-fn one(fact: Fact) -> Few {
-    [Some(fact), None, None]
+/// The case, the handheld, what is told, and the fact and the rule of the denial, or 0 and 0 where it passes.
+type Row<'a> = (&'a str, u16, [On; 3], u16, u8);
+
+/// The verdict of a row.
+fn wanted(row: &Row) -> Verdict {
+    if row.3 == 0 {
+        return Verdict::Pass;
+    }
+    Verdict::Denied {
+        fact: row.3,
+        rule: row.4,
+    }
 }
 
-fn two(first: Fact, second: Fact) -> Few {
-    [Some(first), Some(second), None]
+/// A failure that names what is wrong, where something is not so.
+fn is(so: bool, what: &str) -> Result<(), Fail> {
+    if so { Ok(()) } else { Err(Fail::from(what)) }
 }
 
-fn denied(fact: u16, rule: u8) -> Verdict {
-    Verdict::Denied { fact, rule }
+/// Sees that this is said of a batch.
+fn says(alloc: Global, register: &Register, row: &Row) -> Result<(), Fail> {
+    let said = said_of(alloc, register, 200, row.1, &row.2)?;
+    is(said == wanted(row), row.0)
 }
+
+/// Sees that this is said of batches.
+fn says_each(alloc: Global, register: &Register, rows: &[Row]) -> Result<(), Fail> {
+    for row in rows {
+        says(alloc, register, row)?;
+    }
+    Ok(())
+}
+
+/// 2024-02-20 and the day behind it.
+const DAY: u32 = 19_773;
+
+const NEXT: u32 = 19_774;
 
 /// A reading at ten o'clock.
 fn reading(day: Day, component: u16, instrument: u16, operator: u16) -> Fact
@@ -273,216 +433,265 @@ fn delay(component: u16, ground: u8, signer: u16, day: Day, expected: Option<Day
     }
 }
 
+/// No fact: there is no such day.
+const NONE: On = (0, Told::Seen(0));
+
+/// A reading of valve 1.
+const LOOK: On = (DAY, Told::Read(1, 1, 1));
+
+/// Valve 40 is entered.
+const NEW: On = (DAY, Told::Entered(40, Kind::Valve, Service::Gas));
+
+/// A reading of it.
+const READ: On = (DAY, Told::Read(40, 1, 1));
+
+/// .. by nobody.
+const UNSIGNED: On = (DAY, Told::Read(40, 1, 0));
+
+/// Valve 1 is in vacuum service, from this day on or the next.
+const VACUUM: On = (DAY, Told::Classed(1, Service::Vacuum, Designation::Plain));
+
+const VACUUM_NEXT: On = (NEXT, Told::Classed(1, Service::Vacuum, Designation::Plain));
+
+/// Pump 5 is in service for under 300 hours.
+const UNDER_300: On = (DAY, Told::Classed(5, Service::Under300, Designation::Plain));
+
+const COMPONENTS: [Row; 20] = [
+    (
+        "unknown and unsigned, before a release",
+        7,
+        [UNSIGNED, (DAY, Told::Released(1)), NONE],
+        1,
+        1,
+    ),
+    ("entered after it", 0, [READ, NEW, NONE], 1, 1),
+    ("entered before it", 0, [NEW, READ, NONE], 0, 0),
+    ("vacuum", 0, [VACUUM, LOOK, NONE], 2, 2),
+    (
+        "vacuum from the day after",
+        0,
+        [VACUUM_NEXT, LOOK, NONE],
+        0,
+        0,
+    ),
+    (
+        "vacuum after it in the batch",
+        0,
+        [LOOK, VACUUM, NONE],
+        0,
+        0,
+    ),
+    (
+        "under 300 hours",
+        0,
+        [UNDER_300, (DAY, Told::Seen(5)), NONE],
+        2,
+        3,
+    ),
+    (
+        "another under 300 hours",
+        0,
+        [UNDER_300, (DAY, Told::Seen(6)), NONE],
+        0,
+        0,
+    ),
+    ("no operator", 0, [NEW, UNSIGNED, NONE], 2, 4),
+    (
+        "no instrument",
+        7,
+        [(DAY, Told::Read(1, 0, 1)), NONE, NONE],
+        1,
+        4,
+    ),
+    ("instrument and operator", 7, [LOOK, NONE, NONE], 0, 0),
+    ("a valve seen", 7, [(DAY, Told::Seen(1)), NONE, NONE], 1, 5),
+    (
+        "a pump in heavy liquid seen",
+        7,
+        [(DAY, Told::Seen(7)), NONE, NONE],
+        1,
+        5,
+    ),
+    ("a pump seen", 7, [(DAY, Told::Seen(5)), NONE, NONE], 0, 0),
+    (
+        "a sensor at a pump",
+        7,
+        [(DAY, Told::Indicated(5, Sort::Sensor)), NONE, NONE],
+        1,
+        6,
+    ),
+    (
+        "a sensor at a compressor",
+        7,
+        [(DAY, Told::Indicated(9, Sort::Sensor)), NONE, NONE],
+        0,
+        0,
+    ),
+    (
+        "a release of a valve",
+        7,
+        [(DAY, Told::Released(1)), NONE, NONE],
+        1,
+        7,
+    ),
+    ("a release", 7, [(DAY, Told::Released(8)), NONE, NONE], 0, 0),
+    (
+        "evidence at a compressor",
+        7,
+        [(DAY, Told::Indicated(9, Sort::Evidence)), NONE, NONE],
+        1,
+        8,
+    ),
+    (
+        "evidence at a pump in heavy liquid",
+        7,
+        [(DAY, Told::Indicated(7, Sort::Evidence)), NONE, NONE],
+        0,
+        0,
+    ),
+];
+
 #[test]
 fn rules_on_components_deny_and_let_pass(rt: HostRuntime) -> Result<(), Fail> {
-    let alloc = rt.alloc();
-    let day = Day::of_number(19_773).ok_or("day")?;
-    let next = Day::of_number(19_774).ok_or("day")?;
-    let register = register_of(alloc, &small_office(alloc)?)?;
-    let vacuum = on(day, class_of(1, class(Service::Vacuum, Designation::Plain)));
-    let vacuum_later = on(
-        next,
-        class_of(1, class(Service::Vacuum, Designation::Plain)),
-    );
-    let under_300 = on(
-        day,
-        class_of(5, class(Service::Under300, Designation::Plain)),
-    );
-    let new = on(day, component(40, Kind::Valve, false, Service::Gas));
-    let unsigned = reading(day, 40, 1, 0);
-    let look = reading(day, 1, 1, 1);
-    let pass = Verdict::Pass;
-    let cases = [
-        (
-            "unknown and unsigned, before a release",
-            7,
-            two(unsigned, release(day, 1)),
-            denied(1, 1),
-        ),
-        (
-            "entered after it",
-            0,
-            two(reading(day, 40, 1, 1), new),
-            denied(1, 1),
-        ),
-        (
-            "entered before it",
-            0,
-            two(new, reading(day, 40, 1, 1)),
-            pass,
-        ),
-        ("vacuum", 0, two(vacuum, look), denied(2, 2)),
-        (
-            "vacuum from the day after",
-            0,
-            two(vacuum_later, look),
-            pass,
-        ),
-        ("vacuum after it in the batch", 0, two(look, vacuum), pass),
-        (
-            "under 300 hours",
-            0,
-            two(under_300, visual(day, 5)),
-            denied(2, 3),
-        ),
-        (
-            "another under 300 hours",
-            0,
-            two(under_300, visual(day, 6)),
-            pass,
-        ),
-        ("no operator", 0, two(new, unsigned), denied(2, 4)),
-        ("no instrument", 7, one(reading(day, 1, 0, 1)), denied(1, 4)),
-        ("instrument and operator", 7, one(look), pass),
-        ("a valve seen", 7, one(visual(day, 1)), denied(1, 5)),
-        (
-            "a pump in heavy liquid seen",
-            7,
-            one(visual(day, 7)),
-            denied(1, 5),
-        ),
-        ("a pump seen", 7, one(visual(day, 5)), pass),
-        (
-            "a sensor at a pump",
-            7,
-            one(indication(day, 5, Sort::Sensor)),
-            denied(1, 6),
-        ),
-        (
-            "a sensor at a compressor",
-            7,
-            one(indication(day, 9, Sort::Sensor)),
-            pass,
-        ),
-        (
-            "a release of a valve",
-            7,
-            one(release(day, 1)),
-            denied(1, 7),
-        ),
-        ("a release", 7, one(release(day, 8)), pass),
-        (
-            "evidence at a compressor",
-            7,
-            one(indication(day, 9, Sort::Evidence)),
-            denied(1, 8),
-        ),
-        (
-            "evidence at a pump in heavy liquid",
-            7,
-            one(indication(day, 7, Sort::Evidence)),
-            pass,
-        ),
-    ];
-    for (what, handheld, few, want) in &cases {
-        assert_eq!(rt;
-            said_of(alloc, &register, 20, *handheld, few)?,
-            *want,
-            "{what}"
-        );
-    }
-    Ok(())
+    let register = small_register(rt.alloc())?;
+    says_each(rt.alloc(), &register, &COMPONENTS)
 }
+
+/// 2024-06-10, and the first day of a quarter of unit 1, 2024-07-01.
+const SOME: u32 = 19_884;
+
+const QUARTER: u32 = 19_905;
+
+const DELAYS: [Row; 11] = [
+    (
+        "purge of a pump",
+        7,
+        [(DAY, Told::Delayed(5, 3, 9, SOME)), NONE, NONE],
+        1,
+        9,
+    ),
+    (
+        "purge of a valve",
+        7,
+        [(DAY, Told::Delayed(1, 3, 9, SOME)), NONE, NONE],
+        0,
+        0,
+    ),
+    (
+        "dual seal of a valve",
+        7,
+        [(DAY, Told::Delayed(1, 4, 9, SOME)), NONE, NONE],
+        1,
+        10,
+    ),
+    (
+        "dual seal of a pump",
+        7,
+        [(DAY, Told::Delayed(5, 4, 9, SOME)), NONE, NONE],
+        0,
+        0,
+    ),
+    (
+        "stock for a pump",
+        7,
+        [(DAY, Told::Delayed(5, 5, 9, SOME)), NONE, NONE],
+        1,
+        11,
+    ),
+    (
+        "stock for a valve",
+        7,
+        [(DAY, Told::Delayed(1, 5, 9, SOME)), NONE, NONE],
+        0,
+        0,
+    ),
+    (
+        "shutdown without a signer",
+        7,
+        [(DAY, Told::Delayed(1, 1, 0, SOME)), NONE, NONE],
+        1,
+        12,
+    ),
+    (
+        "shutdown with a signer",
+        7,
+        [(DAY, Told::Delayed(1, 1, 9, SOME)), NONE, NONE],
+        0,
+        0,
+    ),
+    (
+        "isolated without a signer",
+        7,
+        [(DAY, Told::Delayed(1, 2, 0, SOME)), NONE, NONE],
+        0,
+        0,
+    ),
+    (
+        "isolated with no day",
+        7,
+        [(DAY, Told::Delayed(1, 2, 9, 0)), NONE, NONE],
+        1,
+        13,
+    ),
+    (
+        "withdrawn with no day",
+        7,
+        [(DAY, Told::Delayed(1, 0, 0, 0)), NONE, NONE],
+        0,
+        0,
+    ),
+];
+
+const ELECTIONS: [Row; 6] = [
+    (
+        "89 days of notice",
+        0,
+        [(QUARTER, Told::Elected(1, 1, 19_816)), NONE, NONE],
+        1,
+        14,
+    ),
+    (
+        "90 days of notice",
+        0,
+        [(QUARTER, Told::Elected(1, 1, 19_815)), NONE, NONE],
+        0,
+        0,
+    ),
+    (
+        "given up without notice",
+        0,
+        [(QUARTER, Told::Elected(1, 0, QUARTER)), NONE, NONE],
+        0,
+        0,
+    ),
+    (
+        "the second day of a quarter",
+        0,
+        [(19_906, Told::Elected(1, 1, 19_815)), NONE, NONE],
+        1,
+        20,
+    ),
+    (
+        "before the first quarter",
+        0,
+        [(18_293, Told::Elected(1, 0, DAY)), NONE, NONE],
+        1,
+        20,
+    ),
+    (
+        "unit not entered",
+        0,
+        [(QUARTER, Told::Elected(2, 1, 19_815)), NONE, NONE],
+        1,
+        17,
+    ),
+];
 
 #[test]
 fn rules_on_delays_and_elections_deny_and_let_pass(rt: HostRuntime) -> Result<(), Fail> {
-    let alloc = rt.alloc();
-    let day = Day::of_number(19_773).ok_or("day")?;
-    let some = Some(Day::of_number(19_884).ok_or("day")?);
-    let early = Day::of_number(18_293).ok_or("day")?;
-    let quarter = Day::of_number(19_905).ok_or("day")?;
-    let second = Day::of_number(19_906).ok_or("day")?;
-    let in_time = Day::of_number(19_815).ok_or("day")?;
-    let late = Day::of_number(19_816).ok_or("day")?;
-    let register = register_of(alloc, &small_office(alloc)?)?;
-    let pass = Verdict::Pass;
-    let cases = [
-        (
-            "purge of a pump",
-            7,
-            delay(5, 3, 9, day, some),
-            denied(1, 9),
-        ),
-        ("purge of a valve", 7, delay(1, 3, 9, day, some), pass),
-        (
-            "dual seal of a valve",
-            7,
-            delay(1, 4, 9, day, some),
-            denied(1, 10),
-        ),
-        ("dual seal of a pump", 7, delay(5, 4, 9, day, some), pass),
-        (
-            "stock for a pump",
-            7,
-            delay(5, 5, 9, day, some),
-            denied(1, 11),
-        ),
-        ("stock for a valve", 7, delay(1, 5, 9, day, some), pass),
-        (
-            "shutdown without a signer",
-            7,
-            delay(1, 1, 0, day, some),
-            denied(1, 12),
-        ),
-        ("shutdown with a signer", 7, delay(1, 1, 9, day, some), pass),
-        (
-            "isolated without a signer",
-            7,
-            delay(1, 2, 0, day, some),
-            pass,
-        ),
-        (
-            "isolated with no day",
-            7,
-            delay(1, 2, 9, day, None),
-            denied(1, 13),
-        ),
-        ("withdrawn with no day", 7, delay(1, 0, 0, day, None), pass),
-        (
-            "89 days of notice",
-            0,
-            election(quarter, 1, 1, late),
-            denied(1, 14),
-        ),
-        (
-            "90 days of notice",
-            0,
-            election(quarter, 1, 1, in_time),
-            pass,
-        ),
-        (
-            "given up without notice",
-            0,
-            election(quarter, 1, 0, quarter),
-            pass,
-        ),
-        (
-            "the second day of a quarter",
-            0,
-            election(second, 1, 1, in_time),
-            denied(1, 20),
-        ),
-        (
-            "before the first quarter",
-            0,
-            election(early, 1, 0, day),
-            denied(1, 20),
-        ),
-        (
-            "unit not entered",
-            0,
-            election(quarter, 2, 1, in_time),
-            denied(1, 17),
-        ),
-    ];
-    for (what, handheld, fact, want) in cases {
-        assert_eq!(rt;
-            said_of(alloc, &register, 20, handheld, &one(fact))?,
-            want,
-            "{what}"
-        );
-    }
-    Ok(())
+    let register = small_register(rt.alloc())?;
+    says_each(rt.alloc(), &register, &DELAYS)?;
+    says_each(rt.alloc(), &register, &ELECTIONS)
 }
 
 /// An election of skip periods.
@@ -517,120 +726,142 @@ fn unit(day: Day, unit: u8, name: Name) -> Fact
     }
 }
 
+/// Unit 2, with its shutdown, a compressor, and a reading on the last day.
+const COKER: On = (DAY, Told::Unit(2));
+
+const SHUTDOWN: On = (DAY, Told::Shut(2));
+
+const COMPRESSOR: On = (DAY, Told::Entered(20, Kind::Compressor, Service::Light));
+
+const LAST: On = (46_751, Told::Read(1, 1, 1));
+
+const OWN: [Row; 14] = [
+    (
+        "retired by a handheld",
+        7,
+        [(DAY, Told::Retired(1)), NONE, NONE],
+        1,
+        16,
+    ),
+    (
+        "retired by the office",
+        0,
+        [(DAY, Told::Retired(1)), NONE, NONE],
+        0,
+        0,
+    ),
+    (
+        "a shutdown of an unknown unit",
+        0,
+        [SHUTDOWN, NONE, NONE],
+        1,
+        17,
+    ),
+    (
+        "of a unit entered before it",
+        0,
+        [COKER, SHUTDOWN, NONE],
+        0,
+        0,
+    ),
+    ("a unit again", 0, [(DAY, Told::Unit(1)), NONE, NONE], 1, 18),
+    ("a unit twice in a batch", 0, [COKER, COKER, NONE], 2, 18),
+    (
+        "a component again",
+        0,
+        [
+            (DAY, Told::Entered(1, Kind::Pump, Service::Light)),
+            NONE,
+            NONE,
+        ],
+        1,
+        18,
+    ),
+    ("the last day", 7, [LAST, NONE, NONE], 0, 0),
+    (
+        "a day too late",
+        7,
+        [LAST, (46_752, Told::Read(1, 1, 1)), NONE],
+        2,
+        19,
+    ),
+    (
+        "a day too late for an election",
+        0,
+        [(46_752, Told::Elected(1, 0, DAY)), NONE, NONE],
+        1,
+        19,
+    ),
+    (
+        "a compressor in light liquid",
+        0,
+        [COMPRESSOR, NONE, NONE],
+        1,
+        21,
+    ),
+    (
+        "the same from a handheld",
+        7,
+        [COMPRESSOR, NONE, NONE],
+        1,
+        16,
+    ),
+    (
+        "a pump with no emissions",
+        0,
+        [
+            (DAY, Told::Classed(5, Service::Light, Designation::Nde)),
+            NONE,
+            NONE,
+        ],
+        0,
+        0,
+    ),
+    (
+        "a pump difficult to monitor",
+        0,
+        [
+            (
+                DAY,
+                Told::Classed(5, Service::Light, Designation::Difficult),
+            ),
+            NONE,
+            NONE,
+        ],
+        1,
+        21,
+    ),
+];
+
 #[test]
 fn the_office_s_own_rules_deny_and_let_pass(rt: HostRuntime) -> Result<(), Fail> {
-    let alloc = rt.alloc();
-    let day = Day::of_number(19_773).ok_or("day")?;
-    let last = Day::of_number(46_751).ok_or("day")?;
-    let past = Day::of_number(46_752).ok_or("day")?;
-    let register = register_of(alloc, &small_office(alloc)?)?;
-    let coker = unit(day, 2, Name::new(b"COKER").ok_or("name")?);
-    let crude = unit(day, 1, Name::new(b"CRUDE").ok_or("name")?);
-    let shutdown = on(day, FactBody::Shutdown { unit: 2, days: 3 });
-    let compressor = on(day, component(20, Kind::Compressor, false, Service::Light));
-    let again = on(day, component(1, Kind::Pump, false, Service::Light));
-    let without = on(day, class_of(5, class(Service::Light, Designation::Nde)));
-    let difficult = on(
-        day,
-        class_of(5, class(Service::Light, Designation::Difficult)),
-    );
-    let look = reading(last, 1, 1, 1);
-    let pass = Verdict::Pass;
-    let cases = [
-        (
-            "retired by a handheld",
-            7,
-            20,
-            one(retired(day, 1)),
-            denied(1, 16),
-        ),
-        ("retired by the office", 0, 20, one(retired(day, 1)), pass),
-        (
-            "a shutdown of an unknown unit",
-            0,
-            20,
-            one(shutdown),
-            denied(1, 17),
-        ),
-        (
-            "of a unit entered before it",
-            0,
-            20,
-            two(coker, shutdown),
-            pass,
-        ),
-        ("a unit again", 0, 20, one(crude), denied(1, 18)),
-        (
-            "a unit twice in a batch",
-            0,
-            20,
-            two(coker, coker),
-            denied(2, 18),
-        ),
-        ("a component again", 0, 20, one(again), denied(1, 18)),
-        ("the last day", 7, 20, one(look), pass),
-        (
-            "a day too late",
-            7,
-            20,
-            two(look, reading(past, 1, 1, 1)),
-            denied(2, 19),
-        ),
-        (
-            "a day too late for an election",
-            0,
-            20,
-            one(election(past, 1, 0, day)),
-            denied(1, 19),
-        ),
-        (
-            "a compressor in light liquid",
-            0,
-            20,
-            one(compressor),
-            denied(1, 21),
-        ),
-        (
-            "the same from a handheld",
-            7,
-            20,
-            one(compressor),
-            denied(1, 16),
-        ),
-        ("a pump with no emissions", 0, 20, one(without), pass),
-        (
-            "a pump difficult to monitor",
-            0,
-            20,
-            one(difficult),
-            denied(1, 21),
-        ),
-        (
-            "8,000,000 held",
-            7,
-            8_000_000,
-            one(look),
-            Verdict::Full { facts: 8_000_001 },
-        ),
-        ("one less", 7, 7_999_999, one(look), pass),
-        (
-            "8,000,000 held, and denied",
-            7,
-            8_000_000,
-            one(visual(day, 1)),
-            denied(1, 5),
-        ),
-    ];
-    for (what, handheld, held, few, want) in &cases {
-        if *held <= 8_000_000 {
-            assert_eq!(rt;
-                said_of(alloc, &register, *held, *handheld, few)?,
-                *want,
-                "{what}"
-            );
-        }
-    }
-    Ok(())
+    let register = small_register(rt.alloc())?;
+    says_each(rt.alloc(), &register, &OWN)
+}
+
+/// Sees that this is said of a batch of one fact, where so many are held.
+fn says_behind(
+    alloc: Global,
+    register: &Register,
+    held: u64,
+    told: On,
+    want: Verdict,
+) -> Result<(), Fail>
+    requires { held ≤ 8_000_000 }
+{
+    let said = said_of(alloc, register, held, 7, &[told])?;
+    is(said == want, "the facts that are held")
+}
+
+#[test]
+fn there_are_at_most_8_000_000_facts(rt: HostRuntime) -> Result<(), Fail> {
+    let register = small_register(rt.alloc())?;
+    let full = Verdict::Full { facts: 8_000_001 };
+    let denied = Verdict::Denied { fact: 1, rule: 5 };
+    let seen = (DAY, Told::Seen(1));
+    says_behind(rt.alloc(), &register, 8_000_000, LAST, full)?;
+    says_behind(rt.alloc(), &register, 7_999_999, LAST, Verdict::Pass)?;
+    says_behind(rt.alloc(), &register, 8_000_000, seen, denied)
 }
 
 /// The unit with so many valves.
@@ -649,77 +880,99 @@ fn unit_of_valves(alloc: Global, count: u16) -> Result<Vec<Fact>, Fail>
     Ok(facts)
 }
 
+/// 2024-01-01 and the day behind it.
+const YEAR: u32 = 19_723;
+
+const YEAR_NEXT: u32 = 19_724;
+
+/// Valves 1 to 3 become difficult to monitor, and a valve 40 and a pump 40 are entered in 2020.
+const FIRST: On = (YEAR, Told::Classed(1, Service::Gas, Designation::Difficult));
+
+const SECOND: On = (YEAR, Told::Classed(2, Service::Gas, Designation::Difficult));
+
+const THIRD: On = (YEAR, Told::Classed(3, Service::Gas, Designation::Difficult));
+
+const VALVE: On = (18_276, Told::Entered(40, Kind::Valve, Service::Gas));
+
+const PUMP: On = (18_276, Told::Entered(40, Kind::Pump, Service::Light));
+
+const OF_A_HUNDRED: [Row; 5] = [
+    ("two of a hundred", 0, [FIRST, SECOND, NONE], 0, 0),
+    ("three of a hundred", 0, [FIRST, SECOND, THIRD], 1, 15),
+    (
+        "the third from the day after",
+        0,
+        [
+            FIRST,
+            SECOND,
+            (
+                YEAR_NEXT,
+                Told::Classed(3, Service::Gas, Designation::Difficult),
+            ),
+        ],
+        3,
+        15,
+    ),
+    (
+        "to and fro between two days",
+        0,
+        [
+            FIRST,
+            (
+                YEAR_NEXT,
+                Told::Classed(2, Service::Gas, Designation::Difficult),
+            ),
+            THIRD,
+        ],
+        2,
+        15,
+    ),
+    (
+        "two of 99",
+        0,
+        [FIRST, SECOND, (YEAR, Told::Retired(3))],
+        0,
+        0,
+    ),
+];
+
+const OF_33: [Row; 5] = [
+    ("one of 33", 0, [FIRST, NONE, NONE], 1, 15),
+    (
+        "one of 34, the last behind it",
+        0,
+        [FIRST, VALVE, NONE],
+        0,
+        0,
+    ),
+    ("a pump behind it", 0, [FIRST, PUMP, NONE], 1, 15),
+    (
+        "a component twice, first a pump",
+        0,
+        [FIRST, PUMP, VALVE],
+        1,
+        15,
+    ),
+    (
+        "a component twice, first a valve",
+        0,
+        [FIRST, VALVE, PUMP],
+        3,
+        18,
+    ),
+];
+
+/// Sees that this is said of batches, where there is a unit with so many valves.
+fn says_of_valves(alloc: Global, count: u16, rows: &[Row]) -> Result<(), Fail>
+    requires { count ≤ 400 }
+{
+    let facts = unit_of_valves(alloc, count)?;
+    let register = register_of(alloc, &facts)?;
+    says_each(alloc, &register, rows)
+}
+
 #[test]
 fn three_valves_in_a_hundred_are_too_many(rt: HostRuntime) -> Result<(), Fail> {
-    let alloc = rt.alloc();
-    let day = Day::of_number(19_723).ok_or("day")?;
-    let next = Day::of_number(19_724).ok_or("day")?;
-    let begin = Day::of_number(18_276).ok_or("day")?;
-    let hundred = register_of(alloc, &unit_of_valves(alloc, 100)?)?;
-    let thirty_three = register_of(alloc, &unit_of_valves(alloc, 33)?)?;
-    let difficult = class(Service::Gas, Designation::Difficult);
-    let first = on(day, class_of(1, difficult));
-    let second = on(day, class_of(2, difficult));
-    let second_later = on(next, class_of(2, difficult));
-    let third = on(day, class_of(3, difficult));
-    let third_later = on(next, class_of(3, difficult));
-    let valve = on(begin, component(40, Kind::Valve, false, Service::Gas));
-    let pump = on(begin, component(40, Kind::Pump, false, Service::Light));
-    let pass = Verdict::Pass;
-    let cases = [
-        ("two of a hundred", &hundred, two(first, second), pass),
-        (
-            "three of a hundred",
-            &hundred,
-            [Some(first), Some(second), Some(third)],
-            denied(1, 15),
-        ),
-        (
-            "the third from the day after",
-            &hundred,
-            [Some(first), Some(second), Some(third_later)],
-            denied(3, 15),
-        ),
-        (
-            "to and fro between two days",
-            &hundred,
-            [Some(first), Some(second_later), Some(third)],
-            denied(2, 15),
-        ),
-        (
-            "two of 99",
-            &hundred,
-            [Some(first), Some(second), Some(retired(day, 3))],
-            pass,
-        ),
-        ("one of 33", &thirty_three, one(first), denied(1, 15)),
-        (
-            "one of 34, the last behind it",
-            &thirty_three,
-            two(first, valve),
-            pass,
-        ),
-        (
-            "a pump behind it",
-            &thirty_three,
-            two(first, pump),
-            denied(1, 15),
-        ),
-        (
-            "a component twice, first a pump",
-            &thirty_three,
-            [Some(first), Some(pump), Some(valve)],
-            denied(1, 15),
-        ),
-        (
-            "a component twice, first a valve",
-            &thirty_three,
-            [Some(first), Some(valve), Some(pump)],
-            denied(3, 18),
-        ),
-    ];
-    for (what, register, few, want) in &cases {
-        assert_eq!(rt; said_of(alloc, register, 200, 0, few)?, *want, "{what}");
-    }
-    Ok(())
+    says_of_valves(rt.alloc(), 100, &OF_A_HUNDRED)?;
+    says_of_valves(rt.alloc(), 33, &OF_33)
 }
