@@ -1,5 +1,6 @@
 #!/usr/bin/env python3
-"""Measures the import of components from CSV to receipts by the real program, beside a plain Rust program (import.rs).
+"""Measures the import of components from CSV to receipts by the real program, beside a plain Rust program (import.rs) and beside
+the writes and syncs of the same frames in a loop.
 
 A file of COUNT components of process unit 1 is made, and imported into a journal that has the unit: the least processor time
 and the least time of some runs taken in turn. Both have to print the same receipts and leave the same journal.
@@ -13,6 +14,8 @@ import subprocess
 import sys
 import tempfile
 import time
+
+from office import loop
 
 SIZES = [int(word) for word in sys.argv[1:]] or [15_000, 30_000, 60_000]
 RUNS = 9
@@ -52,7 +55,7 @@ def main():
         subprocess.run([program, entered, "init"], check=True)
         subprocess.run([program, entered, "import", "1", "units"], check=True, input=UNIT.encode(), stdout=subprocess.DEVNULL)
         commands = {"ours": [program, journal, "import", "2", "components"], "Rust": [rust, journal, "2"]}
-        print(f"{'components':>10} {'ours s':>8} {'Rust s':>8} {'ratio':>6} {'ours wall s':>12} {'Rust wall s':>12}")
+        print(f"{'components':>10} {'ours s':>8} {'Rust s':>8} {'ratio':>6} {'ours wall s':>12} {'Rust wall s':>12} {'loop wall s':>12}")
         for count in SIZES:
             text = components(count).encode()
             best = {name: (float("inf"), float("inf")) for name in commands}
@@ -66,7 +69,14 @@ def main():
             if left["ours"] != left["Rust"]:
                 sys.exit("the two differ")
             (ours, our_wall), (plain, plain_wall) = best["ours"], best["Rust"]
-            print(f"{count:10} {ours:8.3f} {plain:8.3f} {ours / plain:6.2f} {our_wall:12.3f} {plain_wall:12.3f}")
+            # Each line is the receipt of a batch, which has a frame of its own.
+            frames = left["ours"][0].count(b"\n")
+            size = (len(left["ours"][1]) - entered.stat().st_size) // frames
+            alone = float("inf")
+            for _ in range(RUNS):
+                shutil.copyfile(entered, journal)
+                alone = min(alone, loop(journal, frames, size))
+            print(f"{count:10} {ours:8.3f} {plain:8.3f} {ours / plain:6.2f} {our_wall:12.3f} {plain_wall:12.3f} {alone:12.3f}", flush=True)
 
 
 main()
