@@ -1,4 +1,5 @@
 pub mod ApartLemmas
+pub mod DayLemmas
 pub mod EventLemmas
 pub mod FitnessLemmas
 pub mod FrontLemmas
