@@ -8,7 +8,7 @@ use Rattle.fact_kinds.specs.declared.class.Class.{Class}
 use Rattle.fact_kinds.specs.declared.class.Kind.{Kind}
 use Rattle.ldar_law.specs.declared.equipment.Equipment.{Equipment}
 use Rattle.ldar_law.specs.Denials.{component_asked, component_looked_at, is_ground_for_another, suits, class_unsuited}
-use Rattle.ldar_law.specs.Judged.{Register, Case, first_entry, class_held, is_so_of, is_kind_so}
+use Rattle.ldar_law.specs.Judged.{Case, first_entry, class_held, is_so_of, is_kind_so}
 use Rattle.batch_rules.specs.Cases.{standing_asked}
 use Rattle.batch_rules.specs.Standings.{standing_of, is_so}
 

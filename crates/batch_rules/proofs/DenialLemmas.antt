@@ -4,9 +4,9 @@ use Rattle.std.specs.Option.{option_map, option_or}
 use Rattle.std.proofs.lemmas.List.{drop_all, length-take-le}
 use Rattle.list_words.specs.Words.{first_given_from}
 use Rattle.fact_kinds.specs.declared.batch.Batch.{Batch}
-use Rattle.fact_kinds.specs.Facts.{Entry, key_of, entries_from, entries_of}
+use Rattle.fact_kinds.specs.Facts.{Entry, key_of, entries_from}
 use Rattle.fact_kinds.specs.Stated.{Stated}
-use Rattle.ldar_law.specs.Judged.{Case, register_with, case_of}
+use Rattle.ldar_law.specs.Judged.{register_with, case_of}
 use Rattle.ldar_law.specs.Verdicts.{least_rule, denial_at}
 use Rattle.fact_store.specs.Kept.{facts_in}
 use Rattle.batch_rules.specs.declared.known.Known.{Known}

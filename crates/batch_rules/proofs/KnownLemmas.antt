@@ -1,12 +1,17 @@
-use Rattle.std.proofs.Common.{◌≡◌, ℕ, ◌+◌, ◌<◌, ◌≤◌, Bool, true, ◌&&◌, ◌||◌, nat_le}
-use Rattle.std.proofs.Common.{Option, Some, None, List, [], ◌∷◌, ◌++◌, length, drop, get_or, slice_get}
-use Rattle.std.proofs.Common.{refl, sym, ap, ◌∙◌}
+use Rattle.std.proofs.Common.{◌≡◌, ℕ, zero, suc, ◌+◌, ◌<◌, ◌≤◌, max, Bool, true, false, ◌&&◌, ◌||◌, nat_eq, nat_le}
+use Rattle.std.proofs.Common.{Option, Some, None, List, [], ◌∷◌, ◌++◌, length, take, drop, get_or, slice_get}
+use Rattle.std.proofs.Common.{refl, sym, ap, ◌∙◌, arith}
 use Rattle.std.specs.Option.{option_map, option_or, is_some}
-use Rattle.std.proofs.lemmas.List.{drop_more, drop_all}
+use Rattle.std.proofs.lemmas.Bool.{and_parts}
+use Rattle.std.proofs.lemmas.Bool.Decides.{nat_tests}
+use Rattle.std.proofs.lemmas.List.Folds.{list_all-append}
+use Rattle.std.proofs.lemmas.List.{take_more, drop_more, drop_all}
 use Rattle.std.specs.List.{filter_map, cons_option, list_any}
 use Rattle.fact_kinds.specs.declared.batch.Batch.{Batch}
 use Rattle.list_words.specs.Order.{in_order}
 use Rattle.fact_kinds.specs.Facts.{Entry, goes_first, key_of, entries_from, entries_of}
+use Rattle.fact_kinds.specs.declared.body.FactBody.{FactBody}
+use Rattle.fact_kinds.specs.declared.body.FactBody.TheVariants.{Component as ComponentFact}
 use Rattle.fact_kinds.specs.Stated.{Stated}
 use Rattle.ldar_law.specs.BatchLaws.{unretired}
 use Rattle.ldar_law.specs.Equipment.{retires, retired_on, class_at, component_entered, equipment_of, unit_entered, unit_entry_of}
@@ -19,7 +24,7 @@ use Rattle.ldar_law.specs.Judged.{register_with, first_entry}
 use Rattle.ldar_law.proofs.BatchLemmas.{first_entry_of_two, first_unit_of_two, first_entry_is_registered, first_entry_is_equipment}
 use Rattle.ldar_law.proofs.RegisterLemmas.{retired_after_facts}
 use Rattle.ldar_law.proofs.SliceLemmas.{register_facts_suffice}
-use Rattle.batch_rules.specs.Known.{entered_among, unit_among, retired_among}
+use Rattle.batch_rules.specs.Among.{entered_among, unit_among, retired_among, are_up_to, entered_or_0}
 
 -- what the facts of a batch give, with their keys and without
 pub given_among : {X : Type 0} (f : Entry → Option X) (g : Stated → Option X) (batch : Batch)
@@ -47,6 +52,49 @@ first_from_here f facts i fact within is some =
 pub none_from_here : {X : Type 0} (f : Stated → Option X) (facts : List Stated) (i : ℕ) → length facts ≤ i
     → slice_get (filter_map f (drop i facts)) 0 ≡ None
 none_from_here f facts i past = rw (drop_all i facts past) refl
+
+-- no fact enters the component, where its number is greater than that of each which they enter
+enters_none : (number greatest day : ℕ) (body : FactBody) → nat_le (entered_or_0 body) greatest ≡ true → greatest < number
+    → component_entered number None day body ≡ None
+enters_none number greatest day (ComponentFact other unit kind monomer replaces class) within above =
+    let differ : nat_eq other number ≡ false = grind (arith, nat_tests) in rw differ refl
+enters_none number greatest day _ within above = refl
+
+pub none_beyond : (number greatest : ℕ) (facts : List Stated) → are_up_to (Some greatest) facts ≡ true → greatest < number
+    → entered_among number facts ≡ None
+none_beyond number greatest [] within above = refl
+none_beyond number greatest (fact ∷ facts) within above =
+    let first = and_parts (nat_le (entered_or_0 fact.body) greatest) (are_up_to (Some greatest) facts) within in
+    rw (enters_none number greatest fact.day fact.body first.0 above) (none_beyond number greatest facts first.1 above)
+
+-- ---- how far the entries of a batch reach
+
+-- a greater number does too
+up_to_more : (low high : ℕ) (facts : List Stated) → low ≤ high → are_up_to (Some low) facts ≡ true → are_up_to (Some high) facts ≡ true
+up_to_more low high [] more within = refl
+up_to_more low high (fact ∷ facts) more within =
+    let first = and_parts (nat_le (entered_or_0 fact.body) low) (are_up_to (Some low) facts) within in
+    let here : nat_le (entered_or_0 fact.body) high ≡ true = grind (arith, nat_tests) in
+    rw here (up_to_more low high facts more first.1)
+
+-- .. of the first facts
+pub up_to_fewer : (greatest few many : ℕ) (facts : List Stated) → few ≤ many → are_up_to (Some greatest) (take many facts) ≡ true
+    → are_up_to (Some greatest) (take few facts) ≡ true
+up_to_fewer greatest zero many facts less within = refl
+up_to_fewer greatest (suc few) zero facts less within = absurd (omega (arith, less))
+up_to_fewer greatest (suc few) (suc many) [] less within = refl
+up_to_fewer greatest (suc few) (suc many) (fact ∷ facts) less within =
+    let first = and_parts (nat_le (entered_or_0 fact.body) greatest) (are_up_to (Some greatest) (take many facts)) within in
+    rw first.0 (up_to_fewer greatest few many facts (omega (arith, less)) first.1)
+
+-- .. and of those with one more
+pub up_to_one_more : (greatest : ℕ) (facts : List Stated) (i : ℕ) (fact : Stated) → i < length facts → fact ≡ get_or facts i fact
+    → are_up_to (Some greatest) (take i facts) ≡ true → are_up_to (Some (max greatest (entered_or_0 fact.body))) (take (i + 1) facts) ≡ true
+up_to_one_more greatest facts i fact within is before =
+    let most = max greatest (entered_or_0 fact.body) in
+    let here : nat_le (entered_or_0 fact.body) most ≡ true = grind (arith, nat_tests) in
+    rw (take_more facts i fact within, sym is, list_all-append (λ (f : Stated). nat_le (entered_or_0 f.body) most) (take i facts) (fact ∷ []))
+    (rw (up_to_more greatest most (take i facts) (omega arith) before, here) refl)
 
 -- ---- the register with some facts of a batch
 

@@ -1,7 +1,7 @@
-use Rattle.std.proofs.Common.{◌≡◌, ℕ, ◌+◌, ◌-◌, ◌<◌, ◌≤◌, false, nat_lt, refl, arith, rules}
+use Rattle.std.proofs.Common.{◌≡◌, ℕ, ◌+◌, ◌<◌, ◌≤◌, false, refl, arith}
 use Rattle.std.proofs.lemmas.Bool.{lt-ltb}
-use Rattle.ldar_days.specs.Calendar.{month_of, near}
-use Rattle.ldar_days.specs.Quarters.{first_quarter, last_whole}
+use Rattle.ldar_days.specs.Calendar.{month_of}
+use Rattle.ldar_days.specs.Quarters.{first_quarter}
 use Rattle.ldar_days.proofs.Months.{month_of-near}
 use Rattle.ldar_days.proofs.Quarters.{last_whole-near}
 use Rattle.ldar_law.specs.Denials.{begins_quarter}

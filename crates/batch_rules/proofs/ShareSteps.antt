@@ -1,5 +1,5 @@
 use Rattle.std.proofs.Common.{◌≡◌, ℕ, ◌+◌, ◌<◌, ◌≤◌, Bool, true, false, cond}
-use Rattle.std.proofs.Common.{Option, Some, None, List, [], ◌∷◌, ◌++◌, length, take, drop, get_or, filter}
+use Rattle.std.proofs.Common.{Some, None, List, [], ◌∷◌, ◌++◌, length, take, get_or, filter}
 use Rattle.std.proofs.Common.{refl, sym, ap, ◌∙◌, inl, inr, arith}
 use Rattle.std.proofs.lemmas.Bool.{cases_Bool}
 use Rattle.std.proofs.lemmas.List.{append-nil, append_assoc}
@@ -11,7 +11,7 @@ use Rattle.fact_kinds.specs.Named.{component_of}
 use Rattle.fact_kinds.specs.Stated.{Stated}
 use Rattle.fact_store.specs.Kept.{facts_in}
 use Rattle.ldar_law.proofs.ShareLemmas.{one_more_fact_counts, other_facts_count_nothing}
-use Rattle.ldar_law.specs.Judged.{Register, register_with}
+use Rattle.ldar_law.specs.Judged.{register_with}
 use Rattle.ldar_law.specs.Slices.{is_registered, register_facts}
 use Rattle.batch_rules.specs.declared.known.Known.{Known}
 use Rattle.batch_rules.specs.Known.{batch_of, register_by}

@@ -1,34 +1,24 @@
-ghost use Rattle.std.specs.Prelude.{◌≡◌, ◌+◌, ◌<◌, ◌≤◌, ◌^◌, if◌then◌else◌, None, IfSome, List, length};
+ghost use Rattle.std.specs.Prelude.{◌≡◌, ◌≤◌, true, Some, None, IfSome, List, length, take};
 ghost use Rattle.fact_kinds.specs.declared.limits.TheConstants.{MOST_FACTS};
 ghost use Rattle.fact_kinds.specs.declared.batch.Batch.{Batch as FactBatch};
 ghost use Rattle.fact_kinds.specs.Facts.{facts_of};
 ghost use Rattle.fact_store.specs.Kept.{facts_in};
-ghost use Rattle.ldar_law.specs.Slices.{is_registered as says_registered, register_facts};
+ghost use Rattle.ldar_law.specs.Slices.{register_facts};
 ghost use Rattle.ldar_law.specs.Verdicts.{denial_after, least_rule as least, verdict_by, verdict_on};
 ghost use Rattle.batch_rules.specs.Cases.{case_in};
 ghost use Rattle.batch_rules.specs.Known.{batch_of, register_at, register_by};
 ghost use Rattle.batch_rules.specs.Passed.{ArePassed, IsPassed};
+ghost use Rattle.batch_rules.specs.Among.{are_up_to};
 
 use crate::case::Case;
 use crate::difficult::newly_asked;
 use crate::known::Known;
 use crate::passed::Passed;
+use crate::reach::{NO_REACH, Reach};
 use crate::rules::least_rule;
 use component_register::Register;
 use fact_kinds::{Batch, Fact, FactBody, MOST_FACTS};
-use ldar_law::{Verdict, is_registered};
-
-/// How many facts of a batch stand up to its last entry in the register, where the fact at a place has come too.
-fn reach_after(reach: usize, index: usize, body: &FactBody) -> usize
-    requires within { index < 2 ^ 16 }
-    ensures value { result ≡ (if says_registered body.now then index + 1 else reach) }
-{
-    if is_registered(body) {
-        index + 1
-    } else {
-        reach
-    }
-}
+use ldar_law::Verdict;
 
 /// The least rule that denies a fact, and the unit of which the rule on difficult valves was asked anew, where the fact
 /// passes.
@@ -36,47 +26,57 @@ fn judged<'a>(
     whole: &Known<'a>,
     fact: &'a Fact,
     index: usize,
-    reach: usize,
+    reach: Reach,
     passed: &'a Passed,
 ) -> (Option<u8>, Option<u8>)
     requires few { length whole.now.front.now ≤ 512 }
-    requires within { reach ≤ length whole.now.front.now }
-    requires known { register_by whole.now reach ≡ register_by whole.now index }
+    requires place { index ≤ length whole.now.front.now }
+    requires within { reach.count ≤ index }
+    requires known { register_by whole.now reach.count ≡ register_by whole.now index }
+    requires up_to { are_up_to (Some reach.greatest) (take index whole.now.front.now) ≡ true }
     requires passed { ArePassed (register_at whole.now) passed.now }
     ensures rule { result.0 ≡ least (case_in (facts_in whole.now.register.now) (batch_of whole.now) index fact.now) }
     ensures passed { result.0 ≡ None → IfSome result.1 (λ unit. IsPassed (register_at whole.now) (unit, fact.now.day)) }
 {
-    let case = Case::new(fact, index, whole.up_to(reach), *whole, passed);
+    let known = whole.up_to(reach.count, Some(reach.greatest));
+    let case = Case::new(fact, index, known, *whole, passed);
     match least_rule(&case) {
         Some(rule) => (Some(rule), None),
         None => (None, newly_asked(&case)),
     }
 }
 
-/// The first fact of a batch that is denied, from 1, and the least rule that denies it.
-fn first_denial(register: &Register, batch: &Batch) -> Option<(u16, u8)>
-    ensures value { result ≡ denial_after (facts_in register.now) batch.now }
+/// The first fact of a batch that is denied, from 1, and the least rule that denies it, by what is known by all of them.
+fn first_denied(whole: Known<'_>) -> Option<(u16, u8)>
+    requires few { length whole.front.now ≤ 512 }
+    ensures value { result ≡ denial_after (facts_in whole.entry.register.now) (batch_of whole.entry) }
 {
-    let facts = batch.facts.as_slice();
-    let whole = Known {
-        register,
-        handheld: batch.handheld,
-        number: batch.number,
-        front: facts,
-    };
     // Behind the last entry in the register nothing has to be looked through.
-    let mut reach = 0;
+    let mut reach = NO_REACH;
     let mut passed = Passed::new();
-    for index in 0..facts.len() {
-        let fact = &facts[index];
+    for index in 0..whole.front.len() {
+        let fact = &whole.front[index];
         let (rule, asked) = judged(&whole, fact, index, reach, &passed);
         if let Some(rule) = rule {
             return Some((index as u16 + 1, rule));
         }
         passed.add(asked, fact.day);
-        reach = reach_after(reach, index, &fact.body);
+        reach = reach.after(index, &fact.body);
     }
     None
+}
+
+/// The first fact of a batch that is denied, from 1, and the least rule that denies it.
+fn first_denial(register: &Register, batch: &Batch) -> Option<(u16, u8)>
+    ensures value { result ≡ denial_after (facts_in register.now) batch.now }
+{
+    first_denied(Known {
+        register,
+        handheld: batch.handheld,
+        number: batch.number,
+        front: batch.facts.as_slice(),
+        greatest: None,
+    })
 }
 
 /// The verdict on what was found first, where there would be so many facts.

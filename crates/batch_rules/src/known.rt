@@ -1,12 +1,13 @@
-ghost use Rattle.std.specs.Prelude.{◌≡◌, ℕ, ◌<◌, ◌≤◌, ◌^◌, Some, length};
+ghost use Rattle.std.specs.Prelude.{◌≡◌, ℕ, ◌<◌, ◌≤◌, ◌^◌, true, Some, None, IsTrue, length, take};
 ghost use Rattle.std.specs.Option.{is_some};
 ghost use Rattle.list_words.specs.Order as order;
 ghost use Rattle.ldar_law.specs.RegisterLaws.{class_first, with_class};
 ghost use Rattle.ldar_law.specs.Equipment as law;
 ghost use Rattle.ldar_law.specs.Force as force;
 ghost use Rattle.ldar_law.specs.Judged as judged;
-ghost use Rattle.batch_rules.specs.Known.{entered_among, unit_among, retired_among, register_at, register_by};
+ghost use Rattle.batch_rules.specs.Among.{entered_among, unit_among, retired_among, are_up_to};
 ghost use Rattle.batch_rules.specs.Standings.{standing_of, standing_by};
+ghost use mathlib.Core.Bool.{Bool-set};
 
 use crate::asked::Standing;
 use component_register::{Register, component_entered, retires, unit_entered};
@@ -22,6 +23,9 @@ pub struct Known<'a> {
     pub number: u32,
     /// The facts of the batch that came.
     pub front: &'a [Fact],
+    /// A number above which they enter no component, where one is told.
+    pub greatest: Option<u16>,
+    ghost up_to: { are_up_to greatest front.now ≡ true } by { Bool-set (are_up_to greatest front.now) true },
 }
 
 /// Whether a fact enters the component.
@@ -129,16 +133,42 @@ fn later_of(latest: Option<(Key, Class)>, key: Key, class: Class) -> (Key, Class
 }
 
 impl<'a> Known<'a> {
-    /// What is known by the first facts alone.
-    pub fn up_to(&self, count: usize) -> Known<'a>
+    ghost use Rattle.batch_rules.specs.Known.{register_at, register_by};
+
+    /// What is known by the first facts alone, with a number above which they enter no component, where one is told.
+    pub fn up_to(&self, count: usize, greatest: Option<u16>) -> Known<'a>
         requires within { count ≤ length self.now.front.now }
+        requires up_to { are_up_to greatest (take count self.now.front.now) ≡ true }
         ensures value { register_at result ≡ register_by self.now count }
         ensures few { length result.front.now ≤ count }
     {
         Known {
+            register: self.register,
+            handheld: self.handheld,
+            number: self.number,
             front: &self.front[..count],
-            ..*self
+            greatest,
         }
+    }
+
+    /// Whether the number is greater than that of each component that the facts that came enter.
+    fn is_beyond(&self, component: u16) -> bool
+        ensures new { IsTrue result → entered_among component self.now.front.now ≡ None }
+    {
+        match self.greatest {
+            Some(greatest) => component > greatest,
+            None => false,
+        }
+    }
+
+    /// The component as the first of the facts that came enters it.
+    fn first_component(&self, component: u16) -> Option<Equipment>
+        ensures value { result ≡ entered_among component self.now.front.now }
+    {
+        if self.is_beyond(component) {
+            return None;
+        }
+        first_component(self.front, component)
     }
 
     /// The component as it was entered first, with no retirement.
@@ -150,7 +180,7 @@ impl<'a> Known<'a> {
                 retired: None,
                 ..item
             }),
-            None => first_component(self.front, component),
+            None => self.first_component(component),
         }
     }
 

@@ -11,6 +11,7 @@ mod elections;
 mod entries;
 mod known;
 mod passed;
+mod reach;
 mod rules;
 mod share;
 mod table;

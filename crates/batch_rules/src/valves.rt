@@ -1,11 +1,11 @@
 //! How many valves of a process unit are in service on a day, and how many of them are difficult to monitor
 //! (40 CFR 60.482-7a(h)(2)(ii)).
 
-ghost use Rattle.std.specs.Prelude.{◌≡◌, ◌+◌, ◌<◌, ◌≤◌, [], length, ◌^◌};
+ghost use Rattle.std.specs.Prelude.{◌≡◌, ◌+◌, ◌<◌, ◌≤◌, [], length, ◌^◌, sum_by};
 ghost use Rattle.fact_kinds.specs.declared.limits.TheConstants.{MOST_FACTS};
 ghost use Rattle.fact_store.specs.Kept.{facts_in};
 ghost use Rattle.ldar_law.specs.Judged.{register_with};
-ghost use Rattle.ldar_law.specs.ShareLaws.{counts_as_valve};
+ghost use Rattle.ldar_law.specs.ShareLaws.{adds, counts_as_difficult, counts_as_valve};
 ghost use Rattle.batch_rules.specs.Known.{register_at, register_by};
 ghost use Rattle.batch_rules.specs.Shares.{added, changed as changed_by, is_difficult_on, share_in};
 
@@ -60,6 +60,23 @@ fn share_of(known: &Known, component: u16, unit: u8, day: Day) -> Share
     }
 }
 
+/// The share of some components.
+fn share_of_all(known: &Known, components: &[u16], unit: u8, day: Day) -> Share
+    requires few { length components.now ≤ MOST_FACTS }
+    requires front { length known.now.front.now ≤ 512 }
+    ensures valves { result.valves ≡ sum_by (adds (counts_as_valve unit day) (register_at known.now)) components.now }
+    ensures difficult { result.difficult ≡ sum_by (adds (counts_as_difficult unit day) (register_at known.now)) components.now }
+    ensures few { (result.valves ≤ MOST_FACTS) × (result.difficult ≤ MOST_FACTS) }
+{
+    let mut share = NOTHING;
+    for component in components {
+        let one = share_of(known, *component, unit, day);
+        share.valves += one.valves;
+        share.difficult += one.difficult;
+    }
+    share
+}
+
 /// The share by the register alone.
 fn share_registered(register: &Register, unit: u8, day: Day) -> Share
     ensures value { result ≡ share_in unit day (register_with (facts_in register.now) []) }
@@ -70,14 +87,9 @@ fn share_registered(register: &Register, unit: u8, day: Day) -> Share
         handheld: 0,
         number: 0,
         front: &[],
+        greatest: None,
     };
-    let mut share = NOTHING;
-    for component in register.members(unit) {
-        let one = share_of(&known, *component, unit, day);
-        share.valves += one.valves;
-        share.difficult += one.difficult;
-    }
-    share
+    share_of_all(&known, register.members(unit), unit, day)
 }
 
 /// The component of which a fact changes what the register holds.
@@ -118,8 +130,8 @@ fn share_after(known: &Known, share: Share, index: usize, unit: u8, day: Day) ->
     let fact = &known.front[index];
     match changed(&fact.body) {
         Some(component) => {
-            let before = share_of(&known.up_to(index), component, unit, day);
-            let now = share_of(&known.up_to(index + 1), component, unit, day);
+            let before = share_of(&known.up_to(index, None), component, unit, day);
+            let now = share_of(&known.up_to(index + 1, None), component, unit, day);
             corrected(share, before, now)
         }
         None => share,

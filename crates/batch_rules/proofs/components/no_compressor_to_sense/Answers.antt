@@ -1,6 +1,5 @@
-use Rattle.std.proofs.Common.{◌≡◌, true, not, refl, sym, ap, ◌∙◌}
+use Rattle.std.proofs.Common.{◌≡◌, sym, ap, ◌∙◌}
 use Rattle.fact_kinds.specs.declared.body.FactBody.TheVariants.{Indication}
-use Rattle.fact_kinds.specs.declared.body.Sort.{Sort}
 use Rattle.ldar_law.specs.Denials as law
 use Rattle.ldar_law.specs.Standing as standing
 use Rattle.batch_rules.specs.Standings.{is_so}

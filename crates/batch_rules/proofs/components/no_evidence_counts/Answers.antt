@@ -1,4 +1,4 @@
-use Rattle.std.proofs.Common.{◌≡◌, true, not, refl, sym, ap, ◌∙◌}
+use Rattle.std.proofs.Common.{◌≡◌, not, sym, ap, ◌∙◌}
 use Rattle.fact_kinds.specs.declared.body.FactBody.TheVariants.{Indication}
 use Rattle.fact_kinds.specs.declared.body.Sort.{Sort}
 use Rattle.ldar_law.specs.Denials as law

@@ -1,7 +1,6 @@
-use Rattle.std.proofs.Common.{◌≡◌, true, not, refl, sym, ap, ◌∙◌}
+use Rattle.std.proofs.Common.{◌≡◌, sym, ap, ◌∙◌}
 use Rattle.fact_kinds.specs.declared.body.FactBody.TheVariants.{Release}
 use Rattle.ldar_law.specs.Denials as law
-use Rattle.ldar_law.specs.Kinds as kinds
 use Rattle.ldar_law.specs.Standing as standing
 use Rattle.batch_rules.specs.Standings.{is_so}
 use Rattle.batch_rules.proofs.CaseLemmas.{release_is}

@@ -1,7 +1,5 @@
-use Rattle.std.proofs.Common.{◌≡◌, ℕ, ◌+◌, Option, List, length, sym, ap, ◌∙◌}
-use Rattle.fact_kinds.specs.declared.batch.Batch.{Batch}
+use Rattle.std.proofs.Common.{◌≡◌, ◌+◌, List, length, ap, ◌∙◌}
 use Rattle.fact_kinds.specs.Stated.{Stated}
-use Rattle.fact_kinds.specs.Facts.{facts_of}
 use Rattle.ldar_law.specs.Verdicts.{denial_after, first_denial, facts_with, verdict_by}
 use Rattle.ldar_law.proofs.RegisterLemmas.{register_decides}
 use Rattle.batch_rules.proofs.denials.verdict.Goals as goal

@@ -1,5 +1,5 @@
 use Rattle.std.proofs.Common.{◌≡◌, drop}
-use Rattle.batch_rules.specs.Known.{entered_among}
+use Rattle.batch_rules.specs.Among.{entered_among}
 use Rattle.batch_rules.proofs.known.first_component.Given as goal
 
 abbrev pub invariant-loop-fact : goal.invariant-loop-fact

@@ -1,5 +1,5 @@
 use Rattle.std.proofs.Common.{◌≡◌, drop}
-use Rattle.batch_rules.specs.Known.{unit_among}
+use Rattle.batch_rules.specs.Among.{unit_among}
 use Rattle.batch_rules.proofs.known.first_unit.Given as goal
 
 abbrev pub invariant-loop-fact : goal.invariant-loop-fact

@@ -1,4 +1,3 @@
-use Rattle.std.proofs.Common.{sym, ◌∙◌}
 use Rattle.batch_rules.proofs.TableLemmas.{first_finding_is}
 use Rattle.batch_rules.proofs.rules.findings.Goals as goal
 

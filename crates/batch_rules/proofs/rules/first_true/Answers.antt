@@ -1,6 +1,6 @@
 use Rattle.std.proofs.Common.{◌<◌, length, refl, sym, ◌∙◌, arith}
 use Rattle.std.proofs.lemmas.List.{drop_all}
-use Rattle.batch_rules.specs.Table.{first_true, first_true_from}
+use Rattle.batch_rules.specs.Table.{first_true}
 use Rattle.batch_rules.proofs.TableLemmas.{first_from_place}
 use Rattle.batch_rules.proofs.rules.first_true.Goals as goal
 

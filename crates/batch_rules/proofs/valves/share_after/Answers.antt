@@ -1,4 +1,4 @@
-use Rattle.std.proofs.Common.{◌≡◌, ◌+◌, ◌≤◌, Some, None, refl, sym, ap, ◌∙◌, arith}
+use Rattle.std.proofs.Common.{◌≡◌, ◌+◌, Some, None, refl, sym, ap, ◌∙◌, arith}
 use Rattle.batch_rules.specs.declared.share.Share.{Share}
 use Rattle.batch_rules.specs.Known.{register_by}
 use Rattle.batch_rules.specs.Shares.{added, changed, share_in}

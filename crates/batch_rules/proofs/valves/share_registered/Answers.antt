@@ -1,6 +1,5 @@
-use Rattle.std.proofs.Common.{◌≡◌, [], take, refl, sym, ap, ◌∙◌}
+use Rattle.std.proofs.Common.{◌≡◌, [], refl, sym, ap, ◌∙◌}
 use Rattle.std.specs.Prelude.{sum_by}
-use Rattle.std.proofs.lemmas.List.{take_all}
 use Rattle.fact_store.specs.Kept.{facts_in}
 use Rattle.ldar_law.specs.Judged.{register_with}
 use Rattle.ldar_law.specs.ShareLaws.{counts_as_valve, counts_as_difficult, adds, count_in}
@@ -12,11 +11,9 @@ returns-clause-value c =
     let held = facts_in c.args.register.now in
     let unit = c.args.unit in
     let day = c.args.day in
-    let members = c.members-component-items in
-    let all = take_all c.loop-component.component-index members.result.now c.loop-component-test.false ∙ members.ensures.value in
-    let counts = members_count unit day held members.ensures.once.components in
-    let valves : c.loop-component.share.valves ≡ count_in (counts_as_valve unit day) (register_with held []) =
-    c.loop-component.invariant.valves ∙ ap (sum_by (adds (counts_as_valve unit day) (register_with held []))) all ∙ sym counts.0 in
-    let difficult : c.loop-component.share.difficult ≡ count_in (counts_as_difficult unit day) (register_with held []) =
-    c.loop-component.invariant.difficult ∙ ap (sum_by (adds (counts_as_difficult unit day) (register_with held []))) all ∙ sym counts.1 in
+    let counts = members_count unit day held c.members.ensures.once.components in
+    let valves : c.share_of_all.result.valves ≡ count_in (counts_as_valve unit day) (register_with held []) =
+    c.share_of_all.ensures.valves ∙ ap (sum_by (adds (counts_as_valve unit day) (register_with held []))) c.members.ensures.value ∙ sym counts.0 in
+    let difficult : c.share_of_all.result.difficult ≡ count_in (counts_as_difficult unit day) (register_with held []) =
+    c.share_of_all.ensures.difficult ∙ ap (sum_by (adds (counts_as_difficult unit day) (register_with held []))) c.members.ensures.value ∙ sym counts.1 in
     rw (sym valves, sym difficult) refl

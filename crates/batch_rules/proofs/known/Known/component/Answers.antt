@@ -2,7 +2,7 @@ use Rattle.std.proofs.Common.{sym, ap, ◌∙◌}
 use Rattle.std.specs.Option.{option_map, option_or}
 use Rattle.fact_store.specs.Kept.{facts_in}
 use Rattle.ldar_law.specs.BatchLaws.{unretired}
-use Rattle.batch_rules.specs.Known.{entered_among}
+use Rattle.batch_rules.specs.Among.{entered_among}
 use Rattle.batch_rules.proofs.KnownLemmas.{known_component}
 use Rattle.batch_rules.proofs.known.Known.component.Goals as goal
 

@@ -1,6 +1,6 @@
 use Rattle.std.proofs.Common.{◌||◌, sym, ap, ◌∙◌}
 use Rattle.ldar_law.specs.Force as force
-use Rattle.batch_rules.specs.Known.{retired_among}
+use Rattle.batch_rules.specs.Among.{retired_among}
 use Rattle.batch_rules.proofs.KnownLemmas.{known_retired}
 use Rattle.batch_rules.proofs.known.Known.is_retired.Goals as goal
 

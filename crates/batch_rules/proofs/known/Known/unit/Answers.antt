@@ -1,7 +1,7 @@
 use Rattle.std.proofs.Common.{sym, ap, ◌∙◌}
 use Rattle.std.specs.Option.{option_or}
 use Rattle.fact_store.specs.Kept.{facts_in}
-use Rattle.batch_rules.specs.Known.{unit_among}
+use Rattle.batch_rules.specs.Among.{unit_among}
 use Rattle.batch_rules.proofs.KnownLemmas.{known_unit}
 use Rattle.batch_rules.proofs.known.Known.unit.Goals as goal
 
