@@ -13,7 +13,7 @@ use Rattle.list_words.proofs.CutLemmas.{filter_none, filter_all}
 use Rattle.list_words.proofs.WordLemmas.{last_such-cons, option_or-None}
 
 -- what holds of each element holds at a place, and back
-pub at_place : {X : Type 0} (P : X → Type 0) (xs : List X) (j : ℕ) (d : X) → AllByRecursion P xs → j < length xs → P (get_or xs j d)
+at_place : {X : Type 0} (P : X → Type 0) (xs : List X) (j : ℕ) (d : X) → AllByRecursion P xs → j < length xs → P (get_or xs j d)
 at_place P [] j d all within = absurd (omega arith)
 at_place P (x ∷ xs) zero d all within = all.0
 at_place P (x ∷ xs) (suc j) d all within = at_place P xs j d all.1 (omega (arith, within))

@@ -1,7 +1,7 @@
 pub mod ApartLemmas
-pub mod DayLemmas
 pub mod EventLemmas
 pub mod FitnessLemmas
 pub mod FrontLemmas
 pub mod LaterLemmas
+pub mod NearLemmas
 pub mod NextCalibration

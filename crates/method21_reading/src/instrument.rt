@@ -7,7 +7,7 @@ ghost use Rattle.ldar_law.specs.Fitness.{fitness_of, is_voided_by, unless_voided
 ghost use Rattle.method21_reading.specs.Instruments.{AreThoseOf, is_of_day};
 ghost use Rattle.method21_reading.specs.Readings.{fitness_by, IsFitnessAmongAll};
 
-use crate::day::{days_of, facts_by_days, facts_on};
+use crate::day::facts_on;
 use crate::drift::voiding_drift;
 use crate::fitness::refused;
 use crate::part::keep_apart;
@@ -23,14 +23,11 @@ use std::marker::Model;
 #[derive(Drop)]
 pub struct Instrument {
     calibrations: Vec<(Key, Fact)>,
-    /// The days of the calibrations.
-    days: Vec<Day>,
     tests: Vec<(Key, Fact)>,
     drifts: Vec<(Key, Fact)>,
 }
 
 impl Model for Instrument {
-    ghost use Rattle.std.specs.Prelude.{◌≡◌, map};
     ghost use Rattle.list_words.specs.Order.{Ascends};
     ghost use Rattle.fact_kinds.specs.Facts.{goes_first};
     ghost use Rattle.method21_reading.specs.Instruments.{Apart};
@@ -39,8 +36,7 @@ impl Model for Instrument {
 
     ghost view = { λ i. record { calibrations = i.calibrations.items; tests = i.tests.items; drifts = i.drifts.items } };
 
-    ghost invariant = { λ i. Ascends goes_first i.calibrations.items × Ascends goes_first i.tests.items × Ascends goes_first i.drifts.items
-        × (i.days.items ≡ map (λ e. e.0.day) i.calibrations.items) };
+    ghost invariant = { λ i. Ascends goes_first i.calibrations.items × Ascends goes_first i.tests.items × Ascends goes_first i.drifts.items };
 }
 
 impl Instrument {
@@ -57,10 +53,8 @@ impl Instrument {
         for e in facts {
             keep_apart(&mut calibrations, &mut tests, &mut drifts, e)?;
         }
-        let days = days_of(alloc, &calibrations)?;
         Ok(Instrument {
             calibrations,
-            days,
             tests,
             drifts,
         })
@@ -70,7 +64,7 @@ impl Instrument {
     fn calibrations_on(&self, day: Day) -> &[(Key, Fact)]
         ensures value { result.now ≡ filter (is_of_day day) self.now.calibrations }
     {
-        facts_by_days(self.days.as_slice(), self.calibrations.as_slice(), day)
+        facts_on(self.calibrations.as_slice(), day)
     }
 
     /// The failed drift assessments of a day.

@@ -8,6 +8,7 @@ mod events;
 mod fitness;
 mod happening;
 mod instrument;
+mod near;
 mod part;
 mod precision;
 mod rules;

@@ -1,4 +1,4 @@
-use Rattle.std.proofs.Common.{◌≡◌, Bool, List, filter, map, take, sym, ap, subst, ◌∙◌, arith}
+use Rattle.std.proofs.Common.{◌≡◌, Bool, List, filter, take, sym, ap, subst, ◌∙◌, arith}
 use Rattle.std.proofs.lemmas.List.{take_all}
 use Rattle.list_words.specs.Order.{Ascends}
 use Rattle.fact_kinds.specs.Facts.{Entry, goes_first}
@@ -16,5 +16,4 @@ invariant_of-result c =
       ascends (λ e. is_calibrating e.1.body) l.calibrations.items l.invariant.calibrations,
       ascends (λ e. is_passed_test e.1.body) l.tests.items l.invariant.tests,
       ascends (λ e. is_failed_drift e.1.body) l.drifts.items l.invariant.drifts,
-      c.in_ok-days.ensures.value ∙ ap (map (λ e. e.0.day)) c.deref.ensures.value,
     )
