@@ -1,3 +1,4 @@
+-- What a store of facts holds: those that came, with their keys, and those that have room; the facts of a number.
 use Rattle.std.specs.Prelude.{◌≡◌, ◌<◌, length, filter, All, ℕ, Bool, Option, List, slice_get}
 use Rattle.std.specs.List.{list_any, filter_map}
 use Rattle.std.specs.Ordering.{is_eq}

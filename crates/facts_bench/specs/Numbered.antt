@@ -1,3 +1,4 @@
+-- What the bench keeps of the facts that it puts into a store: how many came, and that the next batch numbers are free.
 use Rattle.std.specs.Prelude.{◌≡◌, ℕ, ◌≤◌, false, List, length}
 use Rattle.fact_kinds.specs.declared.key.Key.{Key}
 use Rattle.fact_kinds.specs.Facts.{Entry}
