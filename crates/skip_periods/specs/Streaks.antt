@@ -1,3 +1,4 @@
+-- How many quarters in a row were skipped, and how many good ones came before.
 use Rattle.std.specs.Prelude.{◌≡◌, List}
 use Rattle.skip_periods.specs.declared.streak.Streak.{Streak}
 use Rattle.ldar_law.specs.Skips.{Past, good_streak, skips_run}
