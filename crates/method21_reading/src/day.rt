@@ -4,7 +4,7 @@ ghost use Rattle.list_words.specs.Order.{Ascends};
 ghost use Rattle.fact_kinds.specs.Facts.{goes_first};
 ghost use Rattle.method21_reading.specs.Instruments.{is_of_day};
 
-use crate::near::count_before;
+use crate::near::{Spread, count_before};
 use fact_kinds::{Fact, Key};
 use ldar_days::Day;
 
@@ -23,11 +23,11 @@ fn count_to(facts: &[(Key, Fact)], day: Day) -> usize
 }
 
 /// The facts of a day, among facts in key order: behind those before it they are few.
-pub fn facts_on(facts: &[(Key, Fact)], day: Day) -> &[(Key, Fact)]
+pub fn facts_on(facts: &[(Key, Fact)], spread: Spread, day: Day) -> &[(Key, Fact)]
     requires ordered { Ascends goes_first facts.now }
     ensures value { result.now ≡ filter (is_of_day day) facts.now }
 {
-    let from = count_before(facts, day);
+    let from = count_before(facts, spread, day);
     let rest = &facts[from..];
     let count = count_to(rest, day);
     &rest[..count]

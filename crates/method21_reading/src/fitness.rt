@@ -8,6 +8,7 @@ ghost use Rattle.method21_reading.specs.Readings.{fitness_by, IsFitnessAmongAll}
 use crate::calibration::{is_calibrated, is_calibrated_within};
 use crate::day::facts_on;
 use crate::drift::voiding_drift;
+use crate::near::Spread;
 use crate::precision::is_tested;
 use fact_kinds::{Fact, FactBody, Key};
 use ldar_law::{Fitness, GAS_MARGIN};
@@ -37,7 +38,7 @@ fn judged(facts: &[(Key, Fact)], limit: u32, key: &Key, instrument: u16, ppm: u3
     requires ordered { Ascends goes_first facts.now }
     ensures value { result ≡ fitness_of facts.now limit key.now instrument ppm }
 {
-    let today = facts_on(facts, key.day);
+    let today = facts_on(facts, Spread::of(facts), key.day);
     judged_apart(today, facts, today, limit, key, instrument, ppm)
 }
 
@@ -57,6 +58,7 @@ fn why_not_within(calibrations: &[(Key, Fact)], key: &Key, instrument: u16) -> F
 pub fn refused(
     calibrations: &[(Key, Fact)],
     tests: &[(Key, Fact)],
+    spread: Spread,
     limit: u32,
     key: &Key,
     instrument: u16,
@@ -68,7 +70,7 @@ pub fn refused(
     if !is_calibrated_within(calibrations, key, instrument, most) {
         return Some(why_not_within(calibrations, key, instrument));
     }
-    if !is_tested(tests, key, instrument) {
+    if !is_tested(tests, spread, key, instrument) {
         return Some(Fitness::NoPrecision);
     }
     None
@@ -87,7 +89,14 @@ fn judged_apart(
     requires ordered { Ascends goes_first tests.now }
     ensures value { result ≡ fitness_apart calibrations.now tests.now drifts.now limit key.now instrument ppm }
 {
-    if let Some(why) = refused(calibrations, tests, limit, key, instrument) {
+    if let Some(why) = refused(
+        calibrations,
+        tests,
+        Spread::of(tests),
+        limit,
+        key,
+        instrument,
+    ) {
         return why;
     }
     match voiding_drift(calibrations, drifts, key, instrument, limit, ppm) {

@@ -10,6 +10,7 @@ ghost use Rattle.method21_reading.specs.Readings.{fitness_by, IsFitnessAmongAll}
 use crate::day::facts_on;
 use crate::drift::voiding_drift;
 use crate::fitness::refused;
+use crate::near::Spread;
 use crate::part::keep_apart;
 use fact_kinds::{Fact, FactBody, Key, Memory};
 use ldar_days::Day;
@@ -23,7 +24,11 @@ use std::marker::Model;
 #[derive(Drop)]
 pub struct Instrument {
     calibrations: Vec<(Key, Fact)>,
+    /// How the days of the calibrations are spread.
+    calibrated: Spread,
     tests: Vec<(Key, Fact)>,
+    /// How the days of the tests are spread.
+    tested: Spread,
     drifts: Vec<(Key, Fact)>,
 }
 
@@ -53,9 +58,12 @@ impl Instrument {
         for e in facts {
             keep_apart(&mut calibrations, &mut tests, &mut drifts, e)?;
         }
+        let (calibrated, tested) = (Spread::of(&calibrations), Spread::of(&tests));
         Ok(Instrument {
             calibrations,
+            calibrated,
             tests,
+            tested,
             drifts,
         })
     }
@@ -64,14 +72,14 @@ impl Instrument {
     fn calibrations_on(&self, day: Day) -> &[(Key, Fact)]
         ensures value { result.now ≡ filter (is_of_day day) self.now.calibrations }
     {
-        facts_on(self.calibrations.as_slice(), day)
+        facts_on(self.calibrations.as_slice(), self.calibrated, day)
     }
 
     /// The failed drift assessments of a day.
     fn drifts_on(&self, day: Day) -> &[(Key, Fact)]
         ensures value { result.now ≡ filter (is_of_day day) self.now.drifts }
     {
-        facts_on(self.drifts.as_slice(), day)
+        facts_on(self.drifts.as_slice(), Spread::of(&self.drifts), day)
     }
 
     /// The passed precision tests.
@@ -114,7 +122,14 @@ impl Instrument {
         ensures value { (facts : List Entry) → AreThoseOf facts self.now → result ≡ fitness_of facts limit key.now instrument ppm }
     {
         let calibrations = self.calibrations_on(key.day);
-        let refusal = refused(calibrations, self.passed_tests(), limit, key, instrument);
+        let refusal = refused(
+            calibrations,
+            self.passed_tests(),
+            self.tested,
+            limit,
+            key,
+            instrument,
+        );
         match refusal {
             Some(why) => why,
             None => self.unless_voided(calibrations, limit, key, instrument, ppm),

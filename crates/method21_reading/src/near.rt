@@ -11,23 +11,41 @@ ghost use Rattle.fact_kinds.specs.Facts.{is_earlier, goes_first};
 use fact_kinds::{Fact, Key, precedes};
 use ldar_days::Day;
 
-/// Where a day would stand among so many facts if their days were spread evenly from the first to the last.
-fn even_place(first: Day, last: Day, count: usize, day: Day) -> usize {
-    let days = u64::from(last.number().saturating_sub(first.number())).max(1);
-    let past = u64::from(day.number().saturating_sub(first.number()));
-    let places = past.wrapping_mul((count as u64).wrapping_sub(1));
-    (places.wrapping_add(days / 2) / days) as usize
+/// How the days of some facts are spread: the number of the first, and how many places there are a day, in parts of
+/// 2^32. It tells where a search begins and nothing else, so that a wrong one would cost steps alone.
+#[derive(Clone, Copy)]
+pub struct Spread {
+    first: u32,
+    places: u64,
 }
 
-/// The place from which a day is looked for.
-fn first_place(facts: &[(Key, Fact)], day: Day) -> usize
-    ensures bound { result ≤ length facts.now }
-{
-    match (facts.first(), facts.last()) {
-        (Some(first), Some(last)) => {
-            even_place(first.0.day, last.0.day, facts.len(), day).min(facts.len())
+impl Spread {
+    /// That of facts in key order.
+    pub fn of(facts: &[(Key, Fact)]) -> Spread {
+        match (facts.first(), facts.last()) {
+            (Some(first), Some(last)) => {
+                Spread::between(first.0.day.number(), last.0.day.number(), facts.len())
+            }
+            _ => Spread {
+                first: 0,
+                places: 0,
+            },
         }
-        _ => 0,
+    }
+
+    /// That of so many facts from one day to another, told by their numbers.
+    fn between(first: u32, last: u32, count: usize) -> Spread {
+        let days = u64::from(last.saturating_sub(first)).max(1);
+        Spread {
+            first,
+            places: (count as u64).saturating_sub(1).wrapping_mul(1 << 32) / days,
+        }
+    }
+
+    /// The place at which a day would stand if the days were spread evenly from the first to the last.
+    fn place(self, day: Day) -> usize {
+        let past = u64::from(day.number().saturating_sub(self.first));
+        (past.wrapping_mul(self.places).wrapping_add(1 << 31) >> 32) as usize
     }
 }
 
@@ -64,24 +82,24 @@ fn high_from(facts: &[(Key, Fact)], place: usize, day: Day) -> usize
 }
 
 /// How many facts in front are of days before a given one.
-pub fn count_before(facts: &[(Key, Fact)], day: Day) -> usize
+pub fn count_before(facts: &[(Key, Fact)], spread: Spread, day: Day) -> usize
     requires ordered { Ascends goes_first facts.now }
     ensures bound { result ≤ length facts.now }
     ensures partitioned { IsPartitionPoint (λ e. nat_lt e.0.day day ≡ true) (λ e. nat_lt e.0.day day ≡ false) facts.now result }
 {
-    let place = first_place(facts, day);
+    let place = spread.place(day).min(facts.len());
     let low = low_from(facts, place, day);
     let high = high_from(facts, place, day);
     low + facts[low..high].partition_point(|e| e.0.day < day)
 }
 
 /// How many facts in front have an earlier key.
-pub fn count_earlier(facts: &[(Key, Fact)], key: &Key) -> usize
+pub fn count_earlier(facts: &[(Key, Fact)], spread: Spread, key: &Key) -> usize
     requires ordered { Ascends goes_first facts.now }
     ensures bound { result ≤ length facts.now }
     ensures partitioned { IsPartitionPoint (λ e. is_earlier e.0 key.now ≡ true) (λ e. is_earlier e.0 key.now ≡ false) facts.now result }
 {
-    let place = first_place(facts, key.day);
+    let place = spread.place(key.day).min(facts.len());
     let low = low_from(facts, place, key.day);
     let high = high_from(facts, place, key.day);
     low + facts[low..high].partition_point(|e| precedes(&e.0, key))

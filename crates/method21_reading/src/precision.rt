@@ -6,7 +6,7 @@ ghost use Rattle.ldar_days.specs.Calendar.{later_by};
 ghost use Rattle.fact_kinds.specs.Facts.{goes_first, is_earlier};
 ghost use Rattle.ldar_law.specs.Fitness as law;
 
-use crate::near::count_earlier;
+use crate::near::{Spread, count_earlier};
 use fact_kinds::{Fact, FactBody, Key};
 use ldar_days::Day;
 
@@ -71,10 +71,10 @@ fn is_recent(tested: Option<Day>, day: Day) -> bool
 /// Whether some precision test that was passed is earlier than the reading with this key, and three months old at
 /// most (EPA Method 21, section 8.1.2). The last one before the reading decides: of facts in key order, those before
 /// the reading are counted by halving, and from there back to that test they are looked at.
-pub fn is_tested(facts: &[(Key, Fact)], key: &Key, instrument: u16) -> bool
+pub fn is_tested(facts: &[(Key, Fact)], spread: Spread, key: &Key, instrument: u16) -> bool
     requires ordered { Ascends goes_first facts.now }
     ensures value { result ≡ law.is_tested facts.now key.now instrument }
 {
-    let count = count_earlier(facts, key);
+    let count = count_earlier(facts, spread, key);
     is_recent(last_passed(&facts[..count], instrument), key.day)
 }
