@@ -149,7 +149,7 @@ fn each_ground_gives_its_due_day(rt: HostRuntime) -> Result<(), Fail> {
     ground_gives(&rt, alloc, "ground 5", (5, "2024-03-01"), "2025-01-05")
 }
 
-/// Sees when the repair of a leak is due that is delayed by an evaluation.
+/// Sees when the repair of a leak is due that waits for a dual mechanical seal.
 fn half_year_ends(
     rt: &impl Abort,
     alloc: Global,
