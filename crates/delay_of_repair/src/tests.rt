@@ -2,6 +2,9 @@ use crate::{Repair, counted, repair_due, repair_of};
 use fact_kinds::Key;
 use ldar_days::Day;
 use ldar_law::{DelayEntry, Stop, Until};
+use std::alloc::Global;
+use std::fmt::Debug;
+use std::process::Abort;
 use std::test::Fail;
 
 /// The day with this text.
@@ -9,10 +12,26 @@ fn day(text: &str) -> Result<Day, Fail> {
     Ok(Day::read(text.as_bytes()).ok_or("day")?)
 }
 
-/// A delay that was entered on a day, with the ground that the rule's paragraph has.
-fn delay(ground: u8, text: &str) -> Result<DelayEntry, Fail> {
+/// Until when, by the words of the views or by the text of a day.
+fn until(text: &str) -> Result<Until, Fail> {
+    match text {
+        "shutdown" => Ok(Until::Shutdown),
+        "isolated" => Ok(Until::WhileIsolated),
+        "purge" => Ok(Until::NoDate),
+        _ => Ok(Until::Date(day(text)?)),
+    }
+}
+
+/// A delay by the ground that the rule's paragraph has and by the day on which it was entered.
+type Delay<'a> = (u8, &'a str);
+
+/// A shutdown by its first and its last day.
+type Days<'a> = (&'a str, &'a str);
+
+/// A delay that was entered on a day.
+fn delayed((ground, entered): Delay) -> Result<DelayEntry, Fail> {
     let key = Key {
-        day: day(text)?,
+        day: day(entered)?,
         minute: 600,
         handheld: 7,
         number: 12,
@@ -26,201 +45,295 @@ fn delay(ground: u8, text: &str) -> Result<DelayEntry, Fail> {
     })
 }
 
-/// The shutdown from one day to another.
-fn stop(first: &str, last: &str) -> Result<Stop, Fail> {
-    Ok(Stop {
-        first: day(first)?,
-        last: day(last)?,
-    })
+/// The days with these texts.
+fn days_of(alloc: Global, texts: &[&str]) -> Result<Vec<Day>, Fail> {
+    let mut days = Vec::new(alloc);
+    for text in texts {
+        days.push(day(text)?)?;
+    }
+    Ok(days)
 }
 
-/// Until that day.
-fn date(text: &str) -> Result<Until, Fail> {
-    Ok(Until::Date(day(text)?))
+/// The shutdowns of a unit.
+fn stops_of(alloc: Global, stops: &[Days]) -> Result<Vec<Stop>, Fail> {
+    let mut known = Vec::new(alloc);
+    for (first, last) in stops {
+        let first = day(first)?;
+        let last = day(last)?;
+        known.push(Stop { first, last })?;
+    }
+    Ok(known)
+}
+
+/// Sees that this was found in a case.
+fn same<T: PartialEq + Debug>(rt: &impl Abort, case: &str, found: &T, want: &T) {
+    if *found != *want {
+        panic!(rt; "{case}: {found:?}, not {want:?}");
+    }
+}
+
+/// What is known of a leak, by the texts of its days, and its case.
+#[derive(Clone, Copy)]
+struct Leak<'a> {
+    case: &'a str,
+    detected: &'a str,
+    delays: &'a [DelayEntry],
+    attempts: &'a [&'a str],
+    stops: &'a [Days<'a>],
+}
+
+/// Sees until when a leak must be repaired, and which of its delays says so, by each of the three calls.
+fn gives(
+    rt: &impl Abort,
+    alloc: Global,
+    leak: Leak,
+    due: &str,
+    place: Option<usize>,
+) -> Result<(), Fail> {
+    let due = until(due)?;
+    let detected = day(leak.detected)?;
+    let attempts = days_of(alloc, leak.attempts)?;
+    let stops = stops_of(alloc, leak.stops)?;
+    let found = repair_due(detected, leak.delays, &attempts, &stops);
+    same(rt, leak.case, &found, &due);
+    let found = counted(detected, leak.delays, &attempts, &stops);
+    same(rt, leak.case, &found, &place);
+    let found = repair_of(detected, leak.delays, &attempts, &stops);
+    let both = Repair {
+        due,
+        counted: place,
+    };
+    same(rt, leak.case, &found, &both);
+    Ok(())
+}
+
+/// Sees what one delay gives beside three shutdowns of the component's unit, of which the first begins on the day of
+/// detection.
+fn ground_gives(
+    rt: &impl Abort,
+    alloc: Global,
+    case: &str,
+    delay: Delay,
+    due: &str,
+) -> Result<(), Fail> {
+    let delayed = delayed(delay)?;
+    let leak = Leak {
+        case,
+        detected: "2024-02-20",
+        delays: &[delayed],
+        attempts: &[],
+        stops: &[
+            ("2024-02-20", "2024-03-31"),
+            ("2024-06-01", "2024-06-14"),
+            ("2025-01-01", "2025-01-05"),
+        ],
+    };
+    gives(rt, alloc, leak, due, Some(0))
 }
 
 #[test]
 fn each_ground_gives_its_due_day(rt: HostRuntime) -> Result<(), Fail> {
-    // Shutdowns of the component's unit, of which the first begins on the day of detection.
-    let stops = [
-        stop("2024-02-20", "2024-03-31")?,
-        stop("2024-06-01", "2024-06-14")?,
-        stop("2025-01-01", "2025-01-05")?,
-    ];
-    let cases = [
-        (0, "2024-02-20", date("2024-03-06")?),
-        (0, "2024-03-06", date("2024-03-06")?),
-        (1, "2024-03-01", date("2024-06-14")?),
-        (2, "2024-03-01", Until::WhileIsolated),
-        (3, "2024-03-01", Until::NoDate),
-        (4, "2024-03-01", date("2024-08-20")?),
-        (5, "2024-03-01", date("2025-01-05")?),
-    ];
-    for (ground, entered, until) in cases {
-        let delays = [delay(ground, entered)?];
-        assert_eq!(rt;
-            repair_due(day("2024-02-20")?, &delays, &[], &stops),
-            until,
-            "ground {ground}"
-        );
-        assert_eq!(rt;
-            counted(day("2024-02-20")?, &delays, &[], &stops),
-            Some(0),
-            "ground {ground}"
-        );
-    }
-    Ok(())
+    let alloc = rt.alloc();
+    ground_gives(&rt, alloc, "ground 0", (0, "2024-02-20"), "2024-03-06")?;
+    ground_gives(
+        &rt,
+        alloc,
+        "ground 0, late",
+        (0, "2024-03-06"),
+        "2024-03-06",
+    )?;
+    ground_gives(&rt, alloc, "ground 1", (1, "2024-03-01"), "2024-06-14")?;
+    ground_gives(&rt, alloc, "ground 2", (2, "2024-03-01"), "isolated")?;
+    ground_gives(&rt, alloc, "ground 3", (3, "2024-03-01"), "purge")?;
+    ground_gives(&rt, alloc, "ground 4", (4, "2024-03-01"), "2024-08-20")?;
+    ground_gives(&rt, alloc, "ground 5", (5, "2024-03-01"), "2025-01-05")
+}
+
+/// Sees when the repair of a leak is due that waits for a dual mechanical seal.
+fn half_year_ends(
+    rt: &impl Abort,
+    alloc: Global,
+    detected: &str,
+    entered: &str,
+    due: &str,
+) -> Result<(), Fail> {
+    let delayed = delayed((4, entered))?;
+    let leak = Leak {
+        case: detected,
+        detected,
+        delays: &[delayed],
+        attempts: &[],
+        stops: &[],
+    };
+    gives(rt, alloc, leak, due, Some(0))
 }
 
 #[test]
 fn six_months_later_may_be_a_shorter_month(rt: HostRuntime) -> Result<(), Fail> {
-    let cases = [
-        ("2023-08-31", "2023-09-05", "2024-02-29"),
-        ("2024-02-29", "2024-03-05", "2024-08-29"),
-        ("2099-08-31", "2099-09-05", "2099-12-31"),
-    ];
-    for (detected, entered, due) in cases {
-        let delays = [delay(4, entered)?];
-        assert_eq!(rt;
-            repair_due(day(detected)?, &delays, &[], &[]),
-            date(due)?,
-            "detected {detected}"
-        );
-    }
-    Ok(())
+    let alloc = rt.alloc();
+    half_year_ends(&rt, alloc, "2023-08-31", "2023-09-05", "2024-02-29")?;
+    half_year_ends(&rt, alloc, "2024-02-29", "2024-03-05", "2024-08-29")?;
+    half_year_ends(&rt, alloc, "2099-08-31", "2099-09-05", "2099-12-31")
+}
+
+/// Sees what delays give where no shutdown is known.
+fn delays_give(
+    rt: &impl Abort,
+    alloc: Global,
+    case: &str,
+    delays: &[DelayEntry],
+    due: &str,
+    place: Option<usize>,
+) -> Result<(), Fail> {
+    let leak = Leak {
+        case,
+        detected: "2024-02-20",
+        delays,
+        attempts: &[],
+        stops: &[],
+    };
+    gives(rt, alloc, leak, due, place)
 }
 
 #[test]
 fn a_delay_past_the_due_day_is_ignored(rt: HostRuntime) -> Result<(), Fail> {
+    // On the fifteenth day, and on the day after it.
     let cases = [
-        // On the fifteenth day, and on the day after it.
-        (delay(1, "2024-03-06")?, Until::Shutdown, Some(0)),
-        (delay(1, "2024-03-07")?, date("2024-03-06")?, None),
-        (delay(0, "2024-03-07")?, date("2024-03-06")?, None),
+        ("the last day", (1, "2024-03-06"), "shutdown", Some(0)),
+        ("a day late", (1, "2024-03-07"), "2024-03-06", None),
+        ("withdrawn late", (0, "2024-03-07"), "2024-03-06", None),
     ];
-    for (entry, until, place) in cases {
-        let delays = [entry];
-        let number = entry.key.day.number();
-        assert_eq!(rt;
-            repair_due(day("2024-02-20")?, &delays, &[], &[]),
-            until,
-            "on {number}"
-        );
-        assert_eq!(rt;
-            counted(day("2024-02-20")?, &delays, &[], &[]),
-            place,
-            "on {number}"
-        );
+    for (case, delay, due, place) in cases {
+        let delayed = delayed(delay)?;
+        delays_give(&rt, rt.alloc(), case, &[delayed], due, place)?;
     }
-    let none: [DelayEntry; 0] = [];
-    assert_eq!(rt;
-        repair_due(day("2024-02-20")?, &none, &[], &[]),
-        date("2024-03-06")?
-    );
-    assert_eq!(rt; counted(day("2024-02-20")?, &none, &[], &[]), None);
-    let neither = Repair {
-        due: date("2024-03-06")?,
-        counted: None,
-    };
-    assert_eq!(rt; repair_of(day("2024-02-20")?, &none, &[], &[]), neither);
-    Ok(())
+    delays_give(&rt, rt.alloc(), "no delay", &[], "2024-03-06", None)
 }
+
+/// Sees when a repair is due that waits for a shutdown, where it was attempted on a day.
+fn attempt_gives(rt: &impl Abort, alloc: Global, attempted: &str, due: &str) -> Result<(), Fail> {
+    let delayed = delayed((1, "2024-03-01"))?;
+    let leak = Leak {
+        case: attempted,
+        detected: "2024-02-20",
+        delays: &[delayed],
+        attempts: &["2024-02-21", attempted],
+        stops: &[("2024-06-01", "2024-06-14")],
+    };
+    gives(rt, alloc, leak, due, Some(0))
+}
+
+/// The day of an attempt, and the due day.
+const ATTEMPTS: [(&str, &str); 6] = [
+    ("2024-02-22", "2024-06-14"),
+    ("2024-05-31", "2024-06-14"),
+    ("2024-06-01", "2024-06-30"),
+    ("2024-06-05", "2024-06-30"),
+    ("2024-06-14", "2024-06-30"),
+    ("2024-06-15", "2024-06-14"),
+];
 
 #[test]
 fn an_attempt_in_a_shutdown_leaves_fifteen_days_from_the_startup(
     rt: HostRuntime,
 ) -> Result<(), Fail> {
-    let delays = [delay(1, "2024-03-01")?];
-    let stops = [stop("2024-06-01", "2024-06-14")?];
-    let cases = [
-        ("2024-02-22", "2024-06-14"),
-        ("2024-05-31", "2024-06-14"),
-        ("2024-06-01", "2024-06-30"),
-        ("2024-06-05", "2024-06-30"),
-        ("2024-06-14", "2024-06-30"),
-        ("2024-06-15", "2024-06-14"),
-    ];
-    for (attempted, due) in cases {
-        let attempts = [day("2024-02-21")?, day(attempted)?];
-        assert_eq!(rt;
-            repair_due(day("2024-02-20")?, &delays, &attempts, &stops),
-            date(due)?,
-            "attempted {attempted}"
-        );
+    for (attempted, due) in &ATTEMPTS {
+        attempt_gives(&rt, rt.alloc(), attempted, due)?;
     }
     Ok(())
+}
+
+/// Sees when a repair is due that waits for the parts of a valve.
+fn parts_give(
+    rt: &impl Abort,
+    alloc: Global,
+    case: &str,
+    stops: &[Days],
+    due: &str,
+) -> Result<(), Fail> {
+    let delayed = delayed((5, "2024-01-12"))?;
+    let leak = Leak {
+        case,
+        detected: "2024-01-10",
+        delays: &[delayed],
+        attempts: &[],
+        stops,
+    };
+    gives(rt, alloc, leak, due, Some(0))
 }
 
 #[test]
 fn a_delay_for_valves_waits_for_a_second_shutdown(rt: HostRuntime) -> Result<(), Fail> {
-    let delays = [delay(5, "2024-01-12")?];
-    let first = stop("2024-03-01", "2024-03-05")?;
-    let third = stop("2025-03-01", "2025-03-05")?;
-    let cases = [
-        ("2024-08-31", "2024-09-09", date("2025-03-05")?),
-        ("2024-09-01", "2024-09-10", date("2024-09-10")?),
-    ];
-    for (begin, end, until) in cases {
-        let stops = [first, stop(begin, end)?, third];
-        assert_eq!(rt;
-            repair_due(day("2024-01-10")?, &delays, &[], &stops),
-            until,
-            "begins {begin}"
-        );
-    }
+    let alloc = rt.alloc();
+    let first = ("2024-03-01", "2024-03-05");
+    let soon = ("2024-08-31", "2024-09-09");
+    let later = ("2024-09-01", "2024-09-10");
+    let third = ("2025-03-01", "2025-03-05");
+    parts_give(&rt, alloc, "too soon", &[first, soon, third], "2025-03-05")?;
+    parts_give(&rt, alloc, "later", &[first, later, third], "2024-09-10")?;
     // A third shutdown that isn't known yet, and a second.
-    let two = [first, stop("2024-08-31", "2024-09-09")?];
-    let one = [first];
-    assert_eq!(rt;
-        repair_due(day("2024-01-10")?, &delays, &[], &two),
-        Until::Shutdown
-    );
-    assert_eq!(rt;
-        repair_due(day("2024-01-10")?, &delays, &[], &one),
-        Until::Shutdown
-    );
-    assert_eq!(rt;
-        repair_due(day("2024-01-10")?, &delays, &[], &[]),
-        Until::Shutdown
-    );
-    Ok(())
+    parts_give(&rt, alloc, "no third", &[first, soon], "shutdown")?;
+    parts_give(&rt, alloc, "no second", &[first], "shutdown")?;
+    parts_give(&rt, alloc, "no first", &[], "shutdown")
+}
+
+/// Sees which of two delays decides.
+fn decides(
+    rt: &impl Abort,
+    alloc: Global,
+    first: Delay,
+    second: Delay,
+    due: &str,
+    place: usize,
+) -> Result<(), Fail> {
+    let earlier = delayed(first)?;
+    let later = delayed(second)?;
+    let leak = Leak {
+        case: second.1,
+        detected: "2024-02-20",
+        delays: &[earlier, later],
+        attempts: &[],
+        stops: &[("2024-06-01", "2024-06-14")],
+    };
+    gives(rt, alloc, leak, due, Some(place))
 }
 
 #[test]
 fn the_last_delay_that_counts_decides(rt: HostRuntime) -> Result<(), Fail> {
-    let stops = [stop("2024-06-01", "2024-06-14")?];
-    let cases = [
-        // Withdrawn, and withdrawn and entered again, the last time too late.
-        ((2, "2024-02-21"), (0, "2024-03-10"), date("2024-03-10")?, 1),
-        (
-            (0, "2024-03-02"),
-            (2, "2024-03-06"),
-            Until::WhileIsolated,
-            1,
-        ),
-        ((0, "2024-03-02"), (2, "2024-03-07"), date("2024-03-06")?, 0),
-        // The shutdown's last day is the last on which another delay counts.
-        ((1, "2024-03-01"), (3, "2024-06-14"), Until::NoDate, 1),
-        ((1, "2024-03-01"), (3, "2024-06-15"), date("2024-06-14")?, 0),
-    ];
-    for (first, second, until, place) in cases {
-        let delays = [delay(first.0, first.1)?, delay(second.0, second.1)?];
-        let entered = second.1;
-        assert_eq!(rt;
-            repair_due(day("2024-02-20")?, &delays, &[], &stops),
-            until,
-            "then on {entered}"
-        );
-        assert_eq!(rt;
-            counted(day("2024-02-20")?, &delays, &[], &stops),
-            Some(place),
-            "then on {entered}"
-        );
-        let both = Repair {
-            due: until,
-            counted: Some(place),
-        };
-        assert_eq!(rt; repair_of(day("2024-02-20")?, &delays, &[], &stops), both);
-    }
-    Ok(())
+    let alloc = rt.alloc();
+    // Withdrawn, and withdrawn and entered again, the last time too late.
+    decides(
+        &rt,
+        alloc,
+        (2, "2024-02-21"),
+        (0, "2024-03-10"),
+        "2024-03-10",
+        1,
+    )?;
+    decides(
+        &rt,
+        alloc,
+        (0, "2024-03-02"),
+        (2, "2024-03-06"),
+        "isolated",
+        1,
+    )?;
+    decides(
+        &rt,
+        alloc,
+        (0, "2024-03-02"),
+        (2, "2024-03-07"),
+        "2024-03-06",
+        0,
+    )?;
+    // The shutdown's last day is the last on which another delay counts.
+    decides(&rt, alloc, (1, "2024-03-01"), (3, "2024-06-14"), "purge", 1)?;
+    decides(
+        &rt,
+        alloc,
+        (1, "2024-03-01"),
+        (3, "2024-06-15"),
+        "2024-06-14",
+        0,
+    )
 }
