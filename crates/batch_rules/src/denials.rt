@@ -17,7 +17,7 @@ use crate::passed::Passed;
 use crate::reach::{NO_REACH, Reach};
 use crate::rules::least_rule;
 use component_register::Register;
-use fact_kinds::{Batch, Fact, FactBody, MOST_FACTS};
+use fact_kinds::{Batch, Fact, MOST_FACTS};
 use ldar_law::Verdict;
 
 /// The least rule that denies a fact, and the unit of which the rule on difficult valves was asked anew, where the fact
