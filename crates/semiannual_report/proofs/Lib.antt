@@ -1,3 +1,4 @@
 mod Begun
+mod CountLemmas
 mod PushedLemmas
 mod SheetLemmas

@@ -1,10 +1,9 @@
 -- A loop that pushes what an element gives, if it gives something; and one that counts.
-use Rattle.std.proofs.Common.{◌≡◌, ℕ, ◌+◌, ◌*◌, ◌<◌, ◌≤◌, ◌^◌, Bool, Option, List, ◌++◌, length, take, drop, get_or, refl, arith}
+use Rattle.std.proofs.Common.{◌≡◌, ℕ, ◌+◌, ◌*◌, ◌<◌, ◌≤◌, Option, List, ◌++◌, length, take, drop, get_or, refl, arith}
 use Rattle.std.specs.Option.{option_to_list}
-use Rattle.std.specs.List.{filter_map, flat_map, count_by}
+use Rattle.std.specs.List.{filter_map, flat_map}
 use Rattle.std.proofs.lemmas.List.{drop_more, append_assoc, length-append, length-take-le, take_all}
 use Rattle.std.proofs.Math.Seq.{take-append_seam}
-use Rattle.std.proofs.lemmas.List.Sums.{count_by-le-length}
 use Rattle.list_words.specs.Ranges.{until}
 use Rattle.list_words.proofs.RangeLemmas.{flat_map_until, flat_map_done}
 use Rattle.list_words.proofs.WordLemmas.{cons_option_is}
@@ -13,10 +12,6 @@ use Rattle.list_words.proofs.WordLemmas.{cons_option_is}
 pub given_pushed : {X Y : Type 0} (f : X → Option Y) (done : List Y) (xs : List X) (i : ℕ) (d : X) → i < length xs
     → (done ++ option_to_list (f (get_or xs i d))) ++ filter_map f (drop (i + 1) xs) ≡ done ++ filter_map f (drop i xs)
 given_pushed f done xs i d h = rw (drop_more xs i d h, cons_option_is, append_assoc) refl
-
--- a count of few elements is small
-pub few_counted : {X : Type 0} (p : X → Bool) (xs : List X) → length xs < 2 ^ 32 → count_by p xs < 2 ^ 32
-few_counted p xs few = omega (arith, count_by-le-length p xs)
 
 -- six numbers at a place of a list of numbers
 six_put : (at : ℕ) (cells six : List ℕ) → at + 6 ≤ length cells → length six ≡ 6

@@ -1,4 +1,4 @@
-ghost use Rattle.std.specs.Prelude.{◌≡◌, ◌≤◌, ◌<◌, ◌+◌, ◌^◌, ◌++◌, ◌&&◌, nat_eq, length, take, drop};
+ghost use Rattle.std.specs.Prelude.{◌≡◌, ◌≤◌, ◌<◌, ◌+◌, ◌^◌, ◌++◌, ◌&&◌, nat_eq, length, take, drop, ◌∷◌, []};
 ghost use Rattle.std.specs.List.{list_any, flat_map};
 ghost use Rattle.list_words.specs.Ranges.{until};
 ghost use Rattle.ldar_law.specs.Reports as law;
@@ -43,45 +43,61 @@ fn has_late_tag_in(sheet: &Sheet, day: Day, month: u32) -> bool
         .any(|tag| tag.is_late(day) && tag.repair_due.is_date_in(month))
 }
 
-/// How many components of a kind had a leak in the month.
-fn leaking_in(kind: Kind, sheets: &[Sheet], month: u32) -> usize
-    ensures value { result ≡ law.leaking_in (is_counted_as kind) sheets.now month }
-{
-    sheets
-        .iter()
-        .filter(|sheet| is_counted_as(kind, sheet.kind) && has_leak_in(sheet, month))
-        .count()
+/// How many components in the columns of a kind had a leak in a month, and how many have a late tag that was due in it.
+#[derive(Drop)]
+struct Columns {
+    leaking: u32,
+    late: u32,
 }
 
-/// How many components of a kind have a late tag that was due in the month.
-fn late_in(kind: Kind, day: Day, sheets: &[Sheet], month: u32) -> usize
-    ensures value { result ≡ law.late_in (is_counted_as kind) day sheets.now month }
-{
-    sheets
-        .iter()
-        .filter(|sheet| is_counted_as(kind, sheet.kind) && has_late_tag_in(sheet, day, month))
-        .count()
-}
+impl Columns {
+    /// No component is counted yet.
+    fn new() -> Columns
+        ensures leaking { result.leaking ≡ 0 }
+        ensures late { result.late ≡ 0 }
+    {
+        Columns {
+            leaking: 0,
+            late: 0,
+        }
+    }
 
-/// A count as a number of a report.
-fn number_of(count: usize) -> u32
-    ensures value { count < 2 ^ 32 → result ≡ count }
-{
-    u32::try_from(count).unwrap_or(u32::MAX)
+    /// Counts a component, if it stands in the columns of that kind.
+    fn add(&mut self, columns: Kind, sheet: &Sheet, day: Day, month: u32)
+        ensures leaking { self.old.leaking + law.leaking_in (is_counted_as columns) (sheet.now ∷ []) month < 2 ^ 32
+            → self.new.leaking ≡ self.old.leaking + law.leaking_in (is_counted_as columns) (sheet.now ∷ []) month }
+        ensures late { self.old.late + law.late_in (is_counted_as columns) day (sheet.now ∷ []) month < 2 ^ 32
+            → self.new.late ≡ self.old.late + law.late_in (is_counted_as columns) day (sheet.now ∷ []) month }
+    {
+        if is_counted_as(columns, sheet.kind) {
+            let leaking = has_leak_in(sheet, month);
+            let late = has_late_tag_in(sheet, day, month);
+            self.leaking = self.leaking.saturating_add(u32::from(leaking));
+            self.late = self.late.saturating_add(u32::from(late));
+        }
+    }
 }
 
 /// The six numbers of a month.
-#[tactic(auto, unfolding(ldar_law::specs::Reports::month_cells), using(crate::proofs::PushedLemmas::few_counted))]
+#[tactic(auto, unfolding(ldar_law::specs::Reports::month_cells))]
 fn month_cells(day: Day, sheets: &[Sheet], month: u32) -> [u32; 6]
     ensures value { length sheets.now < 2 ^ 32 → result ≡ law.month_cells day sheets.now month }
 {
+    let mut valves = Columns::new();
+    let mut pumps = Columns::new();
+    let mut compressors = Columns::new();
+    for sheet in sheets {
+        valves.add(Kind::Valve, sheet, day, month);
+        pumps.add(Kind::Pump, sheet, day, month);
+        compressors.add(Kind::Compressor, sheet, day, month);
+    }
     [
-        number_of(leaking_in(Kind::Valve, sheets, month)),
-        number_of(late_in(Kind::Valve, day, sheets, month)),
-        number_of(leaking_in(Kind::Pump, sheets, month)),
-        number_of(late_in(Kind::Pump, day, sheets, month)),
-        number_of(leaking_in(Kind::Compressor, sheets, month)),
-        number_of(late_in(Kind::Compressor, day, sheets, month)),
+        valves.leaking,
+        valves.late,
+        pumps.leaking,
+        pumps.late,
+        compressors.leaking,
+        compressors.late,
     ]
 }
 
