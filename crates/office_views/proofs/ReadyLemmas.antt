@@ -1,12 +1,8 @@
 -- Instruments that are ready, and what is known of a component.
-use Rattle.std.proofs.Common.{◌≡◌, ℕ, ◌<◌, true, cond, nat_le, Option, Some, None, List, [], ◌∷◌, refl, sym, ap, ◌∙◌, subst, inl, inr}
-use Rattle.std.specs.BTreeMap.{is_at}
+use Rattle.std.proofs.Common.{◌≡◌, ℕ, zero, suc, ◌<◌, false, cond, nat_eq, nat_le, Option, Some, None, List, [], ◌∷◌, ◌++◌, length, set, refl, sym, ap, ◌∙◌, subst, inl, inr, arith}
 use Rattle.std.specs.Option.{option_to_list}
-use Rattle.std.specs.Ordering.{is_eq, nat_cmp, MatchOrdering}
-use Rattle.std.specs.declared.cmp.Ordering.{Ordering}
-use Rattle.std.specs.declared.cmp.Ordering.TheVariants.{Less, Equal, Greater}
-use Rattle.std.proofs.lemmas.Bool.{cases_Bool}
-use Rattle.std.proofs.lemmas.Cmp.{ranked}
+use Rattle.std.proofs.lemmas.Bool.{cases_Bool, eqb-true}
+use Rattle.std.proofs.lemmas.Bool.Decides.{nat_tests}
 use Rattle.list_words.specs.Order.{Ascends}
 use Rattle.list_words.proofs.PutLemmas.{ascends_filter}
 use Rattle.fact_kinds.specs.declared.body.FactBody.{FactBody}
@@ -31,30 +27,42 @@ use Rattle.ldar_law.specs.Tags.{tags_of}
 use Rattle.ldar_law.specs.Units.{known_of}
 use Rattle.method21_reading.specs.Instruments.{Apart, AreThoseOf}
 use Rattle.method21_reading.specs.Readings.{fitness_by}
-use Rattle.office_views.specs.Lists.{AreReady}
+use Rattle.office_views.specs.Lists.{AreReady, ready_in}
 
-tie_is : (o : Ordering) → is_eq o ≡ true → o ≡ Equal
-tie_is Less e = cc
-tie_is Equal e = refl
-tie_is Greater e = cc
+-- one place more, at which no instrument is ready
+pub ready_push : (ready : List (Option Apart)) (n : ℕ) → ready_in (ready ++ None ∷ []) n ≡ ready_in ready n
+ready_push [] zero = refl
+ready_push [] (suc n) = refl
+ready_push (slot ∷ ready) zero = refl
+ready_push (slot ∷ ready) (suc n) = ready_push ready n
 
--- numbers that tie are one
-nat_tied : (x y : ℕ) → is_eq (nat_cmp x y) ≡ true → x ≡ y
-nat_tied x y e =
-    subst (λ o. MatchOrdering o (x < y) (x ≡ y) (y < x)) (tie_is (nat_cmp x y) e) (ranked x y (nat_cmp x y) refl)
+-- an instrument at a place
+pub ready_set : (ready : List (Option Apart)) (place : ℕ) (instrument : Apart) (n : ℕ) → place < length ready
+    → ready_in (set ready place (Some instrument)) n ≡ cond (nat_eq n place) (Some instrument) (ready_in ready n)
+ready_set [] place instrument n within = absurd (omega (arith, within))
+ready_set (slot ∷ ready) zero instrument zero within = refl
+ready_set (slot ∷ ready) zero instrument (suc n) within =
+    let other : nat_eq (suc n) zero ≡ false = grind (arith, nat_tests) in
+    rw other refl
+ready_set (slot ∷ ready) (suc place) instrument zero within =
+    let other : nat_eq zero (suc place) ≡ false = grind (arith, nat_tests) in
+    rw other refl
+ready_set (slot ∷ ready) (suc place) instrument (suc n) within =
+    let same : nat_eq (suc n) (suc place) ≡ nat_eq n place = grind (arith, nat_tests) in
+    rw same (ready_set ready place instrument n (omega (arith, within)))
 
 -- with one instrument more
-pub ready_with : (old new : ℕ → Option Apart) (facts : List Entry) (number : ℕ) (instrument : Apart) → AreReady old facts
+pub ready_with : (old new : List (Option Apart)) (facts : List Entry) (number : ℕ) (instrument : Apart) → AreReady old facts
     → AreThoseOf (facts_of_instrument number facts) instrument
-    → ((q : ℕ) → new q ≡ cond (is_at (nat_cmp number) q) (Some instrument) (old q)) → AreReady new facts
-ready_with old new facts number instrument ready those updates q other is =
-    elim (cases_Bool (is_at (nat_cmp number) q)) [
+    → ((n : ℕ) → ready_in new n ≡ cond (nat_eq n number) (Some instrument) (ready_in old n)) → AreReady new facts
+ready_with old new facts number instrument ready those updates n other is =
+    elim (cases_Bool (nat_eq n number)) [
       | inl here ↦
-          let found : Some instrument ≡ Some other = ap (λ b. cond b (Some instrument) (old q)) (sym here) ∙ sym (updates q) ∙ is in
+          let found : Some instrument ≡ Some other = ap (λ b. cond b (Some instrument) (ready_in old n)) (sym here) ∙ sym (updates n) ∙ is in
           let same : instrument ≡ other = cc in
-          subst (λ n. AreThoseOf (facts_of_instrument n facts) other) (nat_tied number q here)
+          subst (λ m. AreThoseOf (facts_of_instrument m facts) other) (sym (eqb-true n number here))
           (subst (AreThoseOf (facts_of_instrument number facts)) same those)
-      | inr elsewhere ↦ ready q other (ap (λ b. cond b (Some instrument) (old q)) (sym elsewhere) ∙ sym (updates q) ∙ is)
+      | inr elsewhere ↦ ready n other (ap (λ b. cond b (Some instrument) (ready_in old n)) (sym elsewhere) ∙ sym (updates n) ∙ is)
     ]
 
 -- what is known of a component, from what the calls below give

@@ -1,5 +1,5 @@
 -- The facts that a view reads.
-use Rattle.std.specs.Prelude.{◌≡◌, ℕ, ◌≤◌, Option, Some, List}
+use Rattle.std.specs.Prelude.{◌≡◌, ℕ, ◌≤◌, Option, Some, None, List, slice_get}
 use Rattle.std.specs.List.{AllByRecursion}
 use Rattle.fact_kinds.specs.Facts.{Entry}
 use Rattle.fact_store.specs.Kept.{facts_in}
@@ -25,6 +25,14 @@ pub record AreKept (facts entries : List Entry) : Type 0 where
   pub in_range : AllByRecursion IsInRange facts
   pub startups : (number : ℕ) (unit : UnitEntry) → unit_entry_of number facts ≡ Some unit → unit.startup ≤ LAST_FACT_DAY
 
+-- the instrument of a number among those that are ready, which stand at their numbers
+abbrev pub ready_in : List (Option Apart) → ℕ → Option Apart
+ready_in ready number = elim (slice_get ready number) [
+  | None ↦ None
+  | Some slot ↦ slot
+]
+
 -- the instruments that are ready are those of their numbers, by these facts
-abbrev pub AreReady : (ℕ → Option Apart) → List Entry → Type 0
-AreReady ready facts = (number : ℕ) (instrument : Apart) → ready number ≡ Some instrument → AreThoseOf (facts_of_instrument number facts) instrument
+abbrev pub AreReady : List (Option Apart) → List Entry → Type 0
+AreReady ready facts =
+    (number : ℕ) (instrument : Apart) → ready_in ready number ≡ Some instrument → AreThoseOf (facts_of_instrument number facts) instrument

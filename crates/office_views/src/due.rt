@@ -1,7 +1,5 @@
 ghost use Rattle.std.specs.Prelude.{◌≡◌, ◌-◌, ◌++◌, ◌≤◌, IfOk, IfSome, OnOk};
-ghost use Rattle.std.specs.BTreeMap.{get};
 ghost use Rattle.std.specs.Option.{option_map, option_to_list};
-ghost use Rattle.std.specs.Ordering.{nat_cmp};
 ghost use Rattle.fact_store.specs.Kept.{facts_in};
 ghost use Rattle.ldar_law.specs.declared.numbers.TheConstants.{LAST_FACT_DAY};
 ghost use Rattle.ldar_law.specs.Duties as duties;
@@ -49,11 +47,11 @@ fn tallies_asked<L: Ledger>(
 ) -> Result<Vec<Tally>, Memory>
     requires kept { AreKept (facts_in lists.now.store.now) (facts_in register.now) }
     requires startup { unit.now.startup ≤ LAST_FACT_DAY }
-    requires ready { AreReady (λ n. get nat_cmp ready.old n) (facts_by lists.now) }
+    requires ready { AreReady ready.old.items (facts_by lists.now) }
     ensures value { IfOk result (λ tallies. skipped_to tallies.items elections.now unit.now.startup quarter
         ≡ skipped_to (law.tallies_to unit.now.startup lists.now.day (law.components_of unit.now.unit (facts_by lists.now)) (quarter - 1))
         elections.now unit.now.startup quarter) }
-    ensures ready { OnOk result (AreReady (λ n. get nat_cmp ready.new n) (facts_by lists.now)) }
+    ensures ready { OnOk result (AreReady ready.new.items (facts_by lists.now)) }
 {
     if elections.is_empty() {
         return Ok(Vec::new(lists.alloc));
@@ -78,10 +76,10 @@ fn skipped_on<L: Ledger>(
 ) -> Result<Vec<bool>, Memory>
     requires kept { AreKept (facts_in lists.now.store.now) (facts_in register.now) }
     requires startup { unit.now.startup ≤ LAST_FACT_DAY }
-    requires ready { AreReady (λ n. get nat_cmp ready.old n) (facts_by lists.now) }
+    requires ready { AreReady ready.old.items (facts_by lists.now) }
     ensures value { IfOk result (λ skipped. skipped.items ≡ law.skipped_on unit.now.startup lists.now.day
         (law.components_of unit.now.unit (facts_by lists.now)) (equipment.elections_of unit.now.unit (facts_by lists.now))) }
-    ensures ready { OnOk result (AreReady (λ n. get nat_cmp ready.new n) (facts_by lists.now)) }
+    ensures ready { OnOk result (AreReady ready.new.items (facts_by lists.now)) }
 {
     let quarter = quarter_at(unit.startup, lists.day);
     let elections = elections_on(lists, unit.unit, steps)?;

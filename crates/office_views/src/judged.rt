@@ -1,8 +1,6 @@
 ghost use Rattle.std.specs.Prelude.{◌≡◌, Some, ◌++◌, IfOk, OnOk};
-ghost use Rattle.std.specs.BTreeMap.{get};
 ghost use Rattle.std.specs.List.{filter_map};
 ghost use Rattle.std.specs.Option.{option_to_list};
-ghost use Rattle.std.specs.Ordering.{nat_cmp};
 ghost use Rattle.list_words.specs.Order.{Ascends};
 ghost use Rattle.fact_kinds.specs.Facts.{is_earlier};
 ghost use Rattle.ldar_law.specs.Events.{events_in, fitness_in};
@@ -38,9 +36,9 @@ fn add_fitness<L: Ledger>(
     steps: &mut Steps<L>,
 ) -> Result<(), Memory>
     requires ordered { Ascends (λ a b. is_earlier a.0 b.0) classes.now }
-    requires ready { AreReady (λ n. get nat_cmp ready.old n) (facts_by lists.now) }
+    requires ready { AreReady ready.old.items (facts_by lists.now) }
     ensures put { OnOk result (fitness.new.items ≡ fitness.old.items ++ option_to_list (fitness_in item.now classes.now (facts_by lists.now) e.now)) }
-    ensures ready { OnOk result (AreReady (λ n. get nat_cmp ready.new n) (facts_by lists.now)) }
+    ensures ready { OnOk result (AreReady ready.new.items (facts_by lists.now)) }
 {
     if let FactBody::Reading { instrument, .. } = e.1.body {
         let limit = limit_on(item, classes, e.0.day);
@@ -59,9 +57,9 @@ fn fitness_of_all<L: Ledger>(
     steps: &mut Steps<L>,
 ) -> Result<Vec<Fitness>, Memory>
     requires ordered { Ascends (λ a b. is_earlier a.0 b.0) classes.now }
-    requires ready { AreReady (λ n. get nat_cmp ready.old n) (facts_by lists.now) }
+    requires ready { AreReady ready.old.items (facts_by lists.now) }
     ensures value { IfOk result (λ fitness. fitness.items ≡ filter_map (fitness_in item.now classes.now (facts_by lists.now)) own.now) }
-    ensures ready { OnOk result (AreReady (λ n. get nat_cmp ready.new n) (facts_by lists.now)) }
+    ensures ready { OnOk result (AreReady ready.new.items (facts_by lists.now)) }
 {
     let mut fitness = Vec::with_capacity(lists.alloc, own.len())?;
     for e in own {
@@ -81,9 +79,9 @@ pub fn judged<L: Ledger>(
 ) -> Result<Vec<Event>, Memory>
     requires own { own.now ≡ facts_of_component item.now.component (facts_by lists.now) }
     requires ordered { Ascends (λ a b. is_earlier a.0 b.0) classes.now }
-    requires ready { AreReady (λ n. get nat_cmp ready.old n) (facts_by lists.now) }
+    requires ready { AreReady ready.old.items (facts_by lists.now) }
     ensures value { IfOk result (λ events. events.items ≡ events_in item.now classes.now (facts_by lists.now)) }
-    ensures ready { OnOk result (AreReady (λ n. get nat_cmp ready.new n) (facts_by lists.now)) }
+    ensures ready { OnOk result (AreReady ready.new.items (facts_by lists.now)) }
 {
     let fitness = fitness_of_all(ready, lists, item, classes, own, steps)?;
     events_of(lists.alloc, item, classes, own, &fitness)

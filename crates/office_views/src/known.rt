@@ -1,6 +1,4 @@
 ghost use Rattle.std.specs.Prelude.{◌≡◌, IfOk, OnOk};
-ghost use Rattle.std.specs.BTreeMap.{get};
-ghost use Rattle.std.specs.Ordering.{nat_cmp};
 ghost use Rattle.ldar_law.specs.Equipment as equipment;
 ghost use Rattle.ldar_law.specs.Units as law;
 ghost use Rattle.office_views.specs.Known.{in_law, IsOrdered};
@@ -34,10 +32,10 @@ pub fn known_of<L: Ledger>(
     steps: &mut Steps<L>,
 ) -> Result<Known, Memory>
     requires stops { stops.now ≡ equipment.stops_of item.now.unit (facts_by lists.now) }
-    requires ready { AreReady (λ n. get nat_cmp ready.old n) (facts_by lists.now) }
+    requires ready { AreReady ready.old.items (facts_by lists.now) }
     ensures value { IfOk result (λ known. in_law known ≡ law.known_of (facts_by lists.now) item.now) }
     ensures ordered { IfOk result IsOrdered }
-    ensures ready { OnOk result (AreReady (λ n. get nat_cmp ready.new n) (facts_by lists.now)) }
+    ensures ready { OnOk result (AreReady ready.new.items (facts_by lists.now)) }
 {
     let own = lists.of_component(item.component, steps)?;
     let classes = classes_of(lists.alloc, item.component, &own)?;

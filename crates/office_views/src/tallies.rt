@@ -1,8 +1,6 @@
 ghost use Rattle.std.specs.Prelude.{◌≡◌, ◌<◌, ◌≤◌, ℕ, [], IfOk, IfSome, OnOk, length, map, vec_len};
-ghost use Rattle.std.specs.BTreeMap.{get};
 ghost use Rattle.std.specs.List.{list_any};
 ghost use Rattle.std.specs.Option.{option_map, option_to_list};
-ghost use Rattle.std.specs.Ordering.{nat_cmp};
 ghost use Rattle.list_words.specs.Ranges.{from_to};
 ghost use Rattle.fact_store.specs.Kept.{facts_in};
 ghost use Rattle.ldar_law.specs.declared.numbers.TheConstants.{LAST_FACT_DAY};
@@ -169,10 +167,10 @@ pub fn tallies_of_unit<L: Ledger>(
 ) -> Result<Vec<Tally>, Memory>
     requires kept { AreKept (facts_in lists.now.store.now) (facts_in register.now) }
     requires startup { unit.now.startup ≤ LAST_FACT_DAY }
-    requires ready { AreReady (λ n. get nat_cmp ready.old n) (facts_by lists.now) }
+    requires ready { AreReady ready.old.items (facts_by lists.now) }
     ensures value { IfOk result (λ tallies. tallies.items
         ≡ law.tallies_to unit.now.startup lists.now.day (law.components_of unit.now.unit (facts_by lists.now)) quarter) }
-    ensures ready { OnOk result (AreReady (λ n. get nat_cmp ready.new n) (facts_by lists.now)) }
+    ensures ready { OnOk result (AreReady ready.new.items (facts_by lists.now)) }
 {
     let stops = stops_on(lists, unit.unit, steps)?;
     let mut tallies = none_counted(lists.alloc, quarter)?;

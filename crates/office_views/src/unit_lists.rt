@@ -1,7 +1,5 @@
 ghost use Rattle.std.specs.Prelude.{◌≡◌, ◌++◌, Contains, IfOk, IfSome, OnOk, filter};
-ghost use Rattle.std.specs.BTreeMap.{get};
 ghost use Rattle.std.specs.Option.{option_map, option_to_list};
-ghost use Rattle.std.specs.Ordering.{nat_cmp};
 ghost use Rattle.list_words.specs.Order.{Ascends};
 ghost use Rattle.fact_kinds.specs.Facts.{is_earlier};
 ghost use Rattle.fact_store.specs.Kept.{facts_in};
@@ -36,11 +34,11 @@ pub fn known_at<L: Ledger>(
     requires kept { AreKept (facts_in lists.now.store.now) (facts_in register.now) }
     requires member { Contains (equipment.members_of unit (facts_in lists.now.store.now)) number }
     requires stops { stops.now ≡ equipment.stops_of unit (facts_by lists.now) }
-    requires ready { AreReady (λ n. get nat_cmp ready.old n) (facts_by lists.now) }
+    requires ready { AreReady ready.old.items (facts_by lists.now) }
     ensures value { IfOk result (λ known. option_map in_law known
         ≡ option_map (law.known_of (facts_by lists.now)) (equipment.equipment_of number (facts_by lists.now))) }
     ensures ordered { IfOk result (λ known. IfSome known IsOrdered) }
-    ensures ready { OnOk result (AreReady (λ n. get nat_cmp ready.new n) (facts_by lists.now)) }
+    ensures ready { OnOk result (AreReady ready.new.items (facts_by lists.now)) }
 {
     match component_on(register, number, lists.day) {
         Some(item) => Ok(Some(known_of(ready, lists, &item, stops, steps)?)),

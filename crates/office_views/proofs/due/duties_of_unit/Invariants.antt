@@ -1,6 +1,4 @@
 use Rattle.std.proofs.Common.{◌≡◌, take}
-use Rattle.std.specs.BTreeMap.{get}
-use Rattle.std.specs.Ordering.{nat_cmp}
 use Rattle.ldar_law.specs.Units as law
 use Rattle.office_views.specs.Known.{known_among}
 use Rattle.office_views.specs.Lists.{AreReady, facts_by}
@@ -10,5 +8,5 @@ abbrev pub invariant-loop-number : goal.invariant-loop-number
 invariant-loop-number g l = record {
   listed : l.all.items
       ≡ law.due_list l.unit.startup l.lists.day l.skipped.items (known_among (facts_by l.lists) (take l.number-index l.number-items));
-  ready : AreReady (λ n. get nat_cmp l.ready n) (facts_by l.lists);
+  ready : AreReady l.ready.items (facts_by l.lists);
 }

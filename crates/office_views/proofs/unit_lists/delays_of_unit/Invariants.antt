@@ -1,6 +1,4 @@
 use Rattle.std.proofs.Common.{◌≡◌, take}
-use Rattle.std.specs.BTreeMap.{get}
-use Rattle.std.specs.Ordering.{nat_cmp}
 use Rattle.ldar_law.specs.Units as law
 use Rattle.office_views.specs.Known.{known_among}
 use Rattle.office_views.specs.Lists.{AreReady, facts_by}
@@ -9,5 +7,5 @@ use Rattle.office_views.proofs.unit_lists.delays_of_unit.Given as goal
 abbrev pub invariant-loop-number : goal.invariant-loop-number
 invariant-loop-number g l = record {
   listed : l.lines.items ≡ law.delay_list (known_among (facts_by l.lists) (take l.number-index l.number-items));
-  ready : AreReady (λ n. get nat_cmp l.ready n) (facts_by l.lists);
+  ready : AreReady l.ready.items (facts_by l.lists);
 }
