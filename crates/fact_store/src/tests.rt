@@ -5,6 +5,7 @@ use crate::{FactStore, Facts, Place, Steps};
 use fact_kinds::{Day, Fact, FactBody, Key, Memory, Purpose};
 use std::alloc::{AllocError, Global};
 use std::marker::Brand;
+use std::process::Abort;
 use std::sync::ledger::{Blank, Ledger};
 use std::test::Fail;
 
@@ -96,6 +97,49 @@ fn keys_at<L: Ledger>(
     Ok(keys)
 }
 
+/// The keys of the facts that name a component.
+fn keys_of(
+    alloc: Global,
+    blank: Blank,
+    store: &FactStore,
+    component: u16,
+) -> Result<Vec<Key>, AllocError>
+    requires some_part { 0 < blank.parts }
+{
+    keys_at::<Brand>(alloc, blank, store, store.of_component(component))
+}
+
+/// The keys of the tests of an instrument.
+fn keys_of_tests(
+    alloc: Global,
+    blank: Blank,
+    store: &FactStore,
+    instrument: u16,
+) -> Result<Vec<Key>, AllocError>
+    requires some_part { 0 < blank.parts }
+{
+    keys_at::<Brand>(alloc, blank, store, store.of_instrument(instrument))
+}
+
+/// The keys of the readings of an instrument.
+fn keys_of_readings(
+    alloc: Global,
+    blank: Blank,
+    store: &FactStore,
+    instrument: u16,
+) -> Result<Vec<Key>, AllocError>
+    requires some_part { 0 < blank.parts }
+{
+    keys_at::<Brand>(alloc, blank, store, store.readings_of(instrument))
+}
+
+/// Sees that these keys were found in a case with a number.
+fn same_keys(rt: &impl Abort, case: &str, number: usize, found: &[Key], want: &[Key]) {
+    if *found != *want {
+        panic!(rt; "{case} {number}: {found:?}, not {want:?}");
+    }
+}
+
 /// The nth of the orders in which five things can come.
 fn nth_order(alloc: Global, n: usize) -> Result<Vec<usize>, AllocError> {
     let mut left = vec![in alloc; 0, 1, 2, 3, 4]?;
@@ -137,136 +181,243 @@ fn attempt_at(day: Day, component: u16) -> Fact
     }
 }
 
-#[test]
-fn late_facts_come_in_every_order(rt: HostRuntime) -> Result<(), Fail> {
-    let alloc = rt.alloc();
-    let first = Day::of_number(20_000).ok_or("day")?;
-    let second = Day::of_number(20_001).ok_or("day")?;
-    // In key order: an earlier day, then one minute by handheld, number and index.
-    let keys = [
+/// Five keys in key order: an earlier day, then one minute by handheld, number and index.
+fn five_keys(first: Day, second: Day) -> [Key; 5] {
+    [
         at(first, 700, 9, 9, 9),
         at(second, 600, 1, 1, 0),
         at(second, 600, 1, 1, 1),
         at(second, 600, 1, 2, 0),
         at(second, 600, 2, 1, 0),
-    ];
-    for n in 0..120 {
-        let mut entries = Vec::new(alloc);
-        for index in nth_order(alloc, n)? {
-            if index < 5 {
-                entries.push((keys[index], attempt(first)))?;
-            }
+    ]
+}
+
+/// Attempts on a day with these keys, which come in this order.
+fn attempts_in(
+    alloc: Global,
+    day: Day,
+    keys: &[Key],
+    order: &[usize],
+) -> Result<Vec<(Key, Fact)>, AllocError> {
+    let mut entries = Vec::new(alloc);
+    for index in order {
+        if let Some(key) = keys.get(*index) {
+            entries.push((*key, attempt(day)))?;
         }
-        let store = store_of(alloc, &entries)?;
-        let found = keys_at::<Brand>(alloc, Blank::new(1), &store, store.of_component(7))?;
-        assert_eq!(rt; found.as_slice(), keys.as_slice(), "in order {n}");
-        assert!(rt; store.of_component(8).is_empty());
-        assert!(rt; store.of_unit(7).is_empty());
     }
+    Ok(entries)
+}
+
+/// A store of attempts on a day with these keys, which come in the nth order.
+fn store_in_order(alloc: Global, day: Day, keys: &[Key], n: usize) -> Result<FactStore, Memory> {
+    let order = nth_order(alloc, n)?;
+    let entries = attempts_in(alloc, day, keys, &order)?;
+    store_of(alloc, &entries)
+}
+
+/// Sees that a store has attempts at component 7 alone, whose keys are these.
+fn has_attempts(
+    rt: &impl Abort,
+    alloc: Global,
+    store: &FactStore,
+    keys: &[Key],
+    n: usize,
+) -> Result<(), Fail> {
+    let found = keys_of(alloc, Blank::new(1), store, 7)?;
+    same_keys(rt, "in order", n, &found, keys);
+    assert!(rt; store.of_component(8).is_empty());
+    assert!(rt; store.of_unit(7).is_empty());
     Ok(())
 }
 
 #[test]
-fn an_instruments_tests_and_readings_stand_apart(rt: HostRuntime) -> Result<(), Fail> {
-    let alloc = rt.alloc();
-    let day = Day::of_number(20_000).ok_or("day")?;
-    let calibration = Fact {
+fn late_facts_come_in_every_order(rt: HostRuntime) -> Result<(), Fail> {
+    let first = Day::of_number(20_000).ok_or("day")?;
+    let second = Day::of_number(20_001).ok_or("day")?;
+    let keys = five_keys(first, second);
+    for n in 0..120 {
+        let store = store_in_order(rt.alloc(), first, &keys, n)?;
+        has_attempts(&rt, rt.alloc(), &store, &keys, n)?;
+    }
+    Ok(())
+}
+
+fn calibration(day: Day) -> Fact {
+    let body = FactBody::Calibration {
+        instrument: 3,
+        gas: 500,
+    };
+    Fact {
         day,
         minute: 5,
-        body: FactBody::Calibration {
-            instrument: 3,
-            gas: 500,
-        },
+        body,
+    }
+}
+
+fn reading(day: Day) -> Fact {
+    let body = FactBody::Reading {
+        component: 7,
+        instrument: 3,
+        operator: 1,
+        purpose: Purpose::Routine,
+        ppm: 20,
+        background: 2,
     };
-    let reading = Fact {
+    Fact {
         day,
         minute: 9,
-        body: FactBody::Reading {
-            component: 7,
-            instrument: 3,
-            operator: 1,
-            purpose: Purpose::Routine,
-            ppm: 20,
-            background: 2,
-        },
-    };
+        body,
+    }
+}
+
+/// A store of a reading and a calibration on a day.
+fn store_of_two(alloc: Global, day: Day) -> Result<FactStore, Memory> {
     let entries = [
-        (at(day, 9, 1, 1, 0), reading),
-        (at(day, 5, 1, 1, 1), calibration),
+        (at(day, 9, 1, 1, 0), reading(day)),
+        (at(day, 5, 1, 1, 1), calibration(day)),
     ];
-    let store = store_of(alloc, &entries)?;
-    let tests = keys_at::<Brand>(alloc, Blank::new(1), &store, store.of_instrument(3))?;
-    assert_eq!(rt; tests.as_slice(), [at(day, 5, 1, 1, 1)].as_slice());
-    let readings = keys_at::<Brand>(alloc, Blank::new(1), &store, store.readings_of(3))?;
-    assert_eq!(rt; readings.as_slice(), [at(day, 9, 1, 1, 0)].as_slice());
-    let named = keys_at::<Brand>(alloc, Blank::new(1), &store, store.of_component(7))?;
-    assert_eq!(rt; named.as_slice(), [at(day, 9, 1, 1, 0)].as_slice());
+    store_of(alloc, &entries)
+}
+
+#[test]
+fn an_instruments_tests_and_readings_stand_apart(rt: HostRuntime) -> Result<(), Fail> {
+    let day = Day::of_number(20_000).ok_or("day")?;
+    let store = store_of_two(rt.alloc(), day)?;
+    let tests = keys_of_tests(rt.alloc(), Blank::new(1), &store, 3)?;
+    same_keys(
+        &rt,
+        "tests of instrument",
+        3,
+        &tests,
+        &[at(day, 5, 1, 1, 1)],
+    );
+    let readings = keys_of_readings(rt.alloc(), Blank::new(1), &store, 3)?;
+    same_keys(
+        &rt,
+        "readings of instrument",
+        3,
+        &readings,
+        &[at(day, 9, 1, 1, 0)],
+    );
+    let named = keys_of(rt.alloc(), Blank::new(1), &store, 7)?;
+    same_keys(&rt, "component", 7, &named, &[at(day, 9, 1, 1, 0)]);
     assert!(rt; store.readings_of(4).is_empty());
+    Ok(())
+}
+
+/// A hundred facts of five components: long lists in reverse, and one list that comes as it likes.
+fn a_hundred(alloc: Global, day: Day) -> Result<Vec<(Key, Fact)>, AllocError> {
+    let mut entries = Vec::new(alloc);
+    for n in 0..100 {
+        let minute = if n % 5 == 0 { n * 37 % 101 } else { 1000 - n };
+        entries.push((at(day, minute, 1, 1, n), attempt_at(day, n % 5 + 1)))?;
+    }
+    Ok(entries)
+}
+
+/// Sees that two stores give the same facts of a component.
+fn same_facts(
+    rt: &impl Abort,
+    alloc: Global,
+    inserted: &FactStore,
+    listed: &FactStore,
+    component: u16,
+) -> Result<(), Fail> {
+    let want = keys_of(alloc, Blank::new(1), inserted, component)?;
+    let found = keys_of(alloc, Blank::new(2), listed, component)?;
+    same_keys(rt, "component", usize::from(component), &found, &want);
+    Ok(())
+}
+
+/// Sees that two stores give the same facts of each component.
+fn same_lists(
+    rt: &impl Abort,
+    alloc: Global,
+    inserted: &FactStore,
+    listed: &FactStore,
+) -> Result<(), Fail> {
+    for component in 0..6 {
+        same_facts(rt, alloc, inserted, listed, component)?;
+    }
     Ok(())
 }
 
 #[test]
 fn late_facts_are_listed_at_once_as_one_by_one(rt: HostRuntime) -> Result<(), Fail> {
-    let alloc = rt.alloc();
     let day = Day::of_number(20_000).ok_or("day")?;
-    let mut entries = Vec::new(alloc);
-    for n in 0..100 {
-        // Long lists in reverse, and one list that comes as it likes.
-        let minute = if n % 5 == 0 { n * 37 % 101 } else { 1000 - n };
-        entries.push((at(day, minute, 1, 1, n), attempt_at(day, n % 5 + 1)))?;
-    }
-    let inserted = store_of(alloc, &entries)?;
+    let entries = a_hundred(rt.alloc(), day)?;
+    let inserted = store_of(rt.alloc(), &entries)?;
     for count in [1, 7, 30, 100] {
-        let listed = listed_at_each(alloc, &entries, count)?;
-        for component in 0..6 {
-            let places = inserted.of_component(component);
-            let want = keys_at::<Brand>(alloc, Blank::new(1), &inserted, places)?;
-            let places = listed.of_component(component);
-            let found = keys_at::<Brand>(alloc, Blank::new(2), &listed, places)?;
-            assert_eq!(rt; found.as_slice(), want.as_slice(), "component {component}");
-        }
+        let listed = listed_at_each(rt.alloc(), &entries, count)?;
+        same_lists(&rt, rt.alloc(), &inserted, &listed)?;
     }
+    Ok(())
+}
+
+/// A long list, and so many facts that come late.
+fn long_and_late(alloc: Global, day: Day, late: u16) -> Result<Vec<(Key, Fact)>, AllocError> {
+    let mut entries = Vec::new(alloc);
+    for n in 0..201 {
+        entries.push((at(day, 2 * n, 1, 1, 0), attempt(day)))?;
+    }
+    for n in 0..late {
+        let minute = (n % 401 + 5) * 37 % 401;
+        entries.push((at(day, minute, 1, 2, 0), attempt(day)))?;
+    }
+    Ok(entries)
+}
+
+/// The keys in key order.
+fn sorted_keys(alloc: Global, entries: &[(Key, Fact)]) -> Result<Vec<Key>, AllocError> {
+    let mut keys = Vec::new(alloc);
+    for entry in entries {
+        keys.push(entry.0)?;
+    }
+    keys.sort_unstable();
+    Ok(keys)
+}
+
+/// The keys of facts of component 7, which are listed at the end and after the first, the 201st and so on.
+fn listed_keys(alloc: Global, entries: &[(Key, Fact)]) -> Result<Vec<Key>, Memory> {
+    let listed = listed_at_each(alloc, entries, 200)?;
+    keys_of(alloc, Blank::new(1), &listed, 7)
+}
+
+/// Sees that so many late facts stand where they belong in a long list.
+fn go_into_a_long_list(rt: &impl Abort, alloc: Global, day: Day, late: u16) -> Result<(), Fail> {
+    let entries = long_and_late(alloc, day, late)?;
+    let found = listed_keys(alloc, &entries)?;
+    let want = sorted_keys(alloc, &entries)?;
+    same_keys(rt, "late", usize::from(late), &found, &want);
     Ok(())
 }
 
 #[test]
 fn late_facts_go_into_a_long_list(rt: HostRuntime) -> Result<(), Fail> {
-    let alloc = rt.alloc();
     let day = Day::of_number(20_000).ok_or("day")?;
     // One late fact and twenty are merged into the list, and a hundred are sorted with it.
     for late in [1, 20, 100] {
-        let mut entries = Vec::new(alloc);
-        for n in 0..201 {
-            entries.push((at(day, 2 * n, 1, 1, 0), attempt(day)))?;
-        }
-        for n in 0..late {
-            let minute = (n % 401 + 5) * 37 % 401;
-            entries.push((at(day, minute, 1, 2, 0), attempt(day)))?;
-        }
-        let listed = listed_at_each(alloc, &entries, 200)?;
-        let found = keys_at::<Brand>(alloc, Blank::new(1), &listed, listed.of_component(7))?;
-        let mut want = Vec::new(alloc);
-        for entry in &entries {
-            want.push(entry.0)?;
-        }
-        want.sort_unstable();
-        assert_eq!(rt; found.as_slice(), want.as_slice(), "{late} late");
+        go_into_a_long_list(&rt, rt.alloc(), day, late)?;
     }
     Ok(())
 }
 
-#[test]
-fn a_fact_with_room_comes_after_a_list_was_made(rt: HostRuntime) -> Result<(), Fail> {
-    let alloc = rt.alloc();
-    let day = Day::of_number(20_000).ok_or("day")?;
+/// A store where a fact with room comes after its list was made.
+fn store_of_late(rt: &impl Abort, alloc: Global, day: Day) -> Result<FactStore, Memory> {
     let late = attempt(day);
     let mut facts = Facts::new(alloc);
     facts.reserve(&[late])?;
     let mut store = facts.list()?;
     assert!(rt; store.of_component(7).is_empty());
     store.insert(at(day, 9, 1, 1, 0), late);
-    let places = store.of_component(7);
-    let found = keys_at::<Brand>(alloc, Blank::new(1), &store, places)?;
-    assert_eq!(rt; found.as_slice(), [at(day, 9, 1, 1, 0)].as_slice());
+    Ok(store)
+}
+
+#[test]
+fn a_fact_with_room_comes_after_a_list_was_made(rt: HostRuntime) -> Result<(), Fail> {
+    let day = Day::of_number(20_000).ok_or("day")?;
+    let store = store_of_late(&rt, rt.alloc(), day)?;
+    let found = keys_of(rt.alloc(), Blank::new(1), &store, 7)?;
+    same_keys(&rt, "component", 7, &found, &[at(day, 9, 1, 1, 0)]);
     Ok(())
 }
