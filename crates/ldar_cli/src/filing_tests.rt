@@ -1,10 +1,10 @@
 ghost use Rattle.std.specs.Prelude.{None};
 
-use crate::run;
 use disk_model::{Memory, MemoryDisk};
 use fact_kinds::Day;
 use ldar_law::{Amended, Cells, Filed, Items, MonthCells};
 use ldar_ports::{ListSource, StampedSink};
+use office_commands::run;
 use report_filing::{Filing, FilingFault, MapFiling, amended_cells};
 use std::alloc::Global;
 use std::test::Fail;

@@ -1,4 +1,4 @@
-use crate::status::Status;
+use office_commands::Status;
 use std::fs::File;
 use std::io;
 use std::os::fd::{AsFd, AsRawFd};

@@ -1,12 +1,9 @@
-//! The leak detection and repair office of a refinery, as a command.
+//! The leak detection and repair office of a refinery, as a command: its words, files and streams, and the rows that it is tried on.
 #![tactic(auto)]
 
-mod command;
-mod docking;
 mod file_disk;
 #[cfg(test)]
 mod file_tests;
-mod filing;
 #[cfg(test)]
 mod filing_tests;
 mod held;
@@ -14,18 +11,11 @@ mod held;
 mod http_tests;
 #[cfg(test)]
 mod import_tests;
-mod importing;
-mod init;
 mod journal_file;
 #[cfg(test)]
 mod large_tests;
-mod noting;
-mod number;
-mod program;
 #[cfg(test)]
 mod row_tests;
-mod showing;
-mod status;
 #[cfg(test)]
 mod stop_tests;
 mod streams;
@@ -35,9 +25,8 @@ mod tests;
 use disk_model::{Disk, MemoryDisk};
 pub use file_disk::FileDisk;
 use filed_table::{AtPath, TableFiling};
-pub use program::run;
+use office_commands::{Status, run};
 use report_filing::{Filing, MapFiling};
-pub use status::Status;
 use std::process::ExitCode;
 use std::{env, io};
 pub use streams::{StdSink, StdSource};

@@ -1,6 +1,6 @@
-use crate::run;
 use disk_model::{Disk, Memory, MemoryDisk};
 use ldar_ports::{ListSource, StampedSink};
+use office_commands::run;
 use report_filing::MapFiling;
 use std::alloc::Global;
 use std::test::Fail;

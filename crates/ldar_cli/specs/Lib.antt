@@ -1,6 +1,0 @@
-pub mod Command
-pub mod Connection
-pub mod Filing
-pub mod Imports
-pub mod Run
-pub mod Statuses

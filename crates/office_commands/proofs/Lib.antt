@@ -1,0 +1,15 @@
+mod CommandLemmas
+mod ConnectionLemmas
+mod EndLemmas
+mod FaultLemmas
+mod FilingLemmas
+mod ImportLemmas
+mod KindLemmas
+mod NoteLemmas
+mod NumberLemmas
+mod RulyLemmas
+mod RunLemmas
+mod SendingLemmas
+mod StatusLemmas
+mod ViewLemmas
+mod WordLemmas

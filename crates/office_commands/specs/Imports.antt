@@ -1,0 +1,62 @@
+-- Importing a file of the register: what is read of the input, which batches it says, and how these are sent.
+use Rattle.std.specs.Prelude.{◌≡◌, ◌<◌, ◌≤◌, ◌⊎◌, ℕ, List, [], length, map, Option, Result, Ok, Err}
+use Rattle.fact_kinds.specs.declared.batch.Batch.{Batch}
+use Rattle.ldar_ports.specs.Source.{HasEnded}
+use Rattle.ldar_law.specs.declared.request.Request.TheVariants.{Sync}
+use Rattle.office_commands.specs.declared.sending.Sent.{Sent}
+use Rattle.office_commands.specs.Sending.{EndsSending}
+use Rattle.ldar_session.specs.Served.{Served}
+use Rattle.register_import.specs.declared.limits.TheConstants.{LONGEST_TEXT}
+use Rattle.register_import.specs.Units.{units_import}
+use Rattle.register_import.specs.Components.{components_import}
+use Rattle.office_commands.specs.declared.command.Sort.{Sort}
+use Rattle.office_commands.specs.declared.command.Sort.TheVariants.{Units, Components}
+use Rattle.office_commands.specs.declared.status.Status.{Status}
+use Rattle.office_commands.specs.declared.status.Status.TheVariants.{ReadFault, Memory, BadRow, TooLarge}
+use Rattle.office_commands.specs.Statuses.{status_sent}
+
+-- the batches that a file of this sort says, numbered from here, or its first bad row
+abbrev pub batches_in : Sort → ℕ → List ℕ → Result (List Batch) ℕ
+batches_in Units number text = units_import number text
+batches_in Components number text = components_import number text
+
+-- no file was read: a call of the input failed, memory was wanting, or there are too many bytes
+abbrev pub ReadsNone : Status → List ℕ → Type 0
+ReadsNone ReadFault text = Unit {0}
+ReadsNone Memory text = Unit {0}
+ReadsNone TooLarge text = LONGEST_TEXT < length text
+ReadsNone _ text = ⊥
+
+-- the whole input is a text that is short enough
+pub record IsRead (text : List ℕ) (left : Option (List ℕ)) : Type 0 where
+  pub ended : HasEnded left
+  pub fits : length text ≤ LONGEST_TEXT
+
+-- nothing was sent, and so nothing said
+abbrev pub SendsNone : List Served → List ℕ → Type 0
+SendsNone served unsaid = (served ≡ []) × (unsaid ≡ [])
+
+-- the file has a bad row, which is told
+pub record HasBadRow (sort : Sort) (number : ℕ) (status : Status) (text : List ℕ) (left : Option (List ℕ)) : Type 0 where
+  pub read : IsRead text left
+  pub at : ℕ
+  pub first : batches_in sort number text ≡ Err at
+  pub told : status ≡ BadRow at
+
+-- the batches of the file were sent in turn, up to and with the first that is not receipted
+pub record SendsFile (sort : Sort) (number : ℕ) (status : Status) (served : List Served) (text : List ℕ) (left : Option (List ℕ)) (unsaid : List ℕ)
+    (counts : ℕ × ℕ) : Type 0 where
+  pub read : IsRead text left
+  pub batches : List Batch
+  pub says : batches_in sort number text ≡ Ok batches
+  pub sent : Sent
+  pub sends : EndsSending sent (map Sync batches) served unsaid counts.0 counts.1
+  pub told : status ≡ status_sent sent
+
+-- How an import ends, by what was served, the bytes read, those left in the source, what is unsaid, and the counts of faults of the output before
+-- and after. All rows are judged before the first batch is sent.
+abbrev pub EndsImport : Sort → ℕ → (counts : ℕ × ℕ) → Status → List Served → List ℕ → Option (List ℕ) → List ℕ → Type 0
+EndsImport sort number counts status served text left unsaid =
+    (ReadsNone status text × SendsNone served unsaid)
+    ⊎ ((HasBadRow sort number status text left × SendsNone served unsaid)
+    ⊎ SendsFile sort number status served text left unsaid counts)

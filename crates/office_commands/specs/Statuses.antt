@@ -1,0 +1,151 @@
+-- How a command may end: the exit status of each way, the line that notes it, and what is noted where that line cannot be written.
+use Rattle.std.specs.Prelude.{◌≡◌, ◌⊎◌, ℕ, List, [], ◌++◌, Option, Result, OnOk, codes}
+use Rattle.std.specs.Fmt.{decimal}
+use Rattle.ldar_ports.specs.Sink.{Piece, Puts, bytes_of}
+use Rattle.ldar_law.specs.declared.reply.Reply.{Reply}
+use Rattle.ldar_law.specs.declared.reply.Reply.TheVariants as replies
+use Rattle.ldar_law.specs.Replies.{reply_text, what_text}
+use Rattle.ldar_law.specs.Texts.{end_of_line}
+use Rattle.ldar_law.specs.Verdicts.{paragraph_of}
+use Rattle.office_book.specs.declared.opening.BookWhy.{BookWhy}
+use Rattle.office_book.specs.declared.opening.BookWhy.TheVariants as reasons
+use Rattle.ldar_session.specs.declared.ended.Ended.{Ended}
+use Rattle.ldar_session.specs.declared.ended.Ended.TheVariants as ends
+use Rattle.office_commands.specs.declared.sending.Sent.{Sent}
+use Rattle.office_commands.specs.declared.sending.Sent.TheVariants as sends
+use Rattle.office_commands.specs.declared.status.Status.{Status}
+use Rattle.office_commands.specs.declared.status.Status.TheVariants.{Done, Usage, ReadFault, WriteFault, DiskFault, Memory}
+use Rattle.office_commands.specs.declared.status.Status.TheVariants.{NotAJournal, Damaged, Unruly, CutShort, BadInput, TooLarge, NotEmpty}
+use Rattle.office_commands.specs.declared.status.Status.TheVariants.{BadRow, Conflict, Denied, Full, NoSuch, FilingFault, SameReport, NoRevisionLeft}
+
+-- the number of a status
+abbrev pub status_number : Status → ℕ
+status_number Done = 0
+status_number Usage = 2
+status_number ReadFault = 3
+status_number WriteFault = 4
+status_number DiskFault = 5
+status_number Memory = 6
+status_number NotAJournal = 7
+status_number (Damaged at) = 7
+status_number (Unruly position rule) = 7
+status_number (CutShort got) = 8
+status_number (BadInput at) = 8
+status_number TooLarge = 8
+status_number NotEmpty = 9
+status_number (BadRow at) = 11
+status_number (Conflict position) = 11
+status_number (Denied fact rule) = 11
+status_number (Full facts) = 11
+status_number (NoSuch what) = 11
+status_number FilingFault = 10
+status_number (SameReport revision) = 11
+status_number NoRevisionLeft = 11
+
+-- the line that notes a status; that all went well is not noted
+abbrev pub note_of : Status → List ℕ
+note_of Done = []
+note_of Usage = codes "usage: ldar JOURNAL COMMAND" ++ end_of_line
+note_of ReadFault = codes "read fault" ++ end_of_line
+note_of WriteFault = codes "write fault" ++ end_of_line
+note_of DiskFault = codes "disk fault" ++ end_of_line
+note_of Memory = codes "memory" ++ end_of_line
+note_of NotAJournal = codes "not a journal" ++ end_of_line
+note_of (Damaged at) = codes "damaged journal at " ++ decimal at ++ end_of_line
+note_of (Unruly position rule) = codes "unruly batch " ++ decimal position ++ codes " " ++ (decimal rule ++ end_of_line)
+note_of (CutShort got) = codes "input cut: " ++ decimal got ++ codes " bytes left\n"
+note_of (BadInput at) = codes "bad input at " ++ decimal at ++ end_of_line
+note_of TooLarge = codes "input too large" ++ end_of_line
+note_of NotEmpty = codes "not empty" ++ end_of_line
+note_of (BadRow at) = codes "bad row " ++ decimal at ++ end_of_line
+note_of (Conflict position) = reply_text (replies.Conflict position)
+note_of (Denied fact rule) = codes "denied " ++ decimal fact ++ codes " " ++ (decimal rule ++ codes " " ++ (paragraph_of rule ++ end_of_line))
+note_of (Full facts) = reply_text (replies.Full facts)
+note_of (NoSuch what) = codes "no such " ++ what_text what ++ end_of_line
+note_of FilingFault = codes "filing fault" ++ end_of_line
+note_of (SameReport revision) = codes "same as revision " ++ decimal revision ++ end_of_line
+note_of NoRevisionLeft = codes "no revision left" ++ end_of_line
+
+-- the exit status where the note could not be written whole: a fault of writing, but want of memory stays
+abbrev pub number_unnoted : Status → ℕ
+number_unnoted Done = 0
+number_unnoted Usage = 4
+number_unnoted ReadFault = 4
+number_unnoted WriteFault = 4
+number_unnoted DiskFault = 4
+number_unnoted Memory = 6
+number_unnoted NotAJournal = 4
+number_unnoted (Damaged at) = 4
+number_unnoted (Unruly position rule) = 4
+number_unnoted (CutShort got) = 4
+number_unnoted (BadInput at) = 4
+number_unnoted TooLarge = 4
+number_unnoted NotEmpty = 4
+number_unnoted (BadRow at) = 4
+number_unnoted (Conflict position) = 4
+number_unnoted (Denied fact rule) = 4
+number_unnoted (Full facts) = 4
+number_unnoted (NoSuch what) = 4
+number_unnoted FilingFault = 4
+number_unnoted (SameReport revision) = 4
+number_unnoted NoRevisionLeft = 4
+
+-- behind the pieces that were there, pieces were put that say the text up to what is unsaid
+pub record Said (text : List ℕ) (old new : Option (List Piece)) (unsaid : List ℕ) : Type 0 where
+  pub put : List Piece
+  pub puts : Puts old put new
+  pub says : text ≡ bytes_of put ++ unsaid
+
+-- .. all of it where the putting went well
+abbrev pub IsPut : {T E : Type 0} → List ℕ → Option (List Piece) → Option (List Piece) → Result T E → Type 0
+IsPut text old new result = (unsaid : List ℕ) × Said text old new unsaid × OnOk result (unsaid ≡ [])
+
+-- how the writing of a text ends: it is said whole, or a write failed and a front of it is said, or memory was wanting and nothing is said
+abbrev pub TextEnds : List ℕ → Status → Option (List Piece) → Option (List Piece) → Type 0
+TextEnds text Done old new = Said text old new []
+TextEnds text WriteFault old new = (unsaid : List ℕ) × Said text old new unsaid
+TextEnds text Memory old new = new ≡ old
+TextEnds text _ old new = ⊥
+
+-- the status was noted whole, and the exit status is its number; or in part, and it is that of a note that could not be written
+pub record IsNoted (status : Status) (old new : Option (List Piece)) (exit : ℕ) : Type 0 where
+  pub unsaid : List ℕ
+  pub said : Said (note_of status) old new unsaid
+  pub exits : ((unsaid ≡ []) × (exit ≡ status_number status)) ⊎ (exit ≡ number_unnoted status)
+
+-- the status of a command whose journal was not opened
+abbrev pub refusal_of : BookWhy → Status
+refusal_of reasons.Disk = DiskFault
+refusal_of reasons.NotAJournal = NotAJournal
+refusal_of (reasons.Damaged at) = Damaged at
+refusal_of (reasons.Unruly position rule) = Unruly position rule
+refusal_of reasons.Memory = Memory
+
+-- the status of a command whose connection ended so
+abbrev pub status_of : Ended → Status
+status_of ends.Done = Done
+status_of ends.Stopped = Done
+status_of (ends.CutShort got) = CutShort got
+status_of (ends.Refused at) = BadInput at
+status_of ends.ReadFault = ReadFault
+status_of ends.WriteFault = WriteFault
+status_of ends.Memory = Memory
+
+-- the status of a command that sent batches, of which the last was answered this and is not receipted; no batch is answered by a view, or with what
+-- there is none of
+abbrev pub status_replied : Reply → Status
+status_replied (replies.Receipt handheld number position) = Memory
+status_replied (replies.Conflict position) = Conflict position
+status_replied (replies.Denied fact rule) = Denied fact rule
+status_replied (replies.Full facts) = Full facts
+status_replied (replies.Shown text) = Memory
+status_replied (replies.NoSuch what) = Memory
+status_replied replies.Fault = DiskFault
+status_replied replies.Memory = Memory
+
+-- .. or whose sending ended so
+abbrev pub status_sent : Sent → Status
+status_sent sends.Done = Done
+status_sent (sends.Unreceipted reply) = status_replied reply
+status_sent sends.WriteFault = WriteFault
+status_sent sends.Memory = Memory

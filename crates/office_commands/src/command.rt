@@ -1,0 +1,268 @@
+ghost use Rattle.std.specs.Prelude.{◌≡◌, map, IfSome, IfOk, IfErr};
+ghost use Rattle.std.specs.String.{string_bytes};
+ghost use Rattle.command_words.specs.Parsing.{IsWantOfMemory};
+ghost use Rattle.command_words.specs.Positionals.{positionals_of};
+ghost use Rattle.office_views.specs.Answers.{IsView};
+ghost use Rattle.office_commands.specs.Command as spec;
+
+use crate::number::{long_number_in, number_in};
+use command_words::{Error, four_positionals, no_positionals, three_positionals, two_positionals};
+use ldar_days::Day;
+use ldar_law::Request;
+use register_import::LAST_NUMBER;
+use std::alloc::Global;
+
+/// What a file of the register lists.
+#[derive(Clone, Copy, Debug, PartialEq, Eq)]
+pub enum Sort {
+    Units,
+    Components,
+}
+
+/// What the words ask for.
+#[derive(Drop)]
+pub enum Command {
+    /// Make an empty journal.
+    Init,
+    /// Take batches.
+    Dock,
+    /// Answer HTTP requests.
+    Drain,
+    /// Take a file of the register, as batches that are numbered from `number`.
+    Import { number: u32, sort: Sort },
+    /// Show a view.
+    Show(Request),
+    /// Put the report of a half year on file, as known on a day.
+    File { unit: u16, half: u16, day: Day },
+    /// Tell how many batches and facts the journal has.
+    Check,
+}
+
+/// The command that the words are, if they are one. clap reads those behind the first.
+pub fn command_of(alloc: Global, words: &[String]) -> Result<Option<Command>, Error>
+    ensures value { IfOk result (λ command. command ≡ spec.command_in (map string_bytes words.now)) }
+    ensures range { IfOk result (λ command. IfSome command spec.IsInRange) }
+    ensures memory { IfErr result IsWantOfMemory }
+{
+    match words {
+        [word] => of_one_word(alloc, word.as_str(), words),
+        [word, _, _] => of_three_words(alloc, word.as_str(), words),
+        [word, _, _, _] => of_four_words(alloc, word.as_str(), words),
+        [word, _, _, _, _] => of_five_words(alloc, word.as_str(), words),
+        _ => Ok(None),
+    }
+}
+
+/// The command of one word.
+fn of_one_word(alloc: Global, word: &str, words: &[String]) -> Result<Option<Command>, Error>
+    ensures value { IfOk result (λ command. command ≡ spec.command_with word.now (positionals_of 0 (map string_bytes words.now))) }
+    ensures range { IfOk result (λ command. IfSome command spec.IsInRange) }
+    ensures memory { IfErr result IsWantOfMemory }
+{
+    if no_positionals(alloc, words)? {
+        return Ok(alone(word));
+    }
+    Ok(None)
+}
+
+/// The command of a word and two positionals.
+fn of_three_words(alloc: Global, word: &str, words: &[String]) -> Result<Option<Command>, Error>
+    ensures value { IfOk result (λ command. command ≡ spec.command_with word.now (positionals_of 2 (map string_bytes words.now))) }
+    ensures range { IfOk result (λ command. IfSome command spec.IsInRange) }
+    ensures memory { IfErr result IsWantOfMemory }
+{
+    match two_positionals(alloc, words) {
+        Ok(Some((number, sort))) => Ok(importing(word, number, sort)),
+        Ok(None) => Ok(None),
+        Err(error) => Err(error),
+    }
+}
+
+/// The command of a word and three positionals.
+fn of_four_words(alloc: Global, word: &str, words: &[String]) -> Result<Option<Command>, Error>
+    ensures value { IfOk result (λ command. command ≡ spec.command_with word.now (positionals_of 3 (map string_bytes words.now))) }
+    ensures range { IfOk result (λ command. IfSome command spec.IsInRange) }
+    ensures memory { IfErr result IsWantOfMemory }
+{
+    match three_positionals(alloc, words) {
+        Ok(Some((first, second, third))) => Ok(of_three_further(word, first, second, third)),
+        Ok(None) => Ok(None),
+        Err(error) => Err(error),
+    }
+}
+
+/// The command of a word and four positionals.
+fn of_five_words(alloc: Global, word: &str, words: &[String]) -> Result<Option<Command>, Error>
+    ensures value { IfOk result (λ command. command ≡ spec.command_with word.now (positionals_of 4 (map string_bytes words.now))) }
+    ensures range { IfOk result (λ command. IfSome command spec.IsInRange) }
+    ensures memory { IfErr result IsWantOfMemory }
+{
+    match four_positionals(alloc, words) {
+        Ok(Some((name, unit, second, third))) => {
+            Ok(showing(word, view_of_four(name, unit, second, third)))
+        }
+        Ok(None) => Ok(None),
+        Err(error) => Err(error),
+    }
+}
+
+/// The command that a word alone is.
+fn alone(word: &str) -> Option<Command>
+    ensures value { result ≡ spec.alone word.now }
+    ensures range { IfSome result spec.IsInRange }
+{
+    match word {
+        "init" => Some(Command::Init),
+        "dock" => Some(Command::Dock),
+        "drain" => Some(Command::Drain),
+        "check" => Some(Command::Check),
+        _ => None,
+    }
+}
+
+/// The command that takes a file of the register, if this is its word.
+fn importing(word: &str, number: &str, sort: &str) -> Option<Command>
+    ensures value { result ≡ spec.importing word.now number.now sort.now }
+    ensures range { IfSome result spec.IsInRange }
+{
+    if word != "import" {
+        return None;
+    }
+    import_of(number, sort)
+}
+
+/// The command that takes a file of this sort, as batches from NUMBER on.
+#[tactic(auto, unfolding(crate::specs::Command::import_of))]
+fn import_of(number: &str, sort: &str) -> Option<Command>
+    ensures value { result ≡ spec.import_of number.now sort.now }
+    ensures range { IfSome result spec.IsInRange }
+{
+    let number = long_number_in(LAST_NUMBER, number)?;
+    let sort = sort_named(sort)?;
+    Some(Command::Import { number, sort })
+}
+
+fn sort_named(word: &str) -> Option<Sort>
+    ensures value { result ≡ spec.sort_named word.now }
+{
+    match word {
+        "units" => Some(Sort::Units),
+        "components" => Some(Sort::Components),
+        _ => None,
+    }
+}
+
+/// The command that a word and three further words are.
+fn of_three_further(word: &str, first: &str, second: &str, third: &str) -> Option<Command>
+    ensures value { result ≡ spec.of_three_further word.now first.now second.now third.now }
+    ensures range { IfSome result spec.IsInRange }
+{
+    if word == "file" {
+        return filing_of(first, second, third);
+    }
+    showing(word, view_on(first, second, third))
+}
+
+/// The command that files the report that UNIT, HALF and DAY are.
+#[tactic(auto, unfolding(crate::specs::Command::filing_of))]
+fn filing_of(unit: &str, half: &str, day: &str) -> Option<Command>
+    ensures value { result ≡ spec.filing_of unit.now half.now day.now }
+    ensures range { IfSome result spec.IsInRange }
+{
+    let unit = number_in(255, unit)?;
+    let half = number_in(65_535, half)?;
+    let day = Day::read(day.as_bytes())?;
+    Some(Command::File { unit, half, day })
+}
+
+/// The command that shows a view, if this is its word.
+fn showing(word: &str, view: Option<Request>) -> Option<Command>
+    requires { IfSome view IsView }
+    ensures value { result ≡ spec.showing word.now view }
+    ensures range { IfSome result spec.IsInRange }
+{
+    if word != "show" {
+        return None;
+    }
+    match view {
+        Some(request) => Some(Command::Show(request)),
+        None => None,
+    }
+}
+
+/// The view that a name, UNIT and DAY are.
+#[tactic(auto, unfolding(crate::specs::Command::view_on))]
+fn view_on(name: &str, unit: &str, day: &str) -> Option<Request>
+    ensures value { result ≡ spec.view_on name.now unit.now day.now }
+    ensures view { IfSome result IsView }
+{
+    let unit = number_in(255, unit)?;
+    let day = Day::read(day.as_bytes())?;
+    view_named(name, unit, day)
+}
+
+fn view_named(name: &str, unit: u16, day: Day) -> Option<Request>
+    ensures value { result ≡ spec.view_named name.now unit day }
+    ensures view { IfSome result IsView }
+{
+    match name {
+        "due" => Some(Request::Due { unit, day }),
+        "tags" => Some(Request::Tags { unit, day }),
+        "delays" => Some(Request::Delays { unit, day }),
+        _ => None,
+    }
+}
+
+/// The view that four words behind `show` are.
+fn view_of_four(name: &str, unit: &str, second: &str, third: &str) -> Option<Request>
+    ensures value { result ≡ spec.view_of_four name.now unit.now second.now third.now }
+    ensures view { IfSome result IsView }
+{
+    if name == "route" {
+        return route_on(unit, second, third);
+    }
+    view_of_number(name, unit, second, third)
+}
+
+/// The route that UNIT, DAY and STOPS are.
+#[tactic(auto, unfolding(crate::specs::Command::route_on))]
+fn route_on(unit: &str, day: &str, stops: &str) -> Option<Request>
+    ensures value { result ≡ spec.route_on unit.now day.now stops.now }
+    ensures view { IfSome result IsView }
+{
+    let unit = number_in(255, unit)?;
+    let day = Day::read(day.as_bytes())?;
+    let stops = number_in(65_535, stops)?;
+    Some(Request::Route { unit, day, stops })
+}
+
+/// The view that a name, UNIT, QUARTER or HALF, and DAY are.
+#[tactic(auto, unfolding(crate::specs::Command::view_of_number))]
+fn view_of_number(name: &str, unit: &str, number: &str, day: &str) -> Option<Request>
+    ensures value { result ≡ spec.view_of_number name.now unit.now number.now day.now }
+    ensures view { IfSome result IsView }
+{
+    let unit = number_in(255, unit)?;
+    let number = number_in(65_535, number)?;
+    let day = Day::read(day.as_bytes())?;
+    numbered_view(name, unit, number, day)
+}
+
+fn numbered_view(name: &str, unit: u16, number: u16, day: Day) -> Option<Request>
+    ensures value { result ≡ spec.numbered_view name.now unit number day }
+    ensures view { IfSome result IsView }
+{
+    match name {
+        "percent" => Some(Request::Percent {
+            unit,
+            quarter: number,
+            day,
+        }),
+        "report" => Some(Request::Report {
+            unit,
+            half: number,
+            day,
+        }),
+        _ => None,
+    }
+}
