@@ -1,7 +1,11 @@
-use crate::tests::{EMPTY, appended, batches_on, empty_journal};
-use crate::{CreateError, Settled, Torn, create};
+use crate::tests::{
+    EMPTY, append_answers, appended, appended_where, batches_on, create_answers, empty_journal,
+    same,
+};
+use crate::{CreateError, Journal, Settled, Torn};
 use disk_model::{DiskFault, MemoryDisk, SureDisk};
 use std::alloc::Global;
+use std::process::Abort;
 use std::test::Fail;
 
 // What stands behind the gate of a frame with this batch: its length, the batch and a closed gate.
@@ -10,159 +14,222 @@ const BEHIND: [u8; 25] =
 
 // The number of the first call of an append to an empty journal: those before it opened the journal.
 fn first_call(alloc: Global) -> Result<u64, Fail> {
-    let journal = empty_journal(alloc, MemoryDisk::new(alloc, &EMPTY, &[])?)?;
+    let disk = MemoryDisk::new(alloc, &EMPTY, &[])?;
+    let journal = empty_journal(alloc, disk)?;
     Ok(journal.disk().calls())
 }
 
-// How many batches stand on a disk as a stop inside a call left it, unless it does not open.
-fn stopped_batches(
+// Sees how many batches stand on a disk as a stop inside a call left it, unless it does not open.
+fn stop_leaves(
+    rt: &impl Abort,
     alloc: Global,
     disk: &MemoryDisk,
     call: u64,
     left: &[u8],
-) -> Result<Option<usize>, Fail> {
+    want: Option<usize>,
+) -> Result<(), Fail> {
     if call >= disk.calls() {
         return Err(Fail::from("a call that was made"));
     }
     let stopped = disk.stopped(alloc, call, left)?;
-    Ok(batches_on(alloc, stopped).ok())
+    let found = batches_on(alloc, stopped).ok();
+    same(rt, "the batches behind a stop", &found, &want);
+    Ok(())
+}
+
+// The first so many of some bytes.
+fn part(bytes: &[u8], kept: usize) -> Result<&[u8], Fail> {
+    Ok(bytes.get(..kept).ok_or("a part of the write")?)
+}
+
+// Sees how many batches stand behind a stop inside a call of making a journal that left so many bytes of the write.
+fn create_leaves(
+    rt: &impl Abort,
+    alloc: Global,
+    disk: &MemoryDisk,
+    call: u64,
+    kept: usize,
+    want: Option<usize>,
+) -> Result<(), Fail> {
+    let left = part(&EMPTY, kept)?;
+    stop_leaves(rt, alloc, disk, call, left, want)
 }
 
 #[test]
 fn a_stop_inside_create_leaves_nothing_or_an_empty_journal(rt: HostRuntime) -> Result<(), Fail> {
-    let mut disk = MemoryDisk::new(rt.alloc(), &[], &[])?;
-    assert_eq!(rt; create(&mut disk), Ok(()));
-    // The call, how many bytes of the write it left, and how many batches stand then.
-    let cases = [
-        (0, 0, None),
-        (1, 0, None),
-        (1, 8, None),
-        (1, 17, Some(0)),
-        (2, 0, Some(0)),
-        (2, 17, Some(0)),
-    ];
-    for (call, kept, want) in cases {
-        let left = EMPTY.get(..kept).ok_or("a part of the write")?;
-        assert_eq!(rt; stopped_batches(rt.alloc(), &disk, call, left)?, want);
+    let disk = created(&rt, rt.alloc())?;
+    create_leaves(&rt, rt.alloc(), &disk, 0, 0, None)?;
+    create_leaves(&rt, rt.alloc(), &disk, 1, 0, None)?;
+    create_leaves(&rt, rt.alloc(), &disk, 1, 8, None)?;
+    create_leaves(&rt, rt.alloc(), &disk, 1, 17, Some(0))?;
+    create_leaves(&rt, rt.alloc(), &disk, 2, 0, Some(0))?;
+    create_leaves(&rt, rt.alloc(), &disk, 2, 17, Some(0))
+}
+
+// A disk on which a journal was made.
+fn created(rt: &impl Abort, alloc: Global) -> Result<MemoryDisk, Fail> {
+    let mut disk = MemoryDisk::new(alloc, &[], &[])?;
+    create_answers(rt, &mut disk, Ok(()));
+    Ok(disk)
+}
+
+// Sees that a stop inside this call leaves nothing of the batch, whatever it left of what stands behind the gate.
+fn no_part_counts(
+    rt: &impl Abort,
+    alloc: Global,
+    disk: &MemoryDisk,
+    call: u64,
+) -> Result<(), Fail> {
+    for kept in 0..26 {
+        let left = part(&BEHIND, kept)?;
+        stop_leaves(rt, alloc, disk, call, left, Some(0))?;
     }
     Ok(())
 }
 
+// The call after the first, what it left of its write, if it was that of the gate, and how many batches stand then.
+const GATE_STOPS: [(u64, &[u8], usize); 6] = [
+    (1, &[], 0),
+    (2, &[], 0),
+    (2, &[0], 0),
+    (2, &[7], 0),
+    (2, &[1], 1),
+    (3, &[], 1),
+];
+
 #[test]
 fn a_stop_before_the_gate_leaves_the_old_history(rt: HostRuntime) -> Result<(), Fail> {
     let first = first_call(rt.alloc())?;
-    let disk = MemoryDisk::new(rt.alloc(), &EMPTY, &[])?;
-    let (journal, appended) = appended(rt.alloc(), disk)?;
-    assert_eq!(rt; appended, Ok(()));
-    let disk = journal.into_disk();
-    for kept in 0..26 {
-        let (left, _) = BEHIND.split_at(kept);
-        assert_eq!(rt; stopped_batches(rt.alloc(), &disk, first, left)?, Some(0));
-    }
-    // The call after the first, what it left of its write, if it was that of the gate, and how many batches stand then.
-    let cases = [
-        (1, 0, 0, Some(0)),
-        (2, 0, 0, Some(0)),
-        (2, 1, 0, Some(0)),
-        (2, 1, 7, Some(0)),
-        (2, 1, 1, Some(1)),
-        (3, 0, 0, Some(1)),
-    ];
-    for (call, kept, byte, want) in cases {
-        let gate = [byte];
-        let left = gate.get(..kept).ok_or("a part of the write")?;
+    let disk = append_answers(&rt, rt.alloc(), &[], Ok(()), first.saturating_add(4))?;
+    no_part_counts(&rt, rt.alloc(), &disk, first)?;
+    for (call, left, want) in GATE_STOPS {
         let call = first.saturating_add(call);
-        assert_eq!(rt; stopped_batches(rt.alloc(), &disk, call, left)?, want);
+        stop_leaves(&rt, rt.alloc(), &disk, call, left, Some(want))?;
     }
+    Ok(())
+}
+
+// Sees whether an append says that its gate was touched, where this call of it fails.
+fn fault_says(rt: &impl Abort, alloc: Global, call: u64, gate: bool) -> Result<(), Fail> {
+    let first = first_call(alloc)?;
+    let failing = first.saturating_add(call);
+    let calls = failing.saturating_add(1);
+    append_answers(rt, alloc, &[failing], Err(Torn { gate }), calls)?;
     Ok(())
 }
 
 #[test]
 fn an_append_says_whether_its_gate_was_touched(rt: HostRuntime) -> Result<(), Fail> {
-    let first = first_call(rt.alloc())?;
     // The call of the append that fails, and whether the gate was being opened.
-    for (call, gate) in [(0, false), (1, false), (2, true), (3, true)] {
-        let failing = first.saturating_add(call);
-        let disk = MemoryDisk::new(rt.alloc(), &EMPTY, &[failing])?;
-        let (journal, appended) = appended(rt.alloc(), disk)?;
-        assert_eq!(rt; appended, Err(Torn { gate }));
-        assert_eq!(rt; journal.settling(), gate);
-        assert_eq!(rt; journal.disk().calls(), failing.saturating_add(1));
+    fault_says(&rt, rt.alloc(), 0, false)?;
+    fault_says(&rt, rt.alloc(), 1, false)?;
+    fault_says(&rt, rt.alloc(), 2, true)?;
+    fault_says(&rt, rt.alloc(), 3, true)
+}
+
+// Sees what settling a journal in doubt answers, and that it stays in doubt behind a fault alone.
+fn settles(
+    rt: &impl Abort,
+    journal: &mut Journal<MemoryDisk>,
+    want: Result<Settled, DiskFault>,
+) -> Result<(), Fail> {
+    if !journal.settling() {
+        return Err(Fail::from("a journal in doubt"));
     }
+    let answer = journal.settle();
+    same(rt, "what settling answers", &answer, &want);
+    same(rt, "a doubt", &journal.settling(), &want.is_err());
     Ok(())
+}
+
+// Sees that a stop inside a call leaves so many batches, whatever it left of what stands behind the gate.
+fn stops_leave(
+    rt: &impl Abort,
+    alloc: Global,
+    disk: &MemoryDisk,
+    call: u64,
+    count: usize,
+) -> Result<(), Fail> {
+    let half = part(&BEHIND, 12)?;
+    stop_leaves(rt, alloc, disk, call, &[], Some(count))?;
+    stop_leaves(rt, alloc, disk, call, half, Some(count))?;
+    stop_leaves(rt, alloc, disk, call, &BEHIND, Some(count))
+}
+
+// Sees what settling answers where this call of the append failed, and how many batches stand behind a stop inside it.
+fn settling_says(
+    rt: &impl Abort,
+    alloc: Global,
+    call: u64,
+    answer: Settled,
+    count: usize,
+) -> Result<(), Fail> {
+    let first = first_call(alloc)?;
+    let failing = first.saturating_add(call);
+    let (mut journal, _) = appended_where(alloc, &[failing])?;
+    settles(rt, &mut journal, Ok(answer))?;
+    let disk = journal.into_disk();
+    same(
+        rt,
+        "the calls with a settling",
+        &disk.calls(),
+        &failing.saturating_add(3),
+    );
+    stops_leave(rt, alloc, &disk, failing.saturating_add(1), count)?;
+    stops_leave(rt, alloc, &disk, failing.saturating_add(2), count)
 }
 
 #[test]
 fn settling_says_what_the_gate_says(rt: HostRuntime) -> Result<(), Fail> {
-    let first = first_call(rt.alloc())?;
     // The call of the append that fails, what settling answers, and how many batches stand then.
-    let cases = [(2, Settled::Gone, 0), (3, Settled::Stands, 1)];
-    for (call, answer, count) in cases {
-        let failing = first.saturating_add(call);
-        let disk = MemoryDisk::new(rt.alloc(), &EMPTY, &[failing])?;
-        let (mut journal, _) = appended(rt.alloc(), disk)?;
-        if !journal.settling() {
-            return Err(Fail::from("a journal in doubt"));
-        }
-        let settled = journal.settle();
-        assert_eq!(rt; settled, Ok(answer));
-        assert!(rt; !journal.settling());
-        let disk = journal.into_disk();
-        assert_eq!(rt; disk.calls(), failing.saturating_add(3));
-        for after in 1..3 {
-            let call = failing.saturating_add(after);
-            let (half, _) = BEHIND.split_at(12);
-            assert_eq!(rt; stopped_batches(rt.alloc(), &disk, call, &[])?, Some(count));
-            assert_eq!(rt;
-                stopped_batches(rt.alloc(), &disk, call, half)?,
-                Some(count)
-            );
-            assert_eq!(rt;
-                stopped_batches(rt.alloc(), &disk, call, &BEHIND)?,
-                Some(count)
-            );
-        }
-    }
-    Ok(())
+    settling_says(&rt, rt.alloc(), 2, Settled::Gone, 0)?;
+    settling_says(&rt, rt.alloc(), 3, Settled::Stands, 1)
 }
 
 #[test]
 fn a_fault_of_settling_leaves_the_doubt(rt: HostRuntime) -> Result<(), Fail> {
     let first = first_call(rt.alloc())?;
     let gate = first.saturating_add(2);
-    let disk = MemoryDisk::new(rt.alloc(), &EMPTY, &[gate, gate.saturating_add(1)])?;
-    let (mut journal, appended) = appended(rt.alloc(), disk)?;
-    assert_eq!(rt; appended, Err(Torn { gate: true }));
-    if !journal.settling() {
-        return Err(Fail::from("a journal in doubt"));
-    }
-    let faulty = journal.settle();
-    assert_eq!(rt; faulty, Err(DiskFault));
-    if !journal.settling() {
-        return Err(Fail::from("a journal that is still in doubt"));
-    }
-    let settled = journal.settle();
-    assert_eq!(rt; settled, Ok(Settled::Gone));
-    assert!(rt; !journal.settling());
+    let (mut journal, answer) = appended_where(rt.alloc(), &[gate, gate.saturating_add(1)])?;
+    same(
+        &rt,
+        "what an append answers",
+        &answer,
+        &Err(Torn { gate: true }),
+    );
+    settles(&rt, &mut journal, Err(DiskFault))?;
+    settles(&rt, &mut journal, Ok(Settled::Gone))
+}
+
+// A disk with so much room, once making a journal on it answered this.
+fn created_in(
+    rt: &impl Abort,
+    alloc: Global,
+    room: usize,
+    made: Result<(), CreateError>,
+) -> Result<SureDisk, Fail> {
+    let mut disk = SureDisk::new(alloc, &[], room)?;
+    create_answers(rt, &mut disk, made);
+    Ok(disk)
+}
+
+// Sees what an append answers on a disk with so much room, on which a journal can be made.
+fn room_gives(
+    rt: &impl Abort,
+    alloc: Global,
+    room: usize,
+    want: Result<(), Torn>,
+) -> Result<(), Fail> {
+    let disk = created_in(rt, alloc, room, Ok(()))?;
+    let (_, answer) = appended(alloc, disk)?;
+    same(rt, "what an append answers", &answer, &want);
     Ok(())
 }
 
 #[test]
 fn a_disk_with_room_does_not_fail(rt: HostRuntime) -> Result<(), Fail> {
-    // The room, what making the journal answers, and what the append.
-    let cases = [
-        (16, Err(CreateError::Disk), None),
-        (17, Ok(()), Some(Err(Torn { gate: false }))),
-        (41, Ok(()), Some(Err(Torn { gate: false }))),
-        (42, Ok(()), Some(Ok(()))),
-    ];
-    for (room, made, want) in cases {
-        let mut disk = SureDisk::new(rt.alloc(), &[], room)?;
-        assert_eq!(rt; create(&mut disk), made);
-        if let Some(want) = want {
-            let (_, appended) = appended(rt.alloc(), disk)?;
-            assert_eq!(rt; appended, want);
-        }
-    }
-    Ok(())
+    created_in(&rt, rt.alloc(), 16, Err(CreateError::Disk))?;
+    room_gives(&rt, rt.alloc(), 17, Err(Torn { gate: false }))?;
+    room_gives(&rt, rt.alloc(), 41, Err(Torn { gate: false }))?;
+    room_gives(&rt, rt.alloc(), 42, Ok(()))
 }

@@ -5,6 +5,8 @@ use disk_model::{Disk, MemoryDisk};
 use fact_kinds::Batch;
 use ldar_facts::{Read, read_batch};
 use std::alloc::Global;
+use std::fmt::Debug;
+use std::process::Abort;
 use std::test::Fail;
 
 // Handheld 7, batch 12: one calibration on 2024-02-20 at 10:00, instrument 1, 500 ppm.
@@ -16,6 +18,13 @@ pub const EMPTY: [u8; 17] = *b"LDARJNL1\0\0\0\0\0\0\0\0\0";
 // The image of a journal with the batch.
 const ONE: [u8; 42] = *b"LDARJNL1\0\0\0\0\0\0\0\0\x01\0\0\0\x14\
     \x42\0\x07\0\0\0\x0c\0\x01\x07\x4d\x3d\x02\x58\0\x01\0\0\x01\xf4\0";
+
+// Sees that this was found in a case.
+pub fn same<T: PartialEq + Debug>(rt: &impl Abort, case: &str, found: &T, want: &T) {
+    if *found != *want {
+        panic!(rt; "{case}: {found:?}, not {want:?}");
+    }
+}
 
 // The batch.
 fn batch(alloc: Global) -> Result<Batch, Fail> {
@@ -73,74 +82,133 @@ pub fn appended<D: Disk>(alloc: Global, disk: D) -> Result<(Journal<D>, Result<(
     Ok((journal, appended))
 }
 
+// The empty journal on a disk whose calls with these numbers fail, once the batch was added to it, and what that answered.
+pub fn appended_where(
+    alloc: Global,
+    failing: &[u64],
+) -> Result<(Journal<MemoryDisk>, Result<(), Torn>), Fail> {
+    let disk = MemoryDisk::new(alloc, &EMPTY, failing)?;
+    appended(alloc, disk)
+}
+
+// Sees what adding the batch answers where calls with these numbers fail, whether it is in doubt then, and how many calls
+// were made. Gives the disk.
+pub fn append_answers(
+    rt: &impl Abort,
+    alloc: Global,
+    failing: &[u64],
+    want: Result<(), Torn>,
+    calls: u64,
+) -> Result<MemoryDisk, Fail> {
+    let (journal, answer) = appended_where(alloc, failing)?;
+    let doubt = want == Err(Torn { gate: true });
+    same(rt, "what an append answers", &answer, &want);
+    same(rt, "a doubt", &journal.settling(), &doubt);
+    same(
+        rt,
+        "the calls of an append",
+        &journal.disk().calls(),
+        &calls,
+    );
+    Ok(journal.into_disk())
+}
+
+// Sees what making a journal on a disk answers.
+pub fn create_answers<D: Disk>(rt: &impl Abort, disk: &mut D, want: Result<(), CreateError>) {
+    same(rt, "what making a journal answers", &create(disk), &want);
+}
+
+// Sees the bytes of a disk.
+fn holds(rt: &impl Abort, disk: &MemoryDisk, want: &[u8]) {
+    same(rt, "the bytes of the disk", &disk.bytes(), &want);
+}
+
 #[test]
 fn an_empty_disk_takes_a_journal_and_no_other_does(rt: HostRuntime) -> Result<(), Fail> {
     let mut disk = MemoryDisk::new(rt.alloc(), &[], &[])?;
-    assert_eq!(rt; create(&mut disk), Ok(()));
-    assert_eq!(rt; disk.bytes(), EMPTY.as_slice());
-    assert_eq!(rt; create(&mut disk), Err(CreateError::NotEmpty));
-    assert_eq!(rt; disk.bytes(), EMPTY.as_slice());
+    create_answers(&rt, &mut disk, Ok(()));
+    holds(&rt, &disk, &EMPTY);
+    create_answers(&rt, &mut disk, Err(CreateError::NotEmpty));
+    holds(&rt, &disk, &EMPTY);
     let mut other = MemoryDisk::new(rt.alloc(), &[], &[2])?;
-    assert_eq!(rt; create(&mut other), Err(CreateError::Disk));
+    create_answers(&rt, &mut other, Err(CreateError::Disk));
+    Ok(())
+}
+
+// What stands in place of a byte of the image, and what it opens to then.
+const DAMAGES: [(usize, u8, Result<usize, OpenWhy>); 8] = [
+    (0, 76, Ok(1)),
+    (0, 77, Err(OpenWhy::NotAJournal)),
+    (15, 1, Err(OpenWhy::NotAJournal)),
+    (16, 0, Ok(0)),
+    (16, 7, Ok(0)),
+    (20, 19, Err(OpenWhy::Damaged { at: 16 })),
+    (21, 67, Err(OpenWhy::Damaged { at: 16 })),
+    (41, 1, Err(OpenWhy::Damaged { at: 41 })),
+];
+
+// The image with another byte at a place.
+fn damaged(place: usize, byte: u8) -> [u8; 42] {
+    let mut bytes = ONE;
+    if let Some(there) = bytes.get_mut(place) {
+        *there = byte;
+    }
+    bytes
+}
+
+// Sees what these bytes open to on a disk whose calls with these numbers fail.
+pub fn opens_to(
+    rt: &impl Abort,
+    alloc: Global,
+    bytes: &[u8],
+    failing: &[u64],
+    want: Result<usize, OpenWhy>,
+) -> Result<(), Fail> {
+    let disk = MemoryDisk::new(alloc, bytes, failing)?;
+    same(rt, "what opens", &batches_on(alloc, disk), &want);
     Ok(())
 }
 
 #[test]
 fn a_journal_is_refused_where_it_is_damaged(rt: HostRuntime) -> Result<(), Fail> {
-    // What stands in place of a byte of the image, and what it opens to then.
-    let cases = [
-        (0, 76, Ok(1)),
-        (0, 77, Err(OpenWhy::NotAJournal)),
-        (15, 1, Err(OpenWhy::NotAJournal)),
-        (16, 0, Ok(0)),
-        (16, 7, Ok(0)),
-        (20, 19, Err(OpenWhy::Damaged { at: 16 })),
-        (21, 67, Err(OpenWhy::Damaged { at: 16 })),
-        (41, 1, Err(OpenWhy::Damaged { at: 41 })),
-    ];
-    for (place, byte, want) in cases {
-        let mut bytes = ONE;
-        if let Some(there) = bytes.get_mut(place) {
-            *there = byte;
-        }
-        let disk = MemoryDisk::new(rt.alloc(), &bytes, &[])?;
-        assert_eq!(rt; batches_on(rt.alloc(), disk), want);
+    for (place, byte, want) in DAMAGES {
+        opens_to(&rt, rt.alloc(), &damaged(place, byte), &[], want)?;
     }
     Ok(())
 }
 
 #[test]
 fn a_fault_of_the_disk_is_told(rt: HostRuntime) -> Result<(), Fail> {
-    for call in 0..2 {
-        let disk = MemoryDisk::new(rt.alloc(), &EMPTY, &[call])?;
-        assert_eq!(rt; batches_on(rt.alloc(), disk), Err(OpenWhy::Disk));
-    }
-    Ok(())
+    opens_to(&rt, rt.alloc(), &EMPTY, &[0], Err(OpenWhy::Disk))?;
+    opens_to(&rt, rt.alloc(), &EMPTY, &[1], Err(OpenWhy::Disk))
 }
 
 #[test]
 fn a_batch_is_added_in_four_calls(rt: HostRuntime) -> Result<(), Fail> {
-    let disk = MemoryDisk::new(rt.alloc(), &EMPTY, &[])?;
-    let (journal, appended) = appended(rt.alloc(), disk)?;
-    assert_eq!(rt; appended, Ok(()));
-    assert!(rt; !journal.settling());
-    assert_eq!(rt; journal.disk().calls(), 6);
-    let disk = journal.into_disk();
-    assert_eq!(rt; disk.bytes(), ONE.as_slice());
+    let disk = append_answers(&rt, rt.alloc(), &[], Ok(()), 6)?;
+    holds(&rt, &disk, &ONE);
+    Ok(())
+}
+
+// Sees what a fault of a call leaves: whether the gate was being opened, and how long the file is then.
+fn fault_leaves(
+    rt: &impl Abort,
+    alloc: Global,
+    call: u64,
+    gate: bool,
+    length: usize,
+) -> Result<(), Fail> {
+    let calls = call.saturating_add(1);
+    let disk = append_answers(rt, alloc, &[call], Err(Torn { gate }), calls)?;
+    same(rt, "the length of the file", &disk.bytes().len(), &length);
     Ok(())
 }
 
 #[test]
 fn a_fault_while_a_batch_is_added_says_what_is_in_doubt(rt: HostRuntime) -> Result<(), Fail> {
-    // The call that fails, where opening takes calls 0 and 1; whether the gate was being opened; how long the file is then.
-    let cases = [(2, false, 17), (3, false, 42), (4, true, 42), (5, true, 42)];
-    for (call, gate, length) in cases {
-        let disk = MemoryDisk::new(rt.alloc(), &EMPTY, &[call])?;
-        let (journal, appended) = appended(rt.alloc(), disk)?;
-        assert_eq!(rt; appended, Err(Torn { gate }));
-        assert_eq!(rt; journal.settling(), gate);
-        assert_eq!(rt; journal.disk().bytes().len(), length);
-        assert_eq!(rt; journal.disk().calls(), call + 1);
-    }
-    Ok(())
+    // The call that fails, where opening takes calls 0 and 1.
+    fault_leaves(&rt, rt.alloc(), 2, false, 17)?;
+    fault_leaves(&rt, rt.alloc(), 3, false, 42)?;
+    fault_leaves(&rt, rt.alloc(), 4, true, 42)?;
+    fault_leaves(&rt, rt.alloc(), 5, true, 42)
 }
