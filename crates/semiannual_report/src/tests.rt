@@ -5,6 +5,9 @@ use crate::{ReportError, has_half_begun, report_of};
 use fact_kinds::{Key, Kind, Name};
 use ldar_days::Day;
 use ldar_law::{DelayEntry, Items, Report, Sheet, Stop, Tag, UnitEntry, Until, repair_by};
+use std::alloc::Global;
+use std::fmt::Debug;
+use std::process::Abort;
 use std::test::Fail;
 
 /// The day with this text.
@@ -24,13 +27,21 @@ fn unit() -> Result<UnitEntry, Fail>
     })
 }
 
+/// A day by its text, where there is one.
+fn day_if(text: Option<&str>) -> Result<Option<Day>, Fail> {
+    match text {
+        Some(text) => Ok(Some(day(text)?)),
+        None => Ok(None),
+    }
+}
+
+/// When a tag was detected, and when it was closed.
+type Days<'a> = (&'a str, Option<&'a str>);
+
 /// A tag without a delay, closed on a day or open.
-fn tag(component: u16, detected: &str, closed: Option<&str>) -> Result<Tag, Fail> {
-    let detected = day(detected)?;
-    let closed = match closed {
-        Some(text) => Some(day(text)?),
-        None => None,
-    };
+fn tag(component: u16, days: Days) -> Result<Tag, Fail> {
+    let detected = day(days.0)?;
+    let closed = day_if(days.1)?;
     Ok(Tag {
         component,
         detected,
@@ -44,8 +55,8 @@ fn tag(component: u16, detected: &str, closed: Option<&str>) -> Result<Tag, Fail
 }
 
 /// A tag with a delay until a shutdown that is not known.
-fn delayed(component: u16, detected: &str, closed: Option<&str>) -> Result<Tag, Fail> {
-    let tag = tag(component, detected, closed)?;
+fn delayed(component: u16, days: Days) -> Result<Tag, Fail> {
+    let tag = tag(component, days)?;
     let key = Key {
         day: tag.detected,
         minute: 600,
@@ -68,204 +79,261 @@ fn delayed(component: u16, detected: &str, closed: Option<&str>) -> Result<Tag, 
 
 /// A component's leaks, by their months, and its tags.
 fn sheet(
-    rt: &HostRuntime,
+    alloc: Global,
     component: u16,
     kind: Kind,
     leaks: &[&str],
     tags: &[Tag],
 ) -> Result<Sheet, Fail> {
-    let mut months = Vec::new(rt.alloc());
+    let mut months = Vec::new(alloc);
     for leak in leaks {
         months.push(day(leak)?.month())?;
     }
+    let tags = Vec::from_slice(alloc, tags)?;
     Ok(Sheet {
         component,
         kind,
         leaks: Items::new(months),
-        tags: Items::new(Vec::from_slice(rt.alloc(), tags)?),
+        tags: Items::new(tags),
     })
 }
 
 /// The report of a half as known on a day.
 fn report(
-    rt: &HostRuntime,
+    alloc: Global,
     half: u16,
     text: &str,
     sheets: &[Sheet],
     stops: &[Stop],
 ) -> Result<Report, Fail> {
-    match report_of(rt.alloc(), &unit()?, half, day(text)?, sheets, stops) {
+    let unit = unit()?;
+    let day = day(text)?;
+    match report_of(alloc, &unit, half, day, sheets, stops) {
         Ok(report) => Ok(report),
         Err(_) => Err(Fail::from("report")),
     }
 }
 
-/// Why a half has no report on a day, where it has none.
-fn refusal(rt: &HostRuntime, half: u16, day: Day) -> Result<Option<ReportError>, Fail> {
-    Ok(report_of(rt.alloc(), &unit()?, half, day, &[], &[]).err())
+/// Sees that this was found in a case.
+fn same<T: PartialEq + Debug>(rt: &impl Abort, case: &str, found: &T, want: &T) {
+    if *found != *want {
+        panic!(rt; "{case}: {found:?}, not {want:?}");
+    }
 }
+
+/// A component by its number and kind, its leaks by their days, and the days of its one tag.
+type Leaking<'a> = (u16, Kind, &'a [&'a str], Days<'a>);
+
+/// The sheet of a component with one tag.
+fn one_tag(alloc: Global, (component, kind, leaks, days): Leaking) -> Result<Sheet, Fail> {
+    let tag = tag(component, days)?;
+    sheet(alloc, component, kind, leaks, &[tag])
+}
+
+/// Two leaks in February and a tag closed a day late.
+const VALVE: Leaking<'static> = (
+    1,
+    Kind::Valve,
+    &["2024-02-20", "2024-02-28"],
+    ("2024-02-20", Some("2024-03-07")),
+);
+
+/// A tag closed on its last day.
+const OTHER_VALVE: Leaking<'static> = (
+    2,
+    Kind::Valve,
+    &["2024-02-01"],
+    ("2024-02-01", Some("2024-02-16")),
+);
+
+/// A leak in October and an open tag.
+const PUMP: Leaking<'static> = (5, Kind::Pump, &["2023-10-01"], ("2023-10-01", None));
+
+/// Of a kind that has no column.
+const RELIEF: Leaking<'static> = (8, Kind::Relief, &["2024-01-10"], ("2024-01-10", None));
+
+/// A leak before the half and one behind it.
+const COMPRESSOR: Leaking<'static> = (
+    9,
+    Kind::Compressor,
+    &["2023-09-30", "2024-04-01", "2024-03-31"],
+    ("2024-03-31", None),
+);
+
+/// The report of half 8 on its last day, of these components.
+fn known_of(alloc: Global, components: &[Leaking]) -> Result<Report, Fail> {
+    let mut sheets = Vec::new(alloc);
+    for leaking in components {
+        let sheet = one_tag(alloc, *leaking)?;
+        sheets.push(sheet)?;
+    }
+    report(alloc, 8, "2024-03-31", &sheets, &[])
+}
+
+const COUNTS: [u32; 36] = [
+    0, 0, 1, 1, 0, 0, // October 2023
+    0, 0, 0, 0, 0, 0, // November
+    0, 0, 0, 0, 0, 0, // December
+    0, 0, 0, 0, 0, 0, // January 2024
+    2, 0, 0, 0, 0, 0, // February
+    0, 1, 0, 0, 1, 0, // March
+];
 
 #[test]
 fn components_are_counted_by_month_and_kind(rt: HostRuntime) -> Result<(), Fail> {
-    // A valve with two leaks in February and a tag closed a day late; a pump with a leak in October and an open tag; a
-    // compressor with a leak before the half and one behind it; a relief device, which has no column.
-    let sheets = [
-        sheet(
-            &rt,
-            1,
-            Kind::Valve,
-            &["2024-02-20", "2024-02-28"],
-            &[tag(1, "2024-02-20", Some("2024-03-07"))?],
-        )?,
-        sheet(
-            &rt,
-            2,
-            Kind::Valve,
-            &["2024-02-01"],
-            &[tag(2, "2024-02-01", Some("2024-02-16"))?],
-        )?,
-        sheet(
-            &rt,
-            5,
-            Kind::Pump,
-            &["2023-10-01"],
-            &[tag(5, "2023-10-01", None)?],
-        )?,
-        sheet(
-            &rt,
-            8,
-            Kind::Relief,
-            &["2024-01-10"],
-            &[tag(8, "2024-01-10", None)?],
-        )?,
-        sheet(
-            &rt,
-            9,
-            Kind::Compressor,
-            &["2023-09-30", "2024-04-01", "2024-03-31"],
-            &[tag(9, "2024-03-31", None)?],
-        )?,
-    ];
-    let known = report(&rt, 8, "2024-03-31", &sheets, &[])?;
-    let want: [u32; 36] = [
-        0, 0, 1, 1, 0, 0, // October 2023
-        0, 0, 0, 0, 0, 0, // November
-        0, 0, 0, 0, 0, 0, // December
-        0, 0, 0, 0, 0, 0, // January 2024
-        2, 0, 0, 0, 0, 0, // February
-        0, 1, 0, 0, 1, 0, // March
-    ];
-    assert_eq!(rt; known.cells.months.as_slice(), want.as_slice());
+    let components = [VALVE, OTHER_VALVE, PUMP, RELIEF, COMPRESSOR];
+    let known = known_of(rt.alloc(), &components)?;
+    let day = day("2024-03-31")?;
+    let months = known.cells.months.as_slice();
+    same(&rt, "months", &months, &COUNTS.as_slice());
     assert!(rt; known.name.as_bytes() == b"CRUDE".as_slice());
-    assert_eq!(rt;
-        (known.unit, known.half, known.day),
-        (1, 8, day("2024-03-31")?)
-    );
+    same(&rt, "unit", &known.unit, &1);
+    same(&rt, "half", &known.half, &8);
+    same(&rt, "day", &known.day, &day);
     Ok(())
+}
+
+/// Whether a half has begun on a day, and why it has no report on that day, where it has none.
+fn begun_on(alloc: Global, half: u16, text: &str) -> Result<(bool, Option<ReportError>), Fail> {
+    let unit = unit()?;
+    let day = day(text)?;
+    let begun = has_half_begun(unit.startup, half, day);
+    let refusal = report_of(alloc, &unit, half, day, &[], &[]).err();
+    Ok((begun, refusal))
+}
+
+/// Sees that a half has not begun on a day, and which first day is told of it.
+fn is_to_come(
+    rt: &impl Abort,
+    alloc: Global,
+    half: u16,
+    text: &str,
+    first: &str,
+) -> Result<(), Fail> {
+    let first = day(first)?;
+    let found = begun_on(alloc, half, text)?;
+    let want = (false, Some(ReportError::NoHalf { first }));
+    begins(rt, half, found, want);
+    Ok(())
+}
+
+/// Sees that a half has begun on a day.
+fn has_begun(rt: &impl Abort, alloc: Global, half: u16, text: &str) -> Result<(), Fail> {
+    let found = begun_on(alloc, half, text)?;
+    begins(rt, half, found, (true, None));
+    Ok(())
+}
+
+/// Sees that this was found of a half.
+fn begins(
+    rt: &impl Abort,
+    half: u16,
+    found: (bool, Option<ReportError>),
+    want: (bool, Option<ReportError>),
+) {
+    if found != want {
+        panic!(rt; "half {half}: {found:?}, not {want:?}");
+    }
 }
 
 #[test]
 fn a_half_has_begun_on_its_first_day(rt: HostRuntime) -> Result<(), Fail> {
-    // A half, a day, and the first day that is told where it has not begun.
-    let cases = [
-        (0, "2024-03-31", "2020-04-01"),
-        (1, "2020-03-31", "2020-04-01"),
-        (9, "2024-03-31", "2024-04-01"),
-        (161, "2099-12-31", "2099-12-31"),
-        (65_535, "2099-12-31", "2099-12-31"),
-    ];
-    for (half, text, first) in cases {
-        let first = day(first)?;
-        assert_eq!(rt;
-            refusal(&rt, half, day(text)?)?,
-            Some(ReportError::NoHalf { first }),
-            "half {half}"
-        );
-        assert!(rt;
-            !has_half_begun(unit()?.startup, half, day(text)?),
-            "half {half}"
-        );
-    }
-    let begun = [
-        (1, "2020-04-01"),
-        (8, "2023-10-01"),
-        (9, "2024-04-01"),
-        (160, "2099-12-31"),
-    ];
-    for (half, text) in begun {
-        assert_eq!(rt; refusal(&rt, half, day(text)?)?, None, "half {half}");
-        assert!(rt;
-            has_half_begun(unit()?.startup, half, day(text)?),
-            "half {half}"
-        );
-    }
+    let alloc = rt.alloc();
+    is_to_come(&rt, alloc, 0, "2024-03-31", "2020-04-01")?;
+    is_to_come(&rt, alloc, 1, "2020-03-31", "2020-04-01")?;
+    is_to_come(&rt, alloc, 9, "2024-03-31", "2024-04-01")?;
+    is_to_come(&rt, alloc, 161, "2099-12-31", "2099-12-31")?;
+    is_to_come(&rt, alloc, 65_535, "2099-12-31", "2099-12-31")?;
+    has_begun(&rt, alloc, 1, "2020-04-01")?;
+    has_begun(&rt, alloc, 8, "2023-10-01")?;
+    has_begun(&rt, alloc, 9, "2024-04-01")?;
+    has_begun(&rt, alloc, 160, "2099-12-31")
+}
+
+/// Sees whether a delayed tag has a line in the half from 2023-10-01 to 2024-03-31, beside a tag without a delay.
+fn has_line(rt: &impl Abort, alloc: Global, days: Days, stands: bool) -> Result<(), Fail> {
+    let late = delayed(1, days)?;
+    let plain = tag(1, days)?;
+    let sheet = sheet(alloc, 1, Kind::Valve, &[], &[late, plain])?;
+    let known = report(alloc, 8, "2024-06-30", &[sheet], &[])?;
+    let lines = known.cells.delays.as_slice().len();
+    same(rt, days.0, &lines, &usize::from(stands));
     Ok(())
 }
 
 #[test]
-fn lines_are_of_tags_and_shutdowns_of_the_half(rt: HostRuntime) -> Result<(), Fail> {
-    // When a delayed tag was detected and closed, and whether it has a line in the half from 2023-10-01 to 2024-03-31.
-    let cases = [
-        ("2023-09-01", Some("2023-09-30"), false),
-        ("2023-09-01", Some("2023-10-01"), true),
-        ("2023-09-01", None, true),
-        ("2024-03-31", None, true),
-        ("2024-04-01", None, false),
-    ];
-    for (detected, closed, stands) in cases {
-        let sheets = [sheet(
-            &rt,
-            1,
-            Kind::Valve,
-            &[],
-            &[delayed(1, detected, closed)?, tag(1, detected, closed)?],
-        )?];
-        let known = report(&rt, 8, "2024-06-30", &sheets, &[])?;
-        assert_eq!(rt;
-            known.cells.delays.as_slice().len(),
-            usize::from(stands),
-            "{detected}"
-        );
-    }
-    let stops = [
-        ("2023-09-20", "2023-09-30", false),
-        ("2023-09-20", "2023-10-01", true),
-        ("2024-03-31", "2024-04-02", true),
-        ("2024-04-01", "2024-04-02", false),
-    ];
-    for (first, last, stands) in stops {
-        let stop = Stop {
-            first: day(first)?,
-            last: day(last)?,
-        };
-        let known = report(&rt, 8, "2024-06-30", &[], &[stop])?;
-        assert_eq!(rt;
-            known.cells.stops.as_slice().len(),
-            usize::from(stands),
-            "{first}"
-        );
-    }
+fn lines_are_of_tags_of_the_half(rt: HostRuntime) -> Result<(), Fail> {
+    let alloc = rt.alloc();
+    has_line(&rt, alloc, ("2023-09-01", Some("2023-09-30")), false)?;
+    has_line(&rt, alloc, ("2023-09-01", Some("2023-10-01")), true)?;
+    has_line(&rt, alloc, ("2023-09-01", None), true)?;
+    has_line(&rt, alloc, ("2024-03-31", None), true)?;
+    has_line(&rt, alloc, ("2024-04-01", None), false)
+}
+
+/// Sees whether a shutdown has a line in that half.
+fn has_stop(
+    rt: &impl Abort,
+    alloc: Global,
+    first: &str,
+    last: &str,
+    stands: bool,
+) -> Result<(), Fail> {
+    let begin = day(first)?;
+    let end = day(last)?;
+    let stop = Stop {
+        first: begin,
+        last: end,
+    };
+    let known = report(alloc, 8, "2024-06-30", &[], &[stop])?;
+    let lines = known.cells.stops.as_slice().len();
+    same(rt, first, &lines, &usize::from(stands));
     Ok(())
+}
+
+#[test]
+fn lines_are_of_shutdowns_of_the_half(rt: HostRuntime) -> Result<(), Fail> {
+    let alloc = rt.alloc();
+    has_stop(&rt, alloc, "2023-09-20", "2023-09-30", false)?;
+    has_stop(&rt, alloc, "2023-09-20", "2023-10-01", true)?;
+    has_stop(&rt, alloc, "2024-03-31", "2024-04-02", true)?;
+    has_stop(&rt, alloc, "2024-04-01", "2024-04-02", false)
+}
+
+/// A valve with a leak and two delayed tags.
+fn two_delays(alloc: Global, component: u16) -> Result<Sheet, Fail> {
+    let closed = delayed(component, ("2023-10-05", Some("2023-12-01")))?;
+    let open = delayed(component, ("2024-01-05", None))?;
+    sheet(
+        alloc,
+        component,
+        Kind::Valve,
+        &["2023-10-05"],
+        &[closed, open],
+    )
+}
+
+/// The report of 40 such valves.
+fn known_of_forty(alloc: Global) -> Result<Report, Fail> {
+    let mut sheets = Vec::new(alloc);
+    for component in 1..=40 {
+        let sheet = two_delays(alloc, component)?;
+        sheets.push(sheet)?;
+    }
+    report(alloc, 8, "2024-03-31", &sheets, &[])
 }
 
 #[test]
 fn lines_of_many_components_stand_in_their_order(rt: HostRuntime) -> Result<(), Fail> {
-    let mut sheets = Vec::new(rt.alloc());
-    for component in 1..=40 {
-        let tags = [
-            delayed(component, "2023-10-05", Some("2023-12-01"))?,
-            delayed(component, "2024-01-05", None)?,
-        ];
-        sheets.push(sheet(&rt, component, Kind::Valve, &["2023-10-05"], &tags)?)?;
-    }
-    let known = report(&rt, 8, "2024-03-31", &sheets, &[])?;
+    let known = known_of_forty(rt.alloc())?;
+    let day = day("2023-10-05")?;
     let lines = known.cells.delays.as_slice();
-    assert_eq!(rt; lines.len(), 80);
-    assert_eq!(rt; lines.get(79).map(|line| line.component), Some(40));
-    assert_eq!(rt;
-        lines.get(78).map(|line| line.detected),
-        Some(day("2023-10-05")?)
-    );
-    assert_eq!(rt; known.cells.months.as_slice().first().copied(), Some(40));
+    same(&rt, "lines", &lines.len(), &80);
+    let component = lines.get(79).map(|line| line.component);
+    same(&rt, "last component", &component, &Some(40));
+    let detected = lines.get(78).map(|line| line.detected);
+    same(&rt, "last but one", &detected, &Some(day));
+    let count = known.cells.months.as_slice().first().copied();
+    same(&rt, "first count", &count, &Some(40));
     Ok(())
 }
