@@ -1,7 +1,7 @@
 ghost use Rattle.std.specs.Prelude.{◌<◌, IfOk};
 ghost use Rattle.office_book.specs.Asking.{HasRule};
 
-use crate::{Book, Office, open_book};
+use crate::{Book, BookError, Office, open_book};
 use at_once::says_at_once;
 use disk_model::{Disk, MemoryDisk};
 use fact_kinds::{Batch, Fact, FactBody, Name};
@@ -130,9 +130,14 @@ fn opened(alloc: Global, failing: &[u64]) -> Result<Book<MemoryDisk>, Fail> {
     reopened(alloc, MemoryDisk::new(alloc, &EMPTY, failing)?)
 }
 
+// What the journal of a disk opens to.
+fn opening<D: Disk>(alloc: Global, disk: D) -> Result<Book<D>, BookError<D>> {
+    open_book(alloc, disk)
+}
+
 // The office over the journal of a disk.
 fn reopened<D: Disk>(alloc: Global, disk: D) -> Result<Book<D>, Fail> {
-    match open_book(alloc, disk) {
+    match opening(alloc, disk) {
         Ok(book) => Ok(book),
         Err(_) => Err(Fail::from("an office")),
     }
@@ -193,19 +198,36 @@ fn disk_of(alloc: Global, rows: &[Row]) -> Result<MemoryDisk, Fail> {
 
 // Sees that an office answers so. Each fault that it answers is one of its disk.
 fn goes_on(alloc: Global, book: &mut Book<MemoryDisk>, rows: &[Row]) -> Result<(), Fail> {
-    let mut faults = book.disk().faults();
-    for (asked, want, batches, bytes) in rows {
-        match asked {
-            [one] => says(alloc, book, *one, want)?,
-            _ => says_at_once(alloc, book, asked, want)?,
-        }
-        if want.ends_with(FAULT) {
-            faults = faults.saturating_add(1);
-        }
-        is(book.disk().faults() == faults, "the count of faults")?;
-        holds(book, *batches, *bytes)?;
+    for row in rows {
+        goes(alloc, book, *row)?;
     }
     Ok(())
+}
+
+// .. to what is asked in one row.
+fn goes(alloc: Global, book: &mut Book<MemoryDisk>, row: Row) -> Result<(), Fail> {
+    let (asked, want, batches, bytes) = row;
+    let before = book.disk().faults();
+    says_all(alloc, book, asked, want)?;
+    let fault = u64::from(want.ends_with(FAULT));
+    is(
+        book.disk().faults() == before.saturating_add(fault),
+        "the count of faults",
+    )?;
+    holds(book, batches, bytes)
+}
+
+// Sees that these lines are answered to what is asked alone or at once.
+fn says_all<O: Office>(
+    alloc: Global,
+    office: &mut O,
+    asked: &[Asked],
+    want: &str,
+) -> Result<(), Fail> {
+    match asked {
+        [one] => says(alloc, office, *one, want),
+        _ => says_at_once(alloc, office, asked, want),
+    }
 }
 
 // Sees how many batches are kept, of one fact each, and how many bytes the journal has.

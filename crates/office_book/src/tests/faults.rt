@@ -1,56 +1,70 @@
 use crate::tests::{
     Asked, BODY, BODY_SYNC, CHANGED, DENIED, EMPTY, FAULT, FOURTEEN, GATE, GATE_SYNC, Row,
-    THIRTEEN, TWELVE, UNKNOWN, answered, holds, is, runs,
+    THIRTEEN, TWELVE, UNKNOWN, answered, holds, is, opening, runs,
 };
-use crate::{Book, BookWhy, open_book};
+use crate::{Book, BookWhy};
 use disk_model::MemoryDisk;
 use ldar_law::Reply;
 use std::alloc::Global;
 use std::test::Fail;
 
+// The fault of the first call of a frame, before which the journal has no more than a gate.
+const AT_ONCE: [Row; 3] = [
+    (&[TWELVE], FAULT, 0, 17),
+    (&[TWELVE], "receipt 7 12 1\n", 1, 42),
+    (&[CHANGED], "conflict 1\n", 1, 42),
+];
+
+// The fault of a later call, before which the frame is written.
+const LATER: [Row; 3] = [
+    (&[TWELVE], FAULT, 0, 42),
+    (&[TWELVE], "receipt 7 12 1\n", 1, 42),
+    (&[CHANGED], "conflict 1\n", 1, 42),
+];
+
 #[test]
 fn a_fault_passes(rt: HostRuntime) -> Result<(), Fail> {
-    // The call that fails, and how many bytes the journal has then. The next call settles, and one frame holds the batch.
-    for (call, bytes) in [(BODY, 17), (BODY_SYNC, 42), (GATE, 42), (GATE_SYNC, 42)] {
-        let rows: [Row; 3] = [
-            (&[TWELVE], FAULT, 0, bytes),
-            (&[TWELVE], "receipt 7 12 1\n", 1, 42),
-            (&[CHANGED], "conflict 1\n", 1, 42),
-        ];
-        runs(rt.alloc(), &[call], &rows)?;
-    }
-    Ok(())
+    // The call that fails. The next call settles, and one frame holds the batch.
+    runs(rt.alloc(), &[BODY], &AT_ONCE)?;
+    runs(rt.alloc(), &[BODY_SYNC], &LATER)?;
+    runs(rt.alloc(), &[GATE], &LATER)?;
+    runs(rt.alloc(), &[GATE_SYNC], &LATER)
 }
+
+// A settling that fails once.
+const TWICE: [Row; 3] = [
+    (&[TWELVE], FAULT, 0, 42),
+    (&[TWELVE], FAULT, 0, 42),
+    (&[TWELVE], "receipt 7 12 1\n", 1, 42),
+];
 
 #[test]
 fn a_fault_of_the_settling_is_answered(rt: HostRuntime) -> Result<(), Fail> {
-    let rows: [Row; 3] = [
-        (&[TWELVE], FAULT, 0, 42),
-        (&[TWELVE], FAULT, 0, 42),
-        (&[TWELVE], "receipt 7 12 1\n", 1, 42),
-    ];
     // A settling has two calls: its sync, and its reading of the gate.
-    for gate in [GATE, GATE_SYNC] {
-        runs(rt.alloc(), &[gate, gate + 1], &rows)?;
-        runs(rt.alloc(), &[gate, gate + 2], &rows)?;
-    }
-    Ok(())
+    runs(rt.alloc(), &[GATE, GATE + 1], &TWICE)?;
+    runs(rt.alloc(), &[GATE, GATE + 2], &TWICE)?;
+    runs(rt.alloc(), &[GATE_SYNC, GATE_SYNC + 1], &TWICE)?;
+    runs(rt.alloc(), &[GATE_SYNC, GATE_SYNC + 2], &TWICE)
 }
+
+// A batch that is denied behind a frame in doubt.
+const DENIED_BEHIND: [Row; 2] = [(&[TWELVE], FAULT, 0, 42), (&[UNKNOWN], DENIED, 1, 42)];
 
 #[test]
 fn a_settling_comes_before_a_denial(rt: HostRuntime) -> Result<(), Fail> {
-    let rows: [Row; 2] = [(&[TWELVE], FAULT, 0, 42), (&[UNKNOWN], DENIED, 1, 42)];
-    runs(rt.alloc(), &[GATE_SYNC], &rows)
+    runs(rt.alloc(), &[GATE_SYNC], &DENIED_BEHIND)
 }
+
+// A second batch that meets a fault once.
+const SECOND: [Row; 3] = [
+    (&[TWELVE], "receipt 7 12 1\n", 1, 42),
+    (&[THIRTEEN], FAULT, 1, 42),
+    (&[THIRTEEN], "receipt 7 13 2\n", 2, 67),
+];
 
 #[test]
 fn a_fault_leaves_what_is_kept(rt: HostRuntime) -> Result<(), Fail> {
-    let rows: [Row; 3] = [
-        (&[TWELVE], "receipt 7 12 1\n", 1, 42),
-        (&[THIRTEEN], FAULT, 1, 42),
-        (&[THIRTEEN], "receipt 7 13 2\n", 2, 67),
-    ];
-    runs(rt.alloc(), &[GATE_SYNC + 1], &rows)
+    runs(rt.alloc(), &[GATE_SYNC + 1], &SECOND)
 }
 
 // Sees that a batch is receipted, or that a call of the disk failed.
@@ -70,22 +84,34 @@ fn position(alloc: Global, book: &mut Book<MemoryDisk>, asked: Asked) -> Result<
     }
 }
 
+// Sees that these positions are 1 to 3 in some order.
+fn are_one_to_three(first: u32, second: u32, third: u32) -> Result<(), Fail> {
+    let found = bit(first) | bit(second) | bit(third);
+    is(found == 0b1110, "the positions 1 to 3")
+}
+
+// A number with the bit at this place.
+fn bit(place: u32) -> u32 {
+    1u32.wrapping_shl(place)
+}
+
 // Sees that three batches, one of them sent twice, pass over a fault: sent once more they are receipted at the positions 1 to 3.
 fn all_pass(alloc: Global, book: &mut Book<MemoryDisk>) -> Result<(), Fail> {
-    for asked in [TWELVE, TWELVE, THIRTEEN, FOURTEEN] {
-        may_fail(alloc, book, asked)?;
-    }
-    let mut found: u32 = 0;
-    for asked in [TWELVE, THIRTEEN, FOURTEEN] {
-        found |= 1u32.wrapping_shl(position(alloc, book, asked)?);
-    }
-    is(found == 0b1110, "the positions 1 to 3")?;
+    may_fail(alloc, book, TWELVE)?;
+    may_fail(alloc, book, TWELVE)?;
+    may_fail(alloc, book, THIRTEEN)?;
+    may_fail(alloc, book, FOURTEEN)?;
+    let twelve = position(alloc, book, TWELVE)?;
+    let thirteen = position(alloc, book, THIRTEEN)?;
+    let fourteen = position(alloc, book, FOURTEEN)?;
+    are_one_to_three(twelve, thirteen, fourteen)?;
     holds(book, 3, 92)
 }
 
 // .. where this call of the disk fails.
 fn pass_over(alloc: Global, failing: u64) -> Result<(), Fail> {
-    match open_book(alloc, MemoryDisk::new(alloc, &EMPTY, &[failing])?) {
+    let disk = MemoryDisk::new(alloc, &EMPTY, &[failing])?;
+    match opening(alloc, disk) {
         Ok(mut book) => all_pass(alloc, &mut book),
         Err(error) => is(
             error.why == BookWhy::Disk && error.disk.faults() == 1 && failing < BODY,

@@ -10,13 +10,36 @@ use std::test::Fail;
 
 // An office over an empty journal, on a disk that has room for so many bytes.
 fn with_room(alloc: Global, room: usize) -> Result<Book<SureDisk>, Fail> {
-    let mut disk = SureDisk::new(alloc, b"", room)?;
-    if create(&mut disk).is_err() {
-        return Err(Fail::from("a journal"));
-    }
+    let disk = created(alloc, room)?;
     is(disk.bytes() == EMPTY.as_slice(), "an empty journal")?;
     reopened(alloc, disk)
 }
+
+// A disk with a journal that was made on it.
+fn created(alloc: Global, room: usize) -> Result<SureDisk, Fail> {
+    let mut disk = SureDisk::new(alloc, b"", room)?;
+    match create(&mut disk) {
+        Ok(()) => Ok(disk),
+        Err(_) => Err(Fail::from("a journal")),
+    }
+}
+
+// What is asked, and the line that is answered.
+type Line<'a> = (Asked, &'a str);
+
+// Where there is much room.
+const ROOMY: [Line; 4] = [
+    (TWELVE, "receipt 7 12 1\n"),
+    (TWELVE, "receipt 7 12 1\n"),
+    (TWELVE, "receipt 7 12 1\n"),
+    (CHANGED, "conflict 1\n"),
+];
+
+// .. and for one batch.
+const FULL: [Line; 2] = [(TWELVE, "receipt 7 12 1\n"), (THIRTEEN, FAULT)];
+
+// .. and for none.
+const TOO_SMALL: [Line; 3] = [(TWELVE, FAULT), (TWELVE, FAULT), (UNKNOWN, DENIED)];
 
 // Sees that an office with room for so many bytes answers these lines, what its journal holds then, and how many calls failed.
 fn answers(
@@ -36,23 +59,15 @@ fn answers(
 
 #[test]
 fn a_disk_with_room_does_not_fail(rt: HostRuntime) -> Result<(), Fail> {
-    let lines = [
-        (TWELVE, "receipt 7 12 1\n"),
-        (TWELVE, "receipt 7 12 1\n"),
-        (TWELVE, "receipt 7 12 1\n"),
-        (CHANGED, "conflict 1\n"),
-    ];
-    answers(rt.alloc(), 1_000, &lines, &WITH_TWELVE, 0)
+    answers(rt.alloc(), 1_000, &ROOMY, &WITH_TWELVE, 0)
 }
 
 #[test]
 fn a_batch_that_fills_the_room_is_the_last(rt: HostRuntime) -> Result<(), Fail> {
-    let lines = [(TWELVE, "receipt 7 12 1\n"), (THIRTEEN, FAULT)];
-    answers(rt.alloc(), 42, &lines, &WITH_TWELVE, 1)
+    answers(rt.alloc(), 42, &FULL, &WITH_TWELVE, 1)
 }
 
 #[test]
 fn a_batch_without_room_is_a_fault(rt: HostRuntime) -> Result<(), Fail> {
-    let lines = [(TWELVE, FAULT), (TWELVE, FAULT), (UNKNOWN, DENIED)];
-    answers(rt.alloc(), 41, &lines, &EMPTY, 2)
+    answers(rt.alloc(), 41, &TOO_SMALL, &EMPTY, 2)
 }

@@ -1,7 +1,6 @@
 use crate::Book;
 use crate::tests::{
-    BODY, BODY_SYNC, GATE, GATE_SYNC, Row, THIRTEEN, TWELVE, disk_of, holds, is, reopened,
-    says_each,
+    BODY, BODY_SYNC, GATE, GATE_SYNC, Row, THIRTEEN, TWELVE, disk_of, holds, is, reopened, says,
 };
 use disk_model::MemoryDisk;
 use std::alloc::Global;
@@ -14,20 +13,28 @@ const CALLS: u64 = 4;
 const BEHIND: [u8; 25] =
     *b"\0\0\0\x14\x42\0\x07\0\0\0\x0c\0\x01\x07\x4d\x3d\x02\x58\0\x01\0\0\x01\xf4\0";
 
-// A disk on which an office kept the calibrations with numbers 12 and 13.
+// The calibrations with numbers 12 and 13, one after the other.
+const BOTH: [Row; 2] = [
+    (&[TWELVE], "receipt 7 12 1\n", 1, 42),
+    (&[THIRTEEN], "receipt 7 13 2\n", 2, 67),
+];
+
+// A disk on which an office kept them.
 fn written(alloc: Global) -> Result<MemoryDisk, Fail> {
-    let rows: [Row; 2] = [
-        (&[TWELVE], "receipt 7 12 1\n", 1, 42),
-        (&[THIRTEEN], "receipt 7 13 2\n", 2, 67),
-    ];
-    disk_of(alloc, &rows)
+    disk_of(alloc, &BOTH)
+}
+
+// Sees how many batches are kept.
+fn keeps(book: &Book<MemoryDisk>, batches: u32) -> Result<(), Fail> {
+    let (found, _) = book.counts();
+    is(found == batches, "what is left")
 }
 
 // Sees that so many batches are kept, and that both are receipted once they are sent again.
 fn has(alloc: Global, book: &mut Book<MemoryDisk>, batches: u32) -> Result<(), Fail> {
-    is(book.counts().0 == batches, "what is left")?;
-    let lines = [(TWELVE, "receipt 7 12 1\n"), (THIRTEEN, "receipt 7 13 2\n")];
-    says_each(alloc, book, &lines)?;
+    keeps(book, batches)?;
+    says(alloc, book, TWELVE, "receipt 7 12 1\n")?;
+    says(alloc, book, THIRTEEN, "receipt 7 13 2\n")?;
     holds(book, 2, 67)
 }
 
@@ -49,10 +56,15 @@ fn leaves(
 #[test]
 fn a_stop_inside_the_frame_leaves_the_old_history(rt: HostRuntime) -> Result<(), Fail> {
     let disk = written(rt.alloc())?;
+    parts_leave(rt.alloc(), &disk, BODY, 0)?;
+    parts_leave(rt.alloc(), &disk, BODY + CALLS, 1)
+}
+
+// Sees that a stop inside a call leaves so many batches, whatever it left of what stands behind a gate.
+fn parts_leave(alloc: Global, disk: &MemoryDisk, call: u64, batches: u32) -> Result<(), Fail> {
     for kept in 0..26 {
         let (left, _) = BEHIND.split_at(kept);
-        leaves(rt.alloc(), &disk, BODY, left, 0)?;
-        leaves(rt.alloc(), &disk, BODY + CALLS, left, 1)?;
+        leaves(alloc, disk, call, left, batches)?;
     }
     Ok(())
 }
@@ -60,21 +72,23 @@ fn a_stop_inside_the_frame_leaves_the_old_history(rt: HostRuntime) -> Result<(),
 #[test]
 fn a_stop_inside_the_gate_leaves_the_old_history_or_the_new(rt: HostRuntime) -> Result<(), Fail> {
     let disk = written(rt.alloc())?;
-    // What is left of the gate, and how many batches stand then.
-    let cases: [(&[u8], u32); 4] = [(&[], 0), (&[0], 0), (&[7], 0), (&[1], 1)];
-    for (gate, batches) in cases {
-        leaves(rt.alloc(), &disk, GATE, gate, batches)?;
-        leaves(rt.alloc(), &disk, GATE + CALLS, gate, batches + 1)?;
-    }
-    Ok(())
+    gates_leave(rt.alloc(), &disk, GATE, 0)?;
+    gates_leave(rt.alloc(), &disk, GATE + CALLS, 1)
+}
+
+// Sees that so many batches stand behind a stop inside the call of a gate, and one more where the open gate is left.
+fn gates_leave(alloc: Global, disk: &MemoryDisk, call: u64, before: u32) -> Result<(), Fail> {
+    leaves(alloc, disk, call, &[], before)?;
+    leaves(alloc, disk, call, &[0], before)?;
+    leaves(alloc, disk, call, &[7], before)?;
+    leaves(alloc, disk, call, &[1], before.saturating_add(1))
 }
 
 #[test]
 fn a_stop_inside_a_sync_leaves_what_was_written(rt: HostRuntime) -> Result<(), Fail> {
     let disk = written(rt.alloc())?;
-    for (call, batches) in [(BODY_SYNC, 0), (GATE_SYNC, 1)] {
-        leaves(rt.alloc(), &disk, call, &[], batches)?;
-        leaves(rt.alloc(), &disk, call + CALLS, &[], batches + 1)?;
-    }
-    Ok(())
+    leaves(rt.alloc(), &disk, BODY_SYNC, &[], 0)?;
+    leaves(rt.alloc(), &disk, BODY_SYNC + CALLS, &[], 1)?;
+    leaves(rt.alloc(), &disk, GATE_SYNC, &[], 1)?;
+    leaves(rt.alloc(), &disk, GATE_SYNC + CALLS, &[], 2)
 }
