@@ -1,15 +1,16 @@
 //! Views as a test asks for them: the name of the view, the process unit, and what else it takes, in the order of its text.
 
-ghost use Rattle.std.specs.Prelude.{◌≡◌, IfOk};
+ghost use Rattle.std.specs.Prelude.{◌≡◌, IfOk, IfSome};
 ghost use Rattle.office_views.specs.Answers.{IsView};
 
 use crate::Office;
 use crate::tests::histories::office;
-use crate::tests::words::{day, short};
-use ldar_days::Day;
+use crate::tests::words::{day, joined, short};
 use ldar_law::Request;
 use office_views::Shown;
 use std::alloc::{AllocError, Global};
+use std::fmt::Debug;
+use std::process::Abort;
 use std::test::Fail;
 
 /// The view that a text asks for.
@@ -17,86 +18,73 @@ fn request(alloc: Global, text: &str) -> Result<Request, Fail>
     ensures view { IfOk result IsView }
 {
     let words: Vec<&str> = text.split_whitespace().collect(alloc)?;
-    let [view, own, rest @ ..] = words.as_slice() else {
-        return Err(Fail::from("view"));
+    Ok(view_of(&words).ok_or("view")?)
+}
+
+/// The view, if these words ask for one.
+fn view_of(words: &[&str]) -> Option<Request>
+    ensures view { IfSome result IsView }
+{
+    let [view, own, rest @ ..] = words else {
+        return None;
     };
     let unit = short(own)?;
     match *view {
-        "due" => due(unit, rest),
-        "tags" => tags(unit, rest),
-        "delays" => delays(unit, rest),
         "route" => route(unit, rest),
-        "percent" => percent(unit, rest),
-        "report" => report(unit, rest),
-        _ => Err(Fail::from("view")),
+        "percent" | "report" => of_time(view, unit, rest),
+        _ => of_day(view, unit, rest),
     }
 }
 
-fn only_day(words: &[&str]) -> Result<Day, Fail> {
-    let [word] = words else {
-        return Err(Fail::from("a day"));
+/// `due UNIT DAY`, `tags UNIT DAY` or `delays UNIT DAY`
+fn of_day(view: &str, unit: u16, words: &[&str]) -> Option<Request>
+    ensures view { IfSome result IsView }
+{
+    let [date] = words else {
+        return None;
     };
-    day(word)
-}
-
-/// `due UNIT DAY`
-fn due(unit: u16, words: &[&str]) -> Result<Request, Fail>
-    ensures view { IfOk result IsView }
-{
-    let day = only_day(words)?;
-    Ok(Request::Due { unit, day })
-}
-
-/// `tags UNIT DAY`
-fn tags(unit: u16, words: &[&str]) -> Result<Request, Fail>
-    ensures view { IfOk result IsView }
-{
-    let day = only_day(words)?;
-    Ok(Request::Tags { unit, day })
-}
-
-/// `delays UNIT DAY`
-fn delays(unit: u16, words: &[&str]) -> Result<Request, Fail>
-    ensures view { IfOk result IsView }
-{
-    let day = only_day(words)?;
-    Ok(Request::Delays { unit, day })
+    let day = day(date)?;
+    match view {
+        "due" => Some(Request::Due { unit, day }),
+        "tags" => Some(Request::Tags { unit, day }),
+        "delays" => Some(Request::Delays { unit, day }),
+        _ => None,
+    }
 }
 
 /// `route UNIT DAY STOPS`
-fn route(unit: u16, words: &[&str]) -> Result<Request, Fail>
-    ensures view { IfOk result IsView }
+fn route(unit: u16, words: &[&str]) -> Option<Request>
+    ensures view { IfSome result IsView }
 {
     let [date, most] = words else {
-        return Err(Fail::from("route"));
+        return None;
     };
     let day = day(date)?;
     let stops = short(most)?;
-    Ok(Request::Route { unit, day, stops })
+    Some(Request::Route { unit, day, stops })
 }
 
-/// `percent UNIT QUARTER DAY`
-fn percent(unit: u16, words: &[&str]) -> Result<Request, Fail>
-    ensures view { IfOk result IsView }
+/// `percent UNIT QUARTER DAY` or `report UNIT HALF DAY`
+fn of_time(view: &str, unit: u16, words: &[&str]) -> Option<Request>
+    ensures view { IfSome result IsView }
 {
     let [number, date] = words else {
-        return Err(Fail::from("percent"));
+        return None;
     };
-    let quarter = short(number)?;
+    let number = short(number)?;
     let day = day(date)?;
-    Ok(Request::Percent { unit, quarter, day })
-}
-
-/// `report UNIT HALF DAY`
-fn report(unit: u16, words: &[&str]) -> Result<Request, Fail>
-    ensures view { IfOk result IsView }
-{
-    let [number, date] = words else {
-        return Err(Fail::from("report"));
-    };
-    let half = short(number)?;
-    let day = day(date)?;
-    Ok(Request::Report { unit, half, day })
+    if view == "report" {
+        return Some(Request::Report {
+            unit,
+            half: number,
+            day,
+        });
+    }
+    Some(Request::Percent {
+        unit,
+        quarter: number,
+        day,
+    })
 }
 
 /// What an office shows, or what it has none of.
@@ -106,18 +94,12 @@ pub fn shown(alloc: Global, office: &mut Office, view: &str) -> Result<String, F
     let request = request(alloc, view)?;
     match office.ask(&request)? {
         Shown::Text(text) => Ok(String::from_utf8_lossy(alloc, text.as_bytes())?),
-        Shown::NoSuch(what) => no_such(alloc, what.word()),
+        Shown::NoSuch(what) => Ok(joined(alloc, &["no such ", what.word()])?),
     }
 }
 
-fn no_such(alloc: Global, word: &str) -> Result<String, Fail> {
-    let mut line = String::from_str(alloc, "no such ")?;
-    line.push_str(word)?;
-    Ok(line)
-}
-
 /// What the office that adopted a history shows.
-pub fn answer(alloc: Global, history: &str, view: &str) -> Result<String, Fail> {
+fn answer(alloc: Global, history: &str, view: &str) -> Result<String, Fail> {
     let mut office = office(alloc, history)?;
     shown(alloc, &mut office, view)
 }
@@ -134,8 +116,45 @@ fn lines_with(alloc: Global, text: &str, part: &str) -> Result<String, AllocErro
     Ok(found)
 }
 
-/// Those of its lines that have a part.
-pub fn lines(alloc: Global, history: &str, view: &str, part: &str) -> Result<String, Fail> {
+/// What it shows, or those of its lines that have a part, where one is given.
+fn told(alloc: Global, history: &str, view: &str, part: &str) -> Result<String, Fail> {
     let text = answer(alloc, history, view)?;
+    if part.is_empty() {
+        return Ok(text);
+    }
     Ok(lines_with(alloc, text.as_str(), part)?)
+}
+
+/// The last of a history, a view, a part of lines, or none, and the text that is to be shown then.
+pub type Row<'a> = (&'a str, &'a str, &'a str, &'a str);
+
+/// Sees what is shown by each row, where all histories begin alike.
+pub fn shows(rt: &impl Abort, alloc: Global, front: &[&str], rows: &[Row]) -> Result<(), Fail> {
+    for row in rows {
+        shows_row(rt, alloc, front, row)?;
+    }
+    Ok(())
+}
+
+/// Sees what is shown by a row.
+pub fn shows_row(
+    rt: &impl Abort,
+    alloc: Global,
+    front: &[&str],
+    (last, view, part, want): &Row,
+) -> Result<(), Fail> {
+    let mut history = joined(alloc, front)?;
+    history.push_str(last)?;
+    let found = told(alloc, history.as_str(), view, part)?;
+    if found.as_str() != *want {
+        panic!(rt; "{last} {view} {part}: {found:?}, not {want:?}");
+    }
+    Ok(())
+}
+
+/// Sees that this was found in a case.
+pub fn same<T: PartialEq + Debug>(rt: &impl Abort, case: &str, found: &T, want: &T) {
+    if *found != *want {
+        panic!(rt; "{case}: {found:?}, not {want:?}");
+    }
 }

@@ -1,17 +1,16 @@
 //! Facts as a test writes them: `DAY MINUTE` and then what is entered, with its numbers.
 
-ghost use Rattle.std.specs.Prelude.{◌≤◌, IfOk};
+ghost use Rattle.std.specs.Prelude.{◌≤◌, IfSome};
+ghost use Rattle.fact_kinds.specs.Fields.{IsFact};
 
 use crate::tests::words::{component, day, has, number, ppm, short, unit};
-use fact_kinds::{
-    Class, Designation, Fact, FactBody, Kind, Name, Purpose, Service, Sort, VisualState,
-};
+use fact_kinds::{Class, Designation, Fact, FactBody, Kind, Name, Purpose, Service, VisualState};
 use ldar_days::Day;
 use std::alloc::Global;
 use std::test::Fail;
 
 /// When something is entered. All tests and readings are of instrument 1.
-#[derive(Clone, Copy, Drop)]
+#[derive(Drop)]
 struct Moment {
     day: Day,
     minute: u16,
@@ -21,342 +20,296 @@ struct Moment {
 /// The fact that a text writes.
 pub fn fact(alloc: Global, text: &str) -> Result<Fact, Fail> {
     let words: Vec<&str> = text.split_whitespace().collect(alloc)?;
-    let [date, minute, what, numbers @ ..] = words.as_slice() else {
-        return Err(Fail::from("fact"));
-    };
-    let minute = number(minute, 0, 1_439)? as u16;
-    let at = Moment {
-        day: day(date)?,
-        minute,
-    };
-    match *what {
-        "unit" | "valve" | "pump" | "compressor" | "relief" | "retire" | "election" | "shutdown" =>
-            entry(at, what, numbers),
-        "calibration" | "precision" | "drift" => test_of_instrument(at, what, numbers),
-        _ => event(at, what, numbers),
-    }
+    Ok(fact_of(&words).ok_or("fact")?)
 }
 
-/// What the register is told.
-fn entry(at: Moment, what: &str, numbers: &[&str]) -> Result<Fact, Fail> {
+/// The fact, if these words write one.
+fn fact_of(words: &[&str]) -> Option<Fact> {
+    let [date, minute, what, numbers @ ..] = words else {
+        return None;
+    };
+    let day = day(date)?;
+    let minute = number(minute, 0, 1_439)? as u16;
+    entry(Moment { day, minute }, what, numbers)
+}
+
+/// What the register is told, or what follows.
+fn entry(at: Moment, what: &str, numbers: &[&str]) -> Option<Fact> {
     match what {
         "unit" => process_unit(at, numbers),
         "valve" => equipment(at, Kind::Valve, numbers),
         "pump" => equipment(at, Kind::Pump, numbers),
         "compressor" => equipment(at, Kind::Compressor, numbers),
         "relief" => equipment(at, Kind::Relief, numbers),
-        "retire" => retirement(at, numbers),
         "election" => election(at, numbers),
-        _ => shutdown(at, numbers),
+        "shutdown" => shutdown(at, numbers),
+        _ => test_of_instrument(at, what, numbers),
     }
 }
 
-/// `unit UNIT NAME`
-fn process_unit(at: Moment, numbers: &[&str]) -> Result<Fact, Fail> {
-    let [number, name] = numbers else {
-        return Err(Fail::from("unit"));
-    };
-    Ok(Fact {
-        day: at.day,
-        minute: at.minute,
-        body: FactBody::Unit {
-            unit: unit(number)?,
-            older: false,
-            name: Name::new(name.as_bytes()).ok_or("name")?,
-        },
-    })
-}
-
-fn service(word: &str) -> Result<Service, Fail> {
-    match word {
-        "gas" => Ok(Service::Gas),
-        "light" => Ok(Service::Light),
-        "heavy" => Ok(Service::Heavy),
-        _ => Err(Fail::from("service")),
-    }
-}
-
-/// `KIND COMPONENT UNIT SERVICE`, behind which `monomer` and `replaces` may follow.
-fn equipment(at: Moment, kind: Kind, numbers: &[&str]) -> Result<Fact, Fail> {
-    let [number, own, fluid, flags @ ..] = numbers else {
-        return Err(Fail::from("component"));
-    };
-    let class = Class {
-        service: service(fluid)?,
-        designation: Designation::Plain,
-        plan: 0,
-        month: 1,
-    };
-    Ok(Fact {
-        day: at.day,
-        minute: at.minute,
-        body: FactBody::Component {
-            component: component(number)?,
-            unit: unit(own)?,
-            kind,
-            monomer: has(flags, "monomer"),
-            replaces: has(flags, "replaces"),
-            class,
-        },
-    })
-}
-
-/// `retire COMPONENT`
-fn retirement(at: Moment, numbers: &[&str]) -> Result<Fact, Fail> {
-    let [number] = numbers else {
-        return Err(Fail::from("retire"));
-    };
-    Ok(Fact {
-        day: at.day,
-        minute: at.minute,
-        body: FactBody::Retire {
-            component: component(number)?,
-        },
-    })
-}
-
-fn mode(word: &str) -> Result<u8, Fail>
-    ensures { IfOk result (λ mode. mode ≤ 1) }
-{
-    Ok(number(word, 0, 1)? as u8)
-}
-
-/// `election UNIT MODE NOTIFIED`
-fn election(at: Moment, numbers: &[&str]) -> Result<Fact, Fail> {
-    let [number, programme, notified] = numbers else {
-        return Err(Fail::from("election"));
-    };
-    Ok(Fact {
-        day: at.day,
-        minute: at.minute,
-        body: FactBody::Election {
-            unit: unit(number)?,
-            mode: mode(programme)?,
-            notified: day(notified)?,
-        },
-    })
-}
-
-/// `shutdown UNIT DAYS`
-fn shutdown(at: Moment, numbers: &[&str]) -> Result<Fact, Fail> {
-    let [own, length] = numbers else {
-        return Err(Fail::from("shutdown"));
-    };
-    let days = number(length, 1, 366)? as u16;
-    Ok(Fact {
-        day: at.day,
-        minute: at.minute,
-        body: FactBody::Shutdown {
-            unit: unit(own)?,
-            days,
-        },
-    })
-}
-
-/// What instrument 1 was tested by.
-fn test_of_instrument(at: Moment, what: &str, numbers: &[&str]) -> Result<Fact, Fail> {
+/// What instrument 1 was tested by, or what follows.
+fn test_of_instrument(at: Moment, what: &str, numbers: &[&str]) -> Option<Fact> {
     match what {
         "calibration" => calibration(at, numbers),
         "precision" => precision(at, numbers),
-        _ => drift(at, numbers),
+        "drift" => drift(at, numbers),
+        _ => event(at, what, numbers),
     }
 }
 
-/// The concentration of a gas.
-fn known_value(word: &str) -> Result<u32, Fail>
-    ensures in_range { IfOk result (λ n. (1 ≤ n) × (n ≤ 999_999)) }
-{
-    number(word, 1, 999_999)
-}
-
-/// `calibration GAS`
-fn calibration(at: Moment, numbers: &[&str]) -> Result<Fact, Fail> {
-    let [gas] = numbers else {
-        return Err(Fail::from("calibration"));
-    };
-    Ok(Fact {
-        day: at.day,
-        minute: at.minute,
-        body: FactBody::Calibration {
-            instrument: 1,
-            gas: known_value(gas)?,
-        },
-    })
-}
-
-/// `precision VALUE A B C`
-fn precision(at: Moment, numbers: &[&str]) -> Result<Fact, Fail> {
-    let [value, a, b, c] = numbers else {
-        return Err(Fail::from("precision"));
-    };
-    let value = known_value(value)?;
-    let readings = (ppm(a)?, ppm(b)?, ppm(c)?);
-    Ok(Fact {
-        day: at.day,
-        minute: at.minute,
-        body: FactBody::Precision {
-            instrument: 1,
-            value,
-            readings,
-        },
-    })
-}
-
-/// `drift VALUE A B C`
-fn drift(at: Moment, numbers: &[&str]) -> Result<Fact, Fail> {
-    let [value, a, b, c] = numbers else {
-        return Err(Fail::from("drift"));
-    };
-    let value = known_value(value)?;
-    let readings = (ppm(a)?, ppm(b)?, ppm(c)?);
-    Ok(Fact {
-        day: at.day,
-        minute: at.minute,
-        body: FactBody::Drift {
-            instrument: 1,
-            value,
-            readings,
-        },
-    })
-}
-
 /// What happens at a component.
-fn event(at: Moment, what: &str, numbers: &[&str]) -> Result<Fact, Fail> {
+fn event(at: Moment, what: &str, numbers: &[&str]) -> Option<Fact> {
     match what {
         "reading" => reading(at, numbers),
         "visual" => visual(at, numbers),
         "attempt" => attempt(at, numbers),
         "delay" => delay(at, numbers),
         "release" => release(at, numbers),
-        "sensor" => indication(at, Sort::Sensor, numbers),
-        "evidence" => indication(at, Sort::Evidence, numbers),
-        _ => Err(Fail::from("what")),
+        _ => None,
     }
 }
 
-/// `reading COMPONENT PPM BACKGROUND`, a routine one by operator 1
-fn reading(at: Moment, numbers: &[&str]) -> Result<Fact, Fail> {
-    let [number, parts, around] = numbers else {
-        return Err(Fail::from("reading"));
-    };
-    Ok(Fact {
+/// The fact that something is entered then.
+fn on(at: Moment, body: FactBody) -> Fact
+    requires in_range { IsFact (record { day = at.day; minute = at.minute; body = body }) }
+{
+    Fact {
         day: at.day,
         minute: at.minute,
-        body: FactBody::Reading {
-            component: component(number)?,
-            instrument: 1,
-            operator: 1,
-            purpose: Purpose::Routine,
-            ppm: ppm(parts)?,
-            background: ppm(around)?,
-        },
-    })
+        body,
+    }
 }
 
-fn visual_state(word: &str) -> Result<VisualState, Fail> {
+/// `unit UNIT NAME`
+fn process_unit(at: Moment, numbers: &[&str]) -> Option<Fact> {
+    let [number, name] = numbers else {
+        return None;
+    };
+    let unit = unit(number)?;
+    let name = Name::new(name.as_bytes())?;
+    let body = FactBody::Unit {
+        unit,
+        older: false,
+        name,
+    };
+    Some(on(at, body))
+}
+
+fn service(word: &str) -> Option<Service> {
     match word {
-        "dry" => Ok(VisualState::Dry),
-        "drips" => Ok(VisualState::Drips),
-        "designated" => Ok(VisualState::Designated),
-        _ => Err(Fail::from("visual")),
+        "gas" => Some(Service::Gas),
+        "light" => Some(Service::Light),
+        "heavy" => Some(Service::Heavy),
+        _ => None,
+    }
+}
+
+/// `KIND COMPONENT UNIT SERVICE`, behind which `monomer` may follow.
+fn equipment(at: Moment, kind: Kind, numbers: &[&str]) -> Option<Fact> {
+    let [number, own, fluid, flags @ ..] = numbers else {
+        return None;
+    };
+    let component = component(number)?;
+    let unit = unit(own)?;
+    let service = service(fluid)?;
+    let class = Class {
+        service,
+        designation: Designation::Plain,
+        plan: 0,
+        month: 1,
+    };
+    let body = FactBody::Component {
+        component,
+        unit,
+        kind,
+        monomer: has(flags, "monomer"),
+        replaces: false,
+        class,
+    };
+    Some(on(at, body))
+}
+
+fn mode(word: &str) -> Option<u8>
+    ensures { IfSome result (λ mode. mode ≤ 1) }
+{
+    Some(number(word, 0, 1)? as u8)
+}
+
+/// `election UNIT MODE NOTIFIED`
+fn election(at: Moment, numbers: &[&str]) -> Option<Fact> {
+    let [number, programme, notified] = numbers else {
+        return None;
+    };
+    let unit = unit(number)?;
+    let mode = mode(programme)?;
+    let notified = day(notified)?;
+    let body = FactBody::Election {
+        unit,
+        mode,
+        notified,
+    };
+    Some(on(at, body))
+}
+
+/// `shutdown UNIT DAYS`
+fn shutdown(at: Moment, numbers: &[&str]) -> Option<Fact> {
+    let [own, length] = numbers else {
+        return None;
+    };
+    let unit = unit(own)?;
+    let days = number(length, 1, 366)? as u16;
+    Some(on(at, FactBody::Shutdown { unit, days }))
+}
+
+/// The concentration of a gas.
+fn known_value(word: &str) -> Option<u32>
+    ensures in_range { IfSome result (λ n. (1 ≤ n) × (n ≤ 999_999)) }
+{
+    number(word, 1, 999_999)
+}
+
+/// `calibration GAS`
+fn calibration(at: Moment, numbers: &[&str]) -> Option<Fact> {
+    let [gas] = numbers else {
+        return None;
+    };
+    let gas = known_value(gas)?;
+    let body = FactBody::Calibration { instrument: 1, gas };
+    Some(on(at, body))
+}
+
+/// `A B C`
+fn readings_of(words: &[&str]) -> Option<(u32, u32, u32)>
+    ensures in_range { IfSome result (λ r. (r.0 ≤ 999_999) × (r.1 ≤ 999_999) × (r.2 ≤ 999_999)) }
+{
+    let [a, b, c] = words else {
+        return None;
+    };
+    let a = ppm(a)?;
+    let b = ppm(b)?;
+    let c = ppm(c)?;
+    Some((a, b, c))
+}
+
+/// `precision VALUE A B C`
+fn precision(at: Moment, numbers: &[&str]) -> Option<Fact> {
+    let [value, read @ ..] = numbers else {
+        return None;
+    };
+    let value = known_value(value)?;
+    let readings = readings_of(read)?;
+    let body = FactBody::Precision {
+        instrument: 1,
+        value,
+        readings,
+    };
+    Some(on(at, body))
+}
+
+/// `drift VALUE A B C`
+fn drift(at: Moment, numbers: &[&str]) -> Option<Fact> {
+    let [value, read @ ..] = numbers else {
+        return None;
+    };
+    let value = known_value(value)?;
+    let readings = readings_of(read)?;
+    let body = FactBody::Drift {
+        instrument: 1,
+        value,
+        readings,
+    };
+    Some(on(at, body))
+}
+
+/// `reading COMPONENT PPM BACKGROUND`, a routine one by operator 1
+fn reading(at: Moment, numbers: &[&str]) -> Option<Fact> {
+    let [number, parts, around] = numbers else {
+        return None;
+    };
+    let component = component(number)?;
+    let found = ppm(parts)?;
+    let background = ppm(around)?;
+    let body = FactBody::Reading {
+        component,
+        instrument: 1,
+        operator: 1,
+        purpose: Purpose::Routine,
+        ppm: found,
+        background,
+    };
+    Some(on(at, body))
+}
+
+fn visual_state(word: &str) -> Option<VisualState> {
+    match word {
+        "dry" => Some(VisualState::Dry),
+        "drips" => Some(VisualState::Drips),
+        "designated" => Some(VisualState::Designated),
+        _ => None,
     }
 }
 
 /// `visual COMPONENT` and `dry`, `drips` or `designated`
-fn visual(at: Moment, numbers: &[&str]) -> Result<Fact, Fail> {
+fn visual(at: Moment, numbers: &[&str]) -> Option<Fact> {
     let [number, found] = numbers else {
-        return Err(Fail::from("visual"));
+        return None;
     };
-    Ok(Fact {
-        day: at.day,
-        minute: at.minute,
-        body: FactBody::Visual {
-            component: component(number)?,
-            state: visual_state(found)?,
-        },
-    })
+    let component = component(number)?;
+    let state = visual_state(found)?;
+    Some(on(at, FactBody::Visual { component, state }))
 }
 
-/// `attempt COMPONENT`, behind which `complete` may follow
-fn attempt(at: Moment, numbers: &[&str]) -> Result<Fact, Fail> {
-    let [number, flags @ ..] = numbers else {
-        return Err(Fail::from("attempt"));
+/// `attempt COMPONENT`
+fn attempt(at: Moment, numbers: &[&str]) -> Option<Fact> {
+    let [number] = numbers else {
+        return None;
     };
-    Ok(Fact {
-        day: at.day,
-        minute: at.minute,
-        body: FactBody::Attempt {
-            component: component(number)?,
-            complete: has(flags, "complete"),
-        },
-    })
+    let component = component(number)?;
+    let body = FactBody::Attempt {
+        component,
+        complete: false,
+    };
+    Some(on(at, body))
 }
 
 /// The letter of a ground as a number, 0 for a delay that is withdrawn.
-fn ground(word: &str) -> Result<u8, Fail>
-    ensures in_range { IfOk result (λ number. number ≤ 5) }
+fn ground(word: &str) -> Option<u8>
+    ensures in_range { IfSome result (λ number. number ≤ 5) }
 {
     match word {
-        "withdrawn" => Ok(0),
-        "a" => Ok(1),
-        "b" => Ok(2),
-        "c" => Ok(3),
-        "d" => Ok(4),
-        "e" => Ok(5),
-        _ => Err(Fail::from("ground")),
+        "withdrawn" => Some(0),
+        "a" => Some(1),
+        "b" => Some(2),
+        "c" => Some(3),
+        "d" => Some(4),
+        "e" => Some(5),
+        _ => None,
     }
 }
 
-/// `delay COMPONENT GROUND SIGNER EXPECTED`, with `-` where no day is expected
-fn delay(at: Moment, numbers: &[&str]) -> Result<Fact, Fail> {
+/// `delay COMPONENT GROUND SIGNER EXPECTED`
+fn delay(at: Moment, numbers: &[&str]) -> Option<Fact> {
     let [number, letter, person, until] = numbers else {
-        return Err(Fail::from("delay"));
+        return None;
     };
-    Ok(Fact {
-        day: at.day,
-        minute: at.minute,
-        body: FactBody::Delay {
-            component: component(number)?,
-            ground: ground(letter)?,
-            signer: short(person)?,
-            expected: day_or_none(until)?,
-        },
-    })
-}
-
-fn day_or_none(word: &str) -> Result<Option<Day>, Fail> {
-    if word == "-" {
-        return Ok(None);
-    }
-    Ok(Some(day(word)?))
+    let component = component(number)?;
+    let ground = ground(letter)?;
+    let signer = short(person)?;
+    let expected = day(until)?;
+    let body = FactBody::Delay {
+        component,
+        ground,
+        signer,
+        expected: Some(expected),
+    };
+    Some(on(at, body))
 }
 
 /// `release COMPONENT`
-fn release(at: Moment, numbers: &[&str]) -> Result<Fact, Fail> {
+fn release(at: Moment, numbers: &[&str]) -> Option<Fact> {
     let [number] = numbers else {
-        return Err(Fail::from("release"));
+        return None;
     };
-    Ok(Fact {
-        day: at.day,
-        minute: at.minute,
-        body: FactBody::Release {
-            component: component(number)?,
-        },
-    })
-}
-
-/// `sensor COMPONENT` or `evidence COMPONENT`, and `present` or `gone`
-fn indication(at: Moment, sort: Sort, numbers: &[&str]) -> Result<Fact, Fail> {
-    let [number, state] = numbers else {
-        return Err(Fail::from("indication"));
-    };
-    Ok(Fact {
-        day: at.day,
-        minute: at.minute,
-        body: FactBody::Indication {
-            component: component(number)?,
-            sort,
-            present: *state == "present",
-        },
-    })
+    let component = component(number)?;
+    Some(on(at, FactBody::Release { component }))
 }

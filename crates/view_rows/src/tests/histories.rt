@@ -6,37 +6,37 @@ ghost use Rattle.std.specs.Prelude.{◌≤◌};
 use crate::Office;
 use crate::tests::facts::fact;
 use crate::tests::words::short;
-use fact_kinds::Batch;
+use fact_kinds::{Batch, Fact};
 use std::alloc::{AllocError, Global};
 use std::test::Fail;
 
 /// The process unit `CRUDE` with nine components: valves, pumps, a relief device and a compressor.
-pub fn crude(alloc: Global) -> Result<String, AllocError> {
-    let mut text = String::from_str(alloc, "0: 2020-01-15 0 unit 1 CRUDE")?;
-    text.push_str("; 2020-01-15 0 valve 1 1 gas; 2020-01-15 0 valve 2 1 gas")?;
-    text.push_str("; 2020-01-15 0 valve 3 1 gas; 2020-01-15 0 valve 4 1 gas")?;
-    text.push_str("; 2020-01-15 0 pump 5 1 light; 2020-01-15 0 pump 6 1 light monomer")?;
-    text.push_str("; 2020-01-15 0 pump 7 1 heavy; 2020-01-15 0 relief 8 1 gas")?;
-    text.push_str("; 2020-01-15 0 compressor 9 1 gas\n")?;
-    Ok(text)
-}
+pub const CRUDE: &str = "0: 2020-01-15 0 unit 1 CRUDE\
+    ; 2020-01-15 0 valve 1 1 gas; 2020-01-15 0 valve 2 1 gas\
+    ; 2020-01-15 0 valve 3 1 gas; 2020-01-15 0 valve 4 1 gas\
+    ; 2020-01-15 0 pump 5 1 light; 2020-01-15 0 pump 6 1 light monomer\
+    ; 2020-01-15 0 pump 7 1 heavy; 2020-01-15 0 relief 8 1 gas\
+    ; 2020-01-15 0 compressor 9 1 gas\n";
 
-/// The process unit `CRUDE`, instrument 1 that passes its precision test on 2024-01-02, and what more a history has.
-pub fn base(alloc: Global, more: &str) -> Result<String, AllocError> {
-    let mut text = crude(alloc)?;
-    text.push_str("1: 2024-01-02 0 precision 500 500 500 500\n")?;
-    text.push_str(more)?;
-    Ok(text)
+/// Instrument 1 passes its precision test on 2024-01-02.
+pub const PASSES: &str = "1: 2024-01-02 0 precision 500 500 500 500\n";
+
+/// The facts that a text has.
+fn facts_of(alloc: Global, told: &str) -> Result<Vec<Fact>, Fail> {
+    let mut facts = Vec::new(alloc);
+    for text in told.split("; ") {
+        let next = fact(alloc, text)?;
+        facts.push(next)?;
+    }
+    Ok(facts)
 }
 
 /// The batch that a line writes.
 fn batch(alloc: Global, number: u32, line: &str) -> Result<Batch, Fail> {
-    let (handheld, told) = line.split_once(": ").ok_or("batch")?;
-    let mut facts = Vec::new(alloc);
-    for text in told.split("; ") {
-        facts.push(fact(alloc, text)?)?;
-    }
-    Ok(Batch::new(short(handheld)?, number, facts).ok_or("facts")?)
+    let (from, told) = line.split_once(": ").ok_or("batch")?;
+    let handheld = short(from).ok_or("handheld")?;
+    let facts = facts_of(alloc, told)?;
+    Ok(Batch::new(handheld, number, facts).ok_or("facts")?)
 }
 
 /// The batches that a history has.
