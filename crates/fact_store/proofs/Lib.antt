@@ -4,6 +4,7 @@ pub mod ListLemmas
 pub mod ListingLemmas
 pub mod MergeLemmas
 pub mod OrderLemmas
+pub mod PartLemmas
 pub mod PlaceLemmas
 pub mod SortLemmas
 pub mod TakeLemmas

@@ -4,4 +4,5 @@ pub mod Kept
 pub mod Listing
 pub mod Lists
 pub mod Naming
+pub mod Parts
 pub mod Takes

@@ -1,14 +1,14 @@
 //! How often facts name each number.
 
-ghost use Rattle.std.specs.Prelude.{◌≡◌, ℕ, ◌+◌, ◌<◌, ◌≤◌, if◌then◌else◌, length, vec_len, IfOk, OnOk};
+ghost use Rattle.std.specs.Prelude.{◌≡◌, ℕ, ◌+◌, ◌<◌, ◌≤◌, [], if◌then◌else◌, length, vec_len, OnOk};
 ghost use Rattle.fact_kinds.specs.Named.{is_numbered};
-ghost use Rattle.fact_store.specs.Listing.{AreCounts};
+ghost use Rattle.fact_store.specs.Listing.{named_in};
 ghost use Rattle.fact_store.specs.Lists.{value_at};
 ghost use Rattle.fact_store.specs.Naming.{named_by};
 
 use crate::naming::Naming;
 use fact_kinds::{Fact, Key};
-use std::alloc::{AllocError, Global};
+use std::alloc::AllocError;
 
 /// Adds counts of nothing until there are so many.
 fn grow_counts(counts: &mut Vec<usize>, count: usize) -> Result<(), AllocError>
@@ -35,22 +35,30 @@ fn count_number(counts: &mut Vec<usize>, number: Option<u16>) -> Result<(), Allo
     Ok(())
 }
 
-/// How often facts that came and facts to come name each number.
-pub fn counts_of(
-    alloc: Global,
+/// Counts each fact of a part once more, at the number that it names.
+pub fn add_counts(
+    counts: &mut Vec<usize>,
     naming: Naming,
-    arrived: &[(Key, Fact)],
-    spare: &[Fact],
-) -> Result<Vec<usize>, AllocError>
-    requires few { length arrived.now + length spare.now < usize.MAX }
-    ensures value { IfOk result (λ counts. AreCounts (named_by naming) arrived.now spare.now counts.items) }
+    part: &[(Key, Fact)],
+) -> Result<(), AllocError>
+    requires few { (n : ℕ) → value_at (λ c. c) 0 counts.old.items n + length part.now < usize.MAX }
+    ensures value { OnOk result ((n : ℕ) → value_at (λ c. c) 0 counts.new.items n
+        ≡ value_at (λ c. c) 0 counts.old.items n + named_in (named_by naming) part.now [] n) }
 {
-    let mut counts = Vec::new(alloc);
-    for entry in arrived {
-        count_number(&mut counts, naming.number_of(&entry.1.body))?;
+    for entry in part {
+        count_number(counts, naming.number_of(&entry.1.body))?;
     }
+    Ok(())
+}
+
+/// Counts each fact that is to come once more, at the number that it names.
+pub fn add_spare(counts: &mut Vec<usize>, naming: Naming, spare: &[Fact]) -> Result<(), AllocError>
+    requires few { (n : ℕ) → value_at (λ c. c) 0 counts.old.items n + length spare.now < usize.MAX }
+    ensures value { OnOk result ((n : ℕ) → value_at (λ c. c) 0 counts.new.items n
+        ≡ value_at (λ c. c) 0 counts.old.items n + named_in (named_by naming) [] spare.now n) }
+{
     for fact in spare {
-        count_number(&mut counts, naming.number_of(&fact.body))?;
+        count_number(counts, naming.number_of(&fact.body))?;
     }
-    Ok(counts)
+    Ok(())
 }

@@ -1,13 +1,17 @@
-ghost use Rattle.std.specs.Prelude.{◌≡◌, ◌+◌, ◌^◌, ◌<◌, ◌≤◌, [], length, OnOk, OnErr};
+ghost use Rattle.std.specs.Prelude.{◌≡◌, ℕ, ◌+◌, ◌^◌, ◌<◌, ◌≤◌, List, [], length, take, drop, OnOk};
 ghost use Rattle.list_words.specs.Order.{AllApart};
 ghost use Rattle.fact_kinds.specs.declared.limits.TheConstants.{MOST_FACTS};
-ghost use Rattle.fact_kinds.specs.Facts.{goes_first};
+ghost use Rattle.fact_kinds.specs.Facts.{Entry, goes_first};
+ghost use Rattle.fact_kinds.specs.Stated.{Stated};
+ghost use Rattle.fact_store.specs.declared.naming.Naming.{Naming};
 ghost use Rattle.fact_store.specs.Inside.{KeepsFirst, KeepsIndex};
-ghost use Rattle.fact_store.specs.Lists.{items_in, OnlyGrow};
+ghost use Rattle.fact_store.specs.Listing.{named_in};
+ghost use Rattle.fact_store.specs.Lists.{items_in, room_in, value_at, OnlyGrow};
 ghost use Rattle.fact_store.specs.Naming.{HasRoomFor, named_by};
+ghost use Rattle.fact_store.specs.Parts.{AreCountsOf, KeepsTurn};
 ghost use Rattle.fact_store.specs.Takes.{CanTake, Takes};
 
-use crate::counting::counts_of;
+use crate::counting::add_counts;
 use crate::listing::{push_places, settle_lists};
 use crate::lists::{Lists, list_of, make_rooms, make_rooms_for};
 use crate::naming::Naming;
@@ -38,25 +42,64 @@ impl Index {
         }
     }
 
-    /// Lists the facts that came since, with room for the places of others. After an error no fact more is listed.
-    pub fn catch_up(
-        &mut self,
-        alloc: Global,
+    /// Counts the facts of a part that are not listed. Those before the part are counted.
+    pub fn count_part(
+        &self,
+        counts: &mut Vec<usize>,
         arrived: &[(Key, Fact)],
-        spare: &[Fact],
+        from: usize,
+        to: usize,
     ) -> Result<(), AllocError>
-        requires apart { AllApart goes_first arrived.now }
+        requires part { from ≤ to }
+        requires within { to ≤ length arrived.now }
         requires few { length arrived.now ≤ MOST_FACTS }
-        requires kept { KeepsFirst self.old.naming arrived.now self.old }
-        ensures ok { OnOk result (KeepsIndex self.old.naming arrived.now spare.now self.new) }
-        ensures unchanged { OnErr result (KeepsFirst self.old.naming arrived.now self.new) }
+        requires counted { AreCountsOf self.now (take from arrived.now) [] counts.old.items }
+        ensures counted { OnOk result (AreCountsOf self.now (take to arrived.now) [] counts.new.items) }
     {
-        let counts = counts_of(alloc, self.naming, &arrived[self.listed..], spare)?;
-        make_rooms_for(alloc, &mut self.lists, &counts)?;
-        push_places(&mut self.lists, self.naming, arrived, self.listed);
-        settle_lists(&mut self.lists, arrived, &counts);
+        let first = self.listed.max(from).min(to);
+        let came = &arrived[..to];
+        add_counts(counts, self.naming, &came[first..])
+    }
+
+    /// Makes room for as many more places of each number as these counts say. After an error no fact more is listed.
+    pub fn make_room(&mut self, alloc: Global, counts: &[usize]) -> Result<(), AllocError>
+        ensures ok { OnOk result ((naming : Naming) (arrived : List Entry) (spare : List Stated) → KeepsFirst naming arrived self.old
+            → AreCountsOf self.old arrived spare counts.now → KeepsTurn naming arrived spare 0 self.new) }
+        ensures first { (naming : Naming) (arrived : List Entry) → KeepsFirst naming arrived self.old → KeepsFirst naming arrived self.new }
+        ensures counted { (arrived : List Entry) (spare : List Stated) (counted : List ℕ) → AreCountsOf self.old arrived spare counted
+            → AreCountsOf self.new arrived spare counted }
+    {
+        make_rooms_for(alloc, &mut self.lists, counts)
+    }
+
+    /// Adds the places of the facts of a part that are not listed to the lists, as they came. Those before the part stand there.
+    pub fn push_part(&mut self, arrived: &[(Key, Fact)], from: usize, to: usize)
+        requires part { from ≤ to }
+        requires within { to ≤ length arrived.now }
+        requires few { length arrived.now ≤ MOST_FACTS }
+        requires turned { KeepsTurn self.old.naming arrived.now [] from self.old }
+        ensures turned { (naming : Naming) (spare : List Stated) → KeepsTurn naming arrived.now spare from self.old
+            → KeepsTurn naming arrived.now spare to self.new }
+        ensures counted { (spare : List Stated) (counted : List ℕ) → AreCountsOf self.old arrived.now spare counted
+            → AreCountsOf self.new arrived.now spare counted }
+    {
+        let first = self.listed.max(from);
+        if first < to {
+            let came = &arrived[..to];
+            push_places(&mut self.lists, self.naming, came, self.listed, first);
+        }
+    }
+
+    /// Puts each list into key order, where the places of all facts stand in the lists, and the counts say how many of each are new.
+    pub fn settle(&mut self, arrived: &[(Key, Fact)], counts: &[usize])
+        requires apart { AllApart goes_first arrived.now }
+        requires turned { KeepsTurn self.old.naming arrived.now [] (length arrived.now) self.old }
+        requires counted { (n : ℕ) → named_in (named_by self.old.naming) (drop self.old.listed arrived.now) [] n ≤ value_at (λ c. c) 0 counts.now n }
+        ensures value { (naming : Naming) (spare : List Stated) → KeepsTurn naming arrived.now spare (length arrived.now) self.old
+            → KeepsIndex naming arrived.now spare self.new }
+    {
+        settle_lists(&mut self.lists, arrived, counts);
         self.listed = arrived.len();
-        Ok(())
     }
 
     /// Makes room for the places of these facts.
