@@ -1,4 +1,4 @@
--- Keys are in a total order, as their `Ord` has to know before there are proofs.
+-- What the `Ord` of keys cites.
 use Rattle.std.specs.Cmp.{IsTotalOrder, nat_cmp_total, on_total, then_total}
 use Rattle.fact_kinds.specs.Facts.{key_cmp}
 

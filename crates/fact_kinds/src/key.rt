@@ -29,12 +29,20 @@ impl Ord for Key {
     ghost matches_eq = { Prim.search (comparing, rules) };
 
     fn cmp(&self, other: &Key) -> Ordering {
-        self.day
-            .cmp(&other.day)
-            .then(self.minute.cmp(&other.minute))
-            .then(self.handheld.cmp(&other.handheld))
-            .then(self.number.cmp(&other.number))
-            .then(self.index.cmp(&other.index))
+        (
+            self.day,
+            self.minute,
+            self.handheld,
+            self.number,
+            self.index,
+        )
+            .cmp(&(
+                other.day,
+                other.minute,
+                other.handheld,
+                other.number,
+                other.index,
+            ))
     }
 }
 
