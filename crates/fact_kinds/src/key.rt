@@ -1,3 +1,4 @@
+ghost use Rattle.std.specs.Prelude.{◌≡◌};
 ghost use Rattle.std.proofs.Common.{rules};
 ghost use Rattle.std.specs.Cmp.{partial_order_from_own_ties, partial_order_from_total};
 ghost use Rattle.std.specs.Cmp.Rules.{comparing};
@@ -19,6 +20,21 @@ pub struct Key {
     pub number: u32,
 }
 
+impl Key {
+    /// Its parts, those that go first in the order in front.
+    fn parts(&self) -> (Day, u16, u16, u32, u16)
+        ensures value { result ≡ (self.now.day, self.now.minute, self.now.handheld, self.now.number, self.now.index) }
+    {
+        (
+            self.day,
+            self.minute,
+            self.handheld,
+            self.number,
+            self.index,
+        )
+    }
+}
+
 impl Ord for Key {
     ghost cmp = { key_cmp };
 
@@ -29,20 +45,7 @@ impl Ord for Key {
     ghost matches_eq = { Prim.search (comparing, rules) };
 
     fn cmp(&self, other: &Key) -> Ordering {
-        (
-            self.day,
-            self.minute,
-            self.handheld,
-            self.number,
-            self.index,
-        )
-            .cmp(&(
-                other.day,
-                other.minute,
-                other.handheld,
-                other.number,
-                other.index,
-            ))
+        self.parts().cmp(&other.parts())
     }
 }
 
