@@ -1,18 +1,12 @@
 use Rattle.std.proofs.Common.{◌≡◌, ℕ, ◌<◌, true, false, ◌||◌, Ordering, refl, subst, ap}
-use Rattle.std.specs.Cmp.{IsTotalOrder}
 use Rattle.std.proofs.lemmas.Bool.{false≢true}
 use Rattle.std.specs.Ordering.{is_lt, is_eq, ordering_reverse, ordering_then, nat_cmp, MatchOrdering}
 use Rattle.std.specs.declared.cmp.Ordering.TheVariants.{Less, Equal, Greater}
-use Rattle.std.proofs.lemmas.Cmp.{nat_cmp_total, on_total, then_total, tied_itself, ranked}
+use Rattle.std.proofs.lemmas.Cmp.{tied_itself, ranked}
 use Rattle.list_words.specs.Order.{IsStrictOrder}
 use Rattle.fact_kinds.specs.declared.key.Key.{Key}
 use Rattle.fact_kinds.specs.Facts.{key_cmp, is_earlier, goes_first}
-
--- keys are in a total order
-pub key_cmp_total : IsTotalOrder key_cmp
-key_cmp_total =
-    then_total (on_total (λ k. k.day) nat_cmp_total) (then_total (on_total (λ k. k.minute) nat_cmp_total) (then_total (on_total (λ k. k.handheld) nat_cmp_total)
-    (then_total (on_total (λ k. k.number) nat_cmp_total) (on_total (λ k. k.index) nat_cmp_total))))
+pub use Rattle.fact_kinds.specs.KeyLaws.{key_cmp_total}
 
 -- an answer that is less, and one that is not
 less_is : (o : Ordering) → is_lt o ≡ true → o ≡ Less
