@@ -81,6 +81,9 @@ impl Leaks {
     pub fn delay(&mut self, day: Day)
         ensures value { self.new ≡ spec.reached self.old true day }
     {
+        if self.waiting.is_none() {
+            return;
+        }
         self.delayed = self.delayed || self.reaches(day);
         self.waiting = self.missed_by(day);
     }

@@ -120,11 +120,13 @@ impl Walk {
         ensures rest { rest_of kind events.now self.old.tag place ≡ option_to_list result ++ rest_of kind events.now self.new.tag (place + 1) }
     {
         let event = &events[place];
-        if let Some(tag) = self.tag {
+        // Most events close no tag, and none of it is copied for them.
+        if let Some(tag) = &self.tag {
             self.leaks.take(kind, event);
             if self.leaks.is_open() {
                 return None;
             }
+            let tag = *tag;
             let pair = self.pair_of(kind, events);
             self.pair = Some(pair);
             self.tag = None;

@@ -60,6 +60,27 @@ module _ {X : Type 0} (p : X → Bool) (xs : List X) (low high : ℕ) (rises : l
         ],
       )
 
+-- the same of a front, which is the part from the first element on
+module _ {X : Type 0} (p : X → Bool) (xs : List X) (high : ℕ) (within : high ≤ length xs) where
+  no_less : high - 0 ≡ high
+  no_less = omega arith
+
+  as_part : take high xs ≡ take (high - 0) (drop 0 xs)
+  as_part = ap (λ n. take n xs) (sym no_less)
+
+  pub parted_front : IsPartitionedBy p xs → IsPartitionedBy p (take high xs)
+  parted_front parted = subst (IsPartitionedBy p) (sym as_part) (parted_part p xs 0 high (omega arith) within parted)
+
+  pub parted_by_front : (place : ℕ) → place ≤ length (take high xs) → AllWithin (λ x. p x ≡ false) xs high (length xs)
+      → IsPartitionPoint (λ x. p x ≡ true) (λ x. p x ≡ false) (take high xs) place
+      → IsPartitionPoint (λ x. p x ≡ true) (λ x. p x ≡ false) xs place
+  parted_by_front place bound behind parted =
+      let no_more : 0 + place ≡ place = omega arith in
+      subst (IsPartitionPoint (λ x. p x ≡ true) (λ x. p x ≡ false) xs) no_more
+      (parted_whole p xs 0 high (omega arith) within place (subst (λ ys. place ≤ length ys) as_part bound)
+      (λ k d above below. absurd (omega (arith, below))) behind
+      (subst (λ ys. IsPartitionPoint (λ x. p x ≡ true) (λ x. p x ≡ false) ys place) as_part parted))
+
 -- facts in key order: those of earlier days stand in front, and those up to a day
 pub before_in_front : (day : ℕ) (facts : List Entry) → Ascends goes_first facts → IsPartitionedBy (λ e. nat_lt e.0.day day) facts
 before_in_front day facts up =

@@ -4,25 +4,22 @@ ghost use Rattle.list_words.specs.Order.{Ascends};
 ghost use Rattle.fact_kinds.specs.Facts.{goes_first};
 ghost use Rattle.method21_reading.specs.Instruments.{is_of_day};
 
-use crate::near::{Spread, count_before};
+use crate::near::{Spread, count_before, high_from};
 use fact_kinds::{Fact, Key};
 use ldar_days::Day;
 
-/// How many facts in front are of a day or an earlier one.
+/// How many facts in front are of a day or an earlier one, looked for in steps that double, since those of one day are
+/// mostly few, and then by halving.
 fn count_to(facts: &[(Key, Fact)], day: Day) -> usize
     requires ordered { Ascends goes_first facts.now }
     ensures bound { result ≤ length facts.now }
     ensures partitioned { IsPartitionPoint (λ e. nat_le e.0.day day ≡ true) (λ e. nat_le e.0.day day ≡ false) facts.now result }
 {
-    for (count, e) in facts.iter().enumerate() {
-        if day < e.0.day {
-            return count;
-        }
-    }
-    facts.len()
+    let high = high_from(facts, 0, day);
+    facts[..high].partition_point(|e| e.0.day <= day)
 }
 
-/// The facts of a day, among facts in key order: behind those before it they are few.
+/// The facts of a day, among facts in key order.
 pub fn facts_on(facts: &[(Key, Fact)], spread: Spread, day: Day) -> &[(Key, Fact)]
     requires ordered { Ascends goes_first facts.now }
     ensures value { result.now ≡ filter (is_of_day day) facts.now }

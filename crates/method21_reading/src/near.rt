@@ -66,7 +66,7 @@ fn low_from(facts: &[(Key, Fact)], place: usize, day: Day) -> usize
 }
 
 /// A place from which on the facts are of days after a given one, from a place on upwards.
-fn high_from(facts: &[(Key, Fact)], place: usize, day: Day) -> usize
+pub fn high_from(facts: &[(Key, Fact)], place: usize, day: Day) -> usize
     requires ordered { Ascends goes_first facts.now }
     requires within { place ≤ length facts.now }
     ensures bound { (place ≤ result) × (result ≤ length facts.now) }
