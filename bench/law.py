@@ -6,16 +6,21 @@ stands a plain Rust program with the same functions (law.rs).
 Each row is asked for a size and for twice that. What making the lives takes is left out; the sums over the answers,
 which the two programs have to have in common, are in. The program crates/law_bench is proved and built first, so rt and
 rustc have to be on the path.
-usage: law.py [RUNS]     7 if left out
+usage: law.py [RUNS]            nanoseconds of processor time; 7 runs if left out
+       law.py instructions      the instructions that valgrind counts, once: the same whatever else the machine does
 """
 import pathlib
+import re
 import resource
 import statistics
 import subprocess
 import sys
 import tempfile
 
-RUNS = int(sys.argv[1]) if len(sys.argv) > 1 else 7
+IS_COUNTED = sys.argv[1:] == ["instructions"]
+RUNS = 1 if IS_COUNTED else int(sys.argv[1]) if len(sys.argv) > 1 else 7
+# Counting is some fifty times as slow as running, and needs no long run.
+PASSES_FOR_ONE_COUNTED = 500 if IS_COUNTED else 1
 
 here = pathlib.Path(__file__).parent
 crate = here.parent / "crates/law_bench"
@@ -58,14 +63,23 @@ def timed(program, words):
     return (after.ru_utime + after.ru_stime - before.ru_utime - before.ru_stime) * 1e9, told
 
 
+def counted(program, words):
+    """The instructions of a run, and what was printed."""
+    count = ["valgrind", "--tool=callgrind", "--callgrind-out-file=/dev/null", program]
+    told = subprocess.run([*count, *map(str, words)], check=True, stdout=subprocess.PIPE, stderr=subprocess.PIPE, text=True)
+    return int(re.search(r"Collected : (\d+)", told.stderr)[1]), told.stdout
+
+
 def measured(programs, words, size, passes, calls):
-    """For each program the nanoseconds of a call, run after run, the programs in turn."""
+    """For each program what a call takes, run after run, the programs in turn."""
+    taken = counted if IS_COUNTED else timed
+    passes = max(1, passes // PASSES_FOR_ONE_COUNTED)
     took = [[] for _ in programs]
     for _ in range(RUNS):
         told = []
         for program, times in zip(programs, took):
-            none, _ = timed(program, words(size, 0))
-            some, said = timed(program, words(size, passes))
+            none, _ = taken(program, words(size, 0))
+            some, said = taken(program, words(size, passes))
             times.append((some - none) / passes / calls(size))
             told.append(said)
         if len(set(told)) > 1:
@@ -79,7 +93,8 @@ def main():
         rust = pathlib.Path(folder) / "rust"
         subprocess.run(["rustc", "-O", "--edition", "2021", "-o", rust, here / "law.rs"], check=True)
         programs = (crate / "out/law_bench", rust)
-        print(f"{'ns a call: least, and ratios':40} {'ours':>10} {'Rust':>10} {'ratio':>6} {'median':>6} {'twice':>6} {'Rust':>6}")
+        unit = "instructions" if IS_COUNTED else "ns"
+        print(f"{unit + ' a call: least, and ratios':40} {'ours':>10} {'Rust':>10} {'ratio':>6} {'median':>6} {'twice':>6} {'Rust':>6}")
         for shown, words, size, passes, calls in rows():
             once = measured(programs, words, size, passes, calls)
             # The double size in half the passes.

@@ -1,6 +1,7 @@
 //! Percent of valves leaking in a quarter, and the quarters that are skipped (40 CFR 60.483-2a, 60.485a(h)).
 #![tactic(auto)]
 
+mod counting;
 mod marks;
 mod percent;
 mod programme;

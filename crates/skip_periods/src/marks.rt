@@ -8,9 +8,9 @@ ghost use Rattle.ldar_law.specs.Percent as law;
 ghost use Rattle.ldar_law.specs.declared.numbers.TheConstants.{LAST_FACT_DAY};
 ghost use Rattle.skip_periods.specs.Seen.{mark_for};
 
-use crate::percent::{is_counted_of, mark_seen, missed_quarter};
+use crate::counting::Counting;
+use crate::percent::{mark_seen, missed_quarter};
 use crate::seen::seen_to;
-use class_standing::ClassStanding;
 use fact_kinds::{Class, Key, Memory};
 use ldar_days::Day;
 use ldar_law::{Equipment, Event, Mark, judging_day};
@@ -76,16 +76,15 @@ pub fn marks_to(
 {
     let mut marks = seen_to(alloc, startup, events, quarter)?;
     let missed = missed_quarter(equipment, classes, startup, events, day);
-    let mut standing = ClassStanding::on(equipment, classes, equipment.begin);
+    let mut counting = Counting::on(equipment, classes, equipment.begin);
     for past in 0..quarter {
         let number = past + 1;
         let class_day = class_day(equipment, classes, startup, number, day);
-        standing = standing.moved_to(equipment, classes, class_day);
-        let is_counted = is_counted_of(equipment, standing.class);
+        counting = counting.moved_to(equipment, classes, class_day);
         let is_delayed = is_delayed_in(delayed, number);
         let is_missed = is_numbered(missed, number);
         let place = usize::from(past);
-        marks[place] = mark_seen(is_counted, marks[place], is_delayed, is_missed);
+        marks[place] = mark_seen(counting.is_counted, marks[place], is_delayed, is_missed);
     }
     Ok(marks)
 }

@@ -8,7 +8,7 @@ pub loop-past-init : goal.loop-past-init
 loop-past-init c =
     let a = c.args in
     record {
-      stands = c.on-standing.ensures.value;
+      stands = c.on-counting.ensures.value;
       marked = marked_none a.equipment.now a.classes.now a.startup a.events.now a.delayed.now a.day a.quarter
           c.in_ok-marks.marks.items c.in_ok-marks.ensures.value;
     }
@@ -23,15 +23,13 @@ loop-past-preserved c =
     let seen : shown ≡ seen_in a.startup a.events.now (l.past + 1) =
     c.index.ensures ∙ ap (λ k. get_or l.marks.items k shown) place ∙ l.invariant.marked.seen l.past shown (omega arith) (omega arith) in
     record {
-      stands = c.moved_to-standing.ensures.value;
+      stands = c.moved_to-counting.ensures.value;
       marked =
           marked_more a.equipment.now a.classes.now a.startup a.events.now a.delayed.now a.day a.quarter l.past c.from-place.result l.marks.items
           mark.result place (omega arith) l.invariant.marked
           (mark_is a.equipment.now a.classes.now a.startup a.events.now a.delayed.now a.day (l.past + 1) shown mark.result
-          c.is_counted_of-is_counted.result c.is_delayed_in-is_delayed.result c.is_numbered-is_missed.result
-          (c.is_counted_of-is_counted.ensures.value
-          ∙ ap (counts_class a.equipment.now)
-          (c.moved_to-standing.ensures.today ∙ c.class_day-class_day.ensures.value))
+          c.moved_to-counting.result.is_counted c.is_delayed_in-is_delayed.result c.is_numbered-is_missed.result
+          (c.moved_to-counting.ensures.today ∙ ap (counts_class a.equipment.now) c.class_day-class_day.ensures.value)
           seen c.is_delayed_in-is_delayed.ensures.value
           (c.is_numbered-is_missed.ensures.value ∙ c.missed_quarter-missed.ensures.value (l.past + 1)) mark.ensures.leaking mark.ensures.monitored);
     }
