@@ -5,6 +5,3 @@
 mod standing;
 
 pub use standing::ClassStanding;
-
-#[cfg(test)]
-mod tests;

@@ -6,6 +6,3 @@ mod grounds;
 mod shutdowns;
 
 pub use delays::{Repair, counted, repair_due, repair_of};
-
-#[cfg(test)]
-mod tests;

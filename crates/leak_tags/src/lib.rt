@@ -12,7 +12,5 @@ mod settling;
 mod spans;
 mod walk;
 
+pub use search::spans_by_search;
 pub use spans::spans_of;
-
-#[cfg(test)]
-mod tests;

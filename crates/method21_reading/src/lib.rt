@@ -18,6 +18,3 @@ pub use events::{event_of, events_of};
 pub use fitness::fit;
 pub use instrument::Instrument;
 pub use ldar_law::limit;
-
-#[cfg(test)]
-mod tests;

@@ -21,6 +21,3 @@ mod yearly;
 pub use duties::duties_of;
 pub use in_order::{are_classes_ordered, are_events_ordered};
 pub use ldar_law::Duty;
-
-#[cfg(test)]
-mod tests;

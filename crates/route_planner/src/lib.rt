@@ -8,6 +8,3 @@ mod visits;
 
 pub use error::RouteError;
 pub use planner::routes;
-
-#[cfg(test)]
-mod tests;

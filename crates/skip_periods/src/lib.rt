@@ -13,6 +13,3 @@ pub use ldar_law::{Mark, Tally};
 pub use marks::marks_to;
 pub use percent::mark;
 pub use programme::{all_skipped, skipped};
-
-#[cfg(test)]
-mod tests;

@@ -2,12 +2,29 @@
 //! its events for each. What `duties_of` answers is compared with it.
 
 ghost use Rattle.std.specs.Prelude.{◌≤◌};
+ghost use Rattle.ldar_law.specs.declared.numbers.TheConstants.{LAST_FACT_DAY};
 
-use crate::asked::Asked;
 use fact_kinds::{Class, Designation, Key, Memory};
 use ldar_days::{Day, Month, first_quarter, quarter_of};
-use ldar_law::{Duty, Event, Regime};
+use ldar_law::{Duty, Equipment, Event, Regime};
 use std::alloc::Global;
+
+/// What is asked: what has to be done at a component, as the list of a day has it.
+#[derive(Clone, Copy)]
+pub struct Asked<'a> {
+    pub item: &'a Equipment,
+    /// The classes entered for it, in key order.
+    pub classes: &'a [(Key, Class)],
+    /// The initial startup of its process unit.
+    pub startup: Day,
+    /// Its events, in key order.
+    pub events: &'a [Event],
+    /// Which quarters of the unit are skipped, from the first on.
+    pub skipped: &'a [bool],
+    /// The day of the list.
+    pub day: Day,
+    pub ghost has_quarters: { startup ≤ LAST_FACT_DAY },
+}
 
 /// Adds a duty, if it belongs on the list.
 fn add(

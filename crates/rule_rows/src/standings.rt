@@ -1,33 +1,11 @@
-ghost use Rattle.std.specs.Prelude.{◌≡◌};
+//! The class of a component, moved on from day to day.
 
-use crate::ClassStanding;
-use fact_kinds::{Class, Designation, Key, Kind, Service};
+use crate::words::{key, plain};
+use class_standing::ClassStanding;
+use fact_kinds::{Kind, Service};
 use ldar_days::Day;
 use ldar_law::Equipment;
 use std::test::Fail;
-
-/// A class with a service and no designation.
-fn class(service: Service) -> Class {
-    Class {
-        service,
-        designation: Designation::Plain,
-        plan: 0,
-        month: 1,
-    }
-}
-
-/// A key on a day.
-fn key(day: Day) -> Key
-    ensures { result ≡ record { day = day; minute = 0; handheld = 1; number = 1; index = 0 } }
-{
-    Key {
-        day,
-        minute: 0,
-        handheld: 1,
-        number: 1,
-        index: 0,
-    }
-}
 
 #[test]
 fn a_class_stands_until_the_next_one_is_entered(rt: HostRuntime) -> Result<(), Fail> {
@@ -39,11 +17,11 @@ fn a_class_stands_until_the_next_one_is_entered(rt: HostRuntime) -> Result<(), F
         replaces: false,
         begin: Day::at(18_000),
         retired: None,
-        class: class(Service::Gas),
+        class: plain(Service::Gas),
     };
     let classes = [
-        (key(Day::at(19_000)), class(Service::Light)),
-        (key(Day::at(19_100)), class(Service::Heavy)),
+        (key(Day::at(19_000), 0), plain(Service::Light)),
+        (key(Day::at(19_100), 0), plain(Service::Heavy)),
     ];
     let gas = ClassStanding::on(&item, &classes, Day::at(18_999));
     let light = gas.moved_to(&item, &classes, Day::at(19_000));

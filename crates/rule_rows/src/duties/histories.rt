@@ -2,12 +2,11 @@
 
 ghost use Rattle.std.specs.Prelude.{◌<◌, ◌≤◌};
 
-use crate::asked::Asked;
-use crate::tests::definition::duties_by_definition;
-use crate::{are_classes_ordered, are_events_ordered, duties_of};
+use crate::duties::definition::{Asked, duties_by_definition};
 use fact_kinds::{Class, Designation, Key, Kind, Memory, Service};
 use ldar_days::Day;
 use ldar_law::{Duty, Equipment, Event, Happening};
+use monitor_calendar::{are_classes_ordered, are_events_ordered, duties_of};
 use std::alloc::Global;
 use std::process::Abort;
 use std::test::Fail;
@@ -307,9 +306,9 @@ fn compare(
     let duties = duties_of(
         alloc,
         asked.item,
-        asked.classes,
+        classes,
         asked.startup,
-        asked.events,
+        events,
         asked.skipped,
         asked.day,
     )?;

@@ -1,6 +1,6 @@
 //! Rows on what no other test asks: yearly monitoring by the background, evidence, and the order of the list.
 
-use crate::tests::{ALL, Case, DRIPS, On, class, expect, item, pump, reading};
+use crate::duties::cases::{ALL, Case, DRIPS, On, class, expect, item, pump, reading};
 use fact_kinds::{Designation, Kind, Service};
 use ldar_law::Happening;
 use std::alloc::Global;

@@ -1,4 +1,7 @@
-use crate::{Repair, counted, repair_due, repair_of};
+//! Until when a leak must be repaired where its repair is delayed.
+
+use crate::words::day;
+use delay_of_repair::{Repair, counted, repair_due, repair_of};
 use fact_kinds::Key;
 use ldar_days::Day;
 use ldar_law::{DelayEntry, Stop, Until};
@@ -6,11 +9,6 @@ use std::alloc::Global;
 use std::fmt::Debug;
 use std::process::Abort;
 use std::test::Fail;
-
-/// The day with this text.
-fn day(text: &str) -> Result<Day, Fail> {
-    Ok(Day::read(text.as_bytes()).ok_or("day")?)
-}
 
 /// Until when, by the words of the views or by the text of a day.
 fn until(text: &str) -> Result<Until, Fail> {

@@ -1,8 +1,9 @@
-use crate::search::spans_by_search;
-use crate::spans_of;
+//! The tags of a component, by the walk and by the search.
+
 use fact_kinds::{Key, Kind};
 use ldar_days::Day;
 use ldar_law::{Event, Happening, Span};
+use leak_tags::{spans_by_search, spans_of};
 use std::alloc::Global;
 use std::test::Fail;
 

@@ -1,14 +1,11 @@
-use crate::{RouteError, routes};
+//! Routes through the components at which something has to be done.
+
+use crate::words::day;
 use fact_kinds::Key;
-use ldar_days::Day;
 use ldar_law::{Duty, Route};
+use route_planner::{RouteError, routes};
 use std::alloc::Global;
 use std::test::Fail;
-
-/// The day with this text.
-fn day(text: &str) -> Result<Day, Fail> {
-    Ok(Day::read(text.as_bytes()).ok_or("day")?)
-}
 
 /// A monthly duty which isn't done.
 fn open(component: u16, due: &str) -> Result<Duty, Fail> {
