@@ -1,18 +1,17 @@
-ghost use Rattle.std.specs.Prelude.{◌≡◌, ◌≤◌, false, IsTrue, OnOk};
-ghost use Rattle.fact_store.specs.Kept.{facts_in, is_held};
+ghost use Rattle.std.specs.Prelude.{◌≡◌, ◌≤◌, false, OnOk};
 ghost use Rattle.fact_kinds.specs.Fields.{IsFact};
-ghost use Rattle.component_register.specs.Once.{IsFirstOfNumber};
 ghost use Rattle.fact_kinds.specs.declared.body.FactBody.TheVariants.{Class as ClassFact, Component as ComponentFact};
 ghost use Rattle.fact_kinds.specs.declared.class.Designation.TheVariants.{Plain};
 
-use crate::verdict;
+use crate::entering::add_new;
+use batch_rules::verdict;
 use component_register::Register;
 use fact_kinds::{
     Batch, Class, Designation, Fact, FactBody, Key, Kind, Memory, Name, Purpose, Service, Sort,
     VisualState,
 };
 use ldar_days::Day;
-use ldar_law::{Verdict, is_registered};
+use ldar_law::Verdict;
 use std::alloc::Global;
 use std::test::Fail;
 
@@ -37,45 +36,6 @@ fn enter(
         add_new(register, seen, (key, *fact))?;
     }
     Ok(())
-}
-
-/// Adds an entry, if none with its key is among those seen.
-fn add_new(
-    register: &mut Register,
-    seen: &mut Vec<(Key, Fact)>,
-    entry: (Key, Fact),
-) -> Result<(), Memory>
-    requires { seen.old.items ≡ register.old.arrived }
-    ensures { OnOk result (seen.new.items ≡ register.new.arrived) }
-{
-    if seen.len() < 1000
-        && is_registered(&entry.1.body)
-        && !is_seen(seen, &entry.0)
-        && is_first(register, &entry.1.body)
-    {
-        register.reserve(&[entry.1])?;
-        register.insert(entry.0, entry.1);
-        seen.push(entry)?;
-    }
-    Ok(())
-}
-
-/// Whether a fact enters no number for the second time.
-fn is_first(register: &Register, body: &FactBody) -> bool
-    ensures { IsTrue result → IsFirstOfNumber body.now (facts_in register.now) }
-{
-    match *body {
-        FactBody::Unit { unit, .. } => register.unit(unit).is_none(),
-        FactBody::Component { component, .. } => register.component(component).is_none(),
-        _ => true,
-    }
-}
-
-/// Whether one of the entries has this key.
-fn is_seen(seen: &[(Key, Fact)], key: &Key) -> bool
-    ensures { result ≡ is_held key.now seen.now }
-{
-    seen.iter().any(|entry| entry.0.cmp(key).is_eq())
 }
 
 /// A fact at ten o'clock.
