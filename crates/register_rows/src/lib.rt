@@ -14,4 +14,8 @@ mod fact_stores;
 #[cfg(test)]
 mod registers;
 #[cfg(test)]
+mod small_offices;
+#[cfg(test)]
 mod tallies_and_lines;
+#[cfg(test)]
+mod told;
