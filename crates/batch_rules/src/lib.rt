@@ -19,6 +19,3 @@ mod valves;
 
 pub use denials::verdict;
 pub use table::paragraph;
-
-#[cfg(test)]
-mod tests;

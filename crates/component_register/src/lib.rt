@@ -10,6 +10,3 @@ mod units;
 
 pub use entered::{component_entered, is_registered, retires, unit_entered};
 pub use register::Register;
-
-#[cfg(test)]
-mod tests;

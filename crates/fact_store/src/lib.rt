@@ -18,6 +18,3 @@ pub use arrivals::Arrivals;
 pub use place::Place;
 pub use steps::Steps;
 pub use store::{FactStore, Facts};
-
-#[cfg(test)]
-mod tests;

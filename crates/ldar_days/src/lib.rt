@@ -4,8 +4,6 @@
 mod day;
 mod month;
 mod quarter;
-#[cfg(test)]
-mod tests;
 mod text;
 
 pub use day::Day;

@@ -25,6 +25,3 @@ pub use fact_kinds::{
 pub use laws::LONGEST_BATCH;
 pub use read::{Read, read_batch};
 pub use write::write_batch;
-
-#[cfg(test)]
-mod tests;

@@ -69,6 +69,3 @@ pub use tally::{Mark, Tally};
 pub use text::Text;
 pub use unit_entry::UnitEntry;
 pub use verdict::Verdict;
-
-#[cfg(test)]
-mod tests;

@@ -1,8 +1,8 @@
 ghost use Rattle.std.specs.Prelude.{◌≡◌, ◌<◌, ◌≤◌, length, All, OnOk};
-ghost use Rattle.fact_store.specs.Kept.{is_held};
 
-use crate::{FactStore, Facts, Place, Steps};
+use crate::entering::is_seen;
 use fact_kinds::{Day, Fact, FactBody, Key, Memory, Purpose};
+use fact_store::{FactStore, Facts, Place, Steps};
 use std::alloc::{AllocError, Global};
 use std::marker::Brand;
 use std::process::Abort;
@@ -67,13 +67,6 @@ fn add_fact(
         seen.push(entry)?;
     }
     Ok(())
-}
-
-/// Whether one of the facts has this key.
-fn is_seen(seen: &[(Key, Fact)], key: &Key) -> bool
-    ensures { result ≡ is_held key.now seen.now }
-{
-    seen.iter().any(|entry| entry.0.cmp(key).is_eq())
 }
 
 /// The keys of the facts at some places.

@@ -1,5 +1,5 @@
 use Rattle.std.proofs.Common.{◌≡◌}
-use Rattle.fact_store.proofs.tests.store_of.Given as goal
+use Rattle.register_rows.proofs.fact_stores.store_of.Given as goal
 
 abbrev pub invariant-loop-entry : goal.invariant-loop-entry
 invariant-loop-entry l = l.seen.items ≡ l.store.arrived

@@ -1,4 +1,4 @@
-use crate::{Day, Month, MonthText, first_quarter, quarter_first, quarter_last, quarter_of};
+use ldar_days::{Day, Month, MonthText, first_quarter, quarter_first, quarter_last, quarter_of};
 use std::test::Fail;
 
 #[test]

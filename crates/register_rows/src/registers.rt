@@ -1,12 +1,10 @@
-ghost use Rattle.std.specs.Prelude.{◌≡◌, ◌≤◌, IsTrue, OnOk};
-ghost use Rattle.fact_store.specs.Kept.{facts_in, is_held};
-ghost use Rattle.component_register.specs.Once.{IsFirstOfNumber};
+ghost use Rattle.std.specs.Prelude.{◌≤◌};
 
-use crate::Register;
-use crate::entered::is_registered;
+use crate::entering::{add_new, is_first, is_seen};
+use component_register::Register;
 use fact_kinds::{Class, Designation, Fact, FactBody, Key, Kind, Memory, Name, Service};
 use ldar_days::Day;
-use ldar_law::{Equipment, UnitEntry};
+use ldar_law::{Equipment, UnitEntry, is_registered};
 use std::alloc::Global;
 use std::test::Fail;
 
@@ -18,27 +16,6 @@ fn register_of(alloc: Global, entries: &[(Key, Fact)]) -> Result<Register, Memor
         add_new(&mut register, &mut seen, *entry)?;
     }
     Ok(register)
-}
-
-/// Adds an entry, if none with its key is among those seen.
-fn add_new(
-    register: &mut Register,
-    seen: &mut Vec<(Key, Fact)>,
-    entry: (Key, Fact),
-) -> Result<(), Memory>
-    requires { seen.old.items ≡ register.old.arrived }
-    ensures { OnOk result (seen.new.items ≡ register.new.arrived) }
-{
-    if seen.len() < 1000
-        && is_registered(&entry.1.body)
-        && !is_seen(seen, &entry.0)
-        && is_first(register, &entry.1.body)
-    {
-        register.reserve(&[entry.1])?;
-        register.insert(entry.0, entry.1);
-        seen.push(entry)?;
-    }
-    Ok(())
 }
 
 /// A register with room for three entries, of which the first two come; none where these are no entries of their own.
@@ -59,24 +36,6 @@ fn two_of_three(alloc: Global, entries: &[(Key, Fact); 3]) -> Result<Option<Regi
     }
     register.insert(second.0, second.1);
     Ok(Some(register))
-}
-
-/// Whether a fact enters no number for the second time.
-fn is_first(register: &Register, body: &FactBody) -> bool
-    ensures { IsTrue result → IsFirstOfNumber body.now (facts_in register.now) }
-{
-    match *body {
-        FactBody::Unit { unit, .. } => register.unit(unit).is_none(),
-        FactBody::Component { component, .. } => register.component(component).is_none(),
-        _ => true,
-    }
-}
-
-/// Whether one of the entries has this key.
-fn is_seen(seen: &[(Key, Fact)], key: &Key) -> bool
-    ensures { result ≡ is_held key.now seen.now }
-{
-    seen.iter().any(|entry| entry.0.cmp(key).is_eq())
 }
 
 /// The entry with its key, at a minute of its day, in the office's batch of this number.

@@ -1,5 +1,5 @@
 use Rattle.std.proofs.Common.{◌≡◌}
-use Rattle.batch_rules.proofs.tests.enter.Given as goal
+use Rattle.register_rows.proofs.small_offices.enter.Given as goal
 
 abbrev pub invariant-loop-index : goal.invariant-loop-index
 invariant-loop-index l = l.seen.items ≡ l.register.arrived

@@ -1,5 +1,5 @@
 use Rattle.std.proofs.Common.{◌≡◌}
-use Rattle.fact_store.proofs.tests.listed_at_each.Given as goal
+use Rattle.register_rows.proofs.fact_stores.listed_at_each.Given as goal
 
 abbrev pub invariant-loop-at : goal.invariant-loop-at
 invariant-loop-at l = l.seen.items ≡ l.facts.arrived

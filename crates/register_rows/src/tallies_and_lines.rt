@@ -1,4 +1,4 @@
-use crate::{Items, Mark, MonthCells, Reply, Tally, Text, What};
+use ldar_law::{Items, Mark, MonthCells, Reply, Tally, Text, What};
 use std::test::Fail;
 
 #[test]

@@ -1,4 +1,4 @@
-use crate::{
+use ldar_facts::{
     Batch, Class, Day, Designation, Fact, FactBody, Kind, Name, Purpose, Read, Service, Sort,
     VisualState, read_batch, write_batch,
 };

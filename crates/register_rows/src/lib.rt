@@ -1,0 +1,21 @@
+//! Days, batch bytes, stores of facts, the register and denials, on rows that were worked out by hand.
+#![tactic(auto)]
+
+#[cfg(test)]
+mod batch_bytes;
+#[cfg(test)]
+mod days;
+#[cfg(test)]
+mod denials;
+#[cfg(test)]
+mod entering;
+#[cfg(test)]
+mod fact_stores;
+#[cfg(test)]
+mod registers;
+#[cfg(test)]
+mod small_offices;
+#[cfg(test)]
+mod tallies_and_lines;
+#[cfg(test)]
+mod told;
