@@ -6,6 +6,3 @@ mod positionals;
 
 pub use clap::Error;
 pub use positionals::{four_positionals, no_positionals, three_positionals, two_positionals};
-
-#[cfg(test)]
-mod tests;

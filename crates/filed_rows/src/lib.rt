@@ -10,6 +10,3 @@ pub use filed_row::FiledRow;
 pub use place::{AtPath, InMemory, Place};
 pub use sqlite::{Error, ErrorCode};
 pub use table::Table;
-
-#[cfg(test)]
-mod tests;

@@ -7,6 +7,3 @@ mod table_filing;
 
 pub use filed_rows::{AtPath, InMemory, Place};
 pub use table_filing::TableFiling;
-
-#[cfg(test)]
-mod tests;

@@ -22,6 +22,3 @@ pub use heads::{LONGEST_BODY, LONGEST_HEAD};
 pub use outcome::{Cut, Front};
 pub use requests::request_of;
 pub use response::reply_bytes;
-
-#[cfg(test)]
-mod tests;

@@ -16,6 +16,3 @@ pub use components::components_of;
 pub use error::ImportError;
 pub use limits::{LAST_NUMBER, LONGEST_TEXT};
 pub use units::units_of;
-
-#[cfg(test)]
-mod tests;

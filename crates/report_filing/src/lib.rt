@@ -12,6 +12,3 @@ pub use fact_kinds::Memory;
 pub use file::{FileError, file_report};
 pub use filing::{Filing, FilingFault};
 pub use map_filing::MapFiling;
-
-#[cfg(test)]
-mod tests;

@@ -10,6 +10,3 @@ mod reporting;
 pub use error::ReportError;
 pub use half::has_half_begun;
 pub use reporting::report_of;
-
-#[cfg(test)]
-mod tests;

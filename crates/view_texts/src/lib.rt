@@ -16,6 +16,3 @@ pub use percent::{percent_text, put_percent};
 pub use report::{put_report, report_text};
 pub use routes::{put_routes, routes_text};
 pub use tags::{put_tags, tags_text};
-
-#[cfg(test)]
-mod tests;

@@ -1,7 +1,7 @@
 ghost use Rattle.std.specs.Prelude.{◌≡◌, ◌≢◌, ◌≤◌};
 
-use crate::{ImportError, LONGEST_TEXT, components_of, units_of};
 use fact_kinds::{Batch, Class, Day, Designation, Fact, FactBody, Kind, Name, Service};
+use register_import::{ImportError, LONGEST_TEXT, components_of, units_of};
 use std::alloc::Global;
 use std::test::Fail;
 

@@ -1,4 +1,4 @@
-use crate::{Cut, Front, cut, head_of};
+use handheld_http::{Cut, Front, cut, head_of};
 use std::test::Fail;
 
 const GET: &[u8] = b"GET /due/1/2024-02-20 HTTP/1.1\r\nHost: office\r\n\r\n";

@@ -1,8 +1,8 @@
 ghost use Rattle.handheld_http.specs.Answers.{IsSent};
 
-use super::is;
-use crate::{Answer, Refusal, reply_bytes};
+use crate::shared::is;
 use fact_kinds::Memory;
+use handheld_http::{Answer, Refusal, reply_bytes};
 use ldar_law::{Reply, Text, What};
 use std::alloc::Global;
 use std::test::Fail;

@@ -1,19 +1,15 @@
 ghost use Rattle.std.specs.Prelude.{◌≤◌, IfOk};
 ghost use Rattle.ldar_law.specs.declared.numbers.TheConstants.{LAST_FACT_DAY};
 
-use crate::{ReportError, has_half_begun, report_of};
+use crate::shared::day;
 use fact_kinds::{Key, Kind, Name};
 use ldar_days::Day;
 use ldar_law::{DelayEntry, Items, Report, Sheet, Stop, Tag, UnitEntry, Until, repair_by};
+use semiannual_report::{ReportError, has_half_begun, report_of};
 use std::alloc::Global;
 use std::fmt::Debug;
 use std::process::Abort;
 use std::test::Fail;
-
-/// The day with this text.
-fn day(text: &str) -> Result<Day, Fail> {
-    Ok(Day::read(text.as_bytes()).ok_or("day")?)
-}
 
 /// A process unit that started up on 2020-01-15: quarter 1 begins in April 2020, half 8 in October 2023.
 fn unit() -> Result<UnitEntry, Fail>

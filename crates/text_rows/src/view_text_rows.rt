@@ -1,18 +1,14 @@
-use crate::{
-    delays_text, due_text, percent_text, put_delays, put_due, put_percent, put_report, put_routes,
-    put_tags, report_text, routes_text, tags_text,
-};
+use crate::shared::day;
 use fact_kinds::{Key, Name};
 use ldar_days::{Day, Month};
 use ldar_law::{
     Cells, DelayEntry, DelayLine, Duty, Items, MonthCells, Report, Route, Stop, Tag, Tally, Until,
 };
 use std::test::Fail;
-
-/// The day with this text.
-fn day(text: &str) -> Result<Day, Fail> {
-    Ok(Day::read(text.as_bytes()).ok_or("day")?)
-}
+use view_texts::{
+    delays_text, due_text, percent_text, put_delays, put_due, put_percent, put_report, put_routes,
+    put_tags, report_text, routes_text, tags_text,
+};
 
 /// The day with this text, and none for a hyphen.
 fn day_or_none(text: &str) -> Result<Option<Day>, Fail> {

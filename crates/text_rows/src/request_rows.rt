@@ -1,5 +1,5 @@
-use super::is;
-use crate::{Asked, Cut, Refusal, cut, request_of};
+use crate::shared::is;
+use handheld_http::{Asked, Cut, Refusal, cut, request_of};
 use ldar_law::{Request, What};
 use std::alloc::Global;
 use std::test::Fail;

@@ -1,8 +1,8 @@
 ghost use Rattle.std.specs.Prelude.{Some, None};
 
-use crate::{FileError, Filing, FilingFault, MapFiling, amended_cells, file_report};
 use fact_kinds::{Day, Name};
 use ldar_law::{Amended, Cells, Filed, Items, MonthCells, Report};
+use report_filing::{FileError, Filing, FilingFault, MapFiling, amended_cells, file_report};
 use std::alloc::Global;
 use std::test::Fail;
 

@@ -1,16 +1,13 @@
-use crate::{InMemory, Place, TableFiling};
+use crate::shared::day;
 use fact_kinds::{Key, Name};
 use filed_rows::{Error, ErrorCode};
+use filed_table::{InMemory, Place, TableFiling};
 use ldar_days::Day;
 use ldar_law::{Cells, DelayEntry, DelayLine, Items, MonthCells, Report, Stop, Until};
 use report_filing::{FileError, file_report};
 use sqlite::{Connection, MemStore};
 use std::alloc::Global;
 use std::test::Fail;
-
-fn day(text: &str) -> Result<Day, Fail> {
-    Ok(Day::read(text.as_bytes()).ok_or("day")?)
-}
 
 /// A line on a repair that is delayed until then.
 fn line(until: Until, expected: Option<Day>) -> Result<DelayLine, Fail> {

@@ -1,4 +1,4 @@
-use crate::{Error, ErrorCode, FiledRow, InMemory, Place, Table};
+use filed_rows::{Error, ErrorCode, FiledRow, InMemory, Place, Table};
 use sqlite::{Connection, MemStore};
 use std::alloc::Global;
 use std::test::Fail;

@@ -1,7 +1,8 @@
-use super::is;
-use crate::batch_json::batch_in;
+use crate::shared::is;
 use fact_kinds::Batch;
+use handheld_http::{Asked, Cut, Refusal, cut, request_of};
 use ldar_facts::Read;
+use ldar_law::Request;
 use std::alloc::Global;
 use std::process::Abort;
 use std::test::Fail;
@@ -21,6 +22,30 @@ const ONE_FACT: &[u8] =
 /// The same batch, with keys that stand twice: the last value counts.
 const KEYS_TWICE: &[u8] =
     b"{\"handheld\":\"x\",\"handheld\":7,\"number\":12,\"facts\":[{\"kind\":\"retire\",\"day\":\"2024-02-20\",\"minute\":600,\"component\":0,\"component\":1}]}";
+
+/// A request that sends this body.
+fn sent(alloc: Global, body: &[u8]) -> Result<Vec<u8>, Fail> {
+    let head = format!(in alloc;
+        "POST /sync HTTP/1.1\r\nContent-Length: {}\r\n\r\n",
+        body.len()
+    )?;
+    let mut bytes = Vec::from_slice(alloc, head.as_bytes())?;
+    bytes.extend_from_slice(body)?;
+    Ok(bytes)
+}
+
+/// The batch that the body of a request is, if it is one.
+fn batch_in(alloc: Global, body: &[u8]) -> Result<Option<Batch>, Fail> {
+    let bytes = sent(alloc, body)?;
+    let Cut::Whole { head, .. } = cut(&bytes) else {
+        return Err("no whole request".into());
+    };
+    match request_of(alloc, &bytes, head)? {
+        Asked::Request(Request::Sync(batch)) => Ok(Some(batch)),
+        Asked::Not(Refusal::BadBatch) => Ok(None),
+        Asked::Request(_) | Asked::Not(_) => Err("neither a batch nor a bad one".into()),
+    }
+}
 
 fn is_same(rt: &impl Abort, alloc: Global, body: &[u8], bytes: &[u8]) -> Result<bool, Fail> {
     let batch = batch_in(alloc, body)?.expect(rt, "a batch");

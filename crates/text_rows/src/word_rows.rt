@@ -1,4 +1,4 @@
-use crate::{four_positionals, no_positionals, three_positionals, two_positionals};
+use command_words::{four_positionals, no_positionals, three_positionals, two_positionals};
 use std::alloc::Global;
 use std::test::Fail;
 
