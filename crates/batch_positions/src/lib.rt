@@ -8,6 +8,3 @@ mod positions;
 mod runs;
 
 pub use positions::Positions;
-
-#[cfg(test)]
-mod tests;

@@ -18,6 +18,3 @@ pub use no_disk::NoDisk;
 /// Memory ran out.
 pub use std::alloc::AllocError as Memory;
 pub use sure_disk::SureDisk;
-
-#[cfg(test)]
-mod tests;

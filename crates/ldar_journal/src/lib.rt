@@ -22,10 +22,3 @@ pub use opening::{OpenError, OpenWhy};
 pub use prepared::{Frame, prepare};
 pub use reader::Opening;
 pub use settling::Settled;
-
-#[cfg(test)]
-mod crash_tests;
-#[cfg(test)]
-mod opening_tests;
-#[cfg(test)]
-mod tests;

@@ -14,6 +14,3 @@ pub use sink::{Sink, SinkFault, put_all};
 pub use source::{Source, SourceFault};
 pub use stamped_sink::{StampedPiece, StampedSink};
 pub use window::Window;
-
-#[cfg(test)]
-mod tests;

@@ -17,6 +17,3 @@ pub use docking::dock;
 pub use ended::{Ended, MOST_ANSWERS};
 /// Memory ran out.
 pub use std::alloc::AllocError as Memory;
-
-#[cfg(test)]
-mod tests;

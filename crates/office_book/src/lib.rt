@@ -14,8 +14,6 @@ mod office;
 mod opening;
 mod settling;
 mod telling;
-#[cfg(test)]
-mod tests;
 mod viewing;
 mod writing;
 
