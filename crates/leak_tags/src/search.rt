@@ -110,8 +110,9 @@ fn push_span(
     Ok(())
 }
 
-/// The tags of a component, in the order of their detection (40 CFR 60.486a(b)), by the plain program beside the walk of
-/// `spans_of`. An error: no memory for the tags.
+/// The tags of a component, in the order of their detection (40 CFR 60.486a(b)), by a search of each front: the plain
+/// program beside the walk of `spans_of`, with the same clause, whose time grows much faster than the events do. An error: no
+/// memory for the tags.
 #[tactic(auto, unfolding(ldar_law::specs::Spans::spans_of))]
 pub fn spans_by_search(alloc: Global, kind: Kind, events: &[Event]) -> Result<Vec<Span>, Memory>
     ensures value { IfOk result (λ spans. spans.items ≡ law.spans_of kind events.now) }
