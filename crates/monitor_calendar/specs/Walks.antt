@@ -1,8 +1,9 @@
 -- A walk over events in key order, month by month.
-use Rattle.std.specs.Prelude.{ℕ, ◌<◌, ◌≤◌, List, length, take, drop}
+use Rattle.std.specs.Prelude.{◌≡◌, ℕ, ◌-◌, ◌<◌, ◌≤◌, true, false, List, length, take, drop, slice_index_or}
 use Rattle.std.specs.List.{AllByRecursion}
 use Rattle.ldar_days.specs.Calendar.{month_of}
 use Rattle.ldar_law.specs.declared.event.Event.{Event}
+use Rattle.ldar_law.specs.Happenings.{is_leak}
 use Rattle.monitor_calendar.specs.Behind.{Tells}
 use Rattle.monitor_calendar.specs.declared.past_months.PastMonths.{PastMonths}
 
@@ -19,3 +20,9 @@ pub record IsOn (past : PastMonths) (events : List Event) (place month : ℕ) : 
 pub record IsAt (past : PastMonths) (events : List Event) (place month : ℕ) : Type 0 where
   pub on : IsOn past events place month
   pub rest : AllByRecursion (λ e. month ≤ month_of e.key.day) (drop place events)
+
+-- the place stands behind the last leak of so many events, or at the first event where none of them is a leak
+pub record IsBehindLeak (events : List Event) (count place : ℕ) : Type 0 where
+  pub within : place ≤ count
+  pub leak : (e : Event) → 0 < place → is_leak (slice_index_or events (place - 1) e).what ≡ true
+  pub none : (k : ℕ) (e : Event) → place ≤ k → k < count → is_leak (slice_index_or events k e).what ≡ false

@@ -1,13 +1,18 @@
-//! Which months are quarterly ones of a valve (40 CFR 60.482-7a(c)(1)), by one pass over its events.
+//! Which months are quarterly ones of a valve (40 CFR 60.482-7a(c)(1)), by one pass over its events since the last leak
+//! before the first of them.
 
-ghost use Rattle.std.specs.Prelude.{◌≡◌, ℕ, ◌+◌, ◌<◌, ◌≤◌, false, slice_index_or};
+ghost use Rattle.std.specs.Prelude.{◌≡◌, ℕ, ◌+◌, ◌<◌, ◌≤◌, false, length, slice_index_or};
 ghost use Rattle.list_words.specs.Order.{Ascends};
 ghost use Rattle.fact_kinds.specs.Facts.{is_earlier};
+ghost use Rattle.ldar_days.specs.Calendar.{first_day, month_of};
+ghost use Rattle.ldar_law.specs.declared.event.Event.{Event as SomeEvent};
+ghost use Rattle.ldar_law.specs.Happenings.{is_leak as says_leak};
 ghost use Rattle.ldar_law.specs.Months.{is_quarterly};
 ghost use Rattle.ldar_law.specs.declared.numbers.TheConstants.{LAST_FACT_DAY};
-ghost use Rattle.monitor_calendar.specs.Walks.{IsAt};
+ghost use Rattle.monitor_calendar.specs.Walks.{IsAt, IsBehindLeak, IsOn};
 
 use crate::past_months::PastMonths;
+use crate::period::count_before;
 use ldar_days::{Day, Month};
 use ldar_law::Event;
 
@@ -21,26 +26,62 @@ pub struct Walk {
     pub past: PastMonths,
 }
 
+/// The place behind the last leak of so many events, or that of the first event where none of them is a leak.
+fn behind_leak(events: &[Event], count: usize) -> usize
+    requires count { count ≤ length events.now }
+    ensures value { IsBehindLeak events.now count result }
+{
+    let mut place = count;
+    while place > 0 {
+        if events[place - 1].what.is_leak() {
+            return place;
+        }
+        place -= 1;
+    }
+    0
+}
+
+/// A walk up to a month, begun behind the last leak before it: what a leak tells is the same whatever came before it.
+fn begun(events: &[Event], month: Month) -> Walk
+    requires ordered { Ascends (λ a b. is_earlier a.key b.key) events.now }
+    ensures value { IsOn result.past events.now result.place month }
+    ensures no_leak { (k : ℕ) (e : SomeEvent) → result.place ≤ k → k < length events.now
+        → (slice_index_or events.now k e).key.day < first_day month → says_leak (slice_index_or events.now k e).what ≡ false }
+{
+    let count = count_before(events, month.first_day());
+    let place = behind_leak(events, count);
+    if place == 0 {
+        return Walk {
+            place: 0,
+            past: PastMonths::none(),
+        };
+    }
+    Walk {
+        place,
+        past: PastMonths::of_leak(&events[place - 1]),
+    }
+}
+
 /// The walk, gone on to the first event that is not of a month before this one.
 fn walked_to(walk: Walk, events: &[Event], month: Month) -> Walk
     requires ordered { Ascends (λ a b. is_earlier a.key b.key) events.now }
-    requires before { (before : ℕ) × (before ≤ month) × IsAt walk.past events.now walk.place before }
+    requires on { IsOn walk.past events.now walk.place month }
     ensures value { IsAt result.past events.now result.place month }
 {
     let first = month.first_day().number();
-    let mut past = walk.past;
-    for place in walk.place..events.len() {
-        let e = &events[place];
+    let Walk {
+        mut place,
+        mut past,
+    } = walk;
+    for e in &events[walk.place..] {
         let day = e.key.day.number();
         if first <= day {
             return Walk { place, past };
         }
         past = past.with(e);
+        place += 1;
     }
-    Walk {
-        place: events.len(),
-        past,
-    }
+    Walk { place, past }
 }
 
 /// Which of the months from one on to another are quarterly ones, as far as there is room for them.
@@ -52,10 +93,10 @@ pub fn quarterly_months(startup: Day, events: &[Event], low: u32, end: u32) -> [
     ensures value { (k : ℕ) → k < MONTHS_LISTED → low + k < end → slice_index_or result k false ≡ is_quarterly startup events.now (low + k) }
 {
     let mut quarterly = [false; MONTHS_LISTED];
-    let mut walk = Walk {
-        place: 0,
-        past: PastMonths::none(),
-    };
+    if end <= low {
+        return quarterly;
+    }
+    let mut walk = begun(events, Month::at(low));
     for k in 0..MONTHS_LISTED {
         let month = low + k as u32;
         if end <= month {

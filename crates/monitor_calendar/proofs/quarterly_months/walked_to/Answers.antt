@@ -1,41 +1,41 @@
-use Rattle.std.proofs.Common.{◌≡◌, ◌<◌, ◌≤◌, length, sym, subst, arith}
+use Rattle.std.proofs.Common.{◌<◌, ◌≤◌, length, sym, ap, subst, ◌∙◌, arith}
+use Rattle.std.proofs.lemmas.List.{length-drop}
 use Rattle.ldar_days.specs.Calendar.{IsDay, month_of}
-use Rattle.monitor_calendar.specs.Walks.{IsAt}
+use Rattle.monitor_calendar.proofs.PeriodLemmas.{to_end}
 use Rattle.monitor_calendar.proofs.Rising.{before_first, from_first}
-use Rattle.monitor_calendar.proofs.WalkLemmas.{on_from, on_next, at_event, at_end}
+use Rattle.monitor_calendar.proofs.WalkLemmas.{behind_at, on_next, at_event, at_end}
 use Rattle.monitor_calendar.proofs.quarterly_months.walked_to.Goals as goal
-
-pub loop-place-init : goal.loop-place-init
-loop-place-init c =
-    let before = c.requires.before in
-    on_from c.args.walk.past c.args.events.now c.args.walk.place before.0 c.args.month before.2 before.1
 
 pub returns-then-first-day : goal.returns-then-first-day
 returns-then-first-day c =
-    let l = c.loop-place in
-    let e = c.index-events-place.result in
+    let l = c.loop-e in
+    let e = c.e-item.result in
+    let events = c.args.events.now in
+    let here = behind_at events c.args.walk.place l.e-index l.place e l.invariant.at c.loop-e-test.true in
     let late : c.args.month ≤ month_of e.key.day = from_first c.args.month e.key.day
     (subst IsDay c.number-day.ensures.value c.number-day.ensures.in_range) (omega arith) in
     record {
-      value = at_event c.args.events.now l.place c.args.month c.index-events-place.result c.requires.ordered c.loop-place-test.true
-          (sym c.index-events-place.is)
-          l.past l.invariant late;
+      value = at_event events l.place c.args.month e c.requires.ordered here.0 (here.1 ∙ sym c.e-item.is) l.past l.invariant.on late;
     }
 
-pub loop-place-preserved : goal.loop-place-preserved
-loop-place-preserved c =
-    let l = c.loop-place in
-    let e = c.index-events-place.result in
+pub loop-e-preserved : goal.loop-e-preserved
+loop-e-preserved c =
+    let l = c.loop-e in
+    let e = c.e-item.result in
+    let events = c.args.events.now in
+    let here = behind_at events c.args.walk.place l.e-index l.place e l.invariant.at c.loop-e-test.true in
     let early : month_of e.key.day < c.args.month = before_first c.args.month e.key.day
     (subst IsDay c.number-day.ensures.value c.number-day.ensures.in_range) (omega arith) (omega arith) in
-    on_next c.args.events.now l.place c.args.month c.index-events-place.result c.requires.ordered c.loop-place-test.true (sym c.index-events-place.is)
-    l.past c.with-past.result l.invariant early c.with-past.ensures.value
+    record {
+      at = omega arith;
+      on = on_next events l.place c.args.month e c.requires.ordered here.0 (here.1 ∙ sym c.e-item.is) l.past c.with-past.result l.invariant.on early
+          c.with-past.ensures.value;
+    }
 
 pub returns : goal.returns
 returns c =
-    let l = c.loop-place in
-    let end : l.place ≡ length c.args.events.now = omega (arith, l.invariant.within) in
-    record {
-      value = subst (λ n. IsAt l.past c.args.events.now n c.args.month) end
-          (at_end l.past c.args.events.now l.place c.args.month c.loop-place-test.false l.invariant);
-    }
+    let l = c.loop-e in
+    let events = c.args.events.now in
+    let from = c.args.walk.place in
+    let end : length events ≤ l.place = omega (arith, l.invariant.at, c.loop-e-test.false, ap length (to_end events from), length-drop from events) in
+    record { value = at_end l.past events l.place c.args.month end l.invariant.on }
