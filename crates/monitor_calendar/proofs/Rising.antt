@@ -7,7 +7,7 @@ use Rattle.list_words.specs.Order.{Ascends}
 use Rattle.list_words.proofs.Members.{all_weaker}
 use Rattle.std.proofs.lemmas.Bool.{cases_lt}
 use Rattle.ldar_days.specs.Calendar.{IsDay, IsMonth, first_day, month_of}
-use Rattle.ldar_days.proofs.Months.{first_day-le, first_day-lt, first_day-2008, month_bounds, month_length_bounds, month_of-is}
+use Rattle.ldar_days.proofs.Months.{first_day-le, first_day-lt, first_day-2008, month_bounds, month_length_bounds, month_of-first_day, month_of-is}
 use Rattle.fact_kinds.specs.Facts.{is_earlier}
 use Rattle.fact_kinds.proofs.Cuts.{earlier_day}
 use Rattle.ldar_law.specs.declared.event.Event.{Event}
@@ -72,6 +72,22 @@ before_month month day is lt =
           let same : 24_096 ≡ month = omega (arith, first, is) in
           let by : day ≤ 13_878 = omega (arith, first_day-2008, lt, ap first_day same) in
           omega (arith, month_rises day 13_878 by, december, same)
+    ]
+
+-- .. and what is of no month before it does not
+pub no_earlier : (month day : ℕ) → IsMonth month → month ≤ month_of day → first_day month ≤ day
+no_earlier month day is late =
+    elim (cases_lt day (first_day month)) [
+      | inl early ↦ absurd (omega (arith, late, before_month month day is early))
+      | inr from ↦ from
+    ]
+
+-- what is of a month before it lies before it
+pub earlier : (month day : ℕ) → IsMonth month → month_of day < month → day < first_day month
+earlier month day is lt =
+    elim (cases_lt day (first_day month)) [
+      | inl early ↦ early
+      | inr from ↦ absurd (omega (arith, lt, month_rises (first_day month) day from, month_of-first_day month is))
     ]
 
 -- 366 days lie in fifteen months

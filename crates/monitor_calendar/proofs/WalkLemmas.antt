@@ -1,17 +1,18 @@
 -- A walk over events, one event on, and where it stops.
-use Rattle.std.proofs.Common.{◌≡◌, ℕ, ◌+◌, ◌-◌, ◌<◌, ◌≤◌, List, [], ◌∷◌, ◌++◌, length, take, drop, get_or, refl, sym, ap, ◌∙◌, subst, arith}
+use Rattle.std.proofs.Common.{◌≡◌, ℕ, zero, suc, ◌+◌, ◌-◌, ◌<◌, ◌≤◌, nat_le, filter, List, [], ◌∷◌, ◌++◌, length, take, drop, get_or, refl, sym, ap, ◌∙◌, subst, arith}
 use Rattle.std.specs.List.{AllByRecursion}
+use Rattle.std.proofs.lemmas.Bool.{le-leb, lt-leb}
 use Rattle.std.proofs.lemmas.List.{drop_more, take_more, drop_all, get_or-drop, length-drop}
 use Rattle.list_words.specs.Order.{Ascends}
 use Rattle.list_words.proofs.Members.{all_append, all_weaker}
-use Rattle.ldar_days.specs.Calendar.{month_of}
+use Rattle.ldar_days.specs.Calendar.{IsMonth, first_day, month_of}
 use Rattle.fact_kinds.specs.Facts.{is_earlier}
 use Rattle.ldar_law.specs.declared.event.Event.{Event}
 use Rattle.monitor_calendar.specs.Behind.{Tells}
 use Rattle.monitor_calendar.specs.Walks.{IsOn, IsAt}
 use Rattle.monitor_calendar.specs.declared.past_months.PastMonths.{PastMonths}
 use Rattle.monitor_calendar.proofs.PeriodLemmas.{to_end}
-use Rattle.monitor_calendar.proofs.Rising.{months_ahead, months_behind}
+use Rattle.monitor_calendar.proofs.Rising.{earlier, months_ahead, months_behind, no_earlier}
 
 -- each month is from 0 on
 from_zero : (es : List Event) → AllByRecursion (λ e. 0 ≤ month_of e.key.day) es
@@ -104,6 +105,16 @@ module _ (events : List Event) (place month : ℕ) (e : Event) (up : Ascends (λ
               (place + 1) events) later,
         );
   }
+
+-- behind a place where a month begins stand the events from its first day on
+pub rest_from : (events : List Event) (place month : ℕ) → IsMonth month → AllByRecursion (λ e. month_of e.key.day < month) (take place events) →
+    AllByRecursion (λ e. month ≤ month_of e.key.day) (drop place events) → drop place events ≡ filter (λ e. nat_le (first_day month) e.key.day) events
+rest_from [] zero month is front rest = refl
+rest_from [] (suc place) month is front rest = refl
+rest_from (e ∷ es) zero month is front rest =
+    rw (le-leb (first_day month) e.key.day (no_earlier month e.key.day is rest.0)) (ap (λ xs. e ∷ xs) (rest_from es zero month is tt rest.1))
+rest_from (e ∷ es) (suc place) month is front rest =
+    rw (lt-leb (first_day month) e.key.day (earlier month e.key.day is front.0)) (rest_from es place month is front.1 rest)
 
 -- .. or there is none
 pub at_end : (past : PastMonths) (events : List Event) (place month : ℕ) → length events ≤ place → IsOn past events place month → IsAt past events place month

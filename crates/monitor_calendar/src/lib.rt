@@ -14,7 +14,7 @@ mod monthly;
 mod past_months;
 mod period;
 mod plan;
-mod quarterly_months;
+mod walked_months;
 mod weekly;
 mod yearly;
 

@@ -1,7 +1,7 @@
 //! The events of a period, and the key of what meets a duty in it. Events in key order stand by their days, so that the first of a
 //! period is found by halving, and from there on they are few.
 
-ghost use Rattle.std.specs.Prelude.{◌≡◌, ◌≤◌, ◌&&◌, ◌||◌, true, false, filter, find, length, nat_le, nat_lt, option_map};
+ghost use Rattle.std.specs.Prelude.{◌≡◌, ◌≤◌, ◌&&◌, ◌||◌, ℕ, true, false, drop, filter, find, length, nat_le, nat_lt, option_map};
 ghost use Rattle.std.specs.List.Sorted.{IsPartitionPoint};
 ghost use Rattle.list_words.specs.Order.{Ascends};
 ghost use Rattle.fact_kinds.specs.Facts.{is_earlier};
@@ -71,12 +71,22 @@ fn by_day(found: Option<Key>, last: Day) -> Option<Key>
     }
 }
 
+/// The key of the first counting routine reading of a period, behind a place where the events from its first day on stand.
+pub fn routine_behind(events: &[Event], place: usize, last: Day) -> Option<Key>
+    requires within { place ≤ length events.now }
+    requires ordered { Ascends (λ a b. is_earlier a.key b.key) events.now }
+    ensures value { (first : ℕ) → drop place events.now ≡ filter (λ e. nat_le first e.key.day) events.now
+        → result ≡ option_map (λ e. e.key) (law.routine_in events.now first last) }
+{
+    by_day(routine_or_later(&events[place..], last), last)
+}
+
 /// The key of the first counting routine reading of a period.
 pub fn routine_in(events: &[Event], first: Day, last: Day) -> Option<Key>
     requires ordered { Ascends (λ a b. is_earlier a.key b.key) events.now }
     ensures value { result ≡ option_map (λ e. e.key) (law.routine_in events.now first last) }
 {
-    by_day(routine_or_later(events_from(events, first), last), last)
+    routine_behind(events, count_before(events, first), last)
 }
 
 /// .. that is less than 500 parts per million above the background.

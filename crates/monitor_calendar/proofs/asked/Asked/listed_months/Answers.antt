@@ -10,6 +10,6 @@ returns c =
         first = c.first_month-low.ensures.value;
         end = omega (arith, at);
         within = omega (arith, c.number-end.ensures.in_range);
-        quarterly = c.quarterly_from.ensures.value;
+        walked = c.walked_from.ensures.value;
       };
     }

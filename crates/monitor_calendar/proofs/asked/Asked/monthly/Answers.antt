@@ -23,11 +23,11 @@ returns-then-not-is_monthly c =
       class =
           c.judged-judged.ensures.class;
     }) in
-    let owed = causes.is_monthly_judged judged c.args.is_quarterly in
+    let owed = causes.is_monthly_judged judged c.args.walked.now.is_quarterly in
     let met = routine_in asked.events.now c.first_day-first.result c.last_day-due.result in
     let form : causes.monthly asked c.args.month
     ≡ causes.duty asked 2 c.first_day-first.result c.last_day-due.result owed met =
-    monthly_by asked judged c.args.month c.first_day-first.result c.last_day-due.result c.args.is_quarterly from to c.requires.quarterly is in
+    monthly_by asked judged c.args.month c.first_day-first.result c.last_day-due.result c.args.walked.now.is_quarterly from to (λ valve. (c.requires.walked valve).quarterly) is in
     record {
       value = sym (form ∙ unowed asked.item.now asked.classes.now asked.startup asked.events.now asked.skipped.now asked.day 2 c.first_day-first.result
           c.last_day-due.result owed met
@@ -48,14 +48,14 @@ returns c =
       class =
           c.judged-judged.ensures.class;
     }) in
-    let owed = causes.is_monthly_judged judged c.args.is_quarterly in
+    let owed = causes.is_monthly_judged judged c.args.walked.now.is_quarterly in
     let met = routine_in asked.events.now c.first_day-first.result c.last_day-due.result in
     let form : causes.monthly asked c.args.month
     ≡ causes.duty asked 2 c.first_day-first.result c.last_day-due.result owed met =
-    monthly_by asked judged c.args.month c.first_day-first.result c.last_day-due.result c.args.is_quarterly from to c.requires.quarterly is in
+    monthly_by asked judged c.args.month c.first_day-first.result c.last_day-due.result c.args.walked.now.is_quarterly from to (λ valve. (c.requires.walked valve).quarterly) is in
     record {
       value = c.duty.ensures.value
-          ∙ met_by_key asked 2 c.first_day-first.result c.last_day-due.result owed c.routine_in-met.result met c.routine_in-met.ensures.value
+          ∙ met_by_key asked 2 c.first_day-first.result c.last_day-due.result owed c.routine_of-met.result met c.routine_of-met.ensures.value
           (sym c.is_monthly.ensures.value ∙ c.if-not-is_monthly.false)
           ∙ sym form;
     }
@@ -64,5 +64,5 @@ pub returns-then-is_quarterly_in_place : goal.returns-then-is_quarterly_in_place
 returns-then-is_quarterly_in_place c =
     let a = c.args in
     let asked = a.self.now in
-    let parts = and_parts a.is_quarterly (is_valve asked.item.now.kind) (sym c.is_quarterly_in_place.ensures.value ∙ c.if-is_quarterly_in_place.true) in
-    record { value = sym (not_monthly asked a.month parts.1 (sym (c.requires.quarterly parts.1) ∙ parts.0)) }
+    let parts = and_parts a.walked.now.is_quarterly (is_valve asked.item.now.kind) (sym c.is_quarterly_in_place.ensures.value ∙ c.if-is_quarterly_in_place.true) in
+    record { value = sym (not_monthly asked a.month parts.1 (sym (c.requires.walked parts.1).quarterly ∙ parts.0)) }

@@ -1,5 +1,6 @@
-use Rattle.std.proofs.Common.{◌≡◌, min, sym, subst, ◌∙◌}
+use Rattle.std.proofs.Common.{◌≡◌, nat_le, min, drop, filter, sym, subst, ◌∙◌}
 use Rattle.ldar_days.specs.Calendar.{first_day, last_day}
+use Rattle.ldar_law.specs.declared.event.Event.{Event}
 use Rattle.ldar_law.specs.Duties.{routine_in}
 use Rattle.monitor_calendar.specs.Causes as causes
 use Rattle.monitor_calendar.proofs.Judging.{IsOf, met_by_key, quarterly_by}
@@ -21,11 +22,11 @@ returns-then-not-is_quarter_month c =
       class =
           c.judged-judged.ensures.class;
     }) in
-    let owed = causes.is_quarter_month_judged asked judged c.args.month c.args.is_quarterly in
+    let owed = causes.is_quarter_month_judged asked judged c.args.month c.args.walked.now.is_quarterly in
     let met = routine_in asked.events.now c.first_day-first.result c.last_day-due.result in
     let form : causes.quarterly asked c.args.month
     ≡ causes.duty asked 3 c.first_day-first.result c.last_day-due.result owed met =
-    quarterly_by asked judged c.args.month c.first_day-first.result c.last_day-due.result c.args.is_quarterly from to c.requires.quarterly is in
+    quarterly_by asked judged c.args.month c.first_day-first.result c.last_day-due.result c.args.walked.now.is_quarterly from to c.requires.walked.quarterly is in
     record {
       value = sym (form ∙ unowed asked.item.now asked.classes.now asked.startup asked.events.now asked.skipped.now asked.day 3 c.first_day-first.result
           c.last_day-due.result owed met
@@ -46,19 +47,21 @@ returns c =
       class =
           c.judged-judged.ensures.class;
     }) in
-    let owed = causes.is_quarter_month_judged asked judged c.args.month c.args.is_quarterly in
+    let owed = causes.is_quarter_month_judged asked judged c.args.month c.args.walked.now.is_quarterly in
     let met = routine_in asked.events.now c.first_day-first.result c.last_day-due.result in
+    let rest : drop c.args.walked.now.place asked.events.now ≡ filter (λ (e : Event). nat_le c.first_day-first.result e.key.day) asked.events.now =
+    subst (λ n. drop c.args.walked.now.place asked.events.now ≡ filter (λ (e : Event). nat_le n e.key.day) asked.events.now) (sym from) c.requires.walked.begun.rest in
     let form : causes.quarterly asked c.args.month
     ≡ causes.duty asked 3 c.first_day-first.result c.last_day-due.result owed met =
-    quarterly_by asked judged c.args.month c.first_day-first.result c.last_day-due.result c.args.is_quarterly from to c.requires.quarterly is in
+    quarterly_by asked judged c.args.month c.first_day-first.result c.last_day-due.result c.args.walked.now.is_quarterly from to c.requires.walked.quarterly is in
     record {
       value = c.duty.ensures.value
-          ∙ met_by_key asked 3 c.first_day-first.result c.last_day-due.result owed c.routine_in-met.result met c.routine_in-met.ensures.value
+          ∙ met_by_key asked 3 c.first_day-first.result c.last_day-due.result owed c.routine_behind-met.result met (c.routine_behind-met.ensures.value c.first_day-first.result rest)
           (sym c.is_quarter_month.ensures.value ∙ c.if-not-is_quarter_month.false)
           ∙ sym form;
     }
 
-pub returns-then-not-is_quarterly : goal.returns-then-not-is_quarterly
-returns-then-not-is_quarterly c = record {
-  value = sym (not_quarterly c.args.self.now c.args.month (sym c.requires.quarterly ∙ c.if-not-is_quarterly.true));
+pub returns-then-not-walked : goal.returns-then-not-walked
+returns-then-not-walked c = record {
+  value = sym (not_quarterly c.args.self.now c.args.month (sym c.requires.walked.quarterly ∙ c.if-not-walked.true));
 }

@@ -1,15 +1,15 @@
-//! Which months are quarterly ones of a valve (40 CFR 60.482-7a(c)(1)), by one pass over its events since the last leak
-//! before the first of them.
+//! Which months are quarterly ones of a valve (40 CFR 60.482-7a(c)(1)), and where their events begin, by one pass over its
+//! events since the last leak before the first of them.
 
 ghost use Rattle.std.specs.Prelude.{◌≡◌, ℕ, ◌+◌, ◌<◌, ◌≤◌, false, length, slice_index_or};
 ghost use Rattle.list_words.specs.Order.{Ascends};
 ghost use Rattle.fact_kinds.specs.Facts.{is_earlier};
-ghost use Rattle.ldar_days.specs.Calendar.{first_day, month_of};
+ghost use Rattle.ldar_days.specs.Calendar.{first_day};
 ghost use Rattle.ldar_law.specs.declared.event.Event.{Event as SomeEvent};
 ghost use Rattle.ldar_law.specs.Happenings.{is_leak as says_leak};
-ghost use Rattle.ldar_law.specs.Months.{is_quarterly};
 ghost use Rattle.ldar_law.specs.declared.numbers.TheConstants.{LAST_FACT_DAY};
-ghost use Rattle.monitor_calendar.specs.Walks.{IsAt, IsBehindLeak, IsOn};
+ghost use Rattle.monitor_calendar.specs.Walks.{IsAt, IsBehindLeak, IsOn, IsWalked};
+ghost use Rattle.monitor_calendar.specs.declared.walked_months.WalkedMonth.{WalkedMonth as SomeWalked};
 
 use crate::past_months::PastMonths;
 use crate::period::count_before;
@@ -18,6 +18,26 @@ use ldar_law::Event;
 
 /// From the month of the day 366 days before another day to that of this day there are at most so many months.
 pub const MONTHS_LISTED: usize = 15;
+
+/// What a walk over the events of a valve tells of a month.
+#[derive(Clone, Copy)]
+pub struct WalkedMonth {
+    /// The place of the first event that is of no earlier month, or the number of events.
+    pub place: usize,
+    pub is_quarterly: bool,
+}
+
+impl WalkedMonth {
+    /// Of a month to which no walk went.
+    pub fn none() -> WalkedMonth
+        ensures value { result ≡ record { place = 0; is_quarterly = false } }
+    {
+        WalkedMonth {
+            place: 0,
+            is_quarterly: false,
+        }
+    }
+}
 
 /// A place among events, and what those before it tell.
 #[derive(Clone, Copy)]
@@ -84,26 +104,35 @@ fn walked_to(walk: Walk, events: &[Event], month: Month) -> Walk
     Walk { place, past }
 }
 
-/// Which of the months from one on to another are quarterly ones, as far as there is room for them.
-pub fn quarterly_months(startup: Day, events: &[Event], low: u32, end: u32) -> [bool; MONTHS_LISTED]
+/// What a walk tells of the months from one on to another, as far as there is room for them.
+pub fn walked_months(
+    startup: Day,
+    events: &[Event],
+    low: u32,
+    end: u32,
+) -> [WalkedMonth; MONTHS_LISTED]
     requires startup { startup ≤ LAST_FACT_DAY }
     requires ordered { Ascends (λ a b. is_earlier a.key b.key) events.now }
     requires low { (24_096 ≤ low) × (low ≤ 25_200) }
     requires end { end ≤ 25_200 }
-    ensures value { (k : ℕ) → k < MONTHS_LISTED → low + k < end → slice_index_or result k false ≡ is_quarterly startup events.now (low + k) }
+    ensures value { (k : ℕ) (walked : SomeWalked) → k < MONTHS_LISTED → low + k < end
+        → IsWalked startup events.now (low + k) (slice_index_or result k walked) }
 {
-    let mut quarterly = [false; MONTHS_LISTED];
+    let mut walked = [WalkedMonth::none(); MONTHS_LISTED];
     if end <= low {
-        return quarterly;
+        return walked;
     }
     let mut walk = begun(events, Month::at(low));
     for k in 0..MONTHS_LISTED {
         let month = low + k as u32;
         if end <= month {
-            return quarterly;
+            return walked;
         }
         walk = walked_to(walk, events, Month::at(month));
-        quarterly[k] = walk.past.let_be_quarterly(startup, month);
+        walked[k] = WalkedMonth {
+            place: walk.place,
+            is_quarterly: walk.past.let_be_quarterly(startup, month),
+        };
     }
-    quarterly
+    walked
 }

@@ -1,6 +1,6 @@
 use Rattle.std.proofs.Common.{◌≡◌, ◌+◌}
 use Rattle.monitor_calendar.specs.Walks.{IsOn}
-use Rattle.monitor_calendar.proofs.quarterly_months.walked_to.Given as goal
+use Rattle.monitor_calendar.proofs.walked_months.walked_to.Given as goal
 
 -- so many events on, on the way to the month
 abbrev pub invariant-loop-e : goal.invariant-loop-e

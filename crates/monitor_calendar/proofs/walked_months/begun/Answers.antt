@@ -6,7 +6,7 @@ use Rattle.ldar_law.specs.declared.event.Event.{Event}
 use Rattle.monitor_calendar.specs.Walks.{IsOn}
 use Rattle.monitor_calendar.proofs.Rising.{before_month, months_before}
 use Rattle.monitor_calendar.proofs.WalkLemmas.{on_start, on_behind}
-use Rattle.monitor_calendar.proofs.quarterly_months.begun.Goals as goal
+use Rattle.monitor_calendar.proofs.walked_months.begun.Goals as goal
 
 -- what lies before the day is counted
 counted : (events : List Event) (first count k : ℕ) (e : Event) → IsPartitionPoint (λ x. nat_lt x.key.day first ≡ true)

@@ -1,7 +1,7 @@
 use Rattle.std.proofs.Common.{◌≡◌, ℕ, ◌<◌, ◌≤◌, false, get_or}
 use Rattle.ldar_law.specs.declared.event.Event.{Event}
 use Rattle.ldar_law.specs.Happenings.{is_leak}
-use Rattle.monitor_calendar.proofs.quarterly_months.behind_leak.Given as goal
+use Rattle.monitor_calendar.proofs.walked_months.behind_leak.Given as goal
 
 -- none of those from the place on is a leak
 abbrev pub invariant-loop-place : goal.invariant-loop-place

@@ -4,7 +4,7 @@ use Rattle.ldar_days.specs.Calendar.{IsDay, month_of}
 use Rattle.monitor_calendar.proofs.PeriodLemmas.{to_end}
 use Rattle.monitor_calendar.proofs.Rising.{before_first, from_first}
 use Rattle.monitor_calendar.proofs.WalkLemmas.{behind_at, on_next, at_event, at_end}
-use Rattle.monitor_calendar.proofs.quarterly_months.walked_to.Goals as goal
+use Rattle.monitor_calendar.proofs.walked_months.walked_to.Goals as goal
 
 pub returns-then-first-day : goal.returns-then-first-day
 returns-then-first-day c =
