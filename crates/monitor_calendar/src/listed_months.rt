@@ -2,19 +2,23 @@ ghost use Rattle.std.specs.Prelude.{◌≡◌, ◌+◌, ◌<◌, ◌≤◌, ℕ,
 ghost use Rattle.ldar_law.specs.Kinds.{is_valve as says_valve};
 ghost use Rattle.monitor_calendar.specs.Covering.{IsFirstListed, Covers};
 ghost use Rattle.monitor_calendar.specs.Walks.{IsWalked};
+ghost use Rattle.monitor_calendar.specs.declared.month_days.MonthDays.{MonthDays as SomeDays};
 ghost use Rattle.monitor_calendar.specs.declared.walked_months.WalkedMonth.{WalkedMonth as SomeWalked};
 
 use crate::asked::Asked;
-use crate::walked_months::{MONTHS_LISTED, WalkedMonth, walked_months};
+use crate::days_of_months::{MONTHS_LISTED, days_of_months};
+use crate::month_days::MonthDays;
+use crate::walked_months::{WalkedMonth, walked_months};
 use ldar_law::is_valve;
 
-/// The months that a list can hold, and of a component that is a valve what a walk over its events tells of each.
+/// The months that a list can hold, their days, and of a component that is a valve what a walk over its events tells of each.
 #[derive(Clone, Copy)]
 pub struct ListedMonths {
     /// The first of them.
     pub low: u32,
     /// The month behind the last of them.
     pub end: u32,
+    pub days: [MonthDays; MONTHS_LISTED],
     pub walked: [WalkedMonth; MONTHS_LISTED],
 }
 
@@ -33,16 +37,22 @@ impl Asked<'_> {
     }
 
     /// What a walk over the events of a valve tells of the months from one on to another; of what is none no event is looked at.
-    fn walked_from(&self, low: u32, end: u32) -> [WalkedMonth; MONTHS_LISTED]
+    fn walked_from(
+        &self,
+        days: &[MonthDays; MONTHS_LISTED],
+        low: u32,
+        end: u32,
+    ) -> [WalkedMonth; MONTHS_LISTED]
         requires low { (24_096 ≤ low) × (low ≤ 25_200) }
         requires end { end ≤ 25_200 }
+        requires days { (k : ℕ) (one : SomeDays) → k < MONTHS_LISTED → low + k < end → (slice_index_or days.now k one).month ≡ low + k }
         ensures value { says_valve self.now.item.now.kind ≡ true → (k : ℕ) (walked : SomeWalked) → k < MONTHS_LISTED → low + k < end
             → IsWalked self.now.startup self.now.events.now (low + k) (slice_index_or result k walked) }
     {
         if !is_valve(self.item.kind) {
             return [WalkedMonth::none(); MONTHS_LISTED];
         }
-        walked_months(self.startup, self.events, low, end)
+        walked_months(self.startup, self.events, days, low, end)
     }
 
     /// The months after the beginning whose duties the list can hold.
@@ -51,10 +61,13 @@ impl Asked<'_> {
     {
         let low = self.first_month();
         let end = self.day.month().number() + 1;
+        let days = days_of_months(low, end);
+        let walked = self.walked_from(&days, low, end);
         ListedMonths {
             low,
             end,
-            walked: self.walked_from(low, end),
+            days,
+            walked,
         }
     }
 }

@@ -10,6 +10,7 @@ ghost use Rattle.monitor_calendar.specs.Walks.{IsBegun, IsWalked};
 use crate::asked::{Asked, Judged};
 use crate::duty::put;
 use crate::listed_months::ListedMonths;
+use crate::month_days::MonthDays;
 use crate::period::{routine_behind, routine_in};
 use crate::walked_months::WalkedMonth;
 use fact_kinds::{Key, Memory};
@@ -71,15 +72,14 @@ impl Asked<'_> {
     }
 
     /// The monthly monitoring of a month that is a quarterly one of a valve or not.
-    fn monthly(&self, month: Month, walked: &WalkedMonth) -> Option<Duty>
-        requires walked { says_valve self.now.item.now.kind ≡ true → IsWalked self.now.startup self.now.events.now month walked.now }
-        ensures value { result ≡ causes.monthly self.now month }
+    fn monthly(&self, days: &MonthDays, walked: &WalkedMonth) -> Option<Duty>
+        requires walked { says_valve self.now.item.now.kind ≡ true → IsWalked self.now.startup self.now.events.now days.now.month walked.now }
+        ensures value { result ≡ causes.monthly self.now days.now.month }
     {
         if self.is_quarterly_in_place(walked.is_quarterly) {
             return None;
         }
-        let first = month.first_day();
-        let due = month.last_day();
+        let (first, due) = (days.first, days.last);
         let judged = self.judged(self.judging_day(due));
         if !is_monthly(judged, walked.is_quarterly) {
             return None;
@@ -89,17 +89,16 @@ impl Asked<'_> {
     }
 
     /// The quarterly monitoring of such a month.
-    fn quarterly(&self, month: Month, walked: &WalkedMonth) -> Option<Duty>
-        requires walked { IsWalked self.now.startup self.now.events.now month walked.now }
-        ensures value { result ≡ causes.quarterly self.now month }
+    fn quarterly(&self, days: &MonthDays, walked: &WalkedMonth) -> Option<Duty>
+        requires walked { IsWalked self.now.startup self.now.events.now days.now.month walked.now }
+        ensures value { result ≡ causes.quarterly self.now days.now.month }
     {
         if !walked.is_quarterly {
             return None;
         }
-        let first = month.first_day();
-        let due = month.last_day();
+        let (first, due) = (days.first, days.last);
         let judged = self.judged(self.judging_day(due));
-        if !self.is_quarter_month(judged, month, walked.is_quarterly) {
+        if !self.is_quarter_month(judged, days.month, walked.is_quarterly) {
             return None;
         }
         let met = routine_behind(self.events, walked.place, due);
@@ -113,8 +112,11 @@ impl Asked<'_> {
         ensures put { OnOk result (duties.new.items ≡ duties.old.items ++ filter_map (causes.monthly self.now) (causes.months_after self.now)) }
     {
         for number in months.low..months.end {
-            let walked = &months.walked[(number - months.low) as usize];
-            put(duties, &self.monthly(Month::at(number), walked))?;
+            let place = (number - months.low) as usize;
+            put(
+                duties,
+                &self.monthly(&months.days[place], &months.walked[place]),
+            )?;
         }
         Ok(())
     }
@@ -129,8 +131,11 @@ impl Asked<'_> {
             return Ok(());
         }
         for number in months.low..months.end {
-            let walked = &months.walked[(number - months.low) as usize];
-            put(duties, &self.quarterly(Month::at(number), walked))?;
+            let place = (number - months.low) as usize;
+            put(
+                duties,
+                &self.quarterly(&months.days[place], &months.walked[place]),
+            )?;
         }
         Ok(())
     }

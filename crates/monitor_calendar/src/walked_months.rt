@@ -4,20 +4,19 @@
 ghost use Rattle.std.specs.Prelude.{◌≡◌, ℕ, ◌+◌, ◌<◌, ◌≤◌, false, length, slice_index_or};
 ghost use Rattle.list_words.specs.Order.{Ascends};
 ghost use Rattle.fact_kinds.specs.Facts.{is_earlier};
-ghost use Rattle.ldar_days.specs.Calendar.{first_day};
 ghost use Rattle.ldar_law.specs.declared.event.Event.{Event as SomeEvent};
 ghost use Rattle.ldar_law.specs.Happenings.{is_leak as says_leak};
 ghost use Rattle.ldar_law.specs.declared.numbers.TheConstants.{LAST_FACT_DAY};
 ghost use Rattle.monitor_calendar.specs.Walks.{IsAt, IsBehindLeak, IsOn, IsWalked};
+ghost use Rattle.monitor_calendar.specs.declared.month_days.MonthDays.{MonthDays as SomeDays};
 ghost use Rattle.monitor_calendar.specs.declared.walked_months.WalkedMonth.{WalkedMonth as SomeWalked};
 
+use crate::days_of_months::MONTHS_LISTED;
+use crate::month_days::MonthDays;
 use crate::past_months::PastMonths;
 use crate::period::count_before;
-use ldar_days::{Day, Month};
+use ldar_days::Day;
 use ldar_law::Event;
-
-/// From the month of the day 366 days before another day to that of this day there are at most so many months.
-pub const MONTHS_LISTED: usize = 15;
 
 /// What a walk over the events of a valve tells of a month.
 #[derive(Clone, Copy)]
@@ -62,13 +61,13 @@ fn behind_leak(events: &[Event], count: usize) -> usize
 }
 
 /// A walk up to a month, begun behind the last leak before it: what a leak tells is the same whatever came before it.
-fn begun(events: &[Event], month: Month) -> Walk
+fn begun(events: &[Event], days: &MonthDays) -> Walk
     requires ordered { Ascends (λ a b. is_earlier a.key b.key) events.now }
-    ensures value { IsOn result.past events.now result.place month }
+    ensures value { IsOn result.past events.now result.place days.now.month }
     ensures no_leak { (k : ℕ) (e : SomeEvent) → result.place ≤ k → k < length events.now
-        → (slice_index_or events.now k e).key.day < first_day month → says_leak (slice_index_or events.now k e).what ≡ false }
+        → (slice_index_or events.now k e).key.day < days.now.first → says_leak (slice_index_or events.now k e).what ≡ false }
 {
-    let count = count_before(events, month.first_day());
+    let count = count_before(events, days.first);
     let place = behind_leak(events, count);
     if place == 0 {
         return Walk {
@@ -83,12 +82,12 @@ fn begun(events: &[Event], month: Month) -> Walk
 }
 
 /// The walk, gone on to the first event that is not of a month before this one.
-fn walked_to(walk: Walk, events: &[Event], month: Month) -> Walk
+fn walked_to(walk: Walk, events: &[Event], days: &MonthDays) -> Walk
     requires ordered { Ascends (λ a b. is_earlier a.key b.key) events.now }
-    requires on { IsOn walk.past events.now walk.place month }
-    ensures value { IsAt result.past events.now result.place month }
+    requires on { IsOn walk.past events.now walk.place days.now.month }
+    ensures value { IsAt result.past events.now result.place days.now.month }
 {
-    let first = month.first_day().number();
+    let first = days.first.number();
     let Walk {
         mut place,
         mut past,
@@ -108,6 +107,7 @@ fn walked_to(walk: Walk, events: &[Event], month: Month) -> Walk
 pub fn walked_months(
     startup: Day,
     events: &[Event],
+    months: &[MonthDays; MONTHS_LISTED],
     low: u32,
     end: u32,
 ) -> [WalkedMonth; MONTHS_LISTED]
@@ -115,6 +115,7 @@ pub fn walked_months(
     requires ordered { Ascends (λ a b. is_earlier a.key b.key) events.now }
     requires low { (24_096 ≤ low) × (low ≤ 25_200) }
     requires end { end ≤ 25_200 }
+    requires months { (k : ℕ) (days : SomeDays) → k < MONTHS_LISTED → low + k < end → (slice_index_or months.now k days).month ≡ low + k }
     ensures value { (k : ℕ) (walked : SomeWalked) → k < MONTHS_LISTED → low + k < end
         → IsWalked startup events.now (low + k) (slice_index_or result k walked) }
 {
@@ -122,13 +123,13 @@ pub fn walked_months(
     if end <= low {
         return walked;
     }
-    let mut walk = begun(events, Month::at(low));
+    let mut walk = begun(events, &months[0]);
     for k in 0..MONTHS_LISTED {
         let month = low + k as u32;
         if end <= month {
             return walked;
         }
-        walk = walked_to(walk, events, Month::at(month));
+        walk = walked_to(walk, events, &months[k]);
         walked[k] = WalkedMonth {
             place: walk.place,
             is_quarterly: walk.past.let_be_quarterly(startup, month),

@@ -22,28 +22,27 @@ returns-then-place-eq0 c =
     let events = c.args.events.now in
     let before = c.behind_leak-place.ensures.value in
     record {
-      value = on_start c.none.result events c.args.month c.none.ensures.value;
+      value = on_start c.none.result events c.args.days.now.month c.none.ensures.value;
       no_leak = λ k e from within early.
           let lt : k < c.count_before-count.result =
-          counted events c.first_day.result c.count_before-count.result k e c.count_before-count.ensures.value within (omega
-          (arith, early, c.first_day.ensures.value)) in
+          counted events c.args.days.now.first c.count_before-count.result k e c.count_before-count.ensures.value within early in
           before.none k e (omega (arith, from)) lt;
     }
 
 pub returns : goal.returns
 returns c =
     let events = c.args.events.now in
-    let month = c.args.month in
+    let month = c.args.days.now.month in
     let place = c.behind_leak-place.result in
     let e = c.index-events-place.result in
     let before = c.behind_leak-place.ensures.value in
-    let is : IsMonth month = (omega arith, omega arith) in
+    let is : IsMonth month = (c.args.days.now.from, c.args.days.now.to) in
     let behind : place - 1 + 1 ≡ place = omega arith in
     let days : (k : ℕ) (d : Event) → k < place - 1 + 1 → (get_or events k d).key.day < first_day month =
     λ k d lt. omega (
       arith,
-      ltb-true (get_or events k d).key.day c.first_day.result (c.count_before-count.ensures.value.0 k d (omega arith) (omega (arith, lt, before.within))),
-      c.first_day.ensures.value,
+      ltb-true (get_or events k d).key.day c.args.days.now.first (c.count_before-count.ensures.value.0 k d (omega arith) (omega (arith, lt, before.within))),
+      c.args.days.now.begins,
     ) in
     let early : month_of e.key.day < month =
     before_month month e.key.day is
@@ -57,7 +56,6 @@ returns c =
       value = subst (λ n. IsOn c.of_leak.result events n month) behind on;
       no_leak = λ k d from within soon.
           let lt : k < c.count_before-count.result =
-          counted events c.first_day.result c.count_before-count.result k d c.count_before-count.ensures.value within (omega
-          (arith, soon, c.first_day.ensures.value)) in
+          counted events c.args.days.now.first c.count_before-count.result k d c.count_before-count.ensures.value within soon in
           before.none k d from lt;
     }

@@ -12,10 +12,10 @@ returns-then-first-day c =
     let e = c.e-item.result in
     let events = c.args.events.now in
     let here = behind_at events c.args.walk.place l.e-index l.place e l.invariant.at c.loop-e-test.true in
-    let late : c.args.month ≤ month_of e.key.day = from_first c.args.month e.key.day
-    (subst IsDay c.number-day.ensures.value c.number-day.ensures.in_range) (omega arith) in
+    let late : c.args.days.now.month ≤ month_of e.key.day = from_first c.args.days.now.month e.key.day
+    (subst IsDay c.number-day.ensures.value c.number-day.ensures.in_range) (omega (arith, c.args.days.now.begins)) in
     record {
-      value = at_event events l.place c.args.month e c.requires.ordered here.0 (here.1 ∙ sym c.e-item.is) l.past l.invariant.on late;
+      value = at_event events l.place c.args.days.now.month e c.requires.ordered here.0 (here.1 ∙ sym c.e-item.is) l.past l.invariant.on late;
     }
 
 pub loop-e-preserved : goal.loop-e-preserved
@@ -24,11 +24,11 @@ loop-e-preserved c =
     let e = c.e-item.result in
     let events = c.args.events.now in
     let here = behind_at events c.args.walk.place l.e-index l.place e l.invariant.at c.loop-e-test.true in
-    let early : month_of e.key.day < c.args.month = before_first c.args.month e.key.day
-    (subst IsDay c.number-day.ensures.value c.number-day.ensures.in_range) (omega arith) (omega arith) in
+    let early : month_of e.key.day < c.args.days.now.month = before_first c.args.days.now.month e.key.day
+    (subst IsDay c.number-day.ensures.value c.number-day.ensures.in_range) (omega (arith, c.args.days.now.from)) (omega (arith, c.args.days.now.begins)) in
     record {
       at = omega arith;
-      on = on_next events l.place c.args.month e c.requires.ordered here.0 (here.1 ∙ sym c.e-item.is) l.past c.with-past.result l.invariant.on early
+      on = on_next events l.place c.args.days.now.month e c.requires.ordered here.0 (here.1 ∙ sym c.e-item.is) l.past c.with-past.result l.invariant.on early
           c.with-past.ensures.value;
     }
 
@@ -38,4 +38,4 @@ returns c =
     let events = c.args.events.now in
     let from = c.args.walk.place in
     let end : length events ≤ l.place = omega (arith, l.invariant.at, c.loop-e-test.false, ap length (to_end events from), length-drop from events) in
-    record { value = at_end l.past events l.place c.args.month end l.invariant.on }
+    record { value = at_end l.past events l.place c.args.days.now.month end l.invariant.on }

@@ -6,5 +6,5 @@ use Rattle.monitor_calendar.proofs.walked_months.walked_to.Given as goal
 abbrev pub invariant-loop-e : goal.invariant-loop-e
 invariant-loop-e l = record {
   at : l.place ≡ l.fn.walk.place + l.e-index;
-  on : IsOn l.past l.events l.place l.fn.month;
+  on : IsOn l.past l.events l.place l.days.month;
 }
