@@ -99,6 +99,36 @@ told_nothing = record {
   pair = tt;
 }
 
+-- what fails where a month is later, or the month is no later one
+or_later : (b : Bool) (low month : ℕ) → (month < low → b ≡ false) → (b || nat_le low month) ≡ nat_le low month
+or_later b low month fails =
+    elim (cases_lt month low) [
+      | inl later ↦ rw (fails later) refl
+      | inr by ↦ or_right b (nat_le low month) (le-leb low month by) ∙ sym (le-leb low month by)
+    ]
+
+-- a leak tells the same whatever came before it, of no later month
+pub told_leak : (front : List Event) (e : Event) → AllByRecursion (λ x. month_of x.key.day ≤ month_of e.key.day) front → is_leak e.what ≡ true →
+    Tells (record { leak = month_of e.key.day; below = 0; pair = None }) (month_of e.key.day) (front ++ e ∷ [])
+told_leak front e all leaks =
+    let month = month_of e.key.day in
+    let more = front ++ e ∷ [] in
+    let up_to : AllByRecursion (λ x. month_of x.key.day ≤ month) more =
+    all_append (λ x. month_of x.key.day ≤ month) front (e ∷ []) all (omega arith, tt) in
+    record {
+      up_to = up_to;
+      leak_by = omega arith;
+      below_by = omega arith;
+      leak = λ low pos.
+          one_more (λ x. is_leak x.what && nat_le low (month_of x.key.day)) front e
+          ∙ rw leaks (or_later (leaks_from front low) low month (none_later (λ x. is_leak x.what) front month low all));
+      below = λ low lt none. none_later (λ x. is_routine_below x.what) more month low up_to lt ∙ sym (lt-leb low 0 (omega (arith, lt)));
+      since = λ h. absurd (omega (arith, h));
+      first = λ k lt here next.
+          absurd (false≢true (sym (none_later (λ x. is_routine_below x.what) more month k up_to lt) ∙ read_from more k here));
+      pair = tt;
+    }
+
 -- ---- one event more
 
 module _ (past : PastMonths) (last : ℕ) (front : List Event) (e : Event) (tells : Tells past last front) (le : last ≤ month_of e.key.day) where
@@ -152,19 +182,6 @@ module _ (past : PastMonths) (last : ℕ) (front : List Event) (e : Event) (tell
         | inl later ↦ absurd (false≢true (sym (none_later (λ x. is_routine_below x.what) more month k up_to later) ∙ read_from more k read))
         | inr by ↦ by
       ]
-
-  -- a leak
-  pub told_leak : is_leak e.what ≡ true → Tells (record { leak = month; below = 0; pair = None }) month more
-  told_leak leaks = record {
-    up_to = up_to;
-    leak_by = omega arith;
-    below_by = omega arith;
-    leak = λ low pos. leaks_more low pos ∙ rw leaks (or_le past.leak month low (omega (arith, tells.leak_by, le)));
-    below = λ low lt none. none_later (λ x. is_routine_below x.what) more month low up_to lt ∙ sym (lt-leb low 0 (omega (arith, lt)));
-    since = λ h. absurd (omega (arith, h));
-    first = λ k lt here next. absurd (omega (arith, lt, by_month k here));
-    pair = tt;
-  }
 
   -- what is no leak, and no reading below in a month after the last leak
   nothing_read : (k : ℕ) → past.leak < k → (month ≤ past.leak) ⊎ (is_routine_below e.what ≡ false) → reads_in more k ≡ true → reads_in front k ≡ true

@@ -1,39 +1,51 @@
 -- A walk over events, one event on, and where it stops.
-use Rattle.std.proofs.Common.{◌≡◌, ℕ, ◌+◌, ◌<◌, ◌≤◌, List, [], ◌∷◌, ◌++◌, length, take, drop, get_or, sym, ap, ◌∙◌, subst, arith}
+use Rattle.std.proofs.Common.{◌≡◌, ℕ, zero, suc, ◌+◌, ◌-◌, ◌<◌, ◌≤◌, nat_le, filter, List, []}
+use Rattle.std.proofs.Common.{◌∷◌, ◌++◌, length, take, drop, get_or, refl, sym, ap, ◌∙◌, subst, arith}
 use Rattle.std.specs.List.{AllByRecursion}
-use Rattle.std.proofs.lemmas.List.{drop_more, take_more, drop_all}
+use Rattle.std.proofs.lemmas.Bool.{le-leb, lt-leb}
+use Rattle.std.proofs.lemmas.List.{drop_more, take_more, drop_all, get_or-drop, length-drop}
 use Rattle.list_words.specs.Order.{Ascends}
 use Rattle.list_words.proofs.Members.{all_append, all_weaker}
-use Rattle.ldar_days.specs.Calendar.{month_of}
+use Rattle.ldar_days.specs.Calendar.{IsMonth, first_day, month_of}
 use Rattle.fact_kinds.specs.Facts.{is_earlier}
 use Rattle.ldar_law.specs.declared.event.Event.{Event}
 use Rattle.monitor_calendar.specs.Behind.{Tells}
 use Rattle.monitor_calendar.specs.Walks.{IsOn, IsAt}
 use Rattle.monitor_calendar.specs.declared.past_months.PastMonths.{PastMonths}
-use Rattle.monitor_calendar.proofs.Rising.{months_ahead}
+use Rattle.monitor_calendar.proofs.PeriodLemmas.{to_end}
+use Rattle.monitor_calendar.proofs.Rising.{earlier, months_ahead, months_behind, no_earlier}
 
 -- each month is from 0 on
 from_zero : (es : List Event) → AllByRecursion (λ e. 0 ≤ month_of e.key.day) es
 from_zero [] = tt
 from_zero (e ∷ es) = (omega arith, from_zero es)
 
+-- so many elements behind a place stands the one at both together
+pub behind_at : {X : Type 0} (xs : List X) (from i place : ℕ) (x : X) → place ≡ from + i → i < length (take (length xs - from) (drop from xs)) →
+    (place < length xs) × (get_or xs place x ≡ get_or (take (length xs - from) (drop from xs)) i x)
+behind_at xs from i place x at within =
+    (omega (arith, at, within, ap length (to_end xs from), length-drop from xs), rw (at, to_end xs from, get_or-drop from xs i x) refl)
+
 -- nothing is in front of the first event
-pub at_start : (past : PastMonths) (events : List Event) → Tells past 0 [] → IsAt past events 0 0
-at_start past events tells = record {
-  on = record { within = omega arith; last = 0; before = omega arith; front = tt; ahead = from_zero events; tells = tells };
-  rest = from_zero events;
+pub on_start : (past : PastMonths) (events : List Event) (month : ℕ) → Tells past 0 [] → IsOn past events 0 month
+on_start past events month tells = record {
+  within = omega arith;
+  last = 0;
+  before = omega arith;
+  front = tt;
+  ahead = from_zero events;
+  tells = tells;
 }
 
--- a walk that stands where a month begins goes on to a later one
-pub on_from : (past : PastMonths) (events : List Event) (place before month : ℕ) → IsAt past events place before → before ≤ month →
-    IsOn past events place month
-on_from past events place before month at le = record {
-  within = at.on.within;
-  last = at.on.last;
-  before = omega (arith, at.on.before, le);
-  front = all_weaker (λ e. month_of e.key.day < before) (λ e. month_of e.key.day < month) (λ e lt. omega (arith, lt, le)) (take place events) at.on.front;
-  ahead = at.on.ahead;
-  tells = at.on.tells;
+-- a walk on its way to a month is on its way to each later one
+pub on_to : (past : PastMonths) (events : List Event) (place before month : ℕ) → IsOn past events place before → before ≤ month → IsOn past events place month
+on_to past events place before month on le = record {
+  within = on.within;
+  last = on.last;
+  before = omega (arith, on.before, le);
+  front = all_weaker (λ e. month_of e.key.day < before) (λ e. month_of e.key.day < month) (λ e lt. omega (arith, lt, le)) (take place events) on.front;
+  ahead = on.ahead;
+  tells = on.tells;
 }
 
 module _ (events : List Event) (place month : ℕ) (e : Event) (up : Ascends (λ a b. is_earlier a.key b.key) events) (within : place < length events)
@@ -68,6 +80,21 @@ module _ (events : List Event) (place month : ℕ) (e : Event) (up : Ascends (λ
         (goes on.last (take place events) on.tells (subst (AllByRecursion (λ x. on.last ≤ month_of x.key.day)) split on.ahead).0);
   }
 
+  -- behind the event, whose past is told whatever came before it
+  pub on_behind : (past : PastMonths) → AllByRecursion (λ x. month_of x.key.day < month) (take (place + 1) events) → month_of e.key.day < month →
+      ((front : List Event) → AllByRecursion (λ x. month_of x.key.day ≤ month_of e.key.day) front → Tells past (month_of e.key.day) (front ++ e ∷ [])) →
+      IsOn past events (place + 1) month
+  on_behind past front lt tells = record {
+    within = omega arith;
+    last = month_of e.key.day;
+    before = omega (arith, lt);
+    front = front;
+    ahead = later;
+    tells =
+        subst (Tells past (month_of e.key.day)) (sym longer) (tells (take place events)
+        (subst (λ x. AllByRecursion (λ y. month_of y.key.day ≤ month_of x.key.day) (take place events)) stands (months_behind events place e up within)));
+  }
+
   -- the event is not of a month before
   pub at_event : (past : PastMonths) → IsOn past events place month → month ≤ month_of e.key.day → IsAt past events place month
   at_event past on le = record {
@@ -79,6 +106,16 @@ module _ (events : List Event) (place month : ℕ) (e : Event) (up : Ascends (λ
               (place + 1) events) later,
         );
   }
+
+-- behind a place where a month begins stand the events from its first day on
+pub rest_from : (events : List Event) (place month : ℕ) → IsMonth month → AllByRecursion (λ e. month_of e.key.day < month) (take place events) →
+    AllByRecursion (λ e. month ≤ month_of e.key.day) (drop place events) → drop place events ≡ filter (λ e. nat_le (first_day month) e.key.day) events
+rest_from [] zero month is front rest = refl
+rest_from [] (suc place) month is front rest = refl
+rest_from (e ∷ es) zero month is front rest =
+    rw (le-leb (first_day month) e.key.day (no_earlier month e.key.day is rest.0)) (ap (λ xs. e ∷ xs) (rest_from es zero month is tt rest.1))
+rest_from (e ∷ es) (suc place) month is front rest =
+    rw (lt-leb (first_day month) e.key.day (earlier month e.key.day is front.0)) (rest_from es place month is front.1 rest)
 
 -- .. or there is none
 pub at_end : (past : PastMonths) (events : List Event) (place month : ℕ) → length events ≤ place → IsOn past events place month → IsAt past events place month

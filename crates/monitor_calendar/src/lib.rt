@@ -3,6 +3,7 @@
 
 mod after_event;
 mod asked;
+mod days_of_months;
 mod drips;
 mod duties;
 mod duty;
@@ -10,11 +11,12 @@ mod first;
 mod in_order;
 pub mod laws;
 mod listed_months;
+mod month_days;
 mod monthly;
 mod past_months;
 mod period;
 mod plan;
-mod quarterly_months;
+mod walked_months;
 mod weekly;
 mod yearly;
 

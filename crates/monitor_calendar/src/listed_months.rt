@@ -1,20 +1,25 @@
-ghost use Rattle.std.specs.Prelude.{◌≡◌, ◌+◌, ◌<◌, ◌≤◌, ℕ, true, false, slice_index_or};
+ghost use Rattle.std.specs.Prelude.{◌≡◌, ◌+◌, ◌<◌, ◌≤◌, ℕ, true, slice_index_or};
 ghost use Rattle.ldar_law.specs.Kinds.{is_valve as says_valve};
-ghost use Rattle.ldar_law.specs.Months.{is_quarterly};
 ghost use Rattle.monitor_calendar.specs.Covering.{IsFirstListed, Covers};
+ghost use Rattle.monitor_calendar.specs.Walks.{IsWalked};
+ghost use Rattle.monitor_calendar.specs.declared.month_days.MonthDays.{MonthDays as SomeDays};
+ghost use Rattle.monitor_calendar.specs.declared.walked_months.WalkedMonth.{WalkedMonth as SomeWalked};
 
 use crate::asked::Asked;
-use crate::quarterly_months::{MONTHS_LISTED, quarterly_months};
+use crate::days_of_months::{MONTHS_LISTED, days_of_months};
+use crate::month_days::MonthDays;
+use crate::walked_months::{WalkedMonth, walked_months};
 use ldar_law::is_valve;
 
-/// The months that a list can hold, and which of them are quarterly ones of a component that is a valve.
+/// The months that a list can hold, their days, and of a component that is a valve what a walk over its events tells of each.
 #[derive(Clone, Copy)]
 pub struct ListedMonths {
     /// The first of them.
     pub low: u32,
     /// The month behind the last of them.
     pub end: u32,
-    pub quarterly: [bool; MONTHS_LISTED],
+    pub days: [MonthDays; MONTHS_LISTED],
+    pub walked: [WalkedMonth; MONTHS_LISTED],
 }
 
 impl Asked<'_> {
@@ -31,17 +36,23 @@ impl Asked<'_> {
         }
     }
 
-    /// Which of the months from one on to another are quarterly ones of a valve; of what is none no event is looked at.
-    fn quarterly_from(&self, low: u32, end: u32) -> [bool; MONTHS_LISTED]
+    /// What a walk over the events of a valve tells of the months from one on to another; of what is none no event is looked at.
+    fn walked_from(
+        &self,
+        days: &[MonthDays; MONTHS_LISTED],
+        low: u32,
+        end: u32,
+    ) -> [WalkedMonth; MONTHS_LISTED]
         requires low { (24_096 ≤ low) × (low ≤ 25_200) }
         requires end { end ≤ 25_200 }
-        ensures value { says_valve self.now.item.now.kind ≡ true → (k : ℕ) → k < MONTHS_LISTED → low + k < end
-            → slice_index_or result k false ≡ is_quarterly self.now.startup self.now.events.now (low + k) }
+        requires days { (k : ℕ) (one : SomeDays) → k < MONTHS_LISTED → low + k < end → (slice_index_or days.now k one).month ≡ low + k }
+        ensures value { says_valve self.now.item.now.kind ≡ true → (k : ℕ) (walked : SomeWalked) → k < MONTHS_LISTED → low + k < end
+            → IsWalked self.now.startup self.now.events.now (low + k) (slice_index_or result k walked) }
     {
         if !is_valve(self.item.kind) {
-            return [false; MONTHS_LISTED];
+            return [WalkedMonth::none(); MONTHS_LISTED];
         }
-        quarterly_months(self.startup, self.events, low, end)
+        walked_months(self.startup, self.events, days, low, end)
     }
 
     /// The months after the beginning whose duties the list can hold.
@@ -50,10 +61,13 @@ impl Asked<'_> {
     {
         let low = self.first_month();
         let end = self.day.month().number() + 1;
+        let days = days_of_months(low, end);
+        let walked = self.walked_from(&days, low, end);
         ListedMonths {
             low,
             end,
-            quarterly: self.quarterly_from(low, end),
+            days,
+            walked,
         }
     }
 }

@@ -1,17 +1,20 @@
 //! Monthly and quarterly monitoring (40 CFR 60.482-2a(a)(1), 60.482-7a(a)(1), (c)(1)).
 
-ghost use Rattle.std.specs.Prelude.{◌≡◌, ◌++◌, ◌&&◌, true, OnOk, filter_map};
+ghost use Rattle.std.specs.Prelude.{◌≡◌, ◌++◌, ◌&&◌, true, OnOk, filter_map, option_map};
+ghost use Rattle.ldar_law.specs.Duties as law;
 ghost use Rattle.ldar_law.specs.Kinds.{is_valve as says_valve};
-ghost use Rattle.ldar_law.specs.Months.{is_quarterly as says_quarterly};
 ghost use Rattle.monitor_calendar.specs.Causes as causes;
 ghost use Rattle.monitor_calendar.specs.Covering.{Covers};
+ghost use Rattle.monitor_calendar.specs.Walks.{IsBegun, IsWalked};
 
 use crate::asked::{Asked, Judged};
 use crate::duty::put;
 use crate::listed_months::ListedMonths;
-use crate::period::routine_in;
-use fact_kinds::Memory;
-use ldar_days::{Month, quarter_of};
+use crate::month_days::MonthDays;
+use crate::period::{routine_behind, routine_in};
+use crate::walked_months::WalkedMonth;
+use fact_kinds::{Key, Memory};
+use ldar_days::{Day, Month, quarter_of};
 use ldar_law::{Duty, is_none_designated, is_valve, month_in_quarter};
 
 /// Whether what is so judged is monitored in a month that is a quarterly one or not.
@@ -57,39 +60,48 @@ impl Asked<'_> {
         is_quarterly && is_valve(self.item.kind)
     }
 
-    /// The monthly monitoring of a month that is a quarterly one of a valve or not.
-    fn monthly(&self, month: Month, is_quarterly: bool) -> Option<Duty>
-        requires quarterly { says_valve self.now.item.now.kind ≡ true → is_quarterly ≡ says_quarterly self.now.startup self.now.events.now month }
-        ensures value { result ≡ causes.monthly self.now month }
+    /// The key of the first counting routine reading of a month. Of a valve it is known where the month's events begin.
+    fn routine_of(&self, walked: &WalkedMonth, first: Day, due: Day) -> Option<Key>
+        requires walked { says_valve self.now.item.now.kind ≡ true → IsBegun self.now.events.now first walked.now }
+        ensures value { result ≡ option_map (λ e. e.key) (law.routine_in self.now.events.now first due) }
     {
-        if self.is_quarterly_in_place(is_quarterly) {
+        if !is_valve(self.item.kind) {
+            return routine_in(self.events, first, due);
+        }
+        routine_behind(self.events, walked.place, due)
+    }
+
+    /// The monthly monitoring of a month that is a quarterly one of a valve or not.
+    fn monthly(&self, days: &MonthDays, walked: &WalkedMonth) -> Option<Duty>
+        requires walked { says_valve self.now.item.now.kind ≡ true → IsWalked self.now.startup self.now.events.now days.now.month walked.now }
+        ensures value { result ≡ causes.monthly self.now days.now.month }
+    {
+        if self.is_quarterly_in_place(walked.is_quarterly) {
             return None;
         }
-        let first = month.first_day();
-        let due = month.last_day();
+        let (first, due) = (days.first, days.last);
         let judged = self.judged(self.judging_day(due));
-        if !is_monthly(judged, is_quarterly) {
+        if !is_monthly(judged, walked.is_quarterly) {
             return None;
         }
-        let met = routine_in(self.events, first, due);
+        let met = self.routine_of(walked, first, due);
         self.duty(2, first, due, &met)
     }
 
     /// The quarterly monitoring of such a month.
-    fn quarterly(&self, month: Month, is_quarterly: bool) -> Option<Duty>
-        requires quarterly { is_quarterly ≡ says_quarterly self.now.startup self.now.events.now month }
-        ensures value { result ≡ causes.quarterly self.now month }
+    fn quarterly(&self, days: &MonthDays, walked: &WalkedMonth) -> Option<Duty>
+        requires walked { IsWalked self.now.startup self.now.events.now days.now.month walked.now }
+        ensures value { result ≡ causes.quarterly self.now days.now.month }
     {
-        if !is_quarterly {
+        if !walked.is_quarterly {
             return None;
         }
-        let first = month.first_day();
-        let due = month.last_day();
+        let (first, due) = (days.first, days.last);
         let judged = self.judged(self.judging_day(due));
-        if !self.is_quarter_month(judged, month, is_quarterly) {
+        if !self.is_quarter_month(judged, days.month, walked.is_quarterly) {
             return None;
         }
-        let met = routine_in(self.events, first, due);
+        let met = routine_behind(self.events, walked.place, due);
         self.duty(3, first, due, &met)
     }
 
@@ -100,8 +112,11 @@ impl Asked<'_> {
         ensures put { OnOk result (duties.new.items ≡ duties.old.items ++ filter_map (causes.monthly self.now) (causes.months_after self.now)) }
     {
         for number in months.low..months.end {
-            let is_quarterly = months.quarterly[(number - months.low) as usize];
-            put(duties, &self.monthly(Month::at(number), is_quarterly))?;
+            let place = (number - months.low) as usize;
+            put(
+                duties,
+                &self.monthly(&months.days[place], &months.walked[place]),
+            )?;
         }
         Ok(())
     }
@@ -116,8 +131,11 @@ impl Asked<'_> {
             return Ok(());
         }
         for number in months.low..months.end {
-            let is_quarterly = months.quarterly[(number - months.low) as usize];
-            put(duties, &self.quarterly(Month::at(number), is_quarterly))?;
+            let place = (number - months.low) as usize;
+            put(
+                duties,
+                &self.quarterly(&months.days[place], &months.walked[place]),
+            )?;
         }
         Ok(())
     }

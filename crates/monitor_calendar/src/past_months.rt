@@ -1,7 +1,9 @@
-ghost use Rattle.std.specs.Prelude.{◌≡◌, ℕ, ◌≤◌, List, [], ◌∷◌, ◌++◌};
+ghost use Rattle.std.specs.Prelude.{◌≡◌, ℕ, ◌≤◌, true, List, [], ◌∷◌, ◌++◌};
+ghost use Rattle.std.specs.List.{AllByRecursion};
 ghost use Rattle.ldar_days.specs.Calendar.{month_of};
 ghost use Rattle.ldar_law.specs.declared.event.Event.{Event as SomeEvent};
 ghost use Rattle.ldar_law.specs.declared.numbers.TheConstants.{LAST_FACT_DAY};
+ghost use Rattle.ldar_law.specs.Happenings.{is_leak};
 ghost use Rattle.monitor_calendar.specs.Behind.{Tells, pair_with, lets_be_quarterly};
 
 use ldar_days::{Day, first_quarter};
@@ -32,17 +34,26 @@ impl PastMonths {
         }
     }
 
+    /// What a leak tells, whatever came before it, of no later month.
+    pub fn of_leak(e: &Event) -> PastMonths
+        requires leak { is_leak e.now.what ≡ true }
+        ensures value { (front : List SomeEvent) → AllByRecursion (λ x. month_of x.key.day ≤ month_of e.now.key.day) front
+            → Tells result (month_of e.now.key.day) (front ++ e.now ∷ []) }
+    {
+        PastMonths {
+            leak: e.key.day.month().number(),
+            below: 0,
+            pair: None,
+        }
+    }
+
     /// What they tell with one event more, of no earlier month.
     pub fn with(self, e: &Event) -> PastMonths
         ensures value { (last : ℕ) (front : List SomeEvent) → Tells self last front → last ≤ month_of e.now.key.day
             → Tells result (month_of e.now.key.day) (front ++ e.now ∷ []) }
     {
         if e.what.is_leak() {
-            return PastMonths {
-                leak: e.key.day.month().number(),
-                below: 0,
-                pair: None,
-            };
+            return PastMonths::of_leak(e);
         }
         // The first two months in a row stay until a leak: no later reading is asked for its month.
         if self.pair.is_some() {

@@ -1,7 +1,8 @@
 //! The events of a period, and the key of what meets a duty in it. Events in key order stand by their days, so that the first of a
 //! period is found by halving, and from there on they are few.
 
-ghost use Rattle.std.specs.Prelude.{◌≡◌, ◌&&◌, ◌||◌, filter, find, nat_le, nat_lt, option_map};
+ghost use Rattle.std.specs.Prelude.{◌≡◌, ◌≤◌, ◌&&◌, ◌||◌, ℕ, true, false, drop, filter, find, length, nat_le, nat_lt, option_map};
+ghost use Rattle.std.specs.List.Sorted.{IsPartitionPoint};
 ghost use Rattle.list_words.specs.Order.{Ascends};
 ghost use Rattle.fact_kinds.specs.Facts.{is_earlier};
 ghost use Rattle.ldar_law.specs.Duties as law;
@@ -12,14 +13,22 @@ use fact_kinds::Key;
 use ldar_days::Day;
 use ldar_law::Event;
 
+/// How many events lie before a day.
+pub fn count_before(events: &[Event], first: Day) -> usize
+    requires ordered { Ascends (λ a b. is_earlier a.key b.key) events.now }
+    ensures within { result ≤ length events.now }
+    ensures value { IsPartitionPoint (λ e. nat_lt e.key.day first ≡ true) (λ e. nat_lt e.key.day first ≡ false) events.now result }
+{
+    events.partition_point(|e| e.key.day < first)
+}
+
 /// The events from a day on.
 pub fn events_from(events: &[Event], first: Day) -> &[Event]
     requires ordered { Ascends (λ a b. is_earlier a.key b.key) events.now }
     ensures value { result.now ≡ filter (λ e. nat_le first e.key.day) events.now }
     ensures ordered { Ascends (λ a b. is_earlier a.key b.key) result.now }
 {
-    let count = events.partition_point(|e| e.key.day < first);
-    &events[count..]
+    &events[count_before(events, first)..]
 }
 
 /// The key of the first event that is a counting routine reading, or of a day after the last.
@@ -62,12 +71,22 @@ fn by_day(found: Option<Key>, last: Day) -> Option<Key>
     }
 }
 
+/// The key of the first counting routine reading of a period, behind a place where the events from its first day on stand.
+pub fn routine_behind(events: &[Event], place: usize, last: Day) -> Option<Key>
+    requires within { place ≤ length events.now }
+    requires ordered { Ascends (λ a b. is_earlier a.key b.key) events.now }
+    ensures value { (first : ℕ) → drop place events.now ≡ filter (λ e. nat_le first e.key.day) events.now
+        → result ≡ option_map (λ e. e.key) (law.routine_in events.now first last) }
+{
+    by_day(routine_or_later(&events[place..], last), last)
+}
+
 /// The key of the first counting routine reading of a period.
 pub fn routine_in(events: &[Event], first: Day, last: Day) -> Option<Key>
     requires ordered { Ascends (λ a b. is_earlier a.key b.key) events.now }
     ensures value { result ≡ option_map (λ e. e.key) (law.routine_in events.now first last) }
 {
-    by_day(routine_or_later(events_from(events, first), last), last)
+    routine_behind(events, count_before(events, first), last)
 }
 
 /// .. that is less than 500 parts per million above the background.

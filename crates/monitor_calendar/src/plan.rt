@@ -7,14 +7,12 @@ ghost use Rattle.monitor_calendar.specs.Causes as causes;
 ghost use Rattle.monitor_calendar.specs.Concern as concern;
 
 use crate::asked::{Asked, Judged};
+use crate::days_of_months::LAST_MONTH;
 use crate::duty::put;
 use crate::period::routine_in;
 use fact_kinds::{Class, Key, Memory};
 use ldar_days::{Day, Month};
 use ldar_law::{Duty, is_unsafe_designated};
-
-/// December 2099, the last month of the calendar.
-const LAST_MONTH: u32 = 25_199;
 
 /// A window that has begun ends at most so many months after the month of the list: a plan has at most sixty months.
 const PLAN_MONTHS: u32 = 60;

@@ -10,6 +10,7 @@ returns c =
         first = c.first_month-low.ensures.value;
         end = omega (arith, at);
         within = omega (arith, c.number-end.ensures.in_range);
-        quarterly = c.quarterly_from.ensures.value;
+        days = c.days_of_months-days.ensures.value;
+        walked = c.walked_from-walked.ensures.value;
       };
     }

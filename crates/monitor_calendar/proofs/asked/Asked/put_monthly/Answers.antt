@@ -1,4 +1,4 @@
-use Rattle.std.proofs.Common.{◌≡◌, ◌+◌, ◌++◌, ap, ◌∙◌, arith}
+use Rattle.std.proofs.Common.{◌≡◌, ◌+◌, ◌-◌, ◌++◌, get_or, ap, ◌∙◌, arith}
 use Rattle.std.specs.List.{filter_map}
 use Rattle.std.specs.Option.{option_to_list}
 use Rattle.list_words.specs.Ranges.{until}
@@ -18,8 +18,15 @@ pub loop-number-preserved : goal.loop-number-preserved
 loop-number-preserved c =
     let l = c.loop-number in
     let f = causes.monthly c.args.self.now in
+    let months = c.args.months.now in
+    let covered = c.requires.covered in
+    let at : (get_or months.days (l.number - months.low) c.index-months-place.result).month ≡ l.number = omega (
+      arith,
+      covered.days (l.number - months.low) c.index-months-place.result (omega (arith, covered.first.few, covered.end, c.loop-number-test.true)) (omega
+          (arith, c.loop-number-test.true)),
+    ) in
     ap (λ ds. ds ++ filter_map f (until (l.number + 1) c.args.months.now.end)) (c.in_ok-put.ensures.put
-    ∙ ap (λ o. l.duties.items ++ option_to_list o) (c.monthly.ensures.value ∙ ap (causes.monthly c.args.self.now) c.at.ensures.value))
+    ∙ ap (λ o. l.duties.items ++ option_to_list o) (c.monthly.ensures.value ∙ ap (causes.monthly c.args.self.now) at))
     ∙ filter_map_until f l.duties.items l.number c.args.months.now.end c.loop-number-test.true ∙ l.invariant
 
 pub returns : goal.returns

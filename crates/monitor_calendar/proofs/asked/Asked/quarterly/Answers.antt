@@ -1,5 +1,5 @@
-use Rattle.std.proofs.Common.{◌≡◌, min, sym, subst, ◌∙◌}
-use Rattle.ldar_days.specs.Calendar.{first_day, last_day}
+use Rattle.std.proofs.Common.{◌≡◌, nat_le, min, drop, filter, sym, subst, ◌∙◌}
+use Rattle.ldar_law.specs.declared.event.Event.{Event}
 use Rattle.ldar_law.specs.Duties.{routine_in}
 use Rattle.monitor_calendar.specs.Causes as causes
 use Rattle.monitor_calendar.proofs.Judging.{IsOf, met_by_key, quarterly_by}
@@ -10,55 +10,51 @@ use Rattle.monitor_calendar.proofs.asked.Asked.quarterly.Goals as goal
 pub returns-then-not-is_quarter_month : goal.returns-then-not-is_quarter_month
 returns-then-not-is_quarter_month c =
     let asked = c.args.self.now in
+    let days = c.args.days.now in
+    let walked = c.args.walked.now in
     let judged = c.judged-judged.result in
-    let from : c.first_day-first.result ≡ first_day c.args.month = c.first_day-first.ensures.value in
-    let to : c.last_day-due.result ≡ last_day c.args.month = c.last_day-due.ensures.value in
-    let day : c.judging_day.result ≡ min c.last_day-due.result asked.day = c.judging_day.ensures.value in
-    let is : IsOf asked judged (min c.last_day-due.result asked.day) =
-    subst (IsOf asked judged) day (record {
+    let is : IsOf asked judged (min days.last asked.day) =
+    subst (IsOf asked judged) c.judging_day.ensures.value (record {
       serves = c.judged-judged.ensures.serves;
       regime = c.judged-judged.ensures.regime;
-      class =
-          c.judged-judged.ensures.class;
+      class = c.judged-judged.ensures.class;
     }) in
-    let owed = causes.is_quarter_month_judged asked judged c.args.month c.args.is_quarterly in
-    let met = routine_in asked.events.now c.first_day-first.result c.last_day-due.result in
-    let form : causes.quarterly asked c.args.month
-    ≡ causes.duty asked 3 c.first_day-first.result c.last_day-due.result owed met =
-    quarterly_by asked judged c.args.month c.first_day-first.result c.last_day-due.result c.args.is_quarterly from to c.requires.quarterly is in
+    let owed = causes.is_quarter_month_judged asked judged days.month walked.is_quarterly in
+    let met = routine_in asked.events.now days.first days.last in
+    let form : causes.quarterly asked days.month ≡ causes.duty asked 3 days.first days.last owed met =
+    quarterly_by asked judged days.month days.first days.last walked.is_quarterly days.begins days.ends c.requires.walked.quarterly is in
     record {
-      value = sym (form ∙ unowed asked.item.now asked.classes.now asked.startup asked.events.now asked.skipped.now asked.day 3 c.first_day-first.result
-          c.last_day-due.result owed met
+      value = sym (form ∙ unowed asked.item.now asked.classes.now asked.startup asked.events.now asked.skipped.now asked.day 3 days.first days.last owed met
           (sym c.is_quarter_month.ensures.value ∙ c.if-not-is_quarter_month.true));
     }
 
 pub returns : goal.returns
 returns c =
     let asked = c.args.self.now in
+    let days = c.args.days.now in
+    let walked = c.args.walked.now in
     let judged = c.judged-judged.result in
-    let from : c.first_day-first.result ≡ first_day c.args.month = c.first_day-first.ensures.value in
-    let to : c.last_day-due.result ≡ last_day c.args.month = c.last_day-due.ensures.value in
-    let day : c.judging_day.result ≡ min c.last_day-due.result asked.day = c.judging_day.ensures.value in
-    let is : IsOf asked judged (min c.last_day-due.result asked.day) =
-    subst (IsOf asked judged) day (record {
+    let is : IsOf asked judged (min days.last asked.day) =
+    subst (IsOf asked judged) c.judging_day.ensures.value (record {
       serves = c.judged-judged.ensures.serves;
       regime = c.judged-judged.ensures.regime;
-      class =
-          c.judged-judged.ensures.class;
+      class = c.judged-judged.ensures.class;
     }) in
-    let owed = causes.is_quarter_month_judged asked judged c.args.month c.args.is_quarterly in
-    let met = routine_in asked.events.now c.first_day-first.result c.last_day-due.result in
-    let form : causes.quarterly asked c.args.month
-    ≡ causes.duty asked 3 c.first_day-first.result c.last_day-due.result owed met =
-    quarterly_by asked judged c.args.month c.first_day-first.result c.last_day-due.result c.args.is_quarterly from to c.requires.quarterly is in
+    let owed = causes.is_quarter_month_judged asked judged days.month walked.is_quarterly in
+    let met = routine_in asked.events.now days.first days.last in
+    let form : causes.quarterly asked days.month ≡ causes.duty asked 3 days.first days.last owed met =
+    quarterly_by asked judged days.month days.first days.last walked.is_quarterly days.begins days.ends c.requires.walked.quarterly is in
+    let rest : drop walked.place asked.events.now ≡ filter (λ (e : Event). nat_le days.first e.key.day) asked.events.now =
+    subst (λ n. drop walked.place asked.events.now ≡ filter (λ (e : Event). nat_le n e.key.day) asked.events.now) (sym days.begins) c.requires.walked.begun.rest
+    in
     record {
       value = c.duty.ensures.value
-          ∙ met_by_key asked 3 c.first_day-first.result c.last_day-due.result owed c.routine_in-met.result met c.routine_in-met.ensures.value
+          ∙ met_by_key asked 3 days.first days.last owed c.routine_behind-met.result met (c.routine_behind-met.ensures.value days.first rest)
           (sym c.is_quarter_month.ensures.value ∙ c.if-not-is_quarter_month.false)
           ∙ sym form;
     }
 
-pub returns-then-not-is_quarterly : goal.returns-then-not-is_quarterly
-returns-then-not-is_quarterly c = record {
-  value = sym (not_quarterly c.args.self.now c.args.month (sym c.requires.quarterly ∙ c.if-not-is_quarterly.true));
+pub returns-then-not-walked : goal.returns-then-not-walked
+returns-then-not-walked c = record {
+  value = sym (not_quarterly c.args.self.now c.args.days.now.month (sym c.requires.walked.quarterly ∙ c.if-not-walked.true));
 }

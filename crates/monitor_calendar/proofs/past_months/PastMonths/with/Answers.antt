@@ -1,19 +1,18 @@
-use Rattle.std.proofs.Common.{◌≡◌, ◌<◌, ◌≤◌, true, false, [], ◌∷◌, ◌++◌, None, is_some, sym, subst, inl, inr, arith}
+use Rattle.std.proofs.Common.{◌≡◌, ◌<◌, ◌≤◌, true, false, [], ◌∷◌, ◌++◌, is_some, sym, subst, inl, inr, arith}
+use Rattle.list_words.proofs.Members.{all_weaker}
 use Rattle.ldar_days.specs.Calendar.{month_of}
 use Rattle.ldar_law.specs.Happenings.{is_leak, is_routine_below}
 use Rattle.monitor_calendar.specs.Behind.{Tells, pair_with}
-use Rattle.monitor_calendar.proofs.PastLemmas.{told_leak, told_same, told_paired, told_below}
+use Rattle.monitor_calendar.proofs.PastLemmas.{told_same, told_paired, told_below}
 use Rattle.monitor_calendar.proofs.past_months.PastMonths.with.Goals as goal
 
 pub returns-then-is_leak : goal.returns-then-is_leak
 returns-then-is_leak c =
-    let e = c.args.e.now in
-    let at : c.number.result ≡ month_of e.key.day = omega arith in
-    let leaks : is_leak e.what ≡ true = cc in
+    let month = month_of c.args.e.now.key.day in
     record {
       value = λ last front tells le.
-          subst (λ m. Tells (record { leak = m; below = 0; pair = None }) (month_of e.key.day) (front ++ e ∷ [])) (sym at)
-          (told_leak c.args.self last front e tells le leaks);
+          c.of_leak.ensures.value front
+          (all_weaker (λ x. month_of x.key.day ≤ last) (λ x. month_of x.key.day ≤ month) (λ x by. omega (arith, by, le)) front tells.up_to);
     }
 
 pub returns-then-is_some : goal.returns-then-is_some
