@@ -6,6 +6,7 @@ ghost use Rattle.ldar_law.specs.declared.numbers.TheConstants.{LAST_FACT_DAY};
 
 use crate::after_event::After;
 use crate::asked::Asked;
+use crate::days_of_months::days_of_months;
 use crate::duty::put;
 use fact_kinds::{Class, Key, Memory};
 use ldar_days::Day;
@@ -44,8 +45,10 @@ pub fn duties_of(
     let mut duties = Vec::with_capacity(alloc, 16)?;
     put(&mut duties, &asked.first_monitoring())?;
     let months = asked.listed_months();
-    asked.put_monthly(&months, &mut duties)?;
-    asked.put_quarterly(&months, &mut duties)?;
+    let days = days_of_months(months.low, months.end);
+    let walked = asked.walked_from(&days, months.low, months.end);
+    asked.put_monthly(&months, &days, &walked, &mut duties)?;
+    asked.put_quarterly(&months, &days, &walked, &mut duties)?;
     asked.put_yearly(&mut duties)?;
     asked.put_planned(&mut duties)?;
     asked.put_weekly(&mut duties)?;

@@ -6,20 +6,18 @@ ghost use Rattle.monitor_calendar.specs.declared.month_days.MonthDays.{MonthDays
 ghost use Rattle.monitor_calendar.specs.declared.walked_months.WalkedMonth.{WalkedMonth as SomeWalked};
 
 use crate::asked::Asked;
-use crate::days_of_months::{MONTHS_LISTED, days_of_months};
+use crate::days_of_months::MONTHS_LISTED;
 use crate::month_days::MonthDays;
 use crate::walked_months::{WalkedMonth, walked_months};
 use ldar_law::is_valve;
 
-/// The months that a list can hold, their days, and of a component that is a valve what a walk over its events tells of each.
+/// The months that a list can hold.
 #[derive(Clone, Copy)]
 pub struct ListedMonths {
     /// The first of them.
     pub low: u32,
     /// The month behind the last of them.
     pub end: u32,
-    pub days: [MonthDays; MONTHS_LISTED],
-    pub walked: [WalkedMonth; MONTHS_LISTED],
 }
 
 impl Asked<'_> {
@@ -37,7 +35,7 @@ impl Asked<'_> {
     }
 
     /// What a walk over the events of a valve tells of the months from one on to another; of what is none no event is looked at.
-    fn walked_from(
+    pub fn walked_from(
         &self,
         days: &[MonthDays; MONTHS_LISTED],
         low: u32,
@@ -61,13 +59,6 @@ impl Asked<'_> {
     {
         let low = self.first_month();
         let end = self.day.month().number() + 1;
-        let days = days_of_months(low, end);
-        let walked = self.walked_from(&days, low, end);
-        ListedMonths {
-            low,
-            end,
-            days,
-            walked,
-        }
+        ListedMonths { low, end }
     }
 }

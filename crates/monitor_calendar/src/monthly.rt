@@ -1,13 +1,16 @@
 //! Monthly and quarterly monitoring (40 CFR 60.482-2a(a)(1), 60.482-7a(a)(1), (c)(1)).
 
-ghost use Rattle.std.specs.Prelude.{◌≡◌, ◌++◌, ◌&&◌, true, OnOk, filter_map, option_map};
+ghost use Rattle.std.specs.Prelude.{◌≡◌, ◌+◌, ◌<◌, ◌++◌, ◌&&◌, ℕ, true, OnOk, filter_map, option_map, slice_index_or};
 ghost use Rattle.ldar_law.specs.Duties as law;
 ghost use Rattle.ldar_law.specs.Kinds.{is_valve as says_valve};
 ghost use Rattle.monitor_calendar.specs.Causes as causes;
 ghost use Rattle.monitor_calendar.specs.Covering.{Covers};
 ghost use Rattle.monitor_calendar.specs.Walks.{IsBegun, IsWalked};
+ghost use Rattle.monitor_calendar.specs.declared.month_days.MonthDays.{MonthDays as SomeDays};
+ghost use Rattle.monitor_calendar.specs.declared.walked_months.WalkedMonth.{WalkedMonth as SomeWalked};
 
 use crate::asked::{Asked, Judged};
+use crate::days_of_months::MONTHS_LISTED;
 use crate::duty::put;
 use crate::listed_months::ListedMonths;
 use crate::month_days::MonthDays;
@@ -107,24 +110,41 @@ impl Asked<'_> {
 
     /// Adds the monthly monitorings.
     #[tactic(auto, using(list_words::proofs::RangeLemmas::ranges))]
-    pub fn put_monthly(&self, months: &ListedMonths, duties: &mut Vec<Duty>) -> Result<(), Memory>
+    pub fn put_monthly(
+        &self,
+        months: &ListedMonths,
+        days: &[MonthDays; MONTHS_LISTED],
+        walked: &[WalkedMonth; MONTHS_LISTED],
+        duties: &mut Vec<Duty>,
+    ) -> Result<(), Memory>
         requires covered { Covers self.now months.now }
+        requires days { (k : ℕ) (one : SomeDays) → k < MONTHS_LISTED → months.now.low + k < months.now.end
+            → (slice_index_or days.now k one).month ≡ months.now.low + k }
+        requires walked { says_valve self.now.item.now.kind ≡ true → (k : ℕ) (one : SomeWalked) → k < MONTHS_LISTED → months.now.low + k < months.now.end
+            → IsWalked self.now.startup self.now.events.now (months.now.low + k) (slice_index_or walked.now k one) }
         ensures put { OnOk result (duties.new.items ≡ duties.old.items ++ filter_map (causes.monthly self.now) (causes.months_after self.now)) }
     {
         for number in months.low..months.end {
             let place = (number - months.low) as usize;
-            put(
-                duties,
-                &self.monthly(&months.days[place], &months.walked[place]),
-            )?;
+            put(duties, &self.monthly(&days[place], &walked[place]))?;
         }
         Ok(())
     }
 
     /// Adds the quarterly monitorings. Of what is no valve no month is looked at.
     #[tactic(auto, using(list_words::proofs::RangeLemmas::ranges))]
-    pub fn put_quarterly(&self, months: &ListedMonths, duties: &mut Vec<Duty>) -> Result<(), Memory>
+    pub fn put_quarterly(
+        &self,
+        months: &ListedMonths,
+        days: &[MonthDays; MONTHS_LISTED],
+        walked: &[WalkedMonth; MONTHS_LISTED],
+        duties: &mut Vec<Duty>,
+    ) -> Result<(), Memory>
         requires covered { Covers self.now months.now }
+        requires days { (k : ℕ) (one : SomeDays) → k < MONTHS_LISTED → months.now.low + k < months.now.end
+            → (slice_index_or days.now k one).month ≡ months.now.low + k }
+        requires walked { says_valve self.now.item.now.kind ≡ true → (k : ℕ) (one : SomeWalked) → k < MONTHS_LISTED → months.now.low + k < months.now.end
+            → IsWalked self.now.startup self.now.events.now (months.now.low + k) (slice_index_or walked.now k one) }
         ensures put { OnOk result (duties.new.items ≡ duties.old.items ++ filter_map (causes.quarterly self.now) (causes.months_after self.now)) }
     {
         if !is_valve(self.item.kind) {
@@ -132,10 +152,7 @@ impl Asked<'_> {
         }
         for number in months.low..months.end {
             let place = (number - months.low) as usize;
-            put(
-                duties,
-                &self.quarterly(&months.days[place], &months.walked[place]),
-            )?;
+            put(duties, &self.quarterly(&days[place], &walked[place]))?;
         }
         Ok(())
     }

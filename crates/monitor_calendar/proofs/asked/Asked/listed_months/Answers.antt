@@ -10,7 +10,5 @@ returns c =
         first = c.first_month-low.ensures.value;
         end = omega (arith, at);
         within = omega (arith, c.number-end.ensures.in_range);
-        days = c.days_of_months-days.ensures.value;
-        walked = c.walked_from-walked.ensures.value;
       };
     }

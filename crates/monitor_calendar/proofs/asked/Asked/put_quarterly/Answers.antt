@@ -21,9 +21,9 @@ loop-number-preserved c =
     let f = causes.quarterly c.args.self.now in
     let months = c.args.months.now in
     let covered = c.requires.covered in
-    let at : (get_or months.days (l.number - months.low) c.index-months-place.result).month ≡ l.number = omega (
+    let at : (get_or c.args.days.now (l.number - months.low) c.index-days-place.result).month ≡ l.number = omega (
       arith,
-      covered.days (l.number - months.low) c.index-months-place.result (omega (arith, covered.first.few, covered.end, c.loop-number-test.true)) (omega
+      c.requires.days (l.number - months.low) c.index-days-place.result (omega (arith, covered.first.few, covered.end, c.loop-number-test.true)) (omega
           (arith, c.loop-number-test.true)),
     ) in
     ap (λ ds. ds ++ filter_map f (until (l.number + 1) c.args.months.now.end)) (c.in_ok-put.ensures.put
