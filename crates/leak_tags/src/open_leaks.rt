@@ -134,6 +134,7 @@ impl OpenLeaks {
     }
 
     /// Takes one event more.
+    #[inline(always)]
     pub fn take(&mut self, kind: Kind, event: &Event)
         ensures value { self.new ≡ spec.with_event kind self.old event.now }
     {

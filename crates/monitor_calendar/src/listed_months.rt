@@ -34,23 +34,24 @@ impl Asked<'_> {
         }
     }
 
-    /// What a walk over the events of a valve tells of the months from one on to another; of what is none no event is looked at.
-    pub fn walked_from(
+    /// Puts down what a walk over the events of a valve tells of the months from one on to another; of what is none no event is
+    /// looked at.
+    pub fn walk_from(
         &self,
         days: &[MonthDays; MONTHS_LISTED],
         low: u32,
         end: u32,
-    ) -> [WalkedMonth; MONTHS_LISTED]
+        walked: &mut [WalkedMonth; MONTHS_LISTED],
+    )
         requires low { (24_096 ≤ low) × (low ≤ 25_200) }
         requires end { end ≤ 25_200 }
         requires days { (k : ℕ) (one : SomeDays) → k < MONTHS_LISTED → low + k < end → (slice_index_or days.now k one).month ≡ low + k }
-        ensures value { says_valve self.now.item.now.kind ≡ true → (k : ℕ) (walked : SomeWalked) → k < MONTHS_LISTED → low + k < end
-            → IsWalked self.now.startup self.now.events.now (low + k) (slice_index_or result k walked) }
+        ensures value { says_valve self.now.item.now.kind ≡ true → (k : ℕ) (one : SomeWalked) → k < MONTHS_LISTED → low + k < end
+            → IsWalked self.now.startup self.now.events.now (low + k) (slice_index_or walked.new k one) }
     {
-        if !is_valve(self.item.kind) {
-            return [WalkedMonth::none(); MONTHS_LISTED];
+        if is_valve(self.item.kind) {
+            walked_months(self.startup, self.events, days, low, end, walked);
         }
-        walked_months(self.startup, self.events, days, low, end)
     }
 
     /// The months after the beginning whose duties the list can hold.

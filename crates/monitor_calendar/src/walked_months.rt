@@ -103,31 +103,31 @@ fn walked_to(walk: Walk, events: &[Event], days: &MonthDays) -> Walk
     Walk { place, past }
 }
 
-/// What a walk tells of the months from one on to another, as far as there is room for them.
+/// Puts down what a walk tells of the months from one on to another, as far as there is room for them.
 pub fn walked_months(
     startup: Day,
     events: &[Event],
     months: &[MonthDays; MONTHS_LISTED],
     low: u32,
     end: u32,
-) -> [WalkedMonth; MONTHS_LISTED]
+    walked: &mut [WalkedMonth; MONTHS_LISTED],
+)
     requires startup { startup ≤ LAST_FACT_DAY }
     requires ordered { Ascends (λ a b. is_earlier a.key b.key) events.now }
     requires low { (24_096 ≤ low) × (low ≤ 25_200) }
     requires end { end ≤ 25_200 }
     requires months { (k : ℕ) (days : SomeDays) → k < MONTHS_LISTED → low + k < end → (slice_index_or months.now k days).month ≡ low + k }
-    ensures value { (k : ℕ) (walked : SomeWalked) → k < MONTHS_LISTED → low + k < end
-        → IsWalked startup events.now (low + k) (slice_index_or result k walked) }
+    ensures value { (k : ℕ) (one : SomeWalked) → k < MONTHS_LISTED → low + k < end
+        → IsWalked startup events.now (low + k) (slice_index_or walked.new k one) }
 {
-    let mut walked = [WalkedMonth::none(); MONTHS_LISTED];
     if end <= low {
-        return walked;
+        return;
     }
     let mut walk = begun(events, &months[0]);
     for k in 0..MONTHS_LISTED {
         let month = low + k as u32;
         if end <= month {
-            return walked;
+            return;
         }
         walk = walked_to(walk, events, &months[k]);
         walked[k] = WalkedMonth {
@@ -135,5 +135,4 @@ pub fn walked_months(
             is_quarterly: walk.past.let_be_quarterly(startup, month),
         };
     }
-    walked
 }

@@ -11,7 +11,7 @@ pub loop-k-init : goal.loop-k-init
 loop-k-init c = record {
   walk = subst (IsOn c.begun-walk.result.past c.args.events.now c.begun-walk.result.place)
       (c.requires.months 0 c.index-months-0.result (omega arith) (omega arith)) c.begun-walk.ensures.value;
-  long = refl;
+  long = c.told-walked;
   told = λ k h walked. absurd (omega (arith, h));
 }
 
