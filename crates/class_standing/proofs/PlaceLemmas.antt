@@ -1,9 +1,9 @@
 -- A place in ordered classes, by its two neighbours.
-use Rattle.std.proofs.Common.{◌≡◌, ℕ, zero, suc, ◌+◌, ◌-◌, ◌<◌, ◌≤◌, true, false, nat_le, Bool, Option, Some, None, List, [], ◌∷◌, length, get_or, slice_get}
-use Rattle.std.proofs.Common.{option_map, unwrap_or, refl, sym, ap, ◌∙◌, inl, inr, arith}
+use Rattle.std.proofs.Common.{◌≡◌, ℕ, zero, suc, ◌-◌, ◌<◌, ◌≤◌, true, false, nat_le, Bool, Option, Some, None, List, [], ◌∷◌, length, get_or, slice_get}
+use Rattle.std.proofs.Common.{option_map, unwrap_or, refl, sym, ◌∙◌, inl, inr, arith}
 use Rattle.std.specs.List.Sorted.{IsPartitionedBy, IsPartitionPoint}
 use Rattle.std.specs.Option.{option_map_or}
-use Rattle.std.proofs.lemmas.Bool.{cases_Bool, false≢true, le-leb, lt-leb}
+use Rattle.std.proofs.lemmas.Bool.{cases_Bool, false≢true, le-leb, lt-leb, leb-true, leb-false}
 use Rattle.fact_kinds.specs.declared.class.Class.{Class}
 use Rattle.fact_kinds.specs.declared.key.Key.{Key}
 use Rattle.ldar_law.specs.declared.equipment.Equipment.{Equipment}
@@ -23,6 +23,20 @@ tells_past p [] zero t = absurd (false≢true t)
 tells_past p [] (suc i) t = absurd (false≢true t)
 tells_past p (x ∷ xs) zero t = omega arith
 tells_past p (x ∷ xs) (suc i) t = omega (arith, tells_past p xs i t)
+
+-- .. of the element there, whatever stands in for it
+tells_so : {X : Type 0} (p : X → Bool) (xs : List X) (i : ℕ) (b : Bool) → i < length xs → ((d : X) → p (get_or xs i d) ≡ b) →
+    option_map_or p (slice_get xs i) false ≡ b
+tells_so p [] i b within all = absurd (omega (arith, within))
+tells_so p (x ∷ xs) i b within all = tells_at p (x ∷ xs) i x within ∙ all x
+
+-- .. and of one that fails, or is not there
+tells_none : {X : Type 0} (p : X → Bool) (xs : List X) (i : ℕ) → ((d : X) → i < length xs → p (get_or xs i d) ≡ false) →
+    option_map_or p (slice_get xs i) false ≡ false
+tells_none p [] zero all = refl
+tells_none p [] (suc i) all = refl
+tells_none p (x ∷ xs) zero all = all x (omega arith)
+tells_none p (x ∷ xs) (suc i) all = tells_none p xs i (λ d within. all d (omega (arith, within)))
 
 -- of what stands in front as it passes, the front ends at a place whose neighbours say so
 module _ {X : Type 0} (p : X → Bool) (xs : List X) (parted : IsPartitionedBy p xs) where
@@ -71,3 +85,32 @@ behind_between classes zero first end day parted last next low high =
 behind_between classes (suc place) first end day parted last next low high =
     behind_front (λ (e : Key × Class). nat_le e.0.day day) classes parted (suc place) (omega arith) (next ∙ lt-leb end day high)
     (last (omega arith) ∙ le-leb first day low)
+
+-- the day by which the classes in front of a place were entered lies between those two days
+pub day_between : (classes : List (Key × Class)) (place first end day : ℕ) → place ≤ length classes → IsBehind day classes place → (place ≡ 0 → first ≡ 0) →
+    (0 < place → option_map_or (λ e. nat_le e.0.day day) (slice_get classes (place - 1)) false ≡ nat_le first day) →
+    option_map_or (λ e. nat_le e.0.day day) (slice_get classes place) false ≡ nat_le end day → (first ≤ day) × (day < end)
+day_between classes zero first end day within behind none last next = (
+  omega (arith, none refl),
+  leb-false end day (sym next ∙ tells_none (λ (e : Key × Class). nat_le e.0.day day) classes 0 (λ d inside. behind.1 0 d (omega arith) inside)),
+)
+day_between classes (suc place) first end day within behind none last next = (
+  leb-true first day (sym (last (omega arith))
+      ∙ tells_so (λ (e : Key × Class). nat_le e.0.day day) classes (suc place - 1) true (omega (arith, within))
+      (λ d. behind.0 (suc place - 1) d (omega arith) (omega arith))),
+  leb-false end day (sym next
+      ∙ tells_none (λ (e : Key × Class). nat_le e.0.day day) classes (suc place) (λ d inside. behind.1 (suc place) d (omega arith) inside)),
+)
+
+-- where those in front of a place were entered by the day, and the one there was not, the place is behind the classes entered
+pub behind_entered : (classes : List (Key × Class)) (place day : ℕ) → IsPartitionedBy (λ e. nat_le e.0.day day) classes →
+    ((k : ℕ) (e : Key × Class) → k < place → (get_or classes k e).0.day ≤ day) →
+    ((e : Key × Class) → place < length classes → nat_le (get_or classes place e).0.day day ≡ false) → IsBehind day classes place
+behind_entered classes place day parted front next = (
+  λ k e low lt. le-leb (get_or classes k e).0.day day (front k e lt),
+  λ k e from within.
+      elim (cases_Bool (nat_le (get_or classes k e).0.day day)) [
+        | inl t ↦ absurd (false≢true (sym (next e (omega (arith, from, within))) ∙ parted place k e from within t))
+        | inr f ↦ f
+      ],
+)

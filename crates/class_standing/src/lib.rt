@@ -4,4 +4,4 @@
 
 mod standing;
 
-pub use standing::ClassStanding;
+pub use standing::{ClassStanding, entered_by};

@@ -1,4 +1,4 @@
-ghost use Rattle.std.specs.Prelude.{◌≡◌, ◌≤◌, ◌<◌, ◌-◌, ◌&&◌, ℕ, false, nat_le, nat_lt, length, slice_get};
+ghost use Rattle.std.specs.Prelude.{◌≡◌, ◌≤◌, ◌<◌, ◌-◌, ◌&&◌, ℕ, false, nat_le, nat_lt, length, slice_get, slice_index_or};
 ghost use Rattle.std.specs.Option.{option_map_or};
 ghost use Rattle.list_words.specs.Order.{Ascends};
 ghost use Rattle.fact_kinds.specs.Facts.{is_earlier};
@@ -34,6 +34,7 @@ fn day_at(classes: &[(Key, Class)], place: usize) -> u32
 fn day_before(classes: &[(Key, Class)], place: usize) -> u32
     ensures value { (day : ℕ) → day < 65_536 → 0 < place
         → option_map_or (λ e. nat_le e.0.day day) (slice_get classes.now (place - 1)) false ≡ nat_le result day }
+    ensures none { place ≡ 0 → result ≡ 0 }
 {
     if place == 0 {
         return 0;
@@ -52,20 +53,49 @@ fn class_at(equipment: &Equipment, classes: &[(Key, Class)], place: usize) -> Cl
     classes[place - 1].1
 }
 
+/// How many of the classes of a component, in key order, were entered by a day: those in front of a place were, and the others
+/// are looked at one after the other.
+pub fn entered_by(classes: &[(Key, Class)], from: usize, day: Day) -> usize
+    requires within { from ≤ length classes.now }
+    requires front { (k : ℕ) (e : Key × Class) → k < from → (slice_index_or classes.now k e).0.day ≤ day }
+    requires ordered { Ascends (λ a b. is_earlier a.0 b.0) classes.now }
+    ensures within { result ≤ length classes.now }
+    ensures value { IsBehind day classes.now result }
+{
+    let number = day.number();
+    let mut place = from;
+    while place < classes.len() && classes[place].0.day.number() <= number {
+        place += 1;
+    }
+    place
+}
+
 impl ClassStanding {
-    /// The class of a component on a day, by its classes in key order, of which the last one entered by then is found by
-    /// halving.
-    pub fn on(equipment: &Equipment, classes: &[(Key, Class)], day: Day) -> ClassStanding
+    /// The class of a component behind so many of its classes, in key order: it is in force on the days by which just these were
+    /// entered.
+    pub fn behind(equipment: &Equipment, classes: &[(Key, Class)], place: usize) -> ClassStanding
+        requires within { place ≤ length classes.now }
         requires ordered { Ascends (λ a b. is_earlier a.0 b.0) classes.now }
-        ensures today { result.class ≡ force.class_on equipment.now classes.now day }
+        ensures within { (day : ℕ) → day < 65_536 → IsBehind day classes.now place → (result.first ≤ day) × (day < result.end) }
         ensures value { IsInForce equipment.now classes.now result }
     {
-        let place = classes.partition_point(|e| e.0.day <= day);
         ClassStanding {
             first: day_before(classes, place),
             end: day_at(classes, place),
             class: class_at(equipment, classes, place),
         }
+    }
+
+    /// The class of a component on a day, by its classes in key order, of which the last one entered by then is found by
+    /// halving.
+    pub fn on(equipment: &Equipment, classes: &[(Key, Class)], day: Day) -> ClassStanding
+        requires ordered { Ascends (λ a b. is_earlier a.0 b.0) classes.now }
+        ensures today { result.class ≡ force.class_on equipment.now classes.now day }
+        ensures within { (result.first ≤ day) × (day < result.end) }
+        ensures value { IsInForce equipment.now classes.now result }
+    {
+        let place = classes.partition_point(|e| e.0.day <= day);
+        ClassStanding::behind(equipment, classes, place)
     }
 
     /// Whether a day is one of its days.
@@ -86,6 +116,7 @@ impl ClassStanding {
         requires ordered { Ascends (λ a b. is_earlier a.0 b.0) classes.now }
         requires value { IsInForce equipment.now classes.now self }
         ensures today { result.class ≡ force.class_on equipment.now classes.now day }
+        ensures within { (result.first ≤ day) × (day < result.end) }
         ensures value { IsInForce equipment.now classes.now result }
     {
         if self.holds_on(day) {
