@@ -1,3 +1,4 @@
+pub mod CountingLemmas
 pub mod ElectionLemmas
 pub mod MarkLemmas
 pub mod PassLemmas

@@ -1,12 +1,14 @@
--- Whether a component is a valve that is counted, over days between which no class is entered for it.
-use Rattle.std.specs.Prelude.{◌≡◌, List}
+-- Whether a component is a valve that is counted, over quarters between which no class is entered for it.
+use Rattle.std.specs.Prelude.{◌≡◌, ℕ, ◌<◌, ◌≤◌, false, List, [], length, slice_index_or}
 use Rattle.fact_kinds.specs.declared.class.Class.{Class}
 use Rattle.fact_kinds.specs.declared.key.Key.{Key}
 use Rattle.ldar_law.specs.declared.equipment.Equipment.{Equipment}
-use Rattle.class_standing.specs.Standings.{IsInForce}
+use Rattle.ldar_law.specs.Percent.{judging_day, is_counted}
 use Rattle.skip_periods.specs.declared.counting.Counting.{Counting}
-use Rattle.skip_periods.specs.Seen.{counts_class}
 
--- it is counted or not by a class that is in force on each of the days
-abbrev pub CountsSo : Equipment → List (Key × Class) → Counting → Type 0
-CountsSo item classes counting = (counting.is_counted ≡ counts_class item counting.under.class) × IsInForce item classes counting.under
+-- it is counted or not in the quarter, and in each behind it up to the end, as a view of the day has them; so many classes were
+-- entered by the day on which the quarter is judged
+pub record CountsFrom (item : Equipment) (classes : List (Key × Class)) (startup day quarter : ℕ) (counting : Counting) : Type 0 where
+  pub counts : (later : ℕ) → quarter ≤ later → later < counting.end → counting.is_counted ≡ is_counted item classes startup [] false later day
+  pub within : counting.entered ≤ length classes
+  pub front : (k : ℕ) (e : Key × Class) → k < counting.entered → (slice_index_or classes k e).0.day ≤ judging_day startup quarter day

@@ -3,7 +3,6 @@ ghost use Rattle.list_words.specs.Order.{Ascends};
 ghost use Rattle.list_words.specs.Ranges.{from_to};
 ghost use Rattle.fact_kinds.specs.Facts.{is_earlier};
 ghost use Rattle.fact_kinds.specs.Named.{is_numbered as says_numbered};
-ghost use Rattle.ldar_law.specs.Force.{class_on};
 ghost use Rattle.ldar_law.specs.Percent as law;
 ghost use Rattle.ldar_law.specs.declared.numbers.TheConstants.{LAST_FACT_DAY};
 ghost use Rattle.skip_periods.specs.Seen.{mark_for};
@@ -13,7 +12,7 @@ use crate::percent::{mark_seen, missed_quarter};
 use crate::seen::seen_to;
 use fact_kinds::{Class, Key, Memory};
 use ldar_days::Day;
-use ldar_law::{Equipment, Event, Mark, judging_day};
+use ldar_law::{Equipment, Event, Mark};
 use std::alloc::Global;
 
 /// Whether the list says that a quarter is delayed.
@@ -37,24 +36,6 @@ fn is_numbered(number: Option<u16>, quarter: u16) -> bool
     }
 }
 
-/// A day on which the component has the class of the day on which a quarter is judged: any day where none was entered.
-fn class_day(
-    equipment: &Equipment,
-    classes: &[(Key, Class)],
-    startup: Day,
-    quarter: u16,
-    day: Day,
-) -> Day
-    requires startup { startup ≤ LAST_FACT_DAY }
-    requires quarter { 1 ≤ quarter }
-    ensures value { class_on equipment.now classes.now result ≡ class_on equipment.now classes.now (law.judging_day startup quarter day) }
-{
-    if classes.is_empty() {
-        return equipment.begin;
-    }
-    judging_day(startup, quarter, day)
-}
-
 /// What a component adds to the counts of each quarter from the first to one (40 CFR 60.485a(h)), as a view of the day
 /// has it: entry 0 is the mark for quarter 1. The classes and the events are those of the component, the classes in key
 /// order; `delayed` says of each quarter, from the first on, what `mark` is told of it. The events are walked over once,
@@ -76,11 +57,10 @@ pub fn marks_to(
 {
     let mut marks = seen_to(alloc, startup, events, quarter)?;
     let missed = missed_quarter(equipment, classes, startup, events, day);
-    let mut counting = Counting::on(equipment, classes, equipment.begin);
+    let mut counting = Counting::none();
     for past in 0..quarter {
         let number = past + 1;
-        let class_day = class_day(equipment, classes, startup, number, day);
-        counting = counting.moved_to(equipment, classes, class_day);
+        counting = counting.moved_to(equipment, classes, startup, number, day);
         let is_delayed = is_delayed_in(delayed, number);
         let is_missed = is_numbered(missed, number);
         let place = usize::from(past);

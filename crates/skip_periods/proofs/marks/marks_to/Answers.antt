@@ -1,5 +1,6 @@
 use Rattle.std.proofs.Common.{◌≡◌, ◌+◌, get_or, ap, ◌∙◌, arith}
-use Rattle.skip_periods.specs.Seen.{seen_in, counts_class}
+use Rattle.skip_periods.specs.Seen.{seen_in}
+use Rattle.skip_periods.proofs.CountingLemmas.{counts_on}
 use Rattle.skip_periods.proofs.MarkLemmas.{marked_none, marked_more, marked_all}
 use Rattle.skip_periods.proofs.SeenLemmas.{mark_is}
 use Rattle.skip_periods.proofs.marks.marks_to.Goals as goal
@@ -8,7 +9,11 @@ pub loop-past-init : goal.loop-past-init
 loop-past-init c =
     let a = c.args in
     record {
-      stands = c.on-counting.ensures.value;
+      stands = record {
+        counts = λ later on before. absurd (omega (arith, before, c.none-counting.ensures.end));
+        within = omega (arith, c.none-counting.ensures.entered);
+        front = λ k e entered. absurd (omega (arith, entered, c.none-counting.ensures.entered));
+      };
       marked = marked_none a.equipment.now a.classes.now a.startup a.events.now a.delayed.now a.day a.quarter
           c.in_ok-marks.marks.items c.in_ok-marks.ensures.value;
     }
@@ -23,14 +28,14 @@ loop-past-preserved c =
     let seen : shown ≡ seen_in a.startup a.events.now (l.past + 1) =
     c.index.ensures ∙ ap (λ k. get_or l.marks.items k shown) place ∙ l.invariant.marked.seen l.past shown (omega arith) (omega arith) in
     record {
-      stands = c.moved_to-counting.ensures.value;
+      stands = counts_on a.equipment.now a.classes.now a.startup a.day (l.past + 1) c.moved_to-counting.result (omega arith, omega arith) c.requires.startup
+          c.moved_to-counting.ensures.value;
       marked =
           marked_more a.equipment.now a.classes.now a.startup a.events.now a.delayed.now a.day a.quarter l.past c.from-place.result l.marks.items
           mark.result place (omega arith) l.invariant.marked
           (mark_is a.equipment.now a.classes.now a.startup a.events.now a.delayed.now a.day (l.past + 1) shown mark.result
           c.moved_to-counting.result.is_counted c.is_delayed_in-is_delayed.result c.is_numbered-is_missed.result
-          (c.moved_to-counting.ensures.today ∙ ap (counts_class a.equipment.now) c.class_day-class_day.ensures.value)
-          seen c.is_delayed_in-is_delayed.ensures.value
+          c.moved_to-counting.ensures.now seen c.is_delayed_in-is_delayed.ensures.value
           (c.is_numbered-is_missed.ensures.value ∙ c.missed_quarter-missed.ensures.value (l.past + 1)) mark.ensures.leaking mark.ensures.monitored);
     }
 
