@@ -9,7 +9,6 @@ use Rattle.list_words.specs.Words.{each_from, each_where, last_such}
 use Rattle.list_words.proofs.WordLemmas.{last_such-cons}
 use Rattle.ldar_days.specs.Calendar.{month_of, last_day, week_last, end_by}
 use Rattle.fact_kinds.specs.declared.class.Class.{Class}
-use Rattle.fact_kinds.specs.declared.class.Designation.{Designation}
 use Rattle.fact_kinds.specs.declared.class.Kind.{Kind}
 use Rattle.fact_kinds.specs.declared.class.Kind.TheVariants.{Valve, Pump, Compressor, Relief}
 use Rattle.fact_kinds.specs.declared.class.Service.{Service}
@@ -20,14 +19,14 @@ use Rattle.ldar_law.specs.declared.event.Event.{Event}
 use Rattle.ldar_law.specs.Duties as law
 use Rattle.ldar_law.specs.Force.{class_on, is_in_service}
 use Rattle.ldar_law.specs.Happenings.{has_undesignated_drips, is_release, has_evidence}
-use Rattle.ldar_law.specs.Kinds.{is_valve, is_pump, is_compressor}
+use Rattle.ldar_law.specs.Kinds.{is_valve, is_pump}
 use Rattle.ldar_law.specs.Limits.{regime_of}
 use Rattle.ldar_law.specs.Months.{is_quarterly, month_in_quarter}
-use Rattle.ldar_law.specs.Standing.{are_pump_rules, are_relief_rules, are_heavy_liquid_rules, is_unsafe_designated, is_difficult_designated, is_nde_designated}
+use Rattle.ldar_law.specs.Standing.{are_pump_rules, are_relief_rules, is_unsafe_designated, is_difficult_designated, is_nde_designated}
 use Rattle.ldar_law.specs.Standing.{is_under_valve_rules, is_under_pump_rules, is_under_compressor_rules, is_under_relief_rules, is_under_heavy_liquid_rules}
 use Rattle.ldar_law.specs.Standing.{is_plain, is_unsafe}
 use Rattle.monitor_calendar.specs.Causes as causes
-use Rattle.monitor_calendar.specs.Concern.{has_unsafe_class, is_yearly_designated, has_yearly_class, is_relief, concerns}
+use Rattle.monitor_calendar.specs.Concern.{has_unsafe_class, is_yearly_designated, has_yearly_class, is_relief, is_heavy_liquid, has_heavy_liquid_class, concerns}
 use Rattle.monitor_calendar.specs.Following.{after_event}
 use Rattle.monitor_calendar.specs.declared.after_event.After.{After}
 use Rattle.monitor_calendar.specs.declared.after_event.After.TheVariants.{Drips, Release, Evidence}
@@ -97,28 +96,17 @@ no_relief_rules Compressor Vacuum e = refl
 no_relief_rules Compressor Under300 e = refl
 no_relief_rules Relief service e = cc
 
--- a compressor is not under the rules for heavy liquid service
-no_heavy_liquid_rules : (kind : Kind) (service : Service) → not (is_compressor kind) ≡ false → are_heavy_liquid_rules (regime_of kind service) ≡ false
-no_heavy_liquid_rules Valve service e = cc
-no_heavy_liquid_rules Pump service e = cc
-no_heavy_liquid_rules Compressor Gas e = refl
-no_heavy_liquid_rules Compressor Light e = refl
-no_heavy_liquid_rules Compressor Heavy e = refl
-no_heavy_liquid_rules Compressor Vacuum e = refl
-no_heavy_liquid_rules Compressor Under300 e = refl
-no_heavy_liquid_rules Relief service e = cc
-
 -- ---- classes
 
--- some entered class is of a designation that passes a test
-abbrev is_some_such : (Designation → Bool) → List (Key × Class) → Bool
-is_some_such is_such classes = list_any (λ entered. is_such entered.1.designation) classes
+-- some entered class passes a test
+abbrev is_some_such : (Class → Bool) → List (Key × Class) → Bool
+is_some_such is_such classes = list_any (λ entered. is_such entered.1) classes
 
-module _ (is_such : Designation → Bool) where
-  -- an entered class that is not
+module _ (is_such : Class → Bool) where
+  -- an entered class that does not
   abbrev NoneSuch : Option (Key × Class) → Type 0
   NoneSuch None = Unit {0}
-  NoneSuch (Some entered) = is_such entered.1.designation ≡ false
+  NoneSuch (Some entered) = is_such entered.1 ≡ false
 
   -- the later of two
   either : (later earlier : Option (Key × Class)) → NoneSuch later → NoneSuch earlier → NoneSuch (option_or later earlier)
@@ -126,7 +114,7 @@ module _ (is_such : Designation → Bool) where
   either (Some entered) earlier a b = a
 
   -- one that is tried
-  tried : (passes : Bool) (entered : Key × Class) → is_such entered.1.designation ≡ false → NoneSuch (cond passes (Some entered) None)
+  tried : (passes : Bool) (entered : Key × Class) → is_such entered.1 ≡ false → NoneSuch (cond passes (Some entered) None)
   tried true entered e = e
   tried false entered e = tt
 
@@ -134,21 +122,21 @@ module _ (is_such : Designation → Bool) where
   last_safe : (p : Key × Class → Bool) (classes : List (Key × Class)) → is_some_such is_such classes ≡ false → NoneSuch (last_such p classes)
   last_safe p [] none = tt
   last_safe p (x ∷ xs) none =
-      let parts = or_parts (is_such x.1.designation) (is_some_such is_such xs) none in
+      let parts = or_parts (is_such x.1) (is_some_such is_such xs) none in
       subst NoneSuch (sym (last_such-cons p x xs))
       (either (last_such p xs) (cond (p x) (Some x) None) (last_safe p xs parts.1) (tried (p x) x parts.0))
 
   -- .. or the one that stands in for it
-  safe_or : (found : Option (Key × Class)) (class : Class) → NoneSuch found → is_such class.designation ≡ false →
-      is_such (unwrap_or (option_map (λ entered. entered.1) found) class).designation ≡ false
+  safe_or : (found : Option (Key × Class)) (class : Class) → NoneSuch found → is_such class ≡ false →
+      is_such (unwrap_or (option_map (λ entered. entered.1) found) class) ≡ false
   safe_or None class safe own = own
   safe_or (Some entered) class safe own = safe
 
   -- no class of it is such on any day
-  never_such : (item : Equipment) (classes : List (Key × Class)) (day : ℕ) → (is_such item.class.designation || is_some_such is_such classes) ≡ false →
-      is_such (class_on item classes day).designation ≡ false
+  never_such : (item : Equipment) (classes : List (Key × Class)) (day : ℕ) → (is_such item.class || is_some_such is_such classes) ≡ false →
+      is_such (class_on item classes day) ≡ false
   never_such item classes day none =
-      let parts = or_parts (is_such item.class.designation) (is_some_such is_such classes) none in
+      let parts = or_parts (is_such item.class) (is_some_such is_such classes) none in
       safe_or (last_such (λ entered. nat_le entered.0.day day) classes) item.class (last_safe (λ entered. nat_le entered.0.day day) classes parts.1) parts.0
 
 -- ---- duties
@@ -222,7 +210,7 @@ module _ (asked : Asked) where
       let day = min (last_day (12 * year + 11)) asked.day in
       let class = class_on item classes day in
       let parts = or_parts (is_difficult_designated class.designation) (is_nde_designated class.designation)
-      (never_such is_yearly_designated item classes day none) in
+      (never_such (λ class. is_yearly_designated class.designation) item classes day none) in
       let valve = is_under_valve_rules item classes day in
       let ruled = is_under_valve_rules item classes day || is_under_pump_rules item classes day || is_under_compressor_rules item classes day in
       unowed item classes asked.startup asked.events.now asked.skipped.now asked.day 4 _ _ _ _
@@ -240,7 +228,7 @@ module _ (asked : Asked) where
       let plan = (class_on item classes day).plan in
       unowed item classes asked.startup asked.events.now asked.skipped.now asked.day 5 _ _ _ _
       (second_fails (is_in_service item day) (is_unsafe item classes day) (is_under_valve_rules item classes day || is_under_pump_rules item classes day)
-      (nat_lt 0 plan) (nat_eq ((month - month_of item.begin) % plan) 0) (never_such is_unsafe_designated item classes day none))
+      (nat_lt 0 plan) (nat_eq ((month - month_of item.begin) % plan) 0) (never_such (λ class. is_unsafe_designated class.designation) item classes day none))
 
   -- on no day is it a pump that is looked at each week
   no_pump : is_pump asked.item.now.kind ≡ false → (day : ℕ) →
@@ -277,17 +265,17 @@ module _ (asked : Asked) where
       (and_right (is_release e.what && is_in_service asked.item.now e.key.day) (is_under_relief_rules asked.item.now asked.classes.now e.key.day)
       (no_relief_rules asked.item.now.kind (class_on asked.item.now asked.classes.now e.key.day).service none))
 
-  -- a compressor has none after evidence of a leak
-  never_evidence : not (is_compressor asked.item.now.kind) ≡ false → (before : List Event) (e : Event) (later : List Event) →
+  -- what is never in heavy liquid service has none after evidence of a leak
+  never_evidence : has_heavy_liquid_class asked.item.now asked.classes.now ≡ false → (before : List Event) (e : Event) (later : List Event) →
       after_event asked Evidence before e later ≡ None
   unfolding law.evidence
   never_evidence none before e later =
       unowed asked.item.now asked.classes.now asked.startup asked.events.now asked.skipped.now asked.day 9 _ _ _ _
       (and_right (has_evidence e.what && is_in_service asked.item.now e.key.day) (is_under_heavy_liquid_rules asked.item.now asked.classes.now e.key.day)
-      (no_heavy_liquid_rules asked.item.now.kind (class_on asked.item.now asked.classes.now e.key.day).service none))
+      (never_such (is_heavy_liquid asked.item.now.kind) asked.item.now asked.classes.now e.key.day none))
 
   -- nothing follows what cannot concern it
-  pub never_after : (after : After) → concerns after asked.item.now.kind ≡ false → (before : List Event) (e : Event) (later : List Event) →
+  pub never_after : (after : After) → concerns after asked.item.now asked.classes.now ≡ false → (before : List Event) (e : Event) (later : List Event) →
       after_event asked after before e later ≡ None
   never_after Drips none = never_drips none
   never_after Release none = never_release none

@@ -11,7 +11,7 @@ use Rattle.monitor_calendar.specs.Covering.{IsFirstListed}
 use Rattle.monitor_calendar.specs.declared.asked.Asked.{Asked}
 use Rattle.monitor_calendar.proofs.Listing.{ends_before, no_monthly, no_quarterly, no_yearly, not_planned, no_weekly}
 use Rattle.monitor_calendar.proofs.Ranges.{from_later}
-use Rattle.monitor_calendar.proofs.Rising.{month_low, month_rises, months_listed}
+use Rattle.monitor_calendar.proofs.Rising.{month_low, month_rises}
 
 module _ (asked : Asked) (cut : ℕ) (is : cut ≡ max asked.item.now.begin (asked.day - 366)) (valid : IsDay cut) where
   -- the day of the beginning
@@ -70,7 +70,6 @@ module _ (asked : Asked) (cut : ℕ) (is : cut ≡ max asked.item.now.begin (ask
   pub listed_from_cut : IsMonth (month_of cut) → month_of begin < month_of cut → IsFirstListed asked (month_of cut)
   listed_from_cut month lt = record {
     in_range = (omega (arith, month), omega (arith, month));
-    few = omega (arith, months_listed cut day (omega (arith, is)));
     monthly = from_later (causes.monthly asked) (month_of begin + 1) (month_of cut) (month_of day + 1) (omega (arith, lt)) monthly_none;
     quarterly = from_later (causes.quarterly asked) (month_of begin + 1) (month_of cut) (month_of day + 1) (omega (arith, lt)) quarterly_none;
   }
@@ -79,7 +78,6 @@ module _ (asked : Asked) (cut : ℕ) (is : cut ≡ max asked.item.now.begin (ask
   pub listed_from_begin : IsMonth (month_of begin) → month_of cut ≤ month_of begin → IsFirstListed asked (month_of begin + 1)
   listed_from_begin month le = record {
     in_range = (omega (arith, month), omega (arith, month));
-    few = omega (arith, months_listed cut day (omega (arith, is)), le);
     monthly = refl;
     quarterly = refl;
   }

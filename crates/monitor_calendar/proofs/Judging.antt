@@ -4,6 +4,7 @@ use Rattle.std.proofs.Common.{◌≡◌, ℕ, ◌+◌, ◌-◌, ◌*◌, ◌%◌
 use Rattle.std.proofs.Common.{◌&&◌, ◌||◌, nat_lt, nat_eq, min, refl, sym, ap, ◌∙◌, inl, inr, mod-eq_of_lt, arith}
 use Rattle.std.proofs.lemmas.Bool.{cases_Bool, and_parts, eqb-true, cases_lt}
 use Rattle.ldar_days.specs.Calendar.{first_day, last_day, end_by, month_of, week_first, week_last}
+use Rattle.fact_kinds.specs.declared.class.Class.{Class}
 use Rattle.fact_kinds.specs.declared.class.Kind.{Kind}
 use Rattle.fact_kinds.specs.declared.class.Kind.TheVariants.{Valve, Pump, Compressor, Relief}
 use Rattle.fact_kinds.specs.declared.class.Service.{Service}
@@ -80,6 +81,16 @@ module _ (asked : Asked) where
     pub serves : judged.serves ≡ is_in_service asked.item.now day
     pub regime : judged.regime ≡ regime_on asked.item.now asked.classes.now day
     pub class : judged.class ≡ class_on asked.item.now asked.classes.now day
+
+  -- .. where its class is the one in force then
+  pub judged_is : (judged : Judged) (class : Class) (judging day : ℕ) → judging ≡ day → class ≡ class_on asked.item.now asked.classes.now day →
+      judged.serves ≡ is_in_service asked.item.now judging → judged.regime ≡ regime_of asked.item.now.kind class.service → judged.class ≡ class →
+      IsOf judged day
+  judged_is judged class judging day at in_force serves regime same = record {
+    serves = serves ∙ ap (is_in_service asked.item.now) at;
+    regime = regime ∙ ap (λ k. regime_of asked.item.now.kind k.service) in_force;
+    class = same ∙ in_force;
+  }
 
   -- where a window ends, the plan has begun after the beginning
   pub plan_fits : (judged : Judged) (month : ℕ) → month_of asked.item.now.begin < month → causes.is_planned_judged asked judged month ≡ true →

@@ -1,5 +1,5 @@
 -- Numbers that give nothing are passed over.
-use Rattle.std.proofs.Common.{◌≡◌, ℕ, zero, suc, ◌+◌, ◌-◌, ◌<◌, ◌≤◌, Option, None, refl, sym, subst, inl, inr, arith}
+use Rattle.std.proofs.Common.{◌≡◌, ℕ, zero, suc, ◌+◌, ◌-◌, ◌<◌, ◌≤◌, Option, None, List, ◌++◌, refl, sym, ap, ◌∙◌, subst, inl, inr, arith}
 use Rattle.std.specs.List.{filter_map}
 use Rattle.std.proofs.lemmas.Bool.{cases_lt}
 use Rattle.list_words.specs.Ranges.{until}
@@ -25,3 +25,8 @@ from_later f low cut end le none =
     let at : low + (cut - low) ≡ cut = omega arith in
     sym (subst (λ from. filter_map f (until low end) ≡ filter_map f (until from end)) at (passed_over f low end (cut - low) (λ n from to. none n from
     (omega (arith, to)))))
+
+-- what the numbers up to an end give is what all give, where it is so of that end
+pub listed_in : {B : Type 0} (f : ℕ → Option B) (done : List B) (low end last : ℕ) (all : List ℕ) → end ≡ last →
+    filter_map f (until low last) ≡ filter_map f all → done ++ filter_map f (until low end) ≡ done ++ filter_map f all
+listed_in f done low end last all at is = ap (λ e. done ++ filter_map f (until low e)) at ∙ ap (λ ds. done ++ ds) is

@@ -90,11 +90,6 @@ earlier month day is lt =
       | inr from ↦ absurd (omega (arith, lt, month_rises (first_day month) day from, month_of-first_day month is))
     ]
 
--- 366 days lie in fifteen months
-pub months_listed : (a b : ℕ) → b ≤ a + 366 → month_of b ≤ month_of a + 14
-unfolding month_of
-months_listed a b le = grind (arith, nat_tests)
-
 -- of events in key order each later one is of no earlier month
 pub months_ahead : (events : List Event) (i : ℕ) (d : Event) → Ascends (λ a b. is_earlier a.key b.key) events → i < length events →
     AllByRecursion (λ e. month_of (get_or events i d).key.day ≤ month_of e.key.day) (drop (i + 1) events)

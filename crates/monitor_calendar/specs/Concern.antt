@@ -1,5 +1,5 @@
 -- Which causes can concern a component at all, by its kind and by its classes.
-use Rattle.std.specs.Prelude.{Bool, true, false, not, ◌||◌, List}
+use Rattle.std.specs.Prelude.{Bool, true, false, ◌||◌, List}
 use Rattle.std.specs.List.{list_any}
 use Rattle.fact_kinds.specs.declared.class.Class.{Class}
 use Rattle.fact_kinds.specs.declared.class.Designation.{Designation}
@@ -7,8 +7,9 @@ use Rattle.fact_kinds.specs.declared.class.Kind.{Kind}
 use Rattle.fact_kinds.specs.declared.class.Kind.TheVariants.{Relief}
 use Rattle.fact_kinds.specs.declared.key.Key.{Key}
 use Rattle.ldar_law.specs.declared.equipment.Equipment.{Equipment}
-use Rattle.ldar_law.specs.Kinds.{is_pump, is_compressor}
-use Rattle.ldar_law.specs.Standing.{is_unsafe_designated, is_difficult_designated, is_nde_designated}
+use Rattle.ldar_law.specs.Kinds.{is_pump}
+use Rattle.ldar_law.specs.Limits.{regime_of}
+use Rattle.ldar_law.specs.Standing.{are_heavy_liquid_rules, is_unsafe_designated, is_difficult_designated, is_nde_designated}
 use Rattle.monitor_calendar.specs.declared.after_event.After.{After}
 use Rattle.monitor_calendar.specs.declared.after_event.After.TheVariants.{Drips, Release, Evidence}
 
@@ -37,8 +38,20 @@ abbrev pub is_relief : Kind → Bool
 is_relief Relief = true
 is_relief _ = false
 
--- something can follow an event of a component of this kind
-abbrev pub concerns : After → Kind → Bool
-concerns Drips kind = is_pump kind
-concerns Release kind = is_relief kind
-concerns Evidence kind = not (is_compressor kind)
+-- a component of this kind is under the rules for heavy liquid service by a class
+abbrev pub is_heavy_liquid : Kind → Class → Bool
+is_heavy_liquid kind class = are_heavy_liquid_rules (regime_of kind class.service)
+
+-- .. by some entered class
+abbrev pub is_some_heavy_liquid : Kind → List (Key × Class) → Bool
+is_some_heavy_liquid kind classes = list_any (λ entered. is_heavy_liquid kind entered.1) classes
+
+-- .. or by the one with which the component was entered
+abbrev pub has_heavy_liquid_class : Equipment → List (Key × Class) → Bool
+has_heavy_liquid_class item classes = is_heavy_liquid item.kind item.class || is_some_heavy_liquid item.kind classes
+
+-- something can follow an event of a component
+abbrev pub concerns : After → Equipment → List (Key × Class) → Bool
+concerns Drips item classes = is_pump item.kind
+concerns Release item classes = is_relief item.kind
+concerns Evidence item classes = has_heavy_liquid_class item classes

@@ -6,11 +6,9 @@ use Rattle.monitor_calendar.specs.Causes.{monthly, quarterly, months_after}
 use Rattle.monitor_calendar.specs.declared.asked.Asked.{Asked}
 use Rattle.monitor_calendar.specs.declared.listed_months.ListedMonths.{ListedMonths}
 
--- from this month after the beginning on the list can hold duties, and none of those before it; up to the month of the list
--- there are at most fifteen
+-- from this month after the beginning on the list can hold duties, and none of those before it
 pub record IsFirstListed (asked : Asked) (low : ℕ) : Type 0 where
   pub in_range : (24_096 ≤ low) × (low ≤ 25_200)
-  pub few : month_of asked.day + 1 ≤ low + 15
   pub monthly : filter_map (monthly asked) (until low (month_of asked.day + 1)) ≡ filter_map (monthly asked) (months_after asked)
   pub quarterly : filter_map (quarterly asked) (until low (month_of asked.day + 1)) ≡ filter_map (quarterly asked) (months_after asked)
 

@@ -8,16 +8,16 @@ ghost use Rattle.list_words.specs.Order.{Ascends};
 ghost use Rattle.list_words.specs.Words.{each_where};
 ghost use Rattle.fact_kinds.specs.Facts.{is_earlier};
 ghost use Rattle.ldar_law.specs.declared.event.Event.{Event as SomeEvent};
-ghost use Rattle.monitor_calendar.specs.Concern.{concerns};
+ghost use Rattle.monitor_calendar.specs.Concern as concern;
 ghost use Rattle.monitor_calendar.specs.Following as following;
 
 use crate::asked::Asked;
 use crate::drips::PastDrips;
 use crate::duty::put;
 use crate::weekly::is_plain_pump;
-use fact_kinds::{Key, Kind, Memory};
+use fact_kinds::{Class, Key, Kind, Memory};
 use ldar_days::Day;
-use ldar_law::{Duty, EVENT_DAYS, Event, Happening, LISTED_DAYS, is_compressor, is_pump};
+use ldar_law::{Duty, EVENT_DAYS, Event, Happening, LISTED_DAYS, Regime, is_pump};
 
 /// What a duty follows.
 #[derive(Clone, Copy)]
@@ -36,17 +36,6 @@ impl After {
             After::Drips => 7,
             After::Release => 8,
             After::Evidence => 9,
-        }
-    }
-
-    /// Whether it can follow an event of a component of this kind.
-    fn concerns(self, kind: Kind) -> bool
-        ensures value { result ≡ concerns self kind }
-    {
-        match self {
-            After::Drips => is_pump(kind),
-            After::Release => matches!(kind, Kind::Relief),
-            After::Evidence => !is_compressor(kind),
         }
     }
 
@@ -101,6 +90,22 @@ impl After {
     }
 }
 
+/// Whether a component of this kind is under the rules for heavy liquid service by a class.
+fn is_heavy_liquid(kind: Kind, class: Class) -> bool
+    ensures value { result ≡ concern.is_heavy_liquid kind class }
+{
+    Regime::of(kind, class.service).are_heavy_liquid_rules()
+}
+
+/// Whether it is by some entered class.
+fn is_some_heavy_liquid(kind: Kind, classes: &[(Key, Class)]) -> bool
+    ensures value { result ≡ concern.is_some_heavy_liquid kind classes.now }
+{
+    classes
+        .iter()
+        .any(|entered| is_heavy_liquid(kind, entered.1))
+}
+
 /// The key of the event at a place, if it comes by a day.
 fn key_by(events: &[Event], place: usize, due: Day) -> Option<Key>
     ensures value { result ≡ option_map (λ e. e.key) (following.event_by events.now place due) }
@@ -112,6 +117,25 @@ fn key_by(events: &[Event], place: usize, due: Day) -> Option<Key>
 }
 
 impl Asked<'_> {
+    /// Whether it is in heavy liquid service by a class: that with which it was entered, or a later one.
+    fn has_heavy_liquid_class(&self) -> bool
+        ensures value { result ≡ concern.has_heavy_liquid_class self.now.item.now self.now.classes.now }
+    {
+        let item = self.item;
+        is_heavy_liquid(item.kind, item.class) || is_some_heavy_liquid(item.kind, self.classes)
+    }
+
+    /// Whether what follows can concern the component at all, by its kind or by its classes.
+    fn concerns(&self, after: After) -> bool
+        ensures value { result ≡ concern.concerns after self.now.item.now self.now.classes.now }
+    {
+        match after {
+            After::Drips => is_pump(self.item.kind),
+            After::Release => matches!(self.item.kind, Kind::Relief),
+            After::Evidence => self.has_heavy_liquid_class(),
+        }
+    }
+
     /// Whether an event asks for what follows; `is_repeated` says of drips whether they repeat earlier ones.
     fn is_asked_by(&self, after: After, is_repeated: bool, e: &Event) -> bool
         ensures value { result ≡ following.is_asked_by self.now after is_repeated e.now }
@@ -185,7 +209,7 @@ impl Asked<'_> {
     pub fn put_after(&self, after: After, duties: &mut Vec<Duty>) -> Result<(), Memory>
         ensures put { OnOk result (duties.new.items ≡ duties.old.items ++ each_where (following.after_event self.now after) self.now.events.now) }
     {
-        if !after.concerns(self.item.kind) {
+        if !self.concerns(after) {
             return Ok(());
         }
         let from = self.first_listed();

@@ -3,6 +3,7 @@ ghost use Rattle.list_words.specs.Order.{Ascends};
 ghost use Rattle.ldar_days.specs.Calendar.{IsDay};
 ghost use Rattle.fact_kinds.specs.Facts.{is_earlier};
 ghost use Rattle.ldar_law.specs.Force as force;
+ghost use Rattle.ldar_law.specs.Limits.{regime_of};
 ghost use Rattle.monitor_calendar.specs.InOrder.{Ascends-prop};
 ghost use Rattle.ldar_law.specs.declared.numbers.TheConstants.{LAST_FACT_DAY, LISTED_DAYS as listed_days};
 
@@ -44,7 +45,15 @@ impl Asked<'_> {
         ensures regime { result.regime ≡ force.regime_on self.now.item.now self.now.classes.now day }
         ensures class { result.class ≡ force.class_on self.now.item.now self.now.classes.now day }
     {
-        let class = self.item.ordered_class_on(self.classes, day);
+        self.judged_by(self.item.ordered_class_on(self.classes, day), day)
+    }
+
+    /// What the component is on a day, by the class that it has then.
+    pub fn judged_by(&self, class: Class, day: Day) -> Judged
+        ensures serves { result.serves ≡ force.is_in_service self.now.item.now day }
+        ensures regime { result.regime ≡ regime_of self.now.item.now.kind class.service }
+        ensures class { result.class ≡ class }
+    {
         Judged {
             serves: self.item.is_in_service(day),
             regime: Regime::of(self.item.kind, class.service),

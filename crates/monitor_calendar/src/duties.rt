@@ -6,9 +6,7 @@ ghost use Rattle.ldar_law.specs.declared.numbers.TheConstants.{LAST_FACT_DAY};
 
 use crate::after_event::After;
 use crate::asked::Asked;
-use crate::days_of_months::{MONTHS_LISTED, days_of_months};
 use crate::duty::put;
-use crate::walked_months::WalkedMonth;
 use fact_kinds::{Class, Key, Memory};
 use ldar_days::Day;
 use ldar_law::{Duty, Equipment, Event};
@@ -45,13 +43,7 @@ pub fn duties_of(
     // Those of a year of months, and what else a list has of most components.
     let mut duties = Vec::with_capacity(alloc, 16)?;
     put(&mut duties, &asked.first_monitoring())?;
-    let months = asked.listed_months();
-    let days = days_of_months(months.low, months.end);
-    // The walk writes in its place: to hand fifteen months from call to call would cost a valve more than the walk does.
-    let mut walked = [WalkedMonth::none(); MONTHS_LISTED];
-    asked.walk_from(&days, months.low, months.end, &mut walked);
-    asked.put_monthly(&months, &days, &walked, &mut duties)?;
-    asked.put_quarterly(&months, &days, &walked, &mut duties)?;
+    asked.put_months(alloc, &mut duties)?;
     asked.put_yearly(&mut duties)?;
     asked.put_planned(&mut duties)?;
     asked.put_weekly(&mut duties)?;

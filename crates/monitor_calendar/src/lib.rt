@@ -3,7 +3,6 @@
 
 mod after_event;
 mod asked;
-mod days_of_months;
 mod drips;
 mod duties;
 mod duty;

@@ -3,6 +3,9 @@ ghost use Rattle.ldar_days.specs.Calendar.{first_day, last_day};
 
 use ldar_days::{Day, Month};
 
+/// December 2099, the last month of the calendar.
+pub const LAST_MONTH: u32 = 25_199;
+
 /// A month, its first day and its last.
 #[derive(Clone, Copy)]
 pub struct MonthDays {
@@ -41,5 +44,17 @@ impl MonthDays {
             first: Day::at(self.last.number() + 1),
             last: month.last_day(),
         }
+    }
+
+    /// Those of this month, or of the next one where that is asked.
+    pub fn moved_to(self, number: u32) -> MonthDays
+        requires near { (self.month ≤ number) × (number ≤ self.month + 1) }
+        requires to { number ≤ 25_199 }
+        ensures value { result.month ≡ number }
+    {
+        if number <= self.month.number() {
+            return self;
+        }
+        self.next()
     }
 }

@@ -1,35 +1,51 @@
 //! Monthly and quarterly monitoring (40 CFR 60.482-2a(a)(1), 60.482-7a(a)(1), (c)(1)).
 
-ghost use Rattle.std.specs.Prelude.{◌≡◌, ◌+◌, ◌<◌, ◌++◌, ◌&&◌, ℕ, true, OnOk, filter_map, option_map, slice_index_or};
-ghost use Rattle.ldar_law.specs.Duties as law;
+ghost use Rattle.std.specs.Prelude.{◌≡◌, ◌++◌, ◌&&◌, true, false, OnOk, filter_map, min, option_map};
+ghost use Rattle.class_standing.specs.Standings.{IsInForce};
+ghost use Rattle.ldar_law.specs.Force.{class_on};
 ghost use Rattle.ldar_law.specs.Kinds.{is_valve as says_valve};
 ghost use Rattle.monitor_calendar.specs.Causes as causes;
 ghost use Rattle.monitor_calendar.specs.Covering.{Covers};
-ghost use Rattle.monitor_calendar.specs.Walks.{IsBegun, IsWalked};
-ghost use Rattle.monitor_calendar.specs.declared.month_days.MonthDays.{MonthDays as SomeDays};
-ghost use Rattle.monitor_calendar.specs.declared.walked_months.WalkedMonth.{WalkedMonth as SomeWalked};
+ghost use Rattle.monitor_calendar.specs.Walks.{IsWalked};
 
 use crate::asked::{Asked, Judged};
-use crate::days_of_months::MONTHS_LISTED;
 use crate::duty::put;
 use crate::listed_months::ListedMonths;
 use crate::month_days::MonthDays;
 use crate::period::{routine_behind, routine_in};
-use crate::walked_months::WalkedMonth;
-use fact_kinds::{Key, Memory};
+use crate::walked_months::{WalkedMonth, begun, walked_to};
+use class_standing::ClassStanding;
+use fact_kinds::{Class, Key, Memory};
 use ldar_days::{Day, Month, quarter_of};
 use ldar_law::{Duty, is_none_designated, is_valve, month_in_quarter};
+use std::alloc::Global;
 
-/// Whether what is so judged is monitored in a month that is a quarterly one or not.
-fn is_monthly(judged: Judged, is_quarterly: bool) -> bool
-    ensures value { result ≡ causes.is_monthly_judged judged is_quarterly }
+/// Whether what is so judged is monitored in each month that is no quarterly one.
+fn is_monthly(judged: Judged) -> bool
+    ensures value { result ≡ causes.is_monthly_judged judged false }
 {
     judged.serves
         && is_none_designated(judged.class.designation)
-        && (judged.regime.are_pump_rules() || (judged.regime.are_valve_rules() && !is_quarterly))
+        && (judged.regime.are_pump_rules() || judged.regime.are_valve_rules())
 }
 
 impl Asked<'_> {
+    /// The class on the day on which a month is judged.
+    fn standing_in(&self, days: &MonthDays) -> ClassStanding
+        ensures value { IsInForce self.now.item.now self.now.classes.now result }
+    {
+        ClassStanding::on(self.item, self.classes, self.judging_day(days.last))
+    }
+
+    /// That of another day, moved on to it.
+    fn moved_to(&self, under: ClassStanding, days: &MonthDays) -> ClassStanding
+        requires value { IsInForce self.now.item.now self.now.classes.now under }
+        ensures now { result.class ≡ class_on self.now.item.now self.now.classes.now (min days.now.last self.now.day) }
+        ensures value { IsInForce self.now.item.now self.now.classes.now result }
+    {
+        under.moved_to(self.item, self.classes, self.judging_day(days.last))
+    }
+
     /// Whether the quarter of a month is skipped.
     fn is_month_skipped(&self, month: Month) -> bool
         ensures value { result ≡ causes.is_month_skipped self.now month }
@@ -56,43 +72,43 @@ impl Asked<'_> {
             && !self.is_month_skipped(month)
     }
 
-    /// Whether a month that is a quarterly one or not is one of a valve, which then has no monthly monitoring.
-    fn is_quarterly_in_place(&self, is_quarterly: bool) -> bool
-        ensures value { result ≡ (is_quarterly && says_valve self.now.item.now.kind) }
-    {
-        is_quarterly && is_valve(self.item.kind)
-    }
-
-    /// The key of the first counting routine reading of a month. Of a valve it is known where the month's events begin.
-    fn routine_of(&self, walked: &WalkedMonth, first: Day, due: Day) -> Option<Key>
-        requires walked { says_valve self.now.item.now.kind ≡ true → IsBegun self.now.events.now first walked.now }
-        ensures value { result ≡ option_map (λ e. e.key) (law.routine_in self.now.events.now first due) }
-    {
-        if !is_valve(self.item.kind) {
-            return routine_in(self.events, first, due);
-        }
-        routine_behind(self.events, walked.place, due)
-    }
-
-    /// The monthly monitoring of a month that is a quarterly one of a valve or not.
-    fn monthly(&self, days: &MonthDays, walked: &WalkedMonth) -> Option<Duty>
-        requires walked { says_valve self.now.item.now.kind ≡ true → IsWalked self.now.startup self.now.events.now days.now.month walked.now }
+    /// The monthly monitoring of what is no valve, by the class of the day on which the month is judged.
+    fn monthly_of_other(&self, class: Class, days: &MonthDays) -> Option<Duty>
+        requires other { says_valve self.now.item.now.kind ≡ false }
+        requires class { class ≡ class_on self.now.item.now self.now.classes.now (min days.now.last self.now.day) }
         ensures value { result ≡ causes.monthly self.now days.now.month }
     {
-        if self.is_quarterly_in_place(walked.is_quarterly) {
-            return None;
-        }
         let (first, due) = (days.first, days.last);
-        let judged = self.judged(self.judging_day(due));
-        if !is_monthly(judged, walked.is_quarterly) {
+        let judged = self.judged_by(class, self.judging_day(due));
+        if !is_monthly(judged) {
             return None;
         }
-        let met = self.routine_of(walked, first, due);
+        let met = routine_in(self.events, first, due);
         self.duty(2, first, due, &met)
     }
 
-    /// The quarterly monitoring of such a month.
-    fn quarterly(&self, days: &MonthDays, walked: &WalkedMonth) -> Option<Duty>
+    /// That of a valve, for which the month's events are known.
+    fn monthly_of_valve(&self, class: Class, days: &MonthDays, walked: &WalkedMonth) -> Option<Duty>
+        requires valve { says_valve self.now.item.now.kind ≡ true }
+        requires class { class ≡ class_on self.now.item.now self.now.classes.now (min days.now.last self.now.day) }
+        requires walked { IsWalked self.now.startup self.now.events.now days.now.month walked.now }
+        ensures value { result ≡ causes.monthly self.now days.now.month }
+    {
+        if walked.is_quarterly {
+            return None;
+        }
+        let (first, due) = (days.first, days.last);
+        let judged = self.judged_by(class, self.judging_day(due));
+        if !is_monthly(judged) {
+            return None;
+        }
+        let met = routine_behind(self.events, walked.place, due);
+        self.duty(2, first, due, &met)
+    }
+
+    /// Its quarterly monitoring.
+    fn quarterly(&self, class: Class, days: &MonthDays, walked: &WalkedMonth) -> Option<Duty>
+        requires class { class ≡ class_on self.now.item.now self.now.classes.now (min days.now.last self.now.day) }
         requires walked { IsWalked self.now.startup self.now.events.now days.now.month walked.now }
         ensures value { result ≡ causes.quarterly self.now days.now.month }
     {
@@ -100,7 +116,7 @@ impl Asked<'_> {
             return None;
         }
         let (first, due) = (days.first, days.last);
-        let judged = self.judged(self.judging_day(due));
+        let judged = self.judged_by(class, self.judging_day(due));
         if !self.is_quarter_month(judged, days.month, walked.is_quarterly) {
             return None;
         }
@@ -108,52 +124,68 @@ impl Asked<'_> {
         self.duty(3, first, due, &met)
     }
 
-    /// Adds the monthly monitorings.
+    /// Adds the monthly monitorings of what is no valve.
     #[tactic(auto, using(list_words::proofs::RangeLemmas::ranges))]
-    pub fn put_monthly(
-        &self,
-        months: &ListedMonths,
-        days: &[MonthDays; MONTHS_LISTED],
-        walked: &[WalkedMonth; MONTHS_LISTED],
-        duties: &mut Vec<Duty>,
-    ) -> Result<(), Memory>
+    fn put_monthly(&self, months: &ListedMonths, duties: &mut Vec<Duty>) -> Result<(), Memory>
         requires covered { Covers self.now months.now }
-        requires days { (k : ℕ) (one : SomeDays) → k < MONTHS_LISTED → months.now.low + k < months.now.end
-            → (slice_index_or days.now k one).month ≡ months.now.low + k }
-        requires walked { says_valve self.now.item.now.kind ≡ true → (k : ℕ) (one : SomeWalked) → k < MONTHS_LISTED → months.now.low + k < months.now.end
-            → IsWalked self.now.startup self.now.events.now (months.now.low + k) (slice_index_or walked.now k one) }
+        requires other { says_valve self.now.item.now.kind ≡ false }
         ensures put { OnOk result (duties.new.items ≡ duties.old.items ++ filter_map (causes.monthly self.now) (causes.months_after self.now)) }
     {
+        if months.end <= months.low {
+            return Ok(());
+        }
+        let mut days = MonthDays::of(months.low);
+        let mut under = self.standing_in(&days);
         for number in months.low..months.end {
-            let place = (number - months.low) as usize;
-            put(duties, &self.monthly(&days[place], &walked[place]))?;
+            days = days.moved_to(number);
+            under = self.moved_to(under, &days);
+            put(duties, &self.monthly_of_other(under.class, &days))?;
         }
         Ok(())
     }
 
-    /// Adds the quarterly monitorings. Of what is no valve no month is looked at.
+    /// Adds the monthly monitorings of a valve, and apart from them the quarterly ones, by one walk over its events.
     #[tactic(auto, using(list_words::proofs::RangeLemmas::ranges))]
-    pub fn put_quarterly(
+    fn put_walked(
         &self,
         months: &ListedMonths,
-        days: &[MonthDays; MONTHS_LISTED],
-        walked: &[WalkedMonth; MONTHS_LISTED],
         duties: &mut Vec<Duty>,
+        quarterlies: &mut Vec<Duty>,
     ) -> Result<(), Memory>
         requires covered { Covers self.now months.now }
-        requires days { (k : ℕ) (one : SomeDays) → k < MONTHS_LISTED → months.now.low + k < months.now.end
-            → (slice_index_or days.now k one).month ≡ months.now.low + k }
-        requires walked { says_valve self.now.item.now.kind ≡ true → (k : ℕ) (one : SomeWalked) → k < MONTHS_LISTED → months.now.low + k < months.now.end
-            → IsWalked self.now.startup self.now.events.now (months.now.low + k) (slice_index_or walked.now k one) }
-        ensures put { OnOk result (duties.new.items ≡ duties.old.items ++ filter_map (causes.quarterly self.now) (causes.months_after self.now)) }
+        requires valve { says_valve self.now.item.now.kind ≡ true }
+        ensures monthly { OnOk result (duties.new.items ≡ duties.old.items ++ filter_map (causes.monthly self.now) (causes.months_after self.now)) }
+        ensures quarterly { OnOk result (quarterlies.new.items
+            ≡ quarterlies.old.items ++ filter_map (causes.quarterly self.now) (causes.months_after self.now)) }
     {
-        if !is_valve(self.item.kind) {
+        if months.end <= months.low {
             return Ok(());
         }
+        let mut days = MonthDays::of(months.low);
+        let mut under = self.standing_in(&days);
+        let mut walk = begun(self.events, &days);
         for number in months.low..months.end {
-            let place = (number - months.low) as usize;
-            put(duties, &self.quarterly(&days[place], &walked[place]))?;
+            days = days.moved_to(number);
+            under = self.moved_to(under, &days);
+            walk = walked_to(walk, self.events, &days);
+            let walked = walk.told_of(self.startup, number);
+            put(duties, &self.monthly_of_valve(under.class, &days, &walked))?;
+            put(quarterlies, &self.quarterly(under.class, &days, &walked))?;
         }
         Ok(())
+    }
+
+    /// Adds the monthly monitorings, and behind them the quarterly ones, which a valve alone can have.
+    pub fn put_months(&self, alloc: Global, duties: &mut Vec<Duty>) -> Result<(), Memory>
+        ensures put { OnOk result (duties.new.items ≡ (duties.old.items ++ filter_map (causes.monthly self.now) (causes.months_after self.now))
+            ++ filter_map (causes.quarterly self.now) (causes.months_after self.now)) }
+    {
+        let months = self.listed_months();
+        if !is_valve(self.item.kind) {
+            return self.put_monthly(&months, duties);
+        }
+        let mut quarterlies = Vec::new(alloc);
+        self.put_walked(&months, duties, &mut quarterlies)?;
+        duties.extend_from_slice(quarterlies.as_slice())
     }
 }

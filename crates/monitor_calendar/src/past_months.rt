@@ -1,4 +1,4 @@
-ghost use Rattle.std.specs.Prelude.{◌≡◌, ℕ, ◌≤◌, true, List, [], ◌∷◌, ◌++◌};
+ghost use Rattle.std.specs.Prelude.{◌≡◌, ℕ, ◌≤◌, true, false, List, [], ◌∷◌, ◌++◌};
 ghost use Rattle.std.specs.List.{AllByRecursion};
 ghost use Rattle.ldar_days.specs.Calendar.{month_of};
 ghost use Rattle.ldar_law.specs.declared.event.Event.{Event as SomeEvent};
@@ -55,6 +55,15 @@ impl PastMonths {
         if e.what.is_leak() {
             return PastMonths::of_leak(e);
         }
+        self.with_sound(e)
+    }
+
+    /// The same with one that is no leak.
+    pub fn with_sound(self, e: &Event) -> PastMonths
+        requires sound { is_leak e.now.what ≡ false }
+        ensures value { (last : ℕ) (front : List SomeEvent) → Tells self last front → last ≤ month_of e.now.key.day
+            → Tells result (month_of e.now.key.day) (front ++ e.now ∷ []) }
+    {
         // The first two months in a row stay until a leak: no later reading is asked for its month.
         if self.pair.is_some() {
             return self;

@@ -7,8 +7,8 @@ ghost use Rattle.monitor_calendar.specs.Causes as causes;
 ghost use Rattle.monitor_calendar.specs.Concern as concern;
 
 use crate::asked::{Asked, Judged};
-use crate::days_of_months::LAST_MONTH;
 use crate::duty::put;
+use crate::month_days::LAST_MONTH;
 use crate::period::routine_in;
 use fact_kinds::{Class, Key, Memory};
 use ldar_days::{Day, Month};

@@ -1,17 +1,15 @@
 //! Which months are quarterly ones of a valve (40 CFR 60.482-7a(c)(1)), and where their events begin, by one pass over its
 //! events since the last leak before the first of them.
 
-ghost use Rattle.std.specs.Prelude.{◌≡◌, ℕ, ◌+◌, ◌<◌, ◌≤◌, false, length, slice_index_or};
+ghost use Rattle.std.specs.Prelude.{◌≡◌, ℕ, ◌<◌, ◌≤◌, false, List, length, slice_index_or};
 ghost use Rattle.list_words.specs.Order.{Ascends};
+ghost use Rattle.ldar_days.specs.Calendar.{IsMonth};
 ghost use Rattle.fact_kinds.specs.Facts.{is_earlier};
 ghost use Rattle.ldar_law.specs.declared.event.Event.{Event as SomeEvent};
 ghost use Rattle.ldar_law.specs.Happenings.{is_leak as says_leak};
 ghost use Rattle.ldar_law.specs.declared.numbers.TheConstants.{LAST_FACT_DAY};
 ghost use Rattle.monitor_calendar.specs.Walks.{IsAt, IsBehindLeak, IsOn, IsWalked};
-ghost use Rattle.monitor_calendar.specs.declared.month_days.MonthDays.{MonthDays as SomeDays};
-ghost use Rattle.monitor_calendar.specs.declared.walked_months.WalkedMonth.{WalkedMonth as SomeWalked};
 
-use crate::days_of_months::MONTHS_LISTED;
 use crate::month_days::MonthDays;
 use crate::past_months::PastMonths;
 use crate::period::count_before;
@@ -26,23 +24,24 @@ pub struct WalkedMonth {
     pub is_quarterly: bool,
 }
 
-impl WalkedMonth {
-    /// Of a month to which no walk went.
-    pub fn none() -> WalkedMonth
-        ensures value { result ≡ record { place = 0; is_quarterly = false } }
-    {
-        WalkedMonth {
-            place: 0,
-            is_quarterly: false,
-        }
-    }
-}
-
 /// A place among events, and what those before it tell.
 #[derive(Clone, Copy)]
 pub struct Walk {
     pub place: usize,
     pub past: PastMonths,
+}
+
+impl Walk {
+    /// What a walk up to a month tells of it.
+    pub fn told_of(self, startup: Day, month: u32) -> WalkedMonth
+        requires startup { startup ≤ LAST_FACT_DAY }
+        ensures value { (events : List SomeEvent) → IsMonth month → IsAt self.past events self.place month → IsWalked startup events month result }
+    {
+        WalkedMonth {
+            place: self.place,
+            is_quarterly: self.past.let_be_quarterly(startup, month),
+        }
+    }
 }
 
 /// The place behind the last leak of so many events, or that of the first event where none of them is a leak.
@@ -60,14 +59,16 @@ fn behind_leak(events: &[Event], count: usize) -> usize
     0
 }
 
-/// A walk up to a month, begun behind the last leak before it: what a leak tells is the same whatever came before it.
-fn begun(events: &[Event], days: &MonthDays) -> Walk
+/// A walk on its way to a month, behind the last of so many events that is a leak: what a leak tells is the same whatever came
+/// before it.
+fn behind_last_leak(events: &[Event], days: &MonthDays, count: usize) -> Walk
     requires ordered { Ascends (λ a b. is_earlier a.key b.key) events.now }
+    requires within { count ≤ length events.now }
+    requires before { (k : ℕ) (e : SomeEvent) → k < count → (slice_index_or events.now k e).key.day < days.now.first }
     ensures value { IsOn result.past events.now result.place days.now.month }
-    ensures no_leak { (k : ℕ) (e : SomeEvent) → result.place ≤ k → k < length events.now
-        → (slice_index_or events.now k e).key.day < days.now.first → says_leak (slice_index_or events.now k e).what ≡ false }
+    ensures within { result.place ≤ count }
+    ensures no_leak { (k : ℕ) (e : SomeEvent) → result.place ≤ k → k < count → says_leak (slice_index_or events.now k e).what ≡ false }
 {
-    let count = count_before(events, days.first);
     let place = behind_leak(events, count);
     if place == 0 {
         return Walk {
@@ -81,8 +82,21 @@ fn begun(events: &[Event], days: &MonthDays) -> Walk
     }
 }
 
+/// A walk up to a month, begun behind the last leak before it, so that none of the other events on the way is a leak.
+pub fn begun(events: &[Event], days: &MonthDays) -> Walk
+    requires ordered { Ascends (λ a b. is_earlier a.key b.key) events.now }
+    ensures value { IsOn result.past events.now result.place days.now.month }
+{
+    let count = count_before(events, days.first);
+    let Walk { place, mut past } = behind_last_leak(events, days, count);
+    for k in place..count {
+        past = past.with_sound(&events[k]);
+    }
+    Walk { place: count, past }
+}
+
 /// The walk, gone on to the first event that is not of a month before this one.
-fn walked_to(walk: Walk, events: &[Event], days: &MonthDays) -> Walk
+pub fn walked_to(walk: Walk, events: &[Event], days: &MonthDays) -> Walk
     requires ordered { Ascends (λ a b. is_earlier a.key b.key) events.now }
     requires on { IsOn walk.past events.now walk.place days.now.month }
     ensures value { IsAt result.past events.now result.place days.now.month }
@@ -101,38 +115,4 @@ fn walked_to(walk: Walk, events: &[Event], days: &MonthDays) -> Walk
         place += 1;
     }
     Walk { place, past }
-}
-
-/// Puts down what a walk tells of the months from one on to another, as far as there is room for them.
-pub fn walked_months(
-    startup: Day,
-    events: &[Event],
-    months: &[MonthDays; MONTHS_LISTED],
-    low: u32,
-    end: u32,
-    walked: &mut [WalkedMonth; MONTHS_LISTED],
-)
-    requires startup { startup ≤ LAST_FACT_DAY }
-    requires ordered { Ascends (λ a b. is_earlier a.key b.key) events.now }
-    requires low { (24_096 ≤ low) × (low ≤ 25_200) }
-    requires end { end ≤ 25_200 }
-    requires months { (k : ℕ) (days : SomeDays) → k < MONTHS_LISTED → low + k < end → (slice_index_or months.now k days).month ≡ low + k }
-    ensures value { (k : ℕ) (one : SomeWalked) → k < MONTHS_LISTED → low + k < end
-        → IsWalked startup events.now (low + k) (slice_index_or walked.new k one) }
-{
-    if end <= low {
-        return;
-    }
-    let mut walk = begun(events, &months[0]);
-    for k in 0..MONTHS_LISTED {
-        let month = low + k as u32;
-        if end <= month {
-            return;
-        }
-        walk = walked_to(walk, events, &months[k]);
-        walked[k] = WalkedMonth {
-            place: walk.place,
-            is_quarterly: walk.past.let_be_quarterly(startup, month),
-        };
-    }
 }

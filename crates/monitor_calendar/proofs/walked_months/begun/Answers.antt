@@ -1,61 +1,46 @@
-use Rattle.std.proofs.Common.{◌≡◌, ℕ, ◌+◌, ◌-◌, ◌<◌, true, false, nat_lt, List, length, get_or, sym, subst, ◌∙◌, inl, inr, arith}
-use Rattle.std.specs.List.Sorted.{IsPartitionPoint}
-use Rattle.std.proofs.lemmas.Bool.{cases_lt, ltb-true, lt-ltb, false≢true}
+use Rattle.std.proofs.Common.{◌≡◌, ◌<◌, get_or, sym, subst, ◌∙◌, ap, arith}
+use Rattle.std.proofs.lemmas.Bool.{ltb-true}
 use Rattle.ldar_days.specs.Calendar.{IsMonth, first_day, month_of}
 use Rattle.ldar_law.specs.declared.event.Event.{Event}
+use Rattle.ldar_law.specs.Happenings.{is_leak}
 use Rattle.monitor_calendar.specs.Walks.{IsOn}
-use Rattle.monitor_calendar.proofs.Rising.{before_month, months_before}
-use Rattle.monitor_calendar.proofs.WalkLemmas.{on_start, on_behind}
+use Rattle.monitor_calendar.proofs.Rising.{before_month}
+use Rattle.monitor_calendar.proofs.WalkLemmas.{on_next}
 use Rattle.monitor_calendar.proofs.walked_months.begun.Goals as goal
 
--- what lies before the day is counted
-counted : (events : List Event) (first count k : ℕ) (e : Event) → IsPartitionPoint (λ x. nat_lt x.key.day first ≡ true)
-    (λ x. nat_lt x.key.day first ≡ false) events count → k < length events → (get_or events k e).key.day < first → k < count
-counted events first count k e parts within early =
-    elim (cases_lt k count) [
-      | inl lt ↦ lt
-      | inr by ↦ absurd (false≢true (sym (parts.1 k e by within) ∙ lt-ltb (get_or events k e).key.day first early))
-    ]
-
-pub returns-then-place-eq0 : goal.returns-then-place-eq0
-returns-then-place-eq0 c =
+pub behind_last_leak-place-requires-clause-before : goal.behind_last_leak-place-requires-clause-before
+behind_last_leak-place-requires-clause-before c =
     let events = c.args.events.now in
-    let before = c.behind_leak-place.ensures.value in
+    let first = c.args.days.now.first in λ k e lt. ltb-true (get_or events k e).key.day first (c.count_before-count.ensures.value.0 k e (omega arith) lt)
+
+pub with_sound-past-requires : goal.with_sound-past-requires
+with_sound-past-requires c =
+    let e = c.index-events-k.result in
     record {
-      value = on_start c.none.result events c.args.days.now.month c.none.ensures.value;
-      no_leak = λ k e from within early.
-          let lt : k < c.count_before-count.result =
-          counted events c.args.days.now.first c.count_before-count.result k e c.count_before-count.ensures.value within early in
-          before.none k e (omega (arith, from)) lt;
+      sound = ap (λ (x : Event). is_leak x.what) c.index-events-k.is
+          ∙ c.behind_last_leak-place.ensures.no_leak c.loop-k.k e (omega arith) c.loop-k-test.true;
+    }
+
+pub loop-k-preserved : goal.loop-k-preserved
+loop-k-preserved c =
+    let l = c.loop-k in
+    let events = c.args.events.now in
+    let days = c.args.days.now in
+    let e = c.index-events-k.result in
+    let is : IsMonth days.month = (days.from, days.to) in
+    let soon : (get_or events l.k e).key.day < days.first =
+    ltb-true (get_or events l.k e).key.day days.first (c.count_before-count.ensures.value.0 l.k e (omega arith) c.loop-k-test.true) in
+    let early : month_of e.key.day < days.month =
+    before_month days.month e.key.day is
+    (subst (λ (x : Event). x.key.day < first_day days.month) (sym c.index-events-k.is) (omega (arith, soon, days.begins))) in
+    record {
+      to = omega arith;
+      on = on_next events l.k days.month e c.requires.ordered (omega (arith, c.count_before-count.ensures.within, c.loop-k-test.true))
+          (sym c.index-events-k.is) l.past c.with_sound-past.result l.invariant.on early c.with_sound-past.ensures.value;
     }
 
 pub returns : goal.returns
 returns c =
-    let events = c.args.events.now in
-    let month = c.args.days.now.month in
-    let place = c.behind_leak-place.result in
-    let e = c.index-events-place.result in
-    let before = c.behind_leak-place.ensures.value in
-    let is : IsMonth month = (c.args.days.now.from, c.args.days.now.to) in
-    let behind : place - 1 + 1 ≡ place = omega arith in
-    let days : (k : ℕ) (d : Event) → k < place - 1 + 1 → (get_or events k d).key.day < first_day month =
-    λ k d lt. omega (
-      arith,
-      ltb-true (get_or events k d).key.day c.args.days.now.first (c.count_before-count.ensures.value.0 k d (omega arith) (omega (arith, lt, before.within))),
-      c.args.days.now.begins,
-    ) in
-    let early : month_of e.key.day < month =
-    before_month month e.key.day is
-    (subst (λ (x : Event). x.key.day < first_day month) (sym c.index-events-place.is) (days (place - 1) e (omega arith))) in
-    let on : IsOn c.of_leak.result events (place - 1 + 1) month =
-    on_behind events (place - 1) month e c.requires.ordered (omega (arith, before.within, c.count_before-count.ensures.within))
-    (sym c.index-events-place.is) c.of_leak.result
-    (months_before events month (place - 1 + 1) is (omega (arith, before.within, c.count_before-count.ensures.within)) days) early
-    c.of_leak.ensures.value in
-    record {
-      value = subst (λ n. IsOn c.of_leak.result events n month) behind on;
-      no_leak = λ k d from within soon.
-          let lt : k < c.count_before-count.result =
-          counted events c.args.days.now.first c.count_before-count.result k d c.count_before-count.ensures.value within soon in
-          before.none k d from lt;
-    }
+    let l = c.loop-k in
+    let end : l.k ≡ c.count_before-count.result = omega (arith, l.invariant.to, c.loop-k-test.false) in
+    record { value = subst (λ n. IsOn l.past c.args.events.now n c.args.days.now.month) end l.invariant.on }

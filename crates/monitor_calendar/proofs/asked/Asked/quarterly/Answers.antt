@@ -2,7 +2,7 @@ use Rattle.std.proofs.Common.{◌≡◌, nat_le, min, drop, filter, sym, subst, 
 use Rattle.ldar_law.specs.declared.event.Event.{Event}
 use Rattle.ldar_law.specs.Duties.{routine_in}
 use Rattle.monitor_calendar.specs.Causes as causes
-use Rattle.monitor_calendar.proofs.Judging.{IsOf, met_by_key, quarterly_by}
+use Rattle.monitor_calendar.proofs.Judging.{IsOf, judged_is, met_by_key, quarterly_by}
 use Rattle.monitor_calendar.proofs.Listing.{unowed}
 use Rattle.monitor_calendar.proofs.Concerning.{not_quarterly}
 use Rattle.monitor_calendar.proofs.asked.Asked.quarterly.Goals as goal
@@ -12,13 +12,10 @@ returns-then-not-is_quarter_month c =
     let asked = c.args.self.now in
     let days = c.args.days.now in
     let walked = c.args.walked.now in
-    let judged = c.judged-judged.result in
+    let judged = c.judged_by-judged.result in
     let is : IsOf asked judged (min days.last asked.day) =
-    subst (IsOf asked judged) c.judging_day.ensures.value (record {
-      serves = c.judged-judged.ensures.serves;
-      regime = c.judged-judged.ensures.regime;
-      class = c.judged-judged.ensures.class;
-    }) in
+    judged_is asked judged c.args.class c.judging_day.result (min days.last asked.day) c.judging_day.ensures.value c.requires.class
+    c.judged_by-judged.ensures.serves c.judged_by-judged.ensures.regime c.judged_by-judged.ensures.class in
     let owed = causes.is_quarter_month_judged asked judged days.month walked.is_quarterly in
     let met = routine_in asked.events.now days.first days.last in
     let form : causes.quarterly asked days.month ≡ causes.duty asked 3 days.first days.last owed met =
@@ -33,13 +30,10 @@ returns c =
     let asked = c.args.self.now in
     let days = c.args.days.now in
     let walked = c.args.walked.now in
-    let judged = c.judged-judged.result in
+    let judged = c.judged_by-judged.result in
     let is : IsOf asked judged (min days.last asked.day) =
-    subst (IsOf asked judged) c.judging_day.ensures.value (record {
-      serves = c.judged-judged.ensures.serves;
-      regime = c.judged-judged.ensures.regime;
-      class = c.judged-judged.ensures.class;
-    }) in
+    judged_is asked judged c.args.class c.judging_day.result (min days.last asked.day) c.judging_day.ensures.value c.requires.class
+    c.judged_by-judged.ensures.serves c.judged_by-judged.ensures.regime c.judged_by-judged.ensures.class in
     let owed = causes.is_quarter_month_judged asked judged days.month walked.is_quarterly in
     let met = routine_in asked.events.now days.first days.last in
     let form : causes.quarterly asked days.month ≡ causes.duty asked 3 days.first days.last owed met =
