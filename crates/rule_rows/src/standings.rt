@@ -1,7 +1,7 @@
 //! The class of a component, moved on from day to day.
 
 use crate::words::{key, plain};
-use class_standing::ClassStanding;
+use class_standing::{ClassStanding, entered_by};
 use fact_kinds::{Kind, Service};
 use ldar_days::Day;
 use ldar_law::Equipment;
@@ -35,5 +35,11 @@ fn a_class_stands_until_the_next_one_is_entered(rt: HostRuntime) -> Result<(), F
     assert_eq!(rt; back.class.service, Service::Gas);
     assert!(rt; light.holds_on(Day::at(19_099)));
     assert!(rt; !light.holds_on(Day::at(19_100)));
+    assert_eq!(rt; entered_by(&classes, 0, Day::at(18_999)), 0);
+    assert_eq!(rt; entered_by(&classes, 0, Day::at(19_099)), 1);
+    assert_eq!(rt; entered_by(&classes, 0, Day::at(19_100)), 2);
+    let behind = ClassStanding::behind(&item, &classes, 1);
+    assert_eq!(rt; behind.class.service, Service::Light);
+    assert!(rt; behind.holds_on(Day::at(19_000)));
     Ok(())
 }
