@@ -49,7 +49,7 @@ impl Frame {
 
     /// Adds this frame to others.
     pub fn add_to(&self, frames: &mut Frames)
-        ensures { frames.new ≡ frames.old ++ self.now ∷ [] }
+        ensures value { frames.new ≡ frames.old ++ self.now ∷ [] }
     {
         frames.push(&self.batches);
     }

@@ -135,7 +135,7 @@ invariant_of-self-2 g c =
     let holds = from_ok put.result was_put put.ensures.put in
     let stable = from_ok put.result was_put put.ensures.durable in
     let was_opened = sym c.is_err-2.ensures.value ∙ c.if-is_err-2.false in
-    rw (c.add_to.ensures, c.bytes-bytes.ensures.value) (
+    rw (c.add_to.ensures.value, c.bytes-bytes.ensures.value) (
     IsShelved-appended d.clock d.left d.images d.content j.disk j.end j.frames j.doubt.value c.args.frame.now j.torn is_ready
     put.new.disk (length c.bytes-bytes.result.now) put.ensures.front put.ensures.crash put.ensures.any_moment
     c.open_gate.new.disk (rw c.bytes-bytes.ensures.value at holds) stable c.open_gate.ensures.others c.open_gate.ensures.crash
