@@ -20,6 +20,7 @@ use Rattle.ldar_law.specs.Standing.{are_valve_rules, are_pump_rules, is_none_des
 use Rattle.monitor_calendar.specs.Causes as causes
 use Rattle.monitor_calendar.specs.declared.asked.Asked.{Asked}
 use Rattle.monitor_calendar.specs.declared.asked.Judged.{Judged}
+use Rattle.monitor_calendar.proofs.Listing.{unowed}
 
 -- a whole number of windows has one at least
 one_window : (n p : ℕ) → 0 < n → n % p ≡ 0 → p ≤ n
@@ -133,6 +134,24 @@ module _ (asked : Asked) where
       monthly_exact judged month first due from to is
       ∙ ap (λ owed. causes.duty asked 2 first due owed (law.routine_in asked.events.now first due)) (monthly_alike judged month due quarterly is says)
 
+  -- .. of a month of which none is owed
+  pub monthly_unowed : (judged : Judged) (month first due : ℕ) → first ≡ first_day month → due ≡ last_day month →
+      (is_valve asked.item.now.kind ≡ true → false ≡ is_quarterly asked.startup asked.events.now month) → IsOf judged (min due asked.day) →
+      causes.is_monthly_judged judged false ≡ false → causes.monthly asked month ≡ None
+  monthly_unowed judged month first due from to says is none =
+      monthly_by judged month first due false from to says is
+      ∙ unowed asked.item.now asked.classes.now asked.startup asked.events.now asked.skipped.now asked.day 2 first due
+      (causes.is_monthly_judged judged false) (law.routine_in asked.events.now first due) none
+
+  -- .. and of one of which it is, by the key of what met it
+  pub monthly_met : (judged : Judged) (month first due : ℕ) (met : Option Key) → first ≡ first_day month → due ≡ last_day month →
+      (is_valve asked.item.now.kind ≡ true → false ≡ is_quarterly asked.startup asked.events.now month) → IsOf judged (min due asked.day) →
+      met ≡ option_map (λ e. e.key) (law.routine_in asked.events.now first due) → causes.is_monthly_judged judged false ≡ true →
+      causes.duty_met_by asked 2 first due met ≡ causes.monthly asked month
+  monthly_met judged month first due met from to says is found owed =
+      met_by_key 2 first due (causes.is_monthly_judged judged false) met (law.routine_in asked.events.now first due) found owed
+      ∙ sym (monthly_by judged month first due false from to says is)
+
   -- the quarterly one
   pub quarterly_by : (judged : Judged) (month first due : ℕ) (quarterly : Bool) → first ≡ first_day month → due ≡ last_day month → quarterly
       ≡ is_quarterly asked.startup asked.events.now month →
@@ -141,6 +160,24 @@ module _ (asked : Asked) where
       (law.routine_in asked.events.now first due)
   unfolding law.quarterly
   quarterly_by judged month first due quarterly from to same is = rw (is.serves, is.regime, is.class, same, from, to) refl
+
+  -- .. of a month of which none is owed
+  pub quarterly_unowed : (judged : Judged) (month first due : ℕ) (quarterly : Bool) → first ≡ first_day month → due ≡ last_day month →
+      quarterly ≡ is_quarterly asked.startup asked.events.now month → IsOf judged (min due asked.day) →
+      causes.is_quarter_month_judged asked judged month quarterly ≡ false → causes.quarterly asked month ≡ None
+  quarterly_unowed judged month first due quarterly from to same is none =
+      quarterly_by judged month first due quarterly from to same is
+      ∙ unowed asked.item.now asked.classes.now asked.startup asked.events.now asked.skipped.now asked.day 3 first due
+      (causes.is_quarter_month_judged asked judged month quarterly) (law.routine_in asked.events.now first due) none
+
+  -- .. and of one of which it is, by the key of what met it
+  pub quarterly_met : (judged : Judged) (month first due : ℕ) (quarterly : Bool) (met : Option Key) → first ≡ first_day month → due ≡ last_day month →
+      quarterly ≡ is_quarterly asked.startup asked.events.now month → IsOf judged (min due asked.day) →
+      met ≡ option_map (λ e. e.key) (law.routine_in asked.events.now first due) → causes.is_quarter_month_judged asked judged month quarterly ≡ true →
+      causes.duty_met_by asked 3 first due met ≡ causes.quarterly asked month
+  quarterly_met judged month first due quarterly met from to same is found owed =
+      met_by_key 3 first due (causes.is_quarter_month_judged asked judged month quarterly) met (law.routine_in asked.events.now first due) found owed
+      ∙ sym (quarterly_by judged month first due quarterly from to same is)
 
   -- the yearly one
   pub yearly_by : (judged : Judged) (year first due : ℕ) → first ≡ first_day (12 * year) → due ≡ last_day (12 * year + 11) → IsOf judged (min due asked.day) →

@@ -1,9 +1,6 @@
-use Rattle.std.proofs.Common.{◌≡◌, false, nat_le, min, drop, filter, sym, subst, ◌∙◌}
+use Rattle.std.proofs.Common.{◌≡◌, nat_le, min, drop, filter, sym, subst, ◌∙◌}
 use Rattle.ldar_law.specs.declared.event.Event.{Event}
-use Rattle.ldar_law.specs.Duties.{routine_in}
-use Rattle.monitor_calendar.specs.Causes as causes
-use Rattle.monitor_calendar.proofs.Judging.{IsOf, judged_is, met_by_key, monthly_by}
-use Rattle.monitor_calendar.proofs.Listing.{unowed}
+use Rattle.monitor_calendar.proofs.Judging.{IsOf, judged_is, monthly_unowed, monthly_met}
 use Rattle.monitor_calendar.proofs.Concerning.{not_monthly}
 use Rattle.monitor_calendar.proofs.asked.Asked.monthly_of_valve.Goals as goal
 
@@ -20,12 +17,8 @@ returns-then-not-is_monthly c =
     let is : IsOf asked judged (min days.last asked.day) =
     judged_is asked judged c.args.class c.judging_day.result (min days.last asked.day) c.judging_day.ensures.value c.requires.class
     c.judged_by-judged.ensures.serves c.judged_by-judged.ensures.regime c.judged_by-judged.ensures.class in
-    let owed = causes.is_monthly_judged judged false in
-    let met = routine_in asked.events.now days.first days.last in
-    let form : causes.monthly asked days.month ≡ causes.duty asked 2 days.first days.last owed met =
-    monthly_by asked judged days.month days.first days.last false days.begins days.ends (λ valve. sym c.if-walked.false ∙ c.requires.walked.quarterly) is in
     record {
-      value = sym (form ∙ unowed asked.item.now asked.classes.now asked.startup asked.events.now asked.skipped.now asked.day 2 days.first days.last owed met
+      value = sym (monthly_unowed asked judged days.month days.first days.last days.begins days.ends (λ valve. sym c.if-walked.false ∙ c.requires.walked.quarterly) is
           (sym c.is_monthly.ensures.value ∙ c.if-not-is_monthly.true));
     }
 
@@ -37,17 +30,12 @@ returns c =
     let is : IsOf asked judged (min days.last asked.day) =
     judged_is asked judged c.args.class c.judging_day.result (min days.last asked.day) c.judging_day.ensures.value c.requires.class
     c.judged_by-judged.ensures.serves c.judged_by-judged.ensures.regime c.judged_by-judged.ensures.class in
-    let owed = causes.is_monthly_judged judged false in
-    let met = routine_in asked.events.now days.first days.last in
-    let form : causes.monthly asked days.month ≡ causes.duty asked 2 days.first days.last owed met =
-    monthly_by asked judged days.month days.first days.last false days.begins days.ends (λ valve. sym c.if-walked.false ∙ c.requires.walked.quarterly) is in
     let walked = c.args.walked.now in
     let rest : drop walked.place asked.events.now ≡ filter (λ (e : Event). nat_le days.first e.key.day) asked.events.now =
-    subst (λ n. drop walked.place asked.events.now ≡ filter (λ (e : Event). nat_le n e.key.day) asked.events.now) (sym days.begins) c.requires.walked.begun.rest
-    in
+    subst (λ n. drop walked.place asked.events.now ≡ filter (λ (e : Event). nat_le n e.key.day) asked.events.now) (sym days.begins)
+    c.requires.walked.begun.rest in
     record {
       value = c.duty.ensures.value
-          ∙ met_by_key asked 2 days.first days.last owed c.routine_behind-met.result met (c.routine_behind-met.ensures.value days.first rest)
-          (sym c.is_monthly.ensures.value ∙ c.if-not-is_monthly.false)
-          ∙ sym form;
+          ∙ monthly_met asked judged days.month days.first days.last c.routine_behind-met.result days.begins days.ends (λ valve. sym c.if-walked.false ∙ c.requires.walked.quarterly) is
+          (c.routine_behind-met.ensures.value days.first rest) (sym c.is_monthly.ensures.value ∙ c.if-not-is_monthly.false);
     }

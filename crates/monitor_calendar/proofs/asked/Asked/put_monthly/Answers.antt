@@ -41,9 +41,9 @@ returns c =
 
 pub returns-then-months : goal.returns-then-months
 returns-then-months c =
-    let asked = c.args.self.now in
     let covered = c.requires.covered in
+    let low = c.args.months.now.low in
     let end = c.args.months.now.end in
-    let f = causes.monthly asked in
+    let f = causes.monthly c.args.self.now in
     let done = c.args.duties.now.items in
-    record { put = filter_map_done f done _ c.args.months.now.low end c.if-months.true (listed_in f done c.args.months.now.low end _ _ covered.end covered.first.monthly) }
+    record { put = filter_map_done f done _ low end c.if-months.true (listed_in f done low end _ _ covered.end covered.first.monthly) }
