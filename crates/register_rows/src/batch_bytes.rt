@@ -29,9 +29,11 @@ const EVERY_KIND: [u8; 199] = *b"\x42\x01\x02\x01\x02\x03\x04\0\x0f\
     \x0e\x4d\x3d\x02\x58\x01\x03\
     \x0f\x4d\x3d\x02\x58\x01\x03\x02\x01";
 
-/// What the facts of `EVERY_KIND` say, on 2023-11-21 and 2024-03-20 where they name another day.
-fn bodies(name: Name, notified: Day, expected: Day) -> [FactBody; 15] {
-    let component = 259;
+/// The component of which the facts of `EVERY_KIND` speak.
+const COMPONENT: u16 = 259;
+
+/// What the first six of them say, with the day of a notice.
+fn entered(name: Name, notified: Day) -> [FactBody; 6] {
     let class = Class {
         service: Service::Light,
         designation: Designation::Unsafe,
@@ -51,7 +53,7 @@ fn bodies(name: Name, notified: Day, expected: Day) -> [FactBody; 15] {
             name,
         },
         FactBody::Component {
-            component,
+            component: COMPONENT,
             unit: 2,
             kind: Kind::Pump,
             monomer: true,
@@ -59,32 +61,44 @@ fn bodies(name: Name, notified: Day, expected: Day) -> [FactBody; 15] {
             class,
         },
         FactBody::Class {
-            component,
+            component: COMPONENT,
             class: later,
         },
-        FactBody::Retire { component },
+        FactBody::Retire {
+            component: COMPONENT,
+        },
         FactBody::Election {
             unit: 2,
             mode: 3,
             notified,
         },
         FactBody::Shutdown { unit: 2, days: 258 },
-        FactBody::Calibration {
-            instrument: 5,
-            gas: 10_000,
-        },
-        FactBody::Precision {
-            instrument: 5,
-            value: 500,
-            readings: (501, 502, 503),
-        },
-        FactBody::Drift {
-            instrument: 5,
-            value: 504,
-            readings: (505, 506, 507),
-        },
+    ]
+}
+
+/// What the three of an instrument say.
+const TESTED: [FactBody; 3] = [
+    FactBody::Calibration {
+        instrument: 5,
+        gas: 10_000,
+    },
+    FactBody::Precision {
+        instrument: 5,
+        value: 500,
+        readings: (501, 502, 503),
+    },
+    FactBody::Drift {
+        instrument: 5,
+        value: 504,
+        readings: (505, 506, 507),
+    },
+];
+
+/// What the others say, with the day on which a repair is expected.
+fn seen(expected: Day) -> [FactBody; 6] {
+    [
         FactBody::Reading {
-            component,
+            component: COMPONENT,
             instrument: 5,
             operator: 6,
             purpose: Purpose::FollowUp,
@@ -92,22 +106,24 @@ fn bodies(name: Name, notified: Day, expected: Day) -> [FactBody; 15] {
             background: 3,
         },
         FactBody::Visual {
-            component,
+            component: COMPONENT,
             state: VisualState::Drips,
         },
         FactBody::Attempt {
-            component,
+            component: COMPONENT,
             complete: true,
         },
         FactBody::Delay {
-            component,
+            component: COMPONENT,
             ground: 3,
             signer: 9,
             expected: Some(expected),
         },
-        FactBody::Release { component },
+        FactBody::Release {
+            component: COMPONENT,
+        },
         FactBody::Indication {
-            component,
+            component: COMPONENT,
             sort: Sort::Evidence,
             present: true,
         },
@@ -234,7 +250,11 @@ fn a_batch_of_every_kind_is_read_and_written(rt: HostRuntime) -> Result<(), Fail
     assert_eq!(rt; (batch.handheld, batch.number), (258, 16_909_060));
     let facts = batch.facts.as_slice();
     assert_eq!(rt; facts.len(), 15);
-    for (fact, body) in facts.iter().zip(bodies(name, notified, expected)) {
+    let bodies = entered(name, notified)
+        .into_iter()
+        .chain(TESTED)
+        .chain(seen(expected));
+    for (fact, body) in facts.iter().zip(bodies) {
         assert!(rt; fact.day == day && fact.minute == 600 && fact.body == body);
     }
     let mut out = Vec::from_slice(rt.alloc(), b"before")?;

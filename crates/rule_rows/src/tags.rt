@@ -121,239 +121,246 @@ fn tags_of(alloc: Global, kind: Kind, from: u32, told: &[(u32, u8)]) -> Result<S
     Ok(text)
 }
 
+/// Events of a kind of equipment, by their days after the first leak's, and the tags that they give: what closes one, and what
+/// leaves it open.
+const CLOSINGS: [(Kind, &[(u32, u8)], &str); 16] = [
+    (Kind::Valve, &[], ""),
+    // March and April are clean.
+    (
+        Kind::Valve,
+        &[(0, b'L'), (2, b'A'), (15, b'b'), (42, b'b')],
+        "0 attempted 2 closed 15 removable; ",
+    ),
+    // A leak after the attempt: another attempt is wanted.
+    (
+        Kind::Valve,
+        &[
+            (0, b'L'),
+            (1, b'A'),
+            (2, b'L'),
+            (3, b'b'),
+            (4, b'A'),
+            (5, b'b'),
+        ],
+        "0 attempted 1 closed 5; ",
+    ),
+    // A leak while a tag is open opens no other; April and May are clean, after both closings.
+    (
+        Kind::Valve,
+        &[
+            (0, b'L'),
+            (2, b'A'),
+            (15, b'b'),
+            (20, b'L'),
+            (21, b'L'),
+            (22, b'A'),
+            (23, b'b'),
+            (70, b'b'),
+            (100, b'b'),
+            (101, b'A'),
+        ],
+        "0 attempted 2 closed 15 removable; 20 attempted 22 closed 23 removable; ",
+    ),
+    (Kind::Pump, &[(0, b'd'), (2, b'y')], "0; "),
+    (
+        Kind::Pump,
+        &[(0, b'd'), (1, b'A'), (2, b'y')],
+        "0 attempted 1 closed 2 removable; ",
+    ),
+    // A dry look settles the drips and not the reading.
+    (
+        Kind::Pump,
+        &[(0, b'L'), (1, b'd'), (2, b'A'), (3, b'y')],
+        "0 attempted 2; ",
+    ),
+    (
+        Kind::Pump,
+        &[(0, b'L'), (1, b'd'), (2, b'A'), (3, b'y'), (4, b'b')],
+        "0 attempted 2 closed 4 removable; ",
+    ),
+    (
+        Kind::Compressor,
+        &[(0, b'S'), (1, b'A'), (2, b'b')],
+        "0 attempted 1; ",
+    ),
+    (
+        Kind::Compressor,
+        &[(0, b'S'), (1, b'C')],
+        "0 attempted 1 closed 1 removable; ",
+    ),
+    // The attempt comes after both detections.
+    (
+        Kind::Valve,
+        &[(0, b'L'), (3, b'R'), (5, b'L'), (9, b'A')],
+        "0 attempted 9 closed 3; 5 attempted 9; ",
+    ),
+    // Days that fall, for which there is the search alone.
+    (
+        Kind::Valve,
+        &[(5, b'L'), (0, b'A'), (6, b'b')],
+        "5 attempted 0 closed 6; ",
+    ),
+    // Delays by another ground, and of another kind of equipment.
+    (
+        Kind::Valve,
+        &[(0, b'L'), (1, b'I'), (19, b'b'), (50, b'b')],
+        "0; ",
+    ),
+    (
+        Kind::Compressor,
+        &[(0, b'L'), (1, b'D'), (19, b'b'), (50, b'b')],
+        "0; ",
+    ),
+    // The drips of day 44 are settled with those of day 40.
+    (
+        Kind::Pump,
+        &[
+            (40, b'd'),
+            (41, b'y'),
+            (42, b'A'),
+            (43, b'A'),
+            (44, b'd'),
+            (45, b'y'),
+            (46, b'A'),
+            (47, b'b'),
+            (90, b'd'),
+        ],
+        "40 attempted 42 closed 47 removable; 90; ",
+    ),
+    (Kind::Pump, &[(0, b'b'), (1, b'y'), (2, b'A')], ""),
+];
+
 #[test]
 fn a_tag_closes_when_nothing_is_unsettled(rt: HostRuntime) -> Result<(), Fail> {
     let alloc = rt.alloc();
-    let cases: [(Kind, &[(u32, u8)], &str); 16] = [
-        (Kind::Valve, &[], ""),
-        // March and April are clean.
-        (
-            Kind::Valve,
-            &[(0, b'L'), (2, b'A'), (15, b'b'), (42, b'b')],
-            "0 attempted 2 closed 15 removable; ",
-        ),
-        // A leak after the attempt: another attempt is wanted.
-        (
-            Kind::Valve,
-            &[
-                (0, b'L'),
-                (1, b'A'),
-                (2, b'L'),
-                (3, b'b'),
-                (4, b'A'),
-                (5, b'b'),
-            ],
-            "0 attempted 1 closed 5; ",
-        ),
-        // A leak while a tag is open opens no other; April and May are clean, after both closings.
-        (
-            Kind::Valve,
-            &[
-                (0, b'L'),
-                (2, b'A'),
-                (15, b'b'),
-                (20, b'L'),
-                (21, b'L'),
-                (22, b'A'),
-                (23, b'b'),
-                (70, b'b'),
-                (100, b'b'),
-                (101, b'A'),
-            ],
-            "0 attempted 2 closed 15 removable; 20 attempted 22 closed 23 removable; ",
-        ),
-        (Kind::Pump, &[(0, b'd'), (2, b'y')], "0; "),
-        (
-            Kind::Pump,
-            &[(0, b'd'), (1, b'A'), (2, b'y')],
-            "0 attempted 1 closed 2 removable; ",
-        ),
-        // A dry look settles the drips and not the reading.
-        (
-            Kind::Pump,
-            &[(0, b'L'), (1, b'd'), (2, b'A'), (3, b'y')],
-            "0 attempted 2; ",
-        ),
-        (
-            Kind::Pump,
-            &[(0, b'L'), (1, b'd'), (2, b'A'), (3, b'y'), (4, b'b')],
-            "0 attempted 2 closed 4 removable; ",
-        ),
-        (
-            Kind::Compressor,
-            &[(0, b'S'), (1, b'A'), (2, b'b')],
-            "0 attempted 1; ",
-        ),
-        (
-            Kind::Compressor,
-            &[(0, b'S'), (1, b'C')],
-            "0 attempted 1 closed 1 removable; ",
-        ),
-        // The attempt comes after both detections.
-        (
-            Kind::Valve,
-            &[(0, b'L'), (3, b'R'), (5, b'L'), (9, b'A')],
-            "0 attempted 9 closed 3; 5 attempted 9; ",
-        ),
-        // Days that fall, for which there is the search alone.
-        (
-            Kind::Valve,
-            &[(5, b'L'), (0, b'A'), (6, b'b')],
-            "5 attempted 0 closed 6; ",
-        ),
-        // Delays by another ground, and of another kind of equipment.
-        (
-            Kind::Valve,
-            &[(0, b'L'), (1, b'I'), (19, b'b'), (50, b'b')],
-            "0; ",
-        ),
-        (
-            Kind::Compressor,
-            &[(0, b'L'), (1, b'D'), (19, b'b'), (50, b'b')],
-            "0; ",
-        ),
-        // The drips of day 44 are settled with those of day 40.
-        (
-            Kind::Pump,
-            &[
-                (40, b'd'),
-                (41, b'y'),
-                (42, b'A'),
-                (43, b'A'),
-                (44, b'd'),
-                (45, b'y'),
-                (46, b'A'),
-                (47, b'b'),
-                (90, b'd'),
-            ],
-            "40 attempted 42 closed 47 removable; 90; ",
-        ),
-        (Kind::Pump, &[(0, b'b'), (1, b'y'), (2, b'A')], ""),
-    ];
-    for (kind, told, tags) in cases {
+    for (kind, told, tags) in CLOSINGS {
         assert_eq!(rt; tags_of(alloc, kind, FEBRUARY, told)?.as_str(), tags);
     }
     Ok(())
 }
+
+/// The same where something came before a tag was opened.
+const BEGINNINGS: [(Kind, &[(u32, u8)], &str); 4] = [
+    // An attempt before the leak.
+    (
+        Kind::Pump,
+        &[(0, b'A'), (5, b'b'), (10, b'L'), (40, b'b')],
+        "10; ",
+    ),
+    // A reading below the leak definition in the month before, and before the leak.
+    (
+        Kind::Pump,
+        &[(0, b'b'), (5, b'L'), (6, b'D'), (15, b'b')],
+        "5; ",
+    ),
+    // A delay between two tags.
+    (
+        Kind::Pump,
+        &[
+            (0, b'L'),
+            (1, b'A'),
+            (2, b'b'),
+            (3, b'D'),
+            (4, b'L'),
+            (15, b'b'),
+            (45, b'b'),
+        ],
+        "0 attempted 1 closed 2 removable; 4; ",
+    ),
+    // Drips in one tag, a sensor's leak in the next.
+    (
+        Kind::Pump,
+        &[
+            (0, b'd'),
+            (1, b'A'),
+            (2, b'y'),
+            (3, b'C'),
+            (4, b'S'),
+            (5, b'y'),
+            (6, b'C'),
+            (7, b'R'),
+        ],
+        "0 attempted 1 closed 2 removable; 4 attempted 6 closed 6 removable; ",
+    ),
+];
 
 /// What comes while nothing is open counts for no later tag.
 #[test]
 fn a_tag_begins_anew(rt: HostRuntime) -> Result<(), Fail> {
     let alloc = rt.alloc();
-    let cases: [(Kind, &[(u32, u8)], &str); 4] = [
-        // An attempt before the leak.
-        (
-            Kind::Pump,
-            &[(0, b'A'), (5, b'b'), (10, b'L'), (40, b'b')],
-            "10; ",
-        ),
-        // A reading below the leak definition in the month before, and before the leak.
-        (
-            Kind::Pump,
-            &[(0, b'b'), (5, b'L'), (6, b'D'), (15, b'b')],
-            "5; ",
-        ),
-        // A delay between two tags.
-        (
-            Kind::Pump,
-            &[
-                (0, b'L'),
-                (1, b'A'),
-                (2, b'b'),
-                (3, b'D'),
-                (4, b'L'),
-                (15, b'b'),
-                (45, b'b'),
-            ],
-            "0 attempted 1 closed 2 removable; 4; ",
-        ),
-        // Drips in one tag, a sensor's leak in the next.
-        (
-            Kind::Pump,
-            &[
-                (0, b'd'),
-                (1, b'A'),
-                (2, b'y'),
-                (3, b'C'),
-                (4, b'S'),
-                (5, b'y'),
-                (6, b'C'),
-                (7, b'R'),
-            ],
-            "0 attempted 1 closed 2 removable; 4 attempted 6 closed 6 removable; ",
-        ),
-    ];
-    for (kind, told, tags) in cases {
+    for (kind, told, tags) in BEGINNINGS {
         assert_eq!(rt; tags_of(alloc, kind, FEBRUARY, told)?.as_str(), tags);
     }
     Ok(())
 }
 
+/// The first day of events of a valve, the events by their days after it, and their tags: readings of March and April 2024, or of
+/// December 2023, January and February 2024.
+const DELAYED: [(u32, &[(u32, u8)], &str); 9] = [
+    (
+        FEBRUARY,
+        &[(0, b'L'), (15, b'D'), (19, b'b'), (50, b'b')],
+        "0 closed 50; ",
+    ),
+    (
+        FEBRUARY,
+        &[(0, b'L'), (16, b'D'), (19, b'b'), (50, b'b')],
+        "0; ",
+    ),
+    // The first reading may come before the delay, and a month may have several.
+    (
+        FEBRUARY,
+        &[(0, b'L'), (11, b'b'), (12, b'b'), (15, b'D'), (50, b'b')],
+        "0 closed 50; ",
+    ),
+    (
+        FEBRUARY,
+        &[(0, b'L'), (15, b'D'), (19, b'b'), (20, b'b')],
+        "0; ",
+    ),
+    // A leak between the readings.
+    (
+        FEBRUARY,
+        &[(0, b'L'), (1, b'D'), (19, b'b'), (45, b'L'), (50, b'b')],
+        "0; ",
+    ),
+    // The delay reaches the second leak, and the first wants an attempt.
+    (
+        FEBRUARY,
+        &[
+            (0, b'L'),
+            (10, b'L'),
+            (20, b'D'),
+            (22, b'b'),
+            (50, b'b'),
+            (51, b'A'),
+            (52, b'b'),
+        ],
+        "0 attempted 51 closed 52; ",
+    ),
+    // What a sensor told is delayed as well.
+    (
+        FEBRUARY,
+        &[(0, b'S'), (1, b'D'), (19, b'b'), (50, b'b')],
+        "0 closed 50; ",
+    ),
+    // Over a year's end, where January and February are clean.
+    (
+        DECEMBER,
+        &[(0, b'L'), (1, b'D'), (5, b'b'), (40, b'b'), (60, b'b')],
+        "0 closed 40 removable; ",
+    ),
+    (
+        DECEMBER,
+        &[(0, b'L'), (1, b'D'), (5, b'b'), (60, b'b')],
+        "0; ",
+    ),
+];
+
 #[test]
 fn two_readings_settle_a_delayed_leak(rt: HostRuntime) -> Result<(), Fail> {
     let alloc = rt.alloc();
-    // Readings of March and April 2024, or of December 2023, January and February 2024.
-    let cases: [(u32, &[(u32, u8)], &str); 9] = [
-        (
-            FEBRUARY,
-            &[(0, b'L'), (15, b'D'), (19, b'b'), (50, b'b')],
-            "0 closed 50; ",
-        ),
-        (
-            FEBRUARY,
-            &[(0, b'L'), (16, b'D'), (19, b'b'), (50, b'b')],
-            "0; ",
-        ),
-        // The first reading may come before the delay, and a month may have several.
-        (
-            FEBRUARY,
-            &[(0, b'L'), (11, b'b'), (12, b'b'), (15, b'D'), (50, b'b')],
-            "0 closed 50; ",
-        ),
-        (
-            FEBRUARY,
-            &[(0, b'L'), (15, b'D'), (19, b'b'), (20, b'b')],
-            "0; ",
-        ),
-        // A leak between the readings.
-        (
-            FEBRUARY,
-            &[(0, b'L'), (1, b'D'), (19, b'b'), (45, b'L'), (50, b'b')],
-            "0; ",
-        ),
-        // The delay reaches the second leak, and the first wants an attempt.
-        (
-            FEBRUARY,
-            &[
-                (0, b'L'),
-                (10, b'L'),
-                (20, b'D'),
-                (22, b'b'),
-                (50, b'b'),
-                (51, b'A'),
-                (52, b'b'),
-            ],
-            "0 attempted 51 closed 52; ",
-        ),
-        // What a sensor told is delayed as well.
-        (
-            FEBRUARY,
-            &[(0, b'S'), (1, b'D'), (19, b'b'), (50, b'b')],
-            "0 closed 50; ",
-        ),
-        // Over a year's end, where January and February are clean.
-        (
-            DECEMBER,
-            &[(0, b'L'), (1, b'D'), (5, b'b'), (40, b'b'), (60, b'b')],
-            "0 closed 40 removable; ",
-        ),
-        (
-            DECEMBER,
-            &[(0, b'L'), (1, b'D'), (5, b'b'), (60, b'b')],
-            "0; ",
-        ),
-    ];
-    for (from, told, tags) in cases {
+    for (from, told, tags) in DELAYED {
         assert_eq!(rt; tags_of(alloc, Kind::Valve, from, told)?.as_str(), tags);
     }
     Ok(())

@@ -199,46 +199,48 @@ fn spreadsheets_write_it_in_their_ways(rt: HostRuntime) -> Result<(), Fail> {
     Ok(())
 }
 
+/// What stands in front of the first row, or in its place, and the bad row that is told.
+const HEADS: [(&str, u32); 10] = [
+    ("", 1),
+    ("\n\n", 1),
+    (
+        "component;unit;kind;service;designation;plan;month;monomer;replaces;begin\n",
+        1,
+    ),
+    (
+        "sep=,\ncomponent,unit,kind,service,designation,plan,month,monomer,replaces,begin\n",
+        1,
+    ),
+    (
+        "unit,component,kind,service,designation,plan,month,monomer,replaces,begin\n",
+        1,
+    ),
+    (
+        "component,unit,kind,service,designation,plan,month,monomer,replaces\n",
+        1,
+    ),
+    (
+        "component,unit,kind,service,designation,plan,month,monomer,replaces,begin,\n",
+        1,
+    ),
+    (
+        "component,unit,kind,service,designation,plan,month,monomer,replaces,Begin\n",
+        1,
+    ),
+    (
+        "component,unit,kind,service,designation,plan,month,monomer,replaces,begin",
+        2,
+    ),
+    (
+        "component,unit,kind,service,designation,plan,month,monomer,replaces,begin\n\n",
+        2,
+    ),
+];
+
 #[test]
 fn a_file_without_its_header_or_rows_is_told(rt: HostRuntime) -> Result<(), Fail> {
     let alloc = rt.alloc();
-    let heads = [
-        ("", 1),
-        ("\n\n", 1),
-        (
-            "component;unit;kind;service;designation;plan;month;monomer;replaces;begin\n",
-            1,
-        ),
-        (
-            "sep=,\ncomponent,unit,kind,service,designation,plan,month,monomer,replaces,begin\n",
-            1,
-        ),
-        (
-            "unit,component,kind,service,designation,plan,month,monomer,replaces,begin\n",
-            1,
-        ),
-        (
-            "component,unit,kind,service,designation,plan,month,monomer,replaces\n",
-            1,
-        ),
-        (
-            "component,unit,kind,service,designation,plan,month,monomer,replaces,begin,\n",
-            1,
-        ),
-        (
-            "component,unit,kind,service,designation,plan,month,monomer,replaces,Begin\n",
-            1,
-        ),
-        (
-            "component,unit,kind,service,designation,plan,month,monomer,replaces,begin",
-            2,
-        ),
-        (
-            "component,unit,kind,service,designation,plan,month,monomer,replaces,begin\n\n",
-            2,
-        ),
-    ];
-    for (text, row) in heads {
+    for (text, row) in HEADS {
         assert_eq!(rt;
             components_in(alloc, text.as_bytes())?.err(),
             Some(row),
@@ -253,43 +255,45 @@ fn a_file_without_its_header_or_rows_is_told(rt: HostRuntime) -> Result<(), Fail
     Ok(())
 }
 
+/// Rows of which each is bad.
+const BAD_ROWS: [&str; 31] = [
+    "01,1,valve,gas,none,0,1,0,0,2020-01-15",
+    "0,1,valve,gas,none,0,1,0,0,2020-01-15",
+    "60001,1,valve,gas,none,0,1,0,0,2020-01-15",
+    "+1,1,valve,gas,none,0,1,0,0,2020-01-15",
+    " 1,1,valve,gas,none,0,1,0,0,2020-01-15",
+    ",1,valve,gas,none,0,1,0,0,2020-01-15",
+    "18446744073709551617,1,valve,gas,none,0,1,0,0,2020-01-15",
+    "1,0,valve,gas,none,0,1,0,0,2020-01-15",
+    "1,65,valve,gas,none,0,1,0,0,2020-01-15",
+    "1,1,tank,gas,none,0,1,0,0,2020-01-15",
+    "1,1,Valve,gas,none,0,1,0,0,2020-01-15",
+    "1,1,valve,steam,none,0,1,0,0,2020-01-15",
+    "1,1,valve,gas,,0,1,0,0,2020-01-15",
+    "1,1,valve,gas,none,1,1,0,0,2020-01-15",
+    "1,1,valve,gas,unsafe,0,1,0,0,2020-01-15",
+    "1,1,valve,gas,unsafe,61,1,0,0,2020-01-15",
+    "1,1,valve,gas,none,0,0,0,0,2020-01-15",
+    "1,1,valve,gas,none,0,4,0,0,2020-01-15",
+    "1,1,valve,gas,none,0,1,2,0,2020-01-15",
+    "1,1,valve,gas,none,0,1,0,TRUE,2020-01-15",
+    "1,1,valve,gas,none,0,1,0,0,15.01.2020",
+    "1,1,valve,gas,none,0,1,0,0,1/15/2020",
+    "1,1,valve,gas,none,0,1,0,0,2020-1-15",
+    "1,1,valve,gas,none,0,1,0,0,2007-12-31",
+    "1,1,valve,gas,none,0,1,0,0,2020-01-15,",
+    "1,1,valve,gas,none,0,1,0,0",
+    "1;1;valve;gas;none;0;1;0;0;2020-01-15",
+    "1,1,\"valve \",gas,none,0,1,0,0,2020-01-15",
+    "1,1,\"val\nve\",gas,none,0,1,0,0,2020-01-15",
+    "1,1,\"valve,gas,none,0,1,0,0,2020-01-15",
+    ",,,,,,,,,",
+];
+
 #[test]
 fn the_first_bad_component_is_told(rt: HostRuntime) -> Result<(), Fail> {
     let alloc = rt.alloc();
-    let rows = [
-        "01,1,valve,gas,none,0,1,0,0,2020-01-15",
-        "0,1,valve,gas,none,0,1,0,0,2020-01-15",
-        "60001,1,valve,gas,none,0,1,0,0,2020-01-15",
-        "+1,1,valve,gas,none,0,1,0,0,2020-01-15",
-        " 1,1,valve,gas,none,0,1,0,0,2020-01-15",
-        ",1,valve,gas,none,0,1,0,0,2020-01-15",
-        "18446744073709551617,1,valve,gas,none,0,1,0,0,2020-01-15",
-        "1,0,valve,gas,none,0,1,0,0,2020-01-15",
-        "1,65,valve,gas,none,0,1,0,0,2020-01-15",
-        "1,1,tank,gas,none,0,1,0,0,2020-01-15",
-        "1,1,Valve,gas,none,0,1,0,0,2020-01-15",
-        "1,1,valve,steam,none,0,1,0,0,2020-01-15",
-        "1,1,valve,gas,,0,1,0,0,2020-01-15",
-        "1,1,valve,gas,none,1,1,0,0,2020-01-15",
-        "1,1,valve,gas,unsafe,0,1,0,0,2020-01-15",
-        "1,1,valve,gas,unsafe,61,1,0,0,2020-01-15",
-        "1,1,valve,gas,none,0,0,0,0,2020-01-15",
-        "1,1,valve,gas,none,0,4,0,0,2020-01-15",
-        "1,1,valve,gas,none,0,1,2,0,2020-01-15",
-        "1,1,valve,gas,none,0,1,0,TRUE,2020-01-15",
-        "1,1,valve,gas,none,0,1,0,0,15.01.2020",
-        "1,1,valve,gas,none,0,1,0,0,1/15/2020",
-        "1,1,valve,gas,none,0,1,0,0,2020-1-15",
-        "1,1,valve,gas,none,0,1,0,0,2007-12-31",
-        "1,1,valve,gas,none,0,1,0,0,2020-01-15,",
-        "1,1,valve,gas,none,0,1,0,0",
-        "1;1;valve;gas;none;0;1;0;0;2020-01-15",
-        "1,1,\"valve \",gas,none,0,1,0,0,2020-01-15",
-        "1,1,\"val\nve\",gas,none,0,1,0,0,2020-01-15",
-        "1,1,\"valve,gas,none,0,1,0,0,2020-01-15",
-        ",,,,,,,,,",
-    ];
-    for row in rows {
+    for row in BAD_ROWS {
         let text = format!(in alloc;
             "{HEADER}\n2,1,valve,gas,none,0,1,0,0,2020-01-15\n{row}\n{row}\n"
         )?;
