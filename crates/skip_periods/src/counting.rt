@@ -1,6 +1,6 @@
 //! Whether a component is a valve that is counted, over quarters that follow one another: it stays so up to the quarter that is
-//! judged on the day on which a class is entered, so that most quarters ask for no class and for no day, and no class is looked
-//! at twice.
+//! judged on the day on which a class is entered, so that most quarters ask for no class and for no day, and the classes are gone
+//! on among from where the quarter before stood.
 
 ghost use Rattle.std.specs.Prelude.{◌≡◌, ℕ, ◌<◌, ◌≤◌, false, []};
 ghost use Rattle.list_words.specs.Order.{Ascends};
