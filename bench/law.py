@@ -21,6 +21,8 @@ IS_COUNTED = sys.argv[1:] == ["instructions"]
 RUNS = 1 if IS_COUNTED else int(sys.argv[1]) if len(sys.argv) > 1 else 7
 # Counting is some fifty times as slow as running, and needs no long run.
 PASSES_FOR_ONE_COUNTED = 500 if IS_COUNTED else 1
+# With fewer the time of a run of many components is lost in that of making them.
+LEAST_PASSES = 1 if IS_COUNTED else 400
 
 here = pathlib.Path(__file__).parent
 crate = here.parent / "crates/law_bench"
@@ -47,7 +49,7 @@ def rows():
     """Of each row what is shown, the words for a size and for some passes, the size, the passes and the calls of a pass."""
     for shown, history, components, facts in LIVES:
         for call in ("events", "spans", "marks", "duties"):
-            passes = max(1, (100_000 if call == "duties" else 10_000_000 // facts) // components)
+            passes = max(LEAST_PASSES, (100_000 if call == "duties" else 10_000_000 // facts) // components)
             words = lambda size, passes, call=call, history=history, components=components: (call, history, components, size, passes)
             yield f"{shown}: {call}", words, facts, passes, lambda size, components=components: components
     for shown, call, size, passes in OTHERS:
