@@ -3,9 +3,10 @@
 duties; an instrument that is calibrated each day, or all day, routes, and a repair that is delayed again and again. Beside them
 stands a plain Rust program with the same functions (law.rs).
 
-Each row is asked for a size and for twice that. What making the lives takes is left out; the sums over the answers,
-which the two programs have to have in common, are in. The program crates/law_bench is proved and built first, so rt and
-rustc have to be on the path.
+Each row is asked for a size and for twice that, of half as many components where there are many: so as many facts are gone
+over, and the caches of the processor hold no less of them. What making the lives takes is left out; the sums over the
+answers, which the two programs have to have in common, are in. The program crates/law_bench is proved and built first, so
+rt and rustc have to be on the path.
 usage: law.py [RUNS]            nanoseconds of processor time; 7 runs if left out
        law.py instructions      the instructions that valgrind counts, once: the same whatever else the machine does
 """
@@ -48,10 +49,11 @@ OTHERS = (
 def rows():
     """Of each row what is shown, the words for a size and for some passes, the size, the passes and the calls of a pass."""
     for shown, history, components, facts in LIVES:
+        lives = lambda size, components=components, facts=facts: max(1, components * facts // size)
         for call in ("events", "spans", "marks", "duties"):
             passes = max(LEAST_PASSES, (100_000 if call == "duties" else 10_000_000 // facts) // components)
-            words = lambda size, passes, call=call, history=history, components=components: (call, history, components, size, passes)
-            yield f"{shown}: {call}", words, facts, passes, lambda size, components=components: components
+            words = lambda size, passes, call=call, history=history, lives=lives: (call, history, lives(size), size, passes)
+            yield f"{shown}: {call}", words, facts, passes, lives
     for shown, call, size, passes in OTHERS:
         words = lambda size, passes, call=call: (call, size, passes)
         yield shown, words, size, passes, lambda size, call=call: size if call in ("fit", "day") else 1

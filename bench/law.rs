@@ -46,12 +46,15 @@ impl History {
         let at = number.wrapping_add(place);
         let day = day_at(place, places, self.days());
         let later = |before: u32, days| plus_days(day_at(place.saturating_sub(before), places, self.days()), days);
-        let even = at / 16 % 2 == 0;
+        let (since, attempted) = match self {
+            History::Year => (place.wrapping_add(number % 8).wrapping_add(4) % 12, number % 2 == 0),
+            _ => (at.wrapping_add(6) % 16, at / 16 % 2 == 0),
+        };
         let (day, body) = match self {
-            History::Valve | History::Year => match at % 16 {
-                10 => (day, reading(true, 700)),
-                11 => (later(1, 2), if even { attempt } else { reading(false, 100) }),
-                12 => (later(2, 4), if even { reading(false, 100) } else { delay }),
+            History::Valve | History::Year => match since {
+                0 => (day, reading(true, 700)),
+                1 => (later(1, 2), if attempted { attempt } else { reading(false, 100) }),
+                2 => (later(2, 4), if attempted { reading(false, 100) } else { delay }),
                 _ => (day, reading(true, 100)),
             },
             History::Pump => (day, match at % 24 {

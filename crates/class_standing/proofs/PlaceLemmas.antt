@@ -86,6 +86,16 @@ behind_between classes (suc place) first end day parted last next low high =
     behind_front (λ (e : Key × Class). nat_le e.0.day day) classes parted (suc place) (omega arith) (next ∙ lt-leb end day high)
     (last (omega arith) ∙ le-leb first day low)
 
+-- by the day of the class at a place, and each later one, those in front of it are entered too
+pub front_entered : (classes : List (Key × Class)) (place end day : ℕ) → IsPartitionedBy (λ e. nat_le e.0.day day) classes →
+    option_map_or (λ e. nat_le e.0.day day) (slice_get classes place) false ≡ nat_le end day → end ≤ day →
+    (k : ℕ) (e : Key × Class) → k < place → (get_or classes k e).0.day ≤ day
+front_entered classes place end day parted next late k e low =
+    let there = next ∙ le-leb end day late in
+    let within = tells_past (λ (x : Key × Class). nat_le x.0.day day) classes place there in
+    leb-true (get_or classes k e).0.day day (parted k place e (omega (arith, low)) within
+    (sym (tells_at (λ (x : Key × Class). nat_le x.0.day day) classes place e within) ∙ there))
+
 -- the day by which the classes in front of a place were entered lies between those two days
 pub day_between : (classes : List (Key × Class)) (place first end day : ℕ) → place ≤ length classes → IsBehind day classes place → (place ≡ 0 → first ≡ 0) →
     (0 < place → option_map_or (λ e. nat_le e.0.day day) (slice_get classes (place - 1)) false ≡ nat_le first day) →

@@ -16,6 +16,8 @@ pub struct ClassStanding {
     pub first: u32,
     /// The number of the day behind the last of them.
     pub end: u32,
+    /// So many of the component's classes were entered by then.
+    pub entered: usize,
     pub class: Class,
 }
 
@@ -82,6 +84,7 @@ impl ClassStanding {
         ClassStanding {
             first: day_before(classes, place),
             end: day_at(classes, place),
+            entered: place,
             class: class_at(equipment, classes, place),
         }
     }
@@ -106,7 +109,8 @@ impl ClassStanding {
         self.first <= number && number < self.end
     }
 
-    /// The class on another day: the same where the day is one of its days.
+    /// The class on another day: the same where the day is one of its days. For a later day the classes behind those that were
+    /// entered are looked at one after the other, and for an earlier one all of them by halving.
     pub fn moved_to(
         self,
         equipment: &Equipment,
@@ -121,6 +125,10 @@ impl ClassStanding {
     {
         if self.holds_on(day) {
             return self;
+        }
+        if self.end <= day.number() {
+            let place = entered_by(classes, self.entered, day);
+            return ClassStanding::behind(equipment, classes, place);
         }
         ClassStanding::on(equipment, classes, day)
     }

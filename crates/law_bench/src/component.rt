@@ -30,7 +30,7 @@ fn facts_of(
     number: u32,
     places: u32,
 ) -> Result<Vec<(Key, Fact)>, AllocError> {
-    let mut facts = Vec::new(alloc);
+    let mut facts = Vec::with_capacity(alloc, places as usize)?;
     for place in 0..places {
         let fact = history.fact(number, place, places);
         facts.push((key_of(fact.day, fact.minute, place), fact))?;
@@ -40,7 +40,7 @@ fn facts_of(
 
 /// The fitness of its readings, of which the one for each fiftieth place is not fit.
 fn fitness_of(alloc: Global, places: u32) -> Result<Vec<Fitness>, AllocError> {
-    let mut fitness = Vec::new(alloc);
+    let mut fitness = Vec::with_capacity(alloc, places as usize)?;
     for place in 0..places {
         fitness.push(if place % 50 == 49 {
             Fitness::NoCalibration

@@ -52,7 +52,7 @@ pub fn classes(
     history: History,
     number: u32,
 ) -> Result<Vec<(Key, Class)>, AllocError> {
-    let mut classes = Vec::new(alloc);
+    let mut classes = Vec::with_capacity(alloc, 2)?;
     for place in 1..3 {
         let key = key_of(day_at(place, 3, history.days()), 0, place);
         classes.push((key, class_with(history, number.wrapping_add(place))))?;

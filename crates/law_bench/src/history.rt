@@ -76,15 +76,24 @@ impl History {
         }
     }
 
-    /// A reading of a valve: the eleventh of sixteen is a leak. There follow an attempt and a reading, or a reading and a
-    /// delay.
+    /// How many facts ago a valve leaked, and whether its repair was attempted. It leaks once in sixteen facts. In its first year
+    /// it leaks once in twelve, and what follows is among the twelve, so that of twice the facts there is twice of everything.
+    fn since_leak(self, number: u32, place: u32) -> (u32, bool) {
+        if matches!(self, History::Year) {
+            let at = place.wrapping_add(number % 8);
+            return (at.wrapping_add(4) % 12, number % 2 == 0);
+        }
+        let at = number.wrapping_add(place);
+        (at.wrapping_add(6) % 16, at / 16 % 2 == 0)
+    }
+
+    /// A reading of a valve, now and then a leak. There follow an attempt and a reading, or a reading and a delay.
     fn fact_of_a_valve(self, number: u32, place: u32, places: u32) -> Fact {
         let day = day_at(place, places, self.days());
-        let at = number.wrapping_add(place);
-        let is_attempted = at / 16 % 2 == 0;
-        match at % 16 {
-            10 => reading(number, day, Purpose::Routine, 700),
-            11 => {
+        let (since, is_attempted) = self.since_leak(number, place);
+        match since {
+            0 => reading(number, day, Purpose::Routine, 700),
+            1 => {
                 let soon = self.day_before(place, 1, places).plus_days(2);
                 if is_attempted {
                     attempt(number, soon)
@@ -92,7 +101,7 @@ impl History {
                     reading(number, soon, Purpose::FollowUp, 100)
                 }
             }
-            12 => {
+            2 => {
                 let soon = self.day_before(place, 2, places).plus_days(4);
                 if is_attempted {
                     reading(number, soon, Purpose::FollowUp, 100)

@@ -14,7 +14,7 @@ fn components_of(
     components: u32,
     places: u32,
 ) -> Result<Vec<Component>, Memory> {
-    let mut unit = Vec::new(alloc);
+    let mut unit = Vec::with_capacity(alloc, components as usize)?;
     for number in 0..components {
         let Some(item) = made_component(alloc, history, number, places)? else {
             break;

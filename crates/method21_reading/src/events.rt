@@ -115,9 +115,7 @@ fn next_fitness(left: &[Fitness]) -> Fitness
 fn fitness_left<'a>(body: &FactBody, left: &'a [Fitness]) -> &'a [Fitness]
     ensures value { result.now ≡ law.fitness_left body.now left.now }
 {
-    if is_reading(body) && !left.is_empty() {
-        &left[1..]
-    } else {
-        left
-    }
+    // Which facts are readings is hard for a processor to foretell: no branch asks for it.
+    let past = usize::from(is_reading(body)).min(left.len());
+    &left[past..]
 }

@@ -67,13 +67,14 @@ fn reading(
         → result ≡ law.reading_on item.now classes day fit purpose ppm background }
 {
     let counts = counts(item, rules, day, fit);
+    let is_below = ppm < rules.limit;
     Happening::Read {
         ppm,
         background,
         routine: matches!(purpose, Purpose::Routine),
         counts,
-        below: counts && ppm < rules.limit,
-        leak: counts && rules.limit <= ppm && rules.readings_leak,
+        below: counts && is_below,
+        leak: counts && !is_below && rules.readings_leak,
     }
 }
 

@@ -12,7 +12,7 @@ fn keep(kept: &mut Vec<(Key, Fact)>, is_kept: bool, e: &(Key, Fact)) -> Result<(
     ensures taken { OnOk result (kept.new.items ≡ kept.old.items ++ (if is_kept then e.now ∷ [] else [])) }
 {
     if is_kept {
-        kept.push((e.0, e.1))?;
+        kept.push(*e)?;
     }
     Ok(())
 }

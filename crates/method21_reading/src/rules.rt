@@ -22,7 +22,9 @@ pub struct Rules {
 }
 
 impl Rules {
-    /// Those of a component of a class.
+    /// Those of a component of a class. As a call it would write them part by part, and its caller read them at once before they
+    /// stand in memory.
+    #[inline(always)]
     pub fn of(item: &Equipment, class: Class) -> Rules
         ensures value { result ≡ rules_of item.now class }
     {

@@ -44,6 +44,10 @@ impl Standing {
         if self.under.holds_on(day) {
             return self;
         }
-        Standing::on(equipment, classes, day)
+        let under = self.under.moved_to(equipment, classes, day);
+        Standing {
+            under,
+            rules: Rules::of(equipment, under.class),
+        }
     }
 }

@@ -38,9 +38,9 @@ impl Asked<'_> {
     }
 
     /// That of another day, moved on to it.
-    fn moved_to(&self, under: ClassStanding, days: &MonthDays) -> ClassStanding
+    fn standing_moved_to(&self, under: ClassStanding, days: &MonthDays) -> ClassStanding
         requires value { IsInForce self.now.item.now self.now.classes.now under }
-        ensures now { result.class ≡ class_on self.now.item.now self.now.classes.now (min days.now.last self.now.day) }
+        ensures today { result.class ≡ class_on self.now.item.now self.now.classes.now (min days.now.last self.now.day) }
         ensures value { IsInForce self.now.item.now self.now.classes.now result }
     {
         under.moved_to(self.item, self.classes, self.judging_day(days.last))
@@ -138,7 +138,7 @@ impl Asked<'_> {
         let mut under = self.standing_in(&days);
         for number in months.low..months.end {
             days = days.moved_to(number);
-            under = self.moved_to(under, &days);
+            under = self.standing_moved_to(under, &days);
             put(duties, &self.monthly_of_other(under.class, &days))?;
         }
         Ok(())
@@ -166,7 +166,7 @@ impl Asked<'_> {
         let mut walk = begun(self.events, &days);
         for number in months.low..months.end {
             days = days.moved_to(number);
-            under = self.moved_to(under, &days);
+            under = self.standing_moved_to(under, &days);
             walk = walked_to(walk, self.events, &days);
             let walked = walk.told_of(self.startup, number);
             put(duties, &self.monthly_of_valve(under.class, &days, &walked))?;

@@ -9,12 +9,13 @@ use Rattle.ldar_days.proofs.Quarters.{first_quarter-month}
 use Rattle.fact_kinds.specs.declared.class.Class.{Class}
 use Rattle.fact_kinds.specs.declared.key.Key.{Key}
 use Rattle.ldar_law.specs.declared.equipment.Equipment.{Equipment}
+use Rattle.ldar_law.specs.declared.numbers.TheConstants.{LAST_FACT_DAY}
 use Rattle.ldar_law.specs.Percent.{judging_day}
 use Rattle.skip_periods.specs.Counting.{CountsFrom}
 use Rattle.skip_periods.specs.declared.counting.Counting.{Counting}
 
 -- a later quarter is judged on no earlier day
-pub judged_later : (startup day quarter later : ℕ) → IsDay startup → startup ≤ 46_751 → quarter ≤ later →
+pub judged_later : (startup day quarter later : ℕ) → IsDay startup → startup ≤ LAST_FACT_DAY → quarter ≤ later →
     judging_day startup quarter day ≤ judging_day startup later day
 judged_later startup day quarter later is_day by on =
     let first = first_quarter startup in
@@ -23,7 +24,7 @@ judged_later startup day quarter later is_day by on =
     omega (arith, ends)
 
 -- what holds from a quarter on holds from the next one on
-pub counts_on : (item : Equipment) (classes : List (Key × Class)) (startup day quarter : ℕ) (counting : Counting) → IsDay startup → startup ≤ 46_751 →
+pub counts_on : (item : Equipment) (classes : List (Key × Class)) (startup day quarter : ℕ) (counting : Counting) → IsDay startup → startup ≤ LAST_FACT_DAY →
     CountsFrom item classes startup day quarter counting → CountsFrom item classes startup day (quarter + 1) counting
 counts_on item classes startup day quarter counting is_day by from =
     let later = judged_later startup day quarter (quarter + 1) is_day by (omega arith) in
@@ -39,7 +40,7 @@ told_where_not true told number is = cc
 told_where_not false told number is = (refl, cc)
 
 -- each quarter before the one in which a day lies is judged before the day
-pub judged_earlier : (startup day number quarter later : ℕ) → IsDay startup → startup ≤ 46_751 → IsDay number →
+pub judged_earlier : (startup day number quarter later : ℕ) → IsDay startup → startup ≤ LAST_FACT_DAY → IsDay number →
     quarter_of startup (month_of number) ≡ Some later → quarter < later → judging_day startup quarter day < number
 judged_earlier startup day number quarter later is_day by is_number lies before =
     let first = first_quarter startup in

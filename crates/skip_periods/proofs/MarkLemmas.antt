@@ -1,23 +1,30 @@
 -- The marks of the quarters from the first on, one after the other.
-use Rattle.std.proofs.Common.{◌≡◌, ℕ, ◌+◌, ◌-◌, ◌<◌, ◌≤◌, Bool, List, map, set, sym, ◌∙◌, inl, inr, arith}
+use Rattle.std.proofs.Common.{◌≡◌, ℕ, ◌+◌, ◌-◌, ◌<◌, ◌≤◌, Bool, false, Option, List, map, set, sym, ap, ◌∙◌, inl, inr, arith}
 use Rattle.std.proofs.lemmas.Bool.{cases_eq}
 use Rattle.std.proofs.lemmas.List.{get_or-set_same, get_or-set_other, length-set, same_lists}
 use Rattle.std.proofs.lemmas.List.FromFn.{length-map-range_with_len, get_or-map-range_with_len}
 use Rattle.list_words.specs.Ranges.{until, from_to}
 use Rattle.fact_kinds.specs.declared.class.Class.{Class}
 use Rattle.fact_kinds.specs.declared.key.Key.{Key}
+use Rattle.fact_kinds.specs.Named.{is_numbered}
 use Rattle.ldar_law.specs.declared.equipment.Equipment.{Equipment}
 use Rattle.ldar_law.specs.declared.event.Event.{Event}
 use Rattle.ldar_law.specs.declared.tally.Mark.{Mark}
-use Rattle.skip_periods.specs.Seen.{AreSeen, AreMarkedTo, mark_for}
+use Rattle.ldar_law.specs.Percent.{is_first_missed}
+use Rattle.skip_periods.specs.Seen.{AreSeen, AreMarkedTo, PutsMissed, mark_for, seen_in, seen_or_missed}
 
 module _ (item : Equipment) (classes : List (Key × Class)) (startup : ℕ) (events : List Event) (delayed : List Bool) (day quarter : ℕ) where
   -- none of them yet
-  pub marked_none : (seen : List Mark) → AreSeen startup events quarter seen → AreMarkedTo item classes startup events delayed day quarter 0 seen
-  marked_none seen all = record {
-    count = all.count;
+  pub marked_none : (seen told : List Mark) (missed : Option ℕ) → AreSeen startup events quarter seen → PutsMissed missed seen told →
+      ((q : ℕ) → is_numbered missed q ≡ is_first_missed item classes startup events false q day) →
+      AreMarkedTo item classes startup events delayed day quarter 0 told
+  marked_none seen told missed all puts says = record {
+    count = puts.count ∙ all.count;
     marked = λ k d low. absurd (omega (arith, low));
-    seen = λ k d low within. all.each k d within;
+    told = λ k d low within.
+        puts.each k d (omega (arith, within, all.count))
+        ∙ ap (λ m. seen_or_missed m (is_numbered missed (k + 1))) (all.each k d within)
+        ∙ ap (seen_or_missed (seen_in startup events (k + 1))) (says (k + 1));
   }
 
   -- one more
@@ -32,7 +39,7 @@ module _ (item : Equipment) (classes : List (Key × Class)) (startup : ℕ) (eve
               | inl same ↦ rw same (get_or-set_same marks past mark d (omega (arith, all.count, within)) ∙ is)
               | inr other ↦ get_or-set_other marks past k mark d other ∙ all.marked k d (omega (arith, low, other))
             ];
-        seen = λ k d low inside. get_or-set_other marks past k mark d (λ same. absurd (omega (arith, same, low))) ∙ all.seen k d (omega (arith, low)) inside;
+        told = λ k d low inside. get_or-set_other marks past k mark d (λ same. absurd (omega (arith, same, low))) ∙ all.told k d (omega (arith, low)) inside;
       })
 
   -- all of them

@@ -16,7 +16,7 @@ use Rattle.ldar_law.specs.declared.event.Happening.TheVariants.{Read, Look, Atte
 use Rattle.ldar_law.specs.declared.tally.Mark.{Mark}
 use Rattle.ldar_law.specs.Happenings.{is_routine, is_routine_leak}
 use Rattle.ldar_law.specs.Percent.{is_in_quarter, is_counted, is_first_missed, mark_of}
-use Rattle.skip_periods.specs.Seen.{seen_in, seen_with, AreSeen, LooksAt, mark_for}
+use Rattle.skip_periods.specs.Seen.{seen_in, seen_with, seen_or_missed, told_in, AreSeen, LooksAt, mark_for}
 
 -- a mark is its two answers
 same_mark : (m : Mark) (a b : Bool) → m.leaking ≡ a → m.monitored ≡ b → m ≡ record { leaking = a; monitored = b }
@@ -33,6 +33,10 @@ adds_itself : (a b : Bool) → (a || b) ≡ (a || (b && true))
 adds_itself true b = refl
 adds_itself false true = refl
 adds_itself false false = refl
+
+or_false : (a : Bool) → a ≡ (a || false)
+or_false true = refl
+or_false false = refl
 
 -- an event of another quarter shows nothing
 shows_nothing : (startup quarter : ℕ) (e : Event) (m : Mark) → is_in_quarter startup quarter e.key.day ≡ false → m ≡ seen_with startup e quarter m
@@ -148,13 +152,28 @@ seen_more startup quarter events i e old new within stands seen looks = record {
       (list_any_more (λ x. is_routine x.what && is_in_quarter startup (k + 1) x.key.day) events i e within));
 }
 
+-- what is missed is put to what is seen before what is delayed or behind it
+pub missed_first : (seen delayed missed : Bool) → (seen || missed || delayed) ≡ (seen || delayed || missed)
+missed_first true delayed missed = refl
+missed_first false true true = refl
+missed_first false true false = refl
+missed_first false false true = refl
+missed_first false false false = refl
+
+-- what is not missed adds nothing
+pub misses_nothing : (m : Mark) → m ≡ seen_or_missed m false
+misses_nothing m = same_mark m _ _ (or_false m.leaking) (or_false m.monitored)
+
 -- the mark of what is seen
-pub mark_is : (item : Equipment) (classes : List (Key × Class)) (startup : ℕ) (events : List Event) (delayed : List Bool) (day quarter : ℕ) (seen mark : Mark)
-    (counted is_delayed is_missed : Bool) → counted ≡ is_counted item classes startup [] false quarter day → seen ≡ seen_in startup events quarter →
-    is_delayed ≡ get_or delayed (quarter - 1) false → is_missed ≡ is_first_missed item classes startup events false quarter day →
-    mark.leaking ≡ (counted && (seen.leaking || is_delayed || is_missed)) →
-    mark.monitored ≡ (counted && (seen.monitored || is_delayed || is_missed)) →
-    mark ≡ mark_for item classes startup events delayed day quarter
+pub mark_is : (item : Equipment) (classes : List (Key × Class)) (startup : ℕ) (events : List Event) (delayed : List Bool) (day quarter : ℕ) (told mark : Mark)
+    (counted is_delayed : Bool) → counted ≡ is_counted item classes startup [] false quarter day → told ≡ told_in item classes startup events day quarter →
+    is_delayed ≡ get_or delayed (quarter - 1) false → mark.leaking ≡ (counted && (told.leaking || is_delayed)) →
+    mark.monitored ≡ (counted && (told.monitored || is_delayed)) → mark ≡ mark_for item classes startup events delayed day quarter
 unfolding mark_of
-mark_is item classes startup events delayed day quarter seen mark counted is_delayed is_missed counted_is seen_is delayed_is missed_is leaks monitors =
-    same_mark mark _ _ (leaks ∙ rw (counted_is, seen_is, delayed_is, missed_is) refl) (monitors ∙ rw (counted_is, seen_is, delayed_is, missed_is) refl)
+mark_is item classes startup events delayed day quarter told mark counted is_delayed counted_is told_is delayed_is leaks monitors =
+    let seen = seen_in startup events quarter in
+    let missed = is_first_missed item classes startup events false quarter day in
+    let is_now = is_counted item classes startup [] false quarter day in
+    let is_told = get_or delayed (quarter - 1) false in
+    same_mark mark _ _ (leaks ∙ rw (counted_is, told_is, delayed_is) (ap (λ b. is_now && b) (missed_first seen.leaking is_told missed)))
+    (monitors ∙ rw (counted_is, told_is, delayed_is) (ap (λ b. is_now && b) (missed_first seen.monitored is_told missed)))

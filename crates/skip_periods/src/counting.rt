@@ -70,7 +70,7 @@ impl Counting {
         requires quarter { 1 ≤ quarter }
         requires ordered { Ascends (λ a b. is_earlier a.0 b.0) classes.now }
         requires value { CountsFrom equipment.now classes.now startup day quarter self }
-        ensures now { result.is_counted ≡ law.is_counted equipment.now classes.now startup [] false quarter day }
+        ensures counted { result.is_counted ≡ law.is_counted equipment.now classes.now startup [] false quarter day }
         ensures value { CountsFrom equipment.now classes.now startup day quarter result }
     {
         if u32::from(quarter) < self.end {

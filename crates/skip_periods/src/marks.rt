@@ -2,13 +2,12 @@ ghost use Rattle.std.specs.Prelude.{◌≡◌, ◌≤◌, ◌-◌, false, map, s
 ghost use Rattle.list_words.specs.Order.{Ascends};
 ghost use Rattle.list_words.specs.Ranges.{from_to};
 ghost use Rattle.fact_kinds.specs.Facts.{is_earlier};
-ghost use Rattle.fact_kinds.specs.Named.{is_numbered as says_numbered};
 ghost use Rattle.ldar_law.specs.Percent as law;
 ghost use Rattle.ldar_law.specs.declared.numbers.TheConstants.{LAST_FACT_DAY};
-ghost use Rattle.skip_periods.specs.Seen.{mark_for};
+ghost use Rattle.skip_periods.specs.Seen.{mark_for, PutsMissed};
 
 use crate::counting::Counting;
-use crate::percent::{mark_seen, missed_quarter};
+use crate::percent::{mark_told, missed_quarter, with_missed};
 use crate::seen::seen_to;
 use fact_kinds::{Class, Key, Memory};
 use ldar_days::Day;
@@ -26,13 +25,16 @@ fn is_delayed_in(delayed: &[bool], quarter: u16) -> bool
     }
 }
 
-/// Whether this is the number of the quarter.
-fn is_numbered(number: Option<u16>, quarter: u16) -> bool
-    ensures value { result ≡ says_numbered number quarter }
+/// Puts a missed first monitoring to what is seen in its quarter, where that is one of these.
+fn put_missed(seen: &mut Vec<Mark>, missed: Option<u16>)
+    ensures value { PutsMissed missed seen.old.items seen.new.items }
 {
-    match number {
-        Some(number) => number == quarter,
-        None => false,
+    let Some(quarter) = missed else {
+        return;
+    };
+    let place = usize::from(quarter);
+    if 0 < place && place <= seen.len() {
+        seen[place - 1] = with_missed(seen[place - 1], true);
     }
 }
 
@@ -56,15 +58,17 @@ pub fn marks_to(
         ≡ map (mark_for equipment.now classes.now startup events.now delayed.now day) (from_to 1 quarter)) }
 {
     let mut marks = seen_to(alloc, startup, events, quarter)?;
-    let missed = missed_quarter(equipment, classes, startup, events, day);
+    put_missed(
+        &mut marks,
+        missed_quarter(equipment, classes, startup, events, day),
+    );
     let mut counting = Counting::none();
     for past in 0..quarter {
         let number = past + 1;
         counting = counting.moved_to(equipment, classes, startup, number, day);
         let is_delayed = is_delayed_in(delayed, number);
-        let is_missed = is_numbered(missed, number);
         let place = usize::from(past);
-        marks[place] = mark_seen(counting.is_counted, marks[place], is_delayed, is_missed);
+        marks[place] = mark_told(counting.is_counted, marks[place], is_delayed);
     }
     Ok(marks)
 }

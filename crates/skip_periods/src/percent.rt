@@ -5,7 +5,7 @@ ghost use Rattle.fact_kinds.specs.Named.{is_numbered as says_numbered};
 ghost use Rattle.ldar_law.specs.Duties as duties;
 ghost use Rattle.ldar_law.specs.Percent as law;
 ghost use Rattle.ldar_law.specs.declared.numbers.TheConstants.{LAST_FACT_DAY};
-ghost use Rattle.skip_periods.specs.Seen.{counts_class};
+ghost use Rattle.skip_periods.specs.Seen.{counts_class, seen_or_missed};
 
 use crate::readings::{has_routine_in, is_found_leaking, is_read};
 use fact_kinds::{Class, Key};
@@ -86,14 +86,25 @@ pub fn missed_quarter(
     }
 }
 
-/// What a component adds to the counts of a quarter, by whether it is counted and what is seen of it in the quarter.
-pub fn mark_seen(counted: bool, seen: Mark, delayed: bool, missed: bool) -> Mark
-    ensures leaking { result.leaking ≡ (counted && (seen.leaking || delayed || missed)) }
-    ensures monitored { result.monitored ≡ (counted && (seen.monitored || delayed || missed)) }
+/// What is seen of a component in a quarter, where a first monitoring that it missed is a leak that is seen (our own rule).
+pub fn with_missed(seen: Mark, missed: bool) -> Mark
+    ensures value { result ≡ seen_or_missed seen missed }
 {
     Mark {
-        leaking: counted && (seen.leaking || delayed || missed),
-        monitored: counted && (seen.monitored || delayed || missed),
+        leaking: seen.leaking || missed,
+        monitored: seen.monitored || missed,
+    }
+}
+
+/// What a component adds to the counts of a quarter, by whether it is counted and what is seen of it in the quarter, its missed
+/// first monitoring included.
+pub fn mark_told(counted: bool, told: Mark, delayed: bool) -> Mark
+    ensures leaking { result.leaking ≡ (counted && (told.leaking || delayed)) }
+    ensures monitored { result.monitored ≡ (counted && (told.monitored || delayed)) }
+{
+    Mark {
+        leaking: counted && (told.leaking || delayed),
+        monitored: counted && (told.monitored || delayed),
     }
 }
 
@@ -121,5 +132,5 @@ pub fn mark(
     };
     let missed = is_first_missed(equipment, classes, startup, events, quarter, day);
     let counted = is_counted(equipment, classes, startup, quarter, day);
-    mark_seen(counted, seen, delayed, missed)
+    mark_told(counted, with_missed(seen, missed), delayed)
 }

@@ -1,5 +1,5 @@
 use Rattle.std.proofs.Common.{◌≡◌, ◌+◌, get_or, ap, ◌∙◌, arith}
-use Rattle.skip_periods.specs.Seen.{seen_in}
+use Rattle.skip_periods.specs.Seen.{told_in}
 use Rattle.skip_periods.proofs.CountingLemmas.{counts_on}
 use Rattle.skip_periods.proofs.MarkLemmas.{marked_none, marked_more, marked_all}
 use Rattle.skip_periods.proofs.SeenLemmas.{mark_is}
@@ -15,18 +15,18 @@ loop-past-init c =
         front = λ k e entered. absurd (omega (arith, entered, c.none-counting.ensures.entered));
       };
       marked = marked_none a.equipment.now a.classes.now a.startup a.events.now a.delayed.now a.day a.quarter
-          c.in_ok-marks.marks.items c.in_ok-marks.ensures.value;
+          c.in_ok-marks.marks.items _ _ c.in_ok-marks.ensures.value c.put_missed.ensures.value c.missed_quarter.ensures.value;
     }
 
 pub loop-past-preserved : goal.loop-past-preserved
 loop-past-preserved c =
     let a = c.args in
     let l = c.loop-past in
-    let mark = c.mark_seen in
+    let mark = c.mark_told in
     let shown = c.index.result.now in
     let place : c.from-place.result ≡ l.past = c.from-place.ensures in
-    let seen : shown ≡ seen_in a.startup a.events.now (l.past + 1) =
-    c.index.ensures ∙ ap (λ k. get_or l.marks.items k shown) place ∙ l.invariant.marked.seen l.past shown (omega arith) (omega arith) in
+    let told : shown ≡ told_in a.equipment.now a.classes.now a.startup a.events.now a.day (l.past + 1) =
+    c.index.ensures ∙ ap (λ k. get_or l.marks.items k shown) place ∙ l.invariant.marked.told l.past shown (omega arith) (omega arith) in
     record {
       stands = counts_on a.equipment.now a.classes.now a.startup a.day (l.past + 1) c.moved_to-counting.result (omega arith, omega arith) c.requires.startup
           c.moved_to-counting.ensures.value;
@@ -34,9 +34,8 @@ loop-past-preserved c =
           marked_more a.equipment.now a.classes.now a.startup a.events.now a.delayed.now a.day a.quarter l.past c.from-place.result l.marks.items
           mark.result place (omega arith) l.invariant.marked
           (mark_is a.equipment.now a.classes.now a.startup a.events.now a.delayed.now a.day (l.past + 1) shown mark.result
-          c.moved_to-counting.result.is_counted c.is_delayed_in-is_delayed.result c.is_numbered-is_missed.result
-          c.moved_to-counting.ensures.now seen c.is_delayed_in-is_delayed.ensures.value
-          (c.is_numbered-is_missed.ensures.value ∙ c.missed_quarter-missed.ensures.value (l.past + 1)) mark.ensures.leaking mark.ensures.monitored);
+          c.moved_to-counting.result.is_counted c.is_delayed_in-is_delayed.result c.moved_to-counting.ensures.counted told
+          c.is_delayed_in-is_delayed.ensures.value mark.ensures.leaking mark.ensures.monitored);
     }
 
 pub returns : goal.returns

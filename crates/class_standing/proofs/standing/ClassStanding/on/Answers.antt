@@ -14,7 +14,7 @@ returns c =
     (entered_in_front a.day classes c.requires.ordered) (search rules) in
     let within = c.behind.ensures.within a.day (omega arith) behind in
     record {
-      today = c.behind.ensures.value a.day within.0 within.1;
+      today = c.behind.ensures.value.class a.day within.0 within.1;
       within = within;
       value = c.behind.ensures.value;
     }

@@ -24,7 +24,7 @@ loop-number-preserved c =
     let end = c.args.months.now.end in
     record {
       near = (omega arith, omega arith);
-      stands = c.moved_to-under.ensures.value;
+      stands = c.standing_moved_to-under.ensures.value;
       done =
           ap (λ ds. ds ++ filter_map f (until (l.number + 1) end)) (c.in_ok-put.ensures.put
           ∙ ap (λ o. l.duties.items ++ option_to_list o) (c.monthly_of_other.ensures.value ∙ ap f c.moved_to-days.ensures.value))

@@ -40,7 +40,7 @@ loop-number-preserved c =
     subst (IsAt walk.past asked.events.now walk.place) month c.walked_to-walk.ensures.value in
     record {
       near = (omega arith, omega arith);
-      stands = c.moved_to-under.ensures.value;
+      stands = c.standing_moved_to-under.ensures.value;
       walk = on_to walk.past asked.events.now walk.place l.number (l.number + 1) at.on (omega arith);
       monthly =
           ap (λ ds. ds ++ filter_map monthly (until (l.number + 1) end)) (c.in_ok-put.ensures.put

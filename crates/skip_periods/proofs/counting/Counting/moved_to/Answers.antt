@@ -7,7 +7,7 @@ use Rattle.skip_periods.proofs.counting.Counting.moved_to.Goals as goal
 
 pub returns-then-from-self : goal.returns-then-from-self
 returns-then-from-self c = record {
-  now = c.requires.value.counts c.args.quarter (omega arith) (omega (arith, c.if-from-self.true));
+  counted = c.requires.value.counts c.args.quarter (omega arith) (omega (arith, c.if-from-self.true));
   value = c.requires.value;
 }
 
@@ -26,14 +26,14 @@ returns c =
     let within = under.ensures.within judging in_range behind in
     let counted = c.is_counted_of.ensures.value in
     record {
-      now = counted ∙ ap (counts_class a.equipment.now) (under.ensures.value (judging_day a.startup a.quarter a.day) (omega (arith, within, at)) (omega
+      counted = counted ∙ ap (counts_class a.equipment.now) (under.ensures.value.class (judging_day a.startup a.quarter a.day) (omega (arith, within, at)) (omega
           (arith, within, at)));
       value = record {
         counts = λ later on before.
             let no_earlier : judging_day a.startup a.quarter a.day ≤ judging_day a.startup later a.day =
             judged_later a.startup a.day a.quarter later (omega arith, omega arith) c.requires.startup on in
             counted
-            ∙ ap (counts_class a.equipment.now) (under.ensures.value (judging_day a.startup later a.day) (omega (arith, within, at, no_earlier))
+            ∙ ap (counts_class a.equipment.now) (under.ensures.value.class (judging_day a.startup later a.day) (omega (arith, within, at, no_earlier))
             (c.judged_before.ensures.value later before));
         within = c.entered_by-entered.ensures.within;
         front = λ k e entered.
