@@ -104,7 +104,7 @@ def main():
             # The double size in half the passes.
             twice = measured(programs, words, 2 * size, max(1, passes // 2), calls)
             ours, plain = map(min, once)
-            middle = statistics.median(once[0]) / statistics.median(once[1])
+            middle = statistics.median(mine / other for mine, other in zip(*once))
             growth = [min(more) / min(few) for more, few in zip(twice, once)]
             print(f"{shown:40} {ours:10.0f} {plain:10.0f} {ours / plain:6.2f} {middle:6.2f} {growth[0]:6.2f} {growth[1]:6.2f}", flush=True)
 

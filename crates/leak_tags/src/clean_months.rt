@@ -4,43 +4,40 @@ ghost use Rattle.leak_tags.specs.Telling.{Rises};
 
 use ldar_law::Event;
 
-/// The last clean months of some events (40 CFR 60.482-7a(c)(1)(i)), where 0 is none.
+/// What the events from a place on tell of clean months (40 CFR 60.482-7a(c)(1)(i)).
 #[derive(Clone, Copy)]
 struct CleanMonths {
-    /// The month of the last event.
+    /// The month of the first of these events.
     month: u32,
     /// It has a counting routine reading below the leak definition.
     read: bool,
     /// It has a leak.
     leak: bool,
-    /// The last clean month before it.
-    clean: u32,
-    /// The first of the last two months in a row that are clean, both before it.
-    pair: u32,
+    /// The month behind it is clean.
+    followed: bool,
 }
 
 impl CleanMonths {
-    /// The last clean month.
-    fn last_clean(&self) -> u32
-        ensures value { result ≡ spec.clean_of self.now }
+    /// By one event alone.
+    fn of(event: &Event) -> CleanMonths
+        ensures value { result ≡ spec.clean_of event.now }
     {
-        if self.read && !self.leak {
-            return self.month;
+        CleanMonths {
+            month: event.key.day.month().number(),
+            read: event.what.is_routine_below(),
+            leak: event.what.is_leak(),
+            followed: false,
         }
-        self.clean
     }
 
-    /// The first of the last two months in a row that are clean.
-    fn last_pair(&self) -> u32
-        ensures value { result ≡ spec.pair_of self.now }
+    /// Whether the month is clean, and the one behind it too.
+    fn is_pair(&self) -> bool
+        ensures value { result ≡ spec.is_pair self.now }
     {
-        if self.read && !self.leak && self.month.saturating_sub(1) == self.clean {
-            return self.clean;
-        }
-        self.pair
+        self.read && !self.leak && self.followed
     }
 
-    /// What they are with one event more, of no earlier month.
+    /// What they tell with the event before them, of no later month.
     fn with(&self, event: &Event) -> CleanMonths
         ensures value { result ≡ spec.clean_with self.now event.now }
     {
@@ -48,36 +45,38 @@ impl CleanMonths {
         if self.month == month {
             return CleanMonths {
                 month: self.month,
-                read: self.read || event.what.is_routine_below(),
-                leak: self.leak || event.what.is_leak(),
-                clean: self.clean,
-                pair: self.pair,
+                read: event.what.is_routine_below() || self.read,
+                leak: event.what.is_leak() || self.leak,
+                followed: self.followed,
             };
         }
         CleanMonths {
             month,
             read: event.what.is_routine_below(),
             leak: event.what.is_leak(),
-            clean: self.last_clean(),
-            pair: self.last_pair(),
+            followed: self.read && !self.leak && month + 1 == self.month,
         }
     }
 }
 
-/// The first of the last two months in a row of some events that are clean, or 0 where there are none.
+/// The first of the last two months in a row of some events that are clean, or 0 where there are none: the events are gone
+/// over from the last one on, up to those two months.
 pub fn last_clean_pair(events: &[Event]) -> u32
     requires rising { Rises 0 events.now }
     ensures value { spec.IsLastPair result events.now }
 {
-    let mut months = CleanMonths {
-        month: 0,
-        read: false,
-        leak: false,
-        clean: 0,
-        pair: 0,
-    };
-    for event in events {
-        months = months.with(event);
+    if events.is_empty() {
+        return 0;
     }
-    months.last_pair()
+    let mut place = events.len() - 1;
+    let mut months = CleanMonths::of(&events[place]);
+    while place > 0 {
+        place -= 1;
+        let more = months.with(&events[place]);
+        if more.month != months.month && months.is_pair() {
+            return months.month;
+        }
+        months = more;
+    }
+    if months.is_pair() { months.month } else { 0 }
 }

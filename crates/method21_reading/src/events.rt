@@ -31,7 +31,7 @@ pub fn events_of(
 {
     let mut events = Vec::with_capacity(alloc, facts.len())?;
     let mut left = fitness;
-    let mut standing = Standing::on(equipment, classes, equipment.begin);
+    let mut standing = Standing::at_first(equipment, classes);
     for e in facts {
         standing = standing.moved_to(equipment, classes, e.0.day);
         push_event(

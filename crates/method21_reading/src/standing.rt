@@ -34,6 +34,18 @@ impl Standing {
         }
     }
 
+    /// That of a component before any class was entered for it, whose classes are in key order.
+    pub fn at_first(equipment: &Equipment, classes: &[(Key, Class)]) -> Standing
+        requires ordered { Ascends (λ a b. is_earlier a.0 b.0) classes.now }
+        ensures value { StandsSo equipment.now classes.now result }
+    {
+        let under = ClassStanding::behind(equipment, classes, 0);
+        Standing {
+            under,
+            rules: Rules::of(equipment, under.class),
+        }
+    }
+
     /// The same from that of another day, which holds on where the day is one of its days.
     pub fn moved_to(self, equipment: &Equipment, classes: &[(Key, Class)], day: Day) -> Standing
         requires ordered { Ascends (λ a b. is_earlier a.0 b.0) classes.now }

@@ -1,43 +1,68 @@
-use Rattle.std.proofs.Common.{◌≡◌, ◌+◌, ◌<◌, ◌≤◌, nat_le, length, take, sym, subst, arith}
-use Rattle.std.proofs.lemmas.List.{take_all}
+use Rattle.std.proofs.Common.{◌≡◌, ◌≢◌, ◌+◌, ◌-◌, ◌<◌, false, nat_eq, length, sym, ap, subst, ◌∙◌, arith}
+use Rattle.std.proofs.lemmas.Bool.{eqb-true, eqb-false}
 use Rattle.ldar_days.specs.Calendar.{month_of}
-use Rattle.ldar_law.specs.Months.{is_clean_twice_from}
 use Rattle.leak_tags.specs.declared.clean_months.CleanMonths.{CleanMonths}
-use Rattle.leak_tags.specs.CleanPairs.{TellsClean, clean_with}
-use Rattle.leak_tags.specs.Telling.{Rises}
-use Rattle.leak_tags.proofs.CleanLemmas.{clean_none, clean_more, clean_by, pair_told}
-use Rattle.leak_tags.proofs.TellsLemmas.{month_rises}
-use Rattle.leak_tags.proofs.WalkLemmas.{rest_is, front_is}
+use Rattle.leak_tags.specs.CleanPairs.{TellsLast, is_pair}
+use Rattle.leak_tags.proofs.CleanLemmas.{tells_last, tells_more, moved, moves, pair_found, pair_in_front, pair_nowhere, pair_of_no_events}
+use Rattle.leak_tags.proofs.clean_months.last_clean_pair.Goals.{else-more-months-via-then-more-months+else-is_pair, else-more-months-via-else-more-months}
 use Rattle.leak_tags.proofs.clean_months.last_clean_pair.Goals as goal
 
-pub loop-event-init : goal.loop-event-init
-loop-event-init c = record { tells = clean_none; today = 0; by = omega arith; rises = c.requires.rising }
+pub returns-then-is_empty : goal.returns-then-is_empty
+returns-then-is_empty c = record { value = pair_of_no_events c.args.events.now (eqb-true (length c.args.events.now) 0 (sym c.is_empty.ensures ∙ c.if-is_empty.true)) }
 
-pub loop-event-preserved : goal.loop-event-preserved
-loop-event-preserved c =
+pub loop-place-init : goal.loop-place-init
+loop-place-init c =
     let events = c.args.events.now in
-    let i = c.loop-event.event-index in
-    let e = c.event-item.result in
-    let months = c.loop-event.months in
-    let told = c.loop-event.invariant in
-    let within : i < length events = omega (arith, c.loop-event-test.true) in
-    let here = subst (Rises told.today) (rest_is events i e within c.event-item.is) told.rises in
-    let le : months.month ≤ month_of e.key.day = omega (arith, told.by, month_rises told.today e.key.day here.0) in
+    let place = length events - 1 in
+    let some : length events ≢ 0 = eqb-false (length events) 0 (sym c.is_empty.ensures ∙ c.if-is_empty.false) in
+    subst (λ (m : CleanMonths). TellsLast m events place) (sym c.of-months.ensures.value)
+    (tells_last events place c.index-events-place.result (omega (arith, some)) c.index-events-place.is c.requires.rising (omega (arith, some)))
+
+pub loop-place-preserved : goal.loop-place-preserved
+loop-place-preserved c =
+    let events = c.args.events.now in
+    let place = c.loop-place.place - 1 in
+    let e = c.index-events-place-in-loop-place.result in
+    let months = c.loop-place.months in
+    let next : place + 1 ≡ c.loop-place.place = omega (arith, c.loop-place-test.true) in
+    let told : TellsLast months events (place + 1) = subst (TellsLast months events) (sym next) c.loop-place.invariant in
+    let within : place < length events = omega (arith, next, c.loop-place.invariant.within) in
+    let no_pair : nat_eq months.month (month_of e.key.day) ≡ false → is_pair months ≡ false =
+    elim c.else-more-months.branch [
+      | else-more-months-via-then-more-months+else-is_pair w ↦ λ past. sym w.is_pair.ensures.value ∙ w.if-is_pair.false
+      | else-more-months-via-else-more-months w ↦ λ past.
+          absurd (moved months e past (sym (ap (λ (m : CleanMonths). m.month) c.with-more.ensures.value) ∙ omega (arith, w.if-more-months.false)))
+    ] in
+    subst (λ (m : CleanMonths). TellsLast m events place) (sym c.with-more.ensures.value)
+    (tells_more events place e within c.index-events-place-in-loop-place.is c.requires.rising months told no_pair)
+
+pub returns-then-is_pair : goal.returns-then-is_pair
+returns-then-is_pair c =
+    let events = c.args.events.now in
+    let place = c.loop-place.place - 1 in
+    let e = c.index-events-place-in-loop-place.result in
+    let months = c.loop-place.months in
+    let next : place + 1 ≡ c.loop-place.place = omega (arith, c.loop-place-test.true) in
+    let told : TellsLast months events (place + 1) = subst (TellsLast months events) (sym next) c.loop-place.invariant in
+    let within : place < length events = omega (arith, next, c.loop-place.invariant.within) in
+    let before : month_of e.key.day < months.month =
+    moves events place e within c.index-events-place-in-loop-place.is c.requires.rising months told
+    (λ same. absurd (omega (arith, c.if-more-months.true, ap (λ (m : CleanMonths). m.month) c.with-more.ensures.value, same))) in
     record {
-      tells = subst (λ m. TellsClean m (take (i + 1) events)) (sym c.with-months.ensures.value)
-          (subst (TellsClean (clean_with months e)) (sym (front_is events i e within c.event-item.is)) (clean_more months (take i events) told.tells e le));
-      today = e.key.day;
-      by = subst (λ (m : CleanMonths). m.month ≤ month_of e.key.day) (sym c.with-months.ensures.value) (clean_by months e le);
-      rises = here.2;
+      value = pair_found events place e within c.index-events-place-in-loop-place.is c.requires.rising months told before
+          (sym c.is_pair.ensures.value ∙ c.if-is_pair.true);
     }
 
-pub returns : goal.returns
-returns c =
+pub returns-then-is_pair-2 : goal.returns-then-is_pair-2
+returns-then-is_pair-2 c =
     let events = c.args.events.now in
-    let months = c.loop-event.months in
-    let told : TellsClean months events =
-    subst (TellsClean months) (take_all c.loop-event.event-index events (omega (arith, c.loop-event-test.false))) c.loop-event.invariant.tells in
-    record {
-      value = λ first pos.
-          subst (λ pair. is_clean_twice_from events first ≡ nat_le first pair) (sym c.last_pair.ensures.value) (pair_told months events told first pos);
-    }
+    let months = c.loop-place.months in
+    let told : TellsLast months events 0 = subst (TellsLast months events) (omega (arith, c.loop-place-test.false)) c.loop-place.invariant in
+    record { value = pair_in_front events months told (sym c.is_pair-2.ensures.value ∙ c.if-is_pair-2.true) }
+
+pub returns-else-is_pair-2 : goal.returns-else-is_pair-2
+returns-else-is_pair-2 c =
+    let events = c.args.events.now in
+    let months = c.loop-place.months in
+    let told : TellsLast months events 0 = subst (TellsLast months events) (omega (arith, c.loop-place-test.false)) c.loop-place.invariant in
+    record { value = pair_nowhere events months told (sym c.is_pair-2.ensures.value ∙ c.if-is_pair-2.false) }

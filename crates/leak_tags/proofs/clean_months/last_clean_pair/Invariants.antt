@@ -1,14 +1,8 @@
-use Rattle.std.proofs.Common.{take, drop}
-use Rattle.ldar_days.specs.Calendar.{month_of}
-use Rattle.leak_tags.specs.CleanPairs.{TellsClean}
-use Rattle.leak_tags.specs.Telling.{Rises}
-use Rattle.std.proofs.Common.{ℕ, ◌≤◌}
+use Rattle.leak_tags.specs.CleanPairs.{TellsLast}
 use Rattle.leak_tags.proofs.clean_months.last_clean_pair.Given as goal
 
-abbrev pub invariant-loop-event : goal.invariant-loop-event
-invariant-loop-event l = record {
-  tells : TellsClean l.months (take l.event-index l.events);
-  today : ℕ;
-  by : l.months.month ≤ month_of today;
-  rises : Rises today (drop l.event-index l.events);
-}
+abbrev pub invariant-loop-place : goal.invariant-loop-place
+invariant-loop-place l = TellsLast l.months l.events l.place
+
+abbrev pub decreases-loop-place : goal.decreases-loop-place
+decreases-loop-place l = l.place
