@@ -12,12 +12,13 @@ use Rattle.fact_kinds.specs.declared.class.Service.TheVariants.{Gas, Light, Heav
 use Rattle.fact_kinds.specs.declared.key.Key.{Key}
 use Rattle.ldar_law.specs.declared.event.Event.{Event}
 use Rattle.ldar_law.specs.Duties as law
-use Rattle.ldar_law.specs.Force.{class_on, regime_on, is_in_service}
+use Rattle.ldar_law.specs.Force.{class_on, is_in_service}
 use Rattle.ldar_law.specs.Kinds.{is_valve}
 use Rattle.ldar_law.specs.Limits.{regime_of}
 use Rattle.ldar_law.specs.Months.{is_quarterly}
 use Rattle.ldar_law.specs.Standing.{are_valve_rules, are_pump_rules, is_none_designated, is_unsafe_designated}
 use Rattle.monitor_calendar.specs.Causes as causes
+use Rattle.monitor_calendar.specs.Causes.{IsOf}
 use Rattle.monitor_calendar.specs.declared.asked.Asked.{Asked}
 use Rattle.monitor_calendar.specs.declared.asked.Judged.{Judged}
 use Rattle.monitor_calendar.proofs.Listing.{unowed}
@@ -77,16 +78,10 @@ module _ (asked : Asked) where
   met_by_key cause first due owed met found is so =
       ap (causes.duty_met_by asked cause first due) is ∙ by_its_key cause first due found ∙ ap (λ o. causes.duty asked cause first due o found) (sym so)
 
-  -- the judged component is that of a day
-  pub record IsOf (judged : Judged) (day : ℕ) : Type 0 where
-    pub serves : judged.serves ≡ is_in_service asked.item.now day
-    pub regime : judged.regime ≡ regime_on asked.item.now asked.classes.now day
-    pub class : judged.class ≡ class_on asked.item.now asked.classes.now day
-
-  -- .. where its class is the one in force then
+  -- the judged component is that of a day where its class is the one in force then
   pub judged_is : (judged : Judged) (class : Class) (judging day : ℕ) → judging ≡ day → class ≡ class_on asked.item.now asked.classes.now day →
       judged.serves ≡ is_in_service asked.item.now judging → judged.regime ≡ regime_of asked.item.now.kind class.service → judged.class ≡ class →
-      IsOf judged day
+      IsOf asked judged day
   judged_is judged class judging day at in_force serves regime same = record {
     serves = serves ∙ ap (is_in_service asked.item.now) at;
     regime = regime ∙ ap (λ k. regime_of asked.item.now.kind k.service) in_force;
@@ -107,7 +102,7 @@ module _ (asked : Asked) where
       )
 
   -- the monthly duty, by what is judged
-  monthly_exact : (judged : Judged) (month first due : ℕ) → first ≡ first_day month → due ≡ last_day month → IsOf judged (min due asked.day) →
+  monthly_exact : (judged : Judged) (month first due : ℕ) → first ≡ first_day month → due ≡ last_day month → IsOf asked judged (min due asked.day) →
       causes.monthly asked month
       ≡ causes.duty asked 2 first due (causes.is_monthly_judged judged (is_quarterly asked.startup asked.events.now month))
       (law.routine_in asked.events.now first due)
@@ -115,7 +110,7 @@ module _ (asked : Asked) where
   monthly_exact judged month first due from to is = rw (is.serves, is.regime, is.class, from, to) refl
 
   -- .. of which a month that is a quarterly one or not is asked of a valve alone
-  monthly_alike : (judged : Judged) (month due : ℕ) (quarterly : Bool) → IsOf judged (min due asked.day) →
+  monthly_alike : (judged : Judged) (month due : ℕ) (quarterly : Bool) → IsOf asked judged (min due asked.day) →
       (is_valve asked.item.now.kind ≡ true → quarterly ≡ is_quarterly asked.startup asked.events.now month) →
       causes.is_monthly_judged judged (is_quarterly asked.startup asked.events.now month) ≡ causes.is_monthly_judged judged quarterly
   monthly_alike judged month due quarterly is says =
@@ -128,7 +123,7 @@ module _ (asked : Asked) where
 
   pub monthly_by : (judged : Judged) (month first due : ℕ) (quarterly : Bool) → first ≡ first_day month → due ≡ last_day month →
       (is_valve asked.item.now.kind ≡ true → quarterly ≡ is_quarterly asked.startup asked.events.now month) →
-      IsOf judged (min due asked.day) →
+      IsOf asked judged (min due asked.day) →
       causes.monthly asked month ≡ causes.duty asked 2 first due (causes.is_monthly_judged judged quarterly) (law.routine_in asked.events.now first due)
   monthly_by judged month first due quarterly from to says is =
       monthly_exact judged month first due from to is
@@ -136,7 +131,7 @@ module _ (asked : Asked) where
 
   -- .. of a month of which none is owed
   pub monthly_unowed : (judged : Judged) (month first due : ℕ) → first ≡ first_day month → due ≡ last_day month →
-      (is_valve asked.item.now.kind ≡ true → false ≡ is_quarterly asked.startup asked.events.now month) → IsOf judged (min due asked.day) →
+      (is_valve asked.item.now.kind ≡ true → false ≡ is_quarterly asked.startup asked.events.now month) → IsOf asked judged (min due asked.day) →
       causes.is_monthly_judged judged false ≡ false → causes.monthly asked month ≡ None
   monthly_unowed judged month first due from to says is none =
       monthly_by judged month first due false from to says is
@@ -145,7 +140,7 @@ module _ (asked : Asked) where
 
   -- .. and of one of which it is, by the key of what met it
   pub monthly_met : (judged : Judged) (month first due : ℕ) (met : Option Key) → first ≡ first_day month → due ≡ last_day month →
-      (is_valve asked.item.now.kind ≡ true → false ≡ is_quarterly asked.startup asked.events.now month) → IsOf judged (min due asked.day) →
+      (is_valve asked.item.now.kind ≡ true → false ≡ is_quarterly asked.startup asked.events.now month) → IsOf asked judged (min due asked.day) →
       met ≡ option_map (λ e. e.key) (law.routine_in asked.events.now first due) → causes.is_monthly_judged judged false ≡ true →
       causes.duty_met_by asked 2 first due met ≡ causes.monthly asked month
   monthly_met judged month first due met from to says is found owed =
@@ -155,7 +150,7 @@ module _ (asked : Asked) where
   -- the quarterly one
   pub quarterly_by : (judged : Judged) (month first due : ℕ) (quarterly : Bool) → first ≡ first_day month → due ≡ last_day month → quarterly
       ≡ is_quarterly asked.startup asked.events.now month →
-      IsOf judged (min due asked.day) →
+      IsOf asked judged (min due asked.day) →
       causes.quarterly asked month ≡ causes.duty asked 3 first due (causes.is_quarter_month_judged asked judged month quarterly)
       (law.routine_in asked.events.now first due)
   unfolding law.quarterly
@@ -163,7 +158,7 @@ module _ (asked : Asked) where
 
   -- .. of a month of which none is owed
   pub quarterly_unowed : (judged : Judged) (month first due : ℕ) (quarterly : Bool) → first ≡ first_day month → due ≡ last_day month →
-      quarterly ≡ is_quarterly asked.startup asked.events.now month → IsOf judged (min due asked.day) →
+      quarterly ≡ is_quarterly asked.startup asked.events.now month → IsOf asked judged (min due asked.day) →
       causes.is_quarter_month_judged asked judged month quarterly ≡ false → causes.quarterly asked month ≡ None
   quarterly_unowed judged month first due quarterly from to same is none =
       quarterly_by judged month first due quarterly from to same is
@@ -172,7 +167,7 @@ module _ (asked : Asked) where
 
   -- .. and of one of which it is, by the key of what met it
   pub quarterly_met : (judged : Judged) (month first due : ℕ) (quarterly : Bool) (met : Option Key) → first ≡ first_day month → due ≡ last_day month →
-      quarterly ≡ is_quarterly asked.startup asked.events.now month → IsOf judged (min due asked.day) →
+      quarterly ≡ is_quarterly asked.startup asked.events.now month → IsOf asked judged (min due asked.day) →
       met ≡ option_map (λ e. e.key) (law.routine_in asked.events.now first due) → causes.is_quarter_month_judged asked judged month quarterly ≡ true →
       causes.duty_met_by asked 3 first due met ≡ causes.quarterly asked month
   quarterly_met judged month first due quarterly met from to same is found owed =
@@ -180,20 +175,21 @@ module _ (asked : Asked) where
       ∙ sym (quarterly_by judged month first due quarterly from to same is)
 
   -- the yearly one
-  pub yearly_by : (judged : Judged) (year first due : ℕ) → first ≡ first_day (12 * year) → due ≡ last_day (12 * year + 11) → IsOf judged (min due asked.day) →
+  pub yearly_by : (judged : Judged) (year first due : ℕ) → first ≡ first_day (12 * year) → due ≡ last_day (12 * year + 11) →
+      IsOf asked judged (min due asked.day) →
       causes.yearly asked year ≡ causes.duty asked 4 first due (causes.is_yearly_judged judged) (causes.yearly_reading_judged asked judged first due)
   unfolding law.yearly
   yearly_by judged year first due from to is = rw (is.serves, is.regime, is.class, from, to) refl
 
   -- the one by a plan
-  pub planned_by : (judged : Judged) (month due : ℕ) → due ≡ end_by (last_day month) → IsOf judged (min due asked.day) →
+  pub planned_by : (judged : Judged) (month due : ℕ) → due ≡ end_by (last_day month) → IsOf asked judged (min due asked.day) →
       causes.planned asked month ≡ causes.duty asked 5 (first_day (month + 1 - judged.class.plan)) due (causes.is_planned_judged asked judged month)
       (law.routine_in asked.events.now (first_day (month + 1 - judged.class.plan)) due)
   unfolding law.planned
   planned_by judged month due to is = rw (is.serves, is.regime, is.class, to) refl
 
   -- the weekly one
-  pub weekly_by : (judged : Judged) (week first due : ℕ) → first ≡ week_first week → due ≡ week_last week → IsOf judged (min due asked.day) →
+  pub weekly_by : (judged : Judged) (week first due : ℕ) → first ≡ week_first week → due ≡ week_last week → IsOf asked judged (min due asked.day) →
       causes.weekly asked week ≡ causes.duty asked 6 first due (causes.is_plain_pump judged) (law.look_in asked.events.now first due)
   unfolding law.weekly
   weekly_by judged week first due from to is = rw (is.serves, is.regime, is.class, from, to) refl

@@ -1,10 +1,11 @@
 -- The duties of a component by their causes, as `ldar_law` has them, of what is asked.
-use Rattle.std.specs.Prelude.{ℕ, ◌-◌, ◌%◌, Bool, not, ◌&&◌, ◌||◌, nat_lt, nat_eq, if◌then◌else◌, Option, Some, None, is_none, List}
+use Rattle.std.specs.Prelude.{◌≡◌, ℕ, ◌-◌, ◌%◌, Bool, not, ◌&&◌, ◌||◌, nat_lt, nat_eq, if◌then◌else◌, Option, Some, None, is_none, List}
 use Rattle.ldar_days.specs.Calendar.{month_of}
 use Rattle.fact_kinds.specs.declared.key.Key.{Key}
 use Rattle.ldar_law.specs.declared.duty.Duty.{Duty}
 use Rattle.ldar_law.specs.declared.event.Event.{Event}
 use Rattle.ldar_law.specs.Duties as law
+use Rattle.ldar_law.specs.Force.{class_on, regime_on, is_in_service}
 use Rattle.ldar_law.specs.Months.{month_in_quarter}
 use Rattle.ldar_law.specs.Standing.{are_valve_rules, are_pump_rules, are_compressor_rules, is_none_designated}
 use Rattle.ldar_law.specs.Standing.{is_nde_designated, is_unsafe_designated, is_difficult_designated}
@@ -12,6 +13,12 @@ use Rattle.monitor_calendar.specs.declared.asked.Asked.{Asked}
 use Rattle.monitor_calendar.specs.declared.asked.Judged.{Judged}
 
 -- ---- what is judged
+
+-- it is the component as it is on a day
+pub record IsOf (asked : Asked) (judged : Judged) (day : ℕ) : Type 0 where
+  pub serves : judged.serves ≡ is_in_service asked.item.now day
+  pub regime : judged.regime ≡ regime_on asked.item.now asked.classes.now day
+  pub class : judged.class ≡ class_on asked.item.now asked.classes.now day
 
 -- it is monitored each year: a difficult valve, or a valve, pump or compressor with no detectable emissions
 abbrev pub is_yearly_judged : Judged → Bool

@@ -72,6 +72,14 @@ impl Asked<'_> {
             && !self.is_month_skipped(month)
     }
 
+    /// What the component is in a month, by the class of the day on which the month is judged.
+    fn judged_in(&self, class: Class, days: &MonthDays) -> Judged
+        requires class { class ≡ class_on self.now.item.now self.now.classes.now (min days.now.last self.now.day) }
+        ensures value { causes.IsOf self.now result (min days.now.last self.now.day) }
+    {
+        self.judged_by(class, self.judging_day(days.last))
+    }
+
     /// The monthly monitoring of what is no valve, by the class of the day on which the month is judged.
     fn monthly_of_other(&self, class: Class, days: &MonthDays) -> Option<Duty>
         requires other { says_valve self.now.item.now.kind ≡ false }
@@ -79,7 +87,7 @@ impl Asked<'_> {
         ensures value { result ≡ causes.monthly self.now days.now.month }
     {
         let (first, due) = (days.first, days.last);
-        let judged = self.judged_by(class, self.judging_day(due));
+        let judged = self.judged_in(class, days);
         if !is_monthly(judged) {
             return None;
         }
@@ -98,7 +106,7 @@ impl Asked<'_> {
             return None;
         }
         let (first, due) = (days.first, days.last);
-        let judged = self.judged_by(class, self.judging_day(due));
+        let judged = self.judged_in(class, days);
         if !is_monthly(judged) {
             return None;
         }
@@ -116,7 +124,7 @@ impl Asked<'_> {
             return None;
         }
         let (first, due) = (days.first, days.last);
-        let judged = self.judged_by(class, self.judging_day(due));
+        let judged = self.judged_in(class, days);
         if !self.is_quarter_month(judged, days.month, walked.is_quarterly) {
             return None;
         }

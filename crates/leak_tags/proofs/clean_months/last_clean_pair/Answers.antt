@@ -8,7 +8,9 @@ use Rattle.leak_tags.proofs.clean_months.last_clean_pair.Goals.{else-more-months
 use Rattle.leak_tags.proofs.clean_months.last_clean_pair.Goals as goal
 
 pub returns-then-is_empty : goal.returns-then-is_empty
-returns-then-is_empty c = record { value = pair_of_no_events c.args.events.now (eqb-true (length c.args.events.now) 0 (sym c.is_empty.ensures ∙ c.if-is_empty.true)) }
+returns-then-is_empty c =
+    let events = c.args.events.now in
+    record { value = pair_of_no_events events (eqb-true (length events) 0 (sym c.is_empty.ensures ∙ c.if-is_empty.true)) }
 
 pub loop-place-init : goal.loop-place-init
 loop-place-init c =

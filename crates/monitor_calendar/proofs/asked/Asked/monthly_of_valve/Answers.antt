@@ -1,6 +1,8 @@
-use Rattle.std.proofs.Common.{◌≡◌, nat_le, min, drop, filter, sym, subst, ◌∙◌}
+use Rattle.std.proofs.Common.{◌≡◌, true, false, nat_le, drop, filter, sym, subst, ◌∙◌}
 use Rattle.ldar_law.specs.declared.event.Event.{Event}
-use Rattle.monitor_calendar.proofs.Judging.{IsOf, judged_is, monthly_unowed, monthly_met}
+use Rattle.ldar_law.specs.Kinds.{is_valve}
+use Rattle.ldar_law.specs.Months.{is_quarterly}
+use Rattle.monitor_calendar.proofs.Judging.{monthly_unowed, monthly_met}
 use Rattle.monitor_calendar.proofs.Concerning.{not_monthly}
 use Rattle.monitor_calendar.proofs.asked.Asked.monthly_of_valve.Goals as goal
 
@@ -13,12 +15,12 @@ pub returns-then-not-is_monthly : goal.returns-then-not-is_monthly
 returns-then-not-is_monthly c =
     let asked = c.args.self.now in
     let days = c.args.days.now in
-    let judged = c.judged_by-judged.result in
-    let is : IsOf asked judged (min days.last asked.day) =
-    judged_is asked judged c.args.class c.judging_day.result (min days.last asked.day) c.judging_day.ensures.value c.requires.class
-    c.judged_by-judged.ensures.serves c.judged_by-judged.ensures.regime c.judged_by-judged.ensures.class in
+    let judged = c.judged_in-judged.result in
+    let says : is_valve asked.item.now.kind ≡ true → false ≡ is_quarterly asked.startup asked.events.now days.month =
+    λ valve. sym c.if-walked.false ∙ c.requires.walked.quarterly in
+    let is = c.judged_in-judged.ensures.value in
     record {
-      value = sym (monthly_unowed asked judged days.month days.first days.last days.begins days.ends (λ valve. sym c.if-walked.false ∙ c.requires.walked.quarterly) is
+      value = sym (monthly_unowed asked judged days.month days.first days.last days.begins days.ends says is
           (sym c.is_monthly.ensures.value ∙ c.if-not-is_monthly.true));
     }
 
@@ -26,16 +28,16 @@ pub returns : goal.returns
 returns c =
     let asked = c.args.self.now in
     let days = c.args.days.now in
-    let judged = c.judged_by-judged.result in
-    let is : IsOf asked judged (min days.last asked.day) =
-    judged_is asked judged c.args.class c.judging_day.result (min days.last asked.day) c.judging_day.ensures.value c.requires.class
-    c.judged_by-judged.ensures.serves c.judged_by-judged.ensures.regime c.judged_by-judged.ensures.class in
+    let judged = c.judged_in-judged.result in
+    let says : is_valve asked.item.now.kind ≡ true → false ≡ is_quarterly asked.startup asked.events.now days.month =
+    λ valve. sym c.if-walked.false ∙ c.requires.walked.quarterly in
+    let is = c.judged_in-judged.ensures.value in
     let walked = c.args.walked.now in
     let rest : drop walked.place asked.events.now ≡ filter (λ (e : Event). nat_le days.first e.key.day) asked.events.now =
     subst (λ n. drop walked.place asked.events.now ≡ filter (λ (e : Event). nat_le n e.key.day) asked.events.now) (sym days.begins)
     c.requires.walked.begun.rest in
     record {
       value = c.duty.ensures.value
-          ∙ monthly_met asked judged days.month days.first days.last c.routine_behind-met.result days.begins days.ends (λ valve. sym c.if-walked.false ∙ c.requires.walked.quarterly) is
+          ∙ monthly_met asked judged days.month days.first days.last c.routine_behind-met.result days.begins days.ends says is
           (c.routine_behind-met.ensures.value days.first rest) (sym c.is_monthly.ensures.value ∙ c.if-not-is_monthly.false);
     }

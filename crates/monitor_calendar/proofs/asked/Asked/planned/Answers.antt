@@ -2,7 +2,8 @@ use Rattle.std.proofs.Common.{◌≡◌, ◌+◌, ◌-◌, ◌<◌, true, rules,
 use Rattle.ldar_days.specs.Calendar.{first_day}
 use Rattle.ldar_law.specs.Duties.{routine_in}
 use Rattle.monitor_calendar.specs.Causes as causes
-use Rattle.monitor_calendar.proofs.Judging.{IsOf, met_by_key, planned_by, plan_fits}
+use Rattle.monitor_calendar.specs.Causes.{IsOf}
+use Rattle.monitor_calendar.proofs.Judging.{met_by_key, planned_by, plan_fits}
 use Rattle.monitor_calendar.proofs.Listing.{unowed, not_begun, ends_before}
 use Rattle.monitor_calendar.proofs.asked.Asked.planned.Goals as goal
 

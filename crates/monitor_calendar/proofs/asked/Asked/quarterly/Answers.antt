@@ -1,6 +1,6 @@
-use Rattle.std.proofs.Common.{◌≡◌, nat_le, min, drop, filter, sym, subst, ◌∙◌}
+use Rattle.std.proofs.Common.{◌≡◌, nat_le, drop, filter, sym, subst, ◌∙◌}
 use Rattle.ldar_law.specs.declared.event.Event.{Event}
-use Rattle.monitor_calendar.proofs.Judging.{IsOf, judged_is, quarterly_unowed, quarterly_met}
+use Rattle.monitor_calendar.proofs.Judging.{quarterly_unowed, quarterly_met}
 use Rattle.monitor_calendar.proofs.Concerning.{not_quarterly}
 use Rattle.monitor_calendar.proofs.asked.Asked.quarterly.Goals as goal
 
@@ -8,11 +8,9 @@ pub returns-then-not-is_quarter_month : goal.returns-then-not-is_quarter_month
 returns-then-not-is_quarter_month c =
     let asked = c.args.self.now in
     let days = c.args.days.now in
-    let judged = c.judged_by-judged.result in
+    let judged = c.judged_in-judged.result in
     let walked = c.args.walked.now in
-    let is : IsOf asked judged (min days.last asked.day) =
-    judged_is asked judged c.args.class c.judging_day.result (min days.last asked.day) c.judging_day.ensures.value c.requires.class
-    c.judged_by-judged.ensures.serves c.judged_by-judged.ensures.regime c.judged_by-judged.ensures.class in
+    let is = c.judged_in-judged.ensures.value in
     record {
       value = sym (quarterly_unowed asked judged days.month days.first days.last walked.is_quarterly days.begins days.ends c.requires.walked.quarterly is
           (sym c.is_quarter_month.ensures.value ∙ c.if-not-is_quarter_month.true));
@@ -22,10 +20,8 @@ pub returns : goal.returns
 returns c =
     let asked = c.args.self.now in
     let days = c.args.days.now in
-    let judged = c.judged_by-judged.result in
-    let is : IsOf asked judged (min days.last asked.day) =
-    judged_is asked judged c.args.class c.judging_day.result (min days.last asked.day) c.judging_day.ensures.value c.requires.class
-    c.judged_by-judged.ensures.serves c.judged_by-judged.ensures.regime c.judged_by-judged.ensures.class in
+    let judged = c.judged_in-judged.result in
+    let is = c.judged_in-judged.ensures.value in
     let walked = c.args.walked.now in
     let rest : drop walked.place asked.events.now ≡ filter (λ (e : Event). nat_le days.first e.key.day) asked.events.now =
     subst (λ n. drop walked.place asked.events.now ≡ filter (λ (e : Event). nat_le n e.key.day) asked.events.now) (sym days.begins)

@@ -2,7 +2,8 @@ use Rattle.std.proofs.Common.{◌≡◌, min, sym, subst, ◌∙◌, arith}
 use Rattle.ldar_days.specs.Calendar.{week_first, week_last}
 use Rattle.ldar_law.specs.Duties.{look_in}
 use Rattle.monitor_calendar.specs.Causes as causes
-use Rattle.monitor_calendar.proofs.Judging.{IsOf, met_by_key, weekly_by}
+use Rattle.monitor_calendar.specs.Causes.{IsOf}
+use Rattle.monitor_calendar.proofs.Judging.{met_by_key, weekly_by}
 use Rattle.monitor_calendar.proofs.Listing.{unowed}
 use Rattle.monitor_calendar.proofs.asked.Asked.weekly.Goals as goal
 

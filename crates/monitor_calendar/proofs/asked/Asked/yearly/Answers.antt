@@ -1,7 +1,8 @@
 use Rattle.std.proofs.Common.{◌≡◌, ◌+◌, ◌*◌, min, sym, subst, ◌∙◌}
 use Rattle.ldar_days.specs.Calendar.{first_day, last_day}
 use Rattle.monitor_calendar.specs.Causes as causes
-use Rattle.monitor_calendar.proofs.Judging.{IsOf, met_by_key, yearly_by}
+use Rattle.monitor_calendar.specs.Causes.{IsOf}
+use Rattle.monitor_calendar.proofs.Judging.{met_by_key, yearly_by}
 use Rattle.monitor_calendar.proofs.Listing.{unowed}
 use Rattle.monitor_calendar.proofs.asked.Asked.yearly.Goals as goal
 

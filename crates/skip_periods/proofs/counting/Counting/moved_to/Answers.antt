@@ -25,9 +25,9 @@ returns c =
     let in_range : judging < 65_536 = omega arith in
     let within = under.ensures.within judging in_range behind in
     let counted = c.is_counted_of.ensures.value in
+    let today = under.ensures.value.class (judging_day a.startup a.quarter a.day) (omega (arith, within, at)) (omega (arith, within, at)) in
     record {
-      counted = counted ∙ ap (counts_class a.equipment.now) (under.ensures.value.class (judging_day a.startup a.quarter a.day) (omega (arith, within, at)) (omega
-          (arith, within, at)));
+      counted = counted ∙ ap (counts_class a.equipment.now) today;
       value = record {
         counts = λ later on before.
             let no_earlier : judging_day a.startup a.quarter a.day ≤ judging_day a.startup later a.day =
