@@ -49,13 +49,14 @@ fn delayed(detected: Day, delays: &[DelayEntry], ends: &Ends) -> Repair
     let mut last = last_number(&repair.due);
     for (place, delay) in delays.iter().enumerate() {
         // The due day so far is what the delays up to here give. Most are past it.
-        if delay.key.day.number() <= last {
-            repair = Repair {
-                due: due_by(ends, delay.ground, delay.key.day),
-                counted: Some(place),
-            };
-            last = last_number(&repair.due);
+        if last < delay.key.day.number() {
+            continue;
         }
+        repair = Repair {
+            due: due_by(ends, delay.ground, delay.key.day),
+            counted: Some(place),
+        };
+        last = last_number(&repair.due);
     }
     repair
 }

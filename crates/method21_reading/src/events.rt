@@ -29,9 +29,10 @@ pub fn events_of(
     ensures value { IfOk result (λ events. events.items ≡ law.events_with equipment.now classes.now facts.now fitness.now) }
     ensures of_all { IfOk result (λ events. AreEventsAmongAll equipment.now classes.now facts.now fitness.now events.items) }
 {
+    // The classes are asked for before room is made: memory brings them meanwhile.
+    let mut standing = Standing::at_first(equipment, classes);
     let mut events = Vec::with_capacity(alloc, facts.len())?;
     let mut left = fitness;
-    let mut standing = Standing::at_first(equipment, classes);
     for e in facts {
         standing = standing.moved_to(equipment, classes, e.0.day);
         push_event(

@@ -4,7 +4,7 @@ use Rattle.std.proofs.Common.{◌≡◌, ℕ, ◌+◌, ◌-◌, ◌*◌, ◌/◌
 use Rattle.std.proofs.lemmas.Bool.{ltb-false}
 use Rattle.ldar_days.specs.Calendar.{IsDay, month_of}
 use Rattle.ldar_days.specs.Quarters.{first_quarter, quarter_of}
-use Rattle.ldar_days.proofs.Months.{first_day-le, first_day-lt, month_of-is}
+use Rattle.ldar_days.proofs.Months.{first_day-le, first_day-lt, month_of-is, month_of-month}
 use Rattle.ldar_days.proofs.Quarters.{first_quarter-month}
 use Rattle.fact_kinds.specs.declared.class.Class.{Class}
 use Rattle.fact_kinds.specs.declared.key.Key.{Key}
@@ -26,28 +26,34 @@ judged_later startup day quarter later is_day by on =
 -- what holds from a quarter on holds from the next one on
 pub counts_on : (item : Equipment) (classes : List (Key × Class)) (startup day quarter : ℕ) (counting : Counting) → IsDay startup → startup ≤ LAST_FACT_DAY →
     CountsFrom item classes startup day quarter counting → CountsFrom item classes startup day (quarter + 1) counting
-counts_on item classes startup day quarter counting is_day by from =
-    let later = judged_later startup day quarter (quarter + 1) is_day by (omega arith) in
-    record {
-      counts = λ q on before. from.counts q (omega (arith, on)) before;
-      within = from.within;
-      front = λ k e entered. omega (arith, from.front k e entered, later);
-    }
+counts_on item classes startup day quarter counting is_day by from = record {
+  behind = from.behind;
+  front = λ k e entered. omega (arith, from.front k e entered, judged_later startup day quarter (quarter + 1) is_day by (omega arith));
+}
 
 -- a number that is told where a test fails
 told_where_not : (test : Bool) (told number : ℕ) → (if test then None else Some number) ≡ Some told → (test ≡ false) × (told ≡ number)
 told_where_not true told number is = cc
 told_where_not false told number is = (refl, cc)
 
--- each quarter before the one in which a day lies is judged before the day
-pub judged_earlier : (startup day number quarter later : ℕ) → IsDay startup → startup ≤ LAST_FACT_DAY → IsDay number →
-    quarter_of startup (month_of number) ≡ Some later → quarter < later → judging_day startup quarter day < number
-judged_earlier startup day number quarter later is_day by is_number lies before =
-    let first = first_quarter startup in
-    let month = month_of number in
-    let told = told_where_not (nat_lt month first) later ((month - first) / 3 + 1) lies in
-    let on = ltb-false month first told.0 in
-    let in_range = (first_quarter-month startup is_day by).0 in
-    let begins = (month_of-is number is_number).0 in
-    let ends = first_day-lt (first + 3 * quarter - 1) month (omega (arith, in_range)) (omega (arith, before, told.1, on)) in
-    omega (arith, begins, ends)
+module _ (startup day number : ℕ) (is_day : IsDay startup) (by : startup ≤ LAST_FACT_DAY) (is_number : IsDay number) where
+  -- a day is judged by with each quarter that ends no earlier than its month
+  pub judged_behind : (quarter : ℕ) → number ≤ day → month_of number < first_quarter startup + 3 * quarter → number ≤ judging_day startup quarter day
+  judged_behind quarter seen on =
+      let month = month_of-month number is_number in
+      let ends = (first_day-le (month_of number) (first_quarter startup + 3 * quarter - 1) (omega (arith, month)) (omega (arith, on))).1 in
+      omega (arith, (month_of-is number is_number).1, ends, is_number)
+
+  -- .. and not with one that ends before
+  pub judged_earlier : (quarter : ℕ) → first_quarter startup + 3 * quarter ≤ month_of number → judging_day startup quarter day < number
+  judged_earlier quarter before =
+      let in_range = (first_quarter-month startup is_day by).0 in
+      let ends = first_day-lt (first_quarter startup + 3 * quarter - 1) (month_of number) (omega (arith, in_range)) (omega (arith, before, in_range)) in
+      omega (arith, (month_of-is number is_number).0, ends)
+
+  -- so by the quarter of the day's month
+  pub judged_by_quarter : (told : ℕ) → quarter_of startup (month_of number) ≡ Some told →
+      (first_quarter startup ≤ month_of number) × (told ≡ (month_of number - first_quarter startup) / 3 + 1)
+  judged_by_quarter told lies =
+      let is = told_where_not (nat_lt (month_of number) (first_quarter startup)) told ((month_of number - first_quarter startup) / 3 + 1) lies in
+      (ltb-false (month_of number) (first_quarter startup) is.0, is.1)

@@ -1,14 +1,25 @@
--- Whether a component is a valve that is counted, over quarters between which no class is entered for it.
-use Rattle.std.specs.Prelude.{◌≡◌, ℕ, ◌<◌, ◌≤◌, false, List, [], length, slice_index_or}
+-- Whether a component is a valve that is counted, over quarters by whose judging no class is entered for it.
+use Rattle.std.specs.Prelude.{◌≡◌, ℕ, ◌<◌, ◌≤◌, List, length, slice_index_or}
 use Rattle.fact_kinds.specs.declared.class.Class.{Class}
 use Rattle.fact_kinds.specs.declared.key.Key.{Key}
+use Rattle.class_standing.specs.Standings.{IsBehind}
 use Rattle.ldar_law.specs.declared.equipment.Equipment.{Equipment}
-use Rattle.ldar_law.specs.Percent.{judging_day, is_counted}
+use Rattle.ldar_law.specs.Force.{class_on}
+use Rattle.ldar_law.specs.Percent.{judging_day}
+use Rattle.skip_periods.specs.Seen.{counts_class}
 use Rattle.skip_periods.specs.declared.counting.Counting.{Counting}
 
--- it is counted or not in the quarter, and in each behind it up to the end, as a view of the day has them; so many classes were
--- entered by the day on which the quarter is judged
-pub record CountsFrom (item : Equipment) (classes : List (Key × Class)) (startup day quarter : ℕ) (counting : Counting) : Type 0 where
-  pub counts : (later : ℕ) → quarter ≤ later → later < counting.end → counting.is_counted ≡ is_counted item classes startup [] false later day
+-- it is counted or not by the class behind those that were entered, up to the quarter by whose judging the next one is, as a view of the day has it
+pub record CountsBehind (item : Equipment) (classes : List (Key × Class)) (startup day : ℕ) (counting : Counting) : Type 0 where
   pub within : counting.entered ≤ length classes
+  pub counts : (judged : ℕ) → judged < 65_536 → IsBehind judged classes counting.entered →
+      counting.is_counted ≡ counts_class item (class_on item classes judged)
+  pub before : (quarter : ℕ) (e : Key × Class) → quarter < counting.end → counting.entered < length classes →
+      judging_day startup quarter day < (slice_index_or classes counting.entered e).0.day
+  pub next : (quarter : ℕ) → quarter < 65_536 → counting.end ≤ quarter → (counting.entered < length classes)
+      × ((e : Key × Class) → (slice_index_or classes counting.entered e).0.day ≤ judging_day startup quarter day)
+
+-- .. and those that were entered were so by the day on which the quarter is judged
+pub record CountsFrom (item : Equipment) (classes : List (Key × Class)) (startup day quarter : ℕ) (counting : Counting) : Type 0 where
+  pub behind : CountsBehind item classes startup day counting
   pub front : (k : ℕ) (e : Key × Class) → k < counting.entered → (slice_index_or classes k e).0.day ≤ judging_day startup quarter day

@@ -1,19 +1,19 @@
-//! Whether a component is a valve that is counted, over quarters that follow one another: it stays so up to the quarter that is
-//! judged on the day on which a class is entered, so that most quarters ask for no class and for no day, and the classes are gone
-//! on among from where the quarter before stood.
+//! Whether a component is a valve that is counted, over quarters that follow one another: it stays so up to the quarter by whose
+//! judging the next of its classes is entered, so that most quarters ask for no class and for no day, and each class for its
+//! quarter once.
 
-ghost use Rattle.std.specs.Prelude.{◌≡◌, ℕ, ◌<◌, ◌≤◌, false, []};
+ghost use Rattle.std.specs.Prelude.{◌≡◌, ◌<◌, ◌≤◌, ℕ, false, [], length, slice_index_or};
 ghost use Rattle.list_words.specs.Order.{Ascends};
 ghost use Rattle.fact_kinds.specs.Facts.{is_earlier};
 ghost use Rattle.ldar_law.specs.Percent as law;
 ghost use Rattle.ldar_law.specs.declared.numbers.TheConstants.{LAST_FACT_DAY};
-ghost use Rattle.skip_periods.specs.Counting.{CountsFrom};
+ghost use Rattle.skip_periods.specs.Counting.{CountsBehind, CountsFrom};
 
 use crate::percent::is_counted_of;
-use class_standing::{ClassStanding, entered_by};
+use class_standing::ClassStanding;
 use fact_kinds::{Class, Key};
 use ldar_days::{Day, quarter_of};
-use ldar_law::{Equipment, judging_day};
+use ldar_law::Equipment;
 
 /// Behind all quarters, whose numbers have two bytes.
 const BEHIND_ALL: u32 = 65_536;
@@ -24,64 +24,94 @@ pub struct Counting {
     pub is_counted: bool,
     /// So many of its classes were entered by the day on which the quarter is judged.
     pub entered: usize,
-    /// The quarter behind the last of them.
+    /// The quarter behind the last of them: by its judging one class more is entered.
     pub end: u32,
 }
 
-/// A quarter before which each is judged before the day with this number, as a view of a day has it.
-fn judged_before(startup: Day, number: u32, day: Day) -> u32
+/// The first quarter that is judged on a day or behind it, as a view of another day has it.
+fn judged_from(startup: Day, entered: Day, day: Day) -> u32
     requires startup { startup ≤ LAST_FACT_DAY }
-    requires in_range { 13_879 ≤ number }
-    ensures value { (quarter : ℕ) → quarter < result → law.judging_day startup quarter day < number }
+    ensures before { (quarter : ℕ) → quarter < result → law.judging_day startup quarter day < entered }
+    ensures value { (quarter : ℕ) → quarter < 65_536 → result ≤ quarter → entered ≤ law.judging_day startup quarter day }
 {
-    if day.number() < number {
+    if day.number() < entered.number() {
         return BEHIND_ALL;
     }
-    match quarter_of(startup, Day::at(number).month()) {
+    match quarter_of(startup, entered.month()) {
         Some(quarter) => u32::from(quarter),
         None => 0,
     }
 }
 
+/// The first quarter by whose judging the class at a place is entered, or one behind all quarters where none stands there.
+fn quarter_at(classes: &[(Key, Class)], place: usize, startup: Day, day: Day) -> u32
+    requires startup { startup ≤ LAST_FACT_DAY }
+    ensures before { (quarter : ℕ) (e : Key × Class) → quarter < result → place < length classes.now
+        → law.judging_day startup quarter day < (slice_index_or classes.now place e).0.day }
+    ensures value { (quarter : ℕ) → quarter < 65_536 → result ≤ quarter → (place < length classes.now)
+        × ((e : Key × Class) → (slice_index_or classes.now place e).0.day ≤ law.judging_day startup quarter day) }
+{
+    if place >= classes.len() {
+        return BEHIND_ALL;
+    }
+    judged_from(startup, classes[place].0.day, day)
+}
+
 impl Counting {
-    /// Of no quarter yet.
-    pub fn none() -> Counting
-        ensures entered { result.entered ≡ 0 }
-        ensures end { result.end ≡ 0 }
+    /// Behind so many of the classes of a component.
+    fn behind(
+        equipment: &Equipment,
+        classes: &[(Key, Class)],
+        place: usize,
+        startup: Day,
+        day: Day,
+    ) -> Counting
+        requires within { place ≤ length classes.now }
+        requires startup { startup ≤ LAST_FACT_DAY }
+        requires ordered { Ascends (λ a b. is_earlier a.0 b.0) classes.now }
+        ensures entered { result.entered ≡ place }
+        ensures value { CountsBehind equipment.now classes.now startup day result }
     {
+        let under = ClassStanding::behind(equipment, classes, place);
         Counting {
-            is_counted: false,
-            entered: 0,
-            end: 0,
+            is_counted: is_counted_of(equipment, under.class),
+            entered: place,
+            end: quarter_at(classes, place, startup, day),
         }
     }
 
-    /// From a later quarter on, as a view of the day has it, by the classes of the component in key order: the same, where the
-    /// quarter is one of those up to the other.
-    pub fn moved_to(
-        self,
+    /// In the quarters before that of the first class, by the classes of a component in key order.
+    pub fn at_first(
+        equipment: &Equipment,
+        classes: &[(Key, Class)],
+        startup: Day,
+        day: Day,
+    ) -> Counting
+        requires startup { startup ≤ LAST_FACT_DAY }
+        requires ordered { Ascends (λ a b. is_earlier a.0 b.0) classes.now }
+        ensures value { (quarter : ℕ) → CountsFrom equipment.now classes.now startup day quarter result }
+    {
+        Counting::behind(equipment, classes, 0, startup, day)
+    }
+
+    /// Moves on to a later quarter, as a view of the day has it, by the classes of the component in key order: it stays the same,
+    /// where the quarter is one of those up to the other.
+    pub fn move_to(
+        &mut self,
         equipment: &Equipment,
         classes: &[(Key, Class)],
         startup: Day,
         quarter: u16,
         day: Day,
-    ) -> Counting
+    )
         requires startup { startup ≤ LAST_FACT_DAY }
-        requires quarter { 1 ≤ quarter }
         requires ordered { Ascends (λ a b. is_earlier a.0 b.0) classes.now }
-        requires value { CountsFrom equipment.now classes.now startup day quarter self }
-        ensures counted { result.is_counted ≡ law.is_counted equipment.now classes.now startup [] false quarter day }
-        ensures value { CountsFrom equipment.now classes.now startup day quarter result }
+        requires value { CountsFrom equipment.now classes.now startup day quarter self.old }
+        ensures counted { self.new.is_counted ≡ law.is_counted equipment.now classes.now startup [] false quarter day }
+        ensures value { CountsFrom equipment.now classes.now startup day quarter self.new }
     {
-        if u32::from(quarter) < self.end {
-            return self;
-        }
-        let entered = entered_by(classes, self.entered, judging_day(startup, quarter, day));
-        let under = ClassStanding::behind(equipment, classes, entered);
-        Counting {
-            is_counted: is_counted_of(equipment, under.class),
-            entered,
-            end: judged_before(startup, under.end, day),
+        while self.end <= u32::from(quarter) {
+            *self = Counting::behind(equipment, classes, self.entered + 1, startup, day);
         }
     }
 }

@@ -57,15 +57,14 @@ pub fn marks_to(
     ensures value { IfOk result (λ marks. marks.items
         ≡ map (mark_for equipment.now classes.now startup events.now delayed.now day) (from_to 1 quarter)) }
 {
+    // The classes and the first event are asked for before room is made: memory brings them meanwhile.
+    let mut counting = Counting::at_first(equipment, classes, startup, day);
+    let missed = missed_quarter(equipment, classes, startup, events, day);
     let mut marks = seen_to(alloc, startup, events, quarter)?;
-    put_missed(
-        &mut marks,
-        missed_quarter(equipment, classes, startup, events, day),
-    );
-    let mut counting = Counting::none();
+    put_missed(&mut marks, missed);
     for past in 0..quarter {
         let number = past + 1;
-        counting = counting.moved_to(equipment, classes, startup, number, day);
+        counting.move_to(equipment, classes, startup, number, day);
         let is_delayed = is_delayed_in(delayed, number);
         let place = usize::from(past);
         marks[place] = mark_told(counting.is_counted, marks[place], is_delayed);

@@ -28,7 +28,7 @@ fn seen_with(mark: Mark, e: &Event) -> Mark
     ensures monitored { result.monitored ≡ (mark.monitored || happenings.is_routine e.now.what) }
 {
     Mark {
-        leaking: mark.leaking || e.what.is_routine_leak(),
+        leaking: mark.leaking | e.what.is_routine_leak(),
         monitored: mark.monitored || e.what.is_routine(),
     }
 }

@@ -9,13 +9,9 @@ pub loop-past-init : goal.loop-past-init
 loop-past-init c =
     let a = c.args in
     record {
-      stands = record {
-        counts = λ later on before. absurd (omega (arith, before, c.none-counting.ensures.end));
-        within = omega (arith, c.none-counting.ensures.entered);
-        front = λ k e entered. absurd (omega (arith, entered, c.none-counting.ensures.entered));
-      };
+      stands = c.at_first-counting.ensures.value 1;
       marked = marked_none a.equipment.now a.classes.now a.startup a.events.now a.delayed.now a.day a.quarter
-          c.in_ok-marks.marks.items _ _ c.in_ok-marks.ensures.value c.put_missed.ensures.value c.missed_quarter.ensures.value;
+          c.in_ok-marks.marks.items _ _ c.in_ok-marks.ensures.value c.put_missed.ensures.value c.missed_quarter-missed.ensures.value;
     }
 
 pub loop-past-preserved : goal.loop-past-preserved
@@ -28,13 +24,13 @@ loop-past-preserved c =
     let told : shown ≡ told_in a.equipment.now a.classes.now a.startup a.events.now a.day (l.past + 1) =
     c.index.ensures ∙ ap (λ k. get_or l.marks.items k shown) place ∙ l.invariant.marked.told l.past shown (omega arith) (omega arith) in
     record {
-      stands = counts_on a.equipment.now a.classes.now a.startup a.day (l.past + 1) c.moved_to-counting.result (omega arith, omega arith) c.requires.startup
-          c.moved_to-counting.ensures.value;
+      stands = counts_on a.equipment.now a.classes.now a.startup a.day (l.past + 1) c.move_to.new.self (omega arith, omega arith) c.requires.startup
+          c.move_to.ensures.value;
       marked =
           marked_more a.equipment.now a.classes.now a.startup a.events.now a.delayed.now a.day a.quarter l.past c.from-place.result l.marks.items
           mark.result place (omega arith) l.invariant.marked
           (mark_is a.equipment.now a.classes.now a.startup a.events.now a.delayed.now a.day (l.past + 1) shown mark.result
-          c.moved_to-counting.result.is_counted c.is_delayed_in-is_delayed.result c.moved_to-counting.ensures.counted told
+          c.move_to.new.self.is_counted c.is_delayed_in-is_delayed.result c.move_to.ensures.counted told
           c.is_delayed_in-is_delayed.ensures.value mark.ensures.leaking mark.ensures.monitored);
     }
 
