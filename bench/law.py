@@ -7,7 +7,7 @@ Each row is asked for a size and for twice that, of half as many components wher
 over, and the caches of the processor hold no less of them. What making the lives takes is left out; the sums over the
 answers, which the two programs have to have in common, are in. The program crates/law_bench is proved and built first, so
 rt and rustc have to be on the path.
-usage: law.py [RUNS]            nanoseconds of processor time; 7 runs if left out
+usage: law.py [RUNS]            nanoseconds of processor time; 15 runs if left out
        law.py instructions      the instructions that valgrind counts, once: the same whatever else the machine does
 """
 import pathlib
@@ -19,11 +19,11 @@ import sys
 import tempfile
 
 IS_COUNTED = sys.argv[1:] == ["instructions"]
-RUNS = 1 if IS_COUNTED else int(sys.argv[1]) if len(sys.argv) > 1 else 7
+RUNS = 1 if IS_COUNTED else int(sys.argv[1]) if len(sys.argv) > 1 else 15
 # Counting is some fifty times as slow as running, and needs no long run.
-PASSES_FOR_ONE_COUNTED = 500 if IS_COUNTED else 1
+PASSES_FOR_ONE_COUNTED = 200 if IS_COUNTED else 1
 # With fewer the time of a run of many components is lost in that of making them.
-LEAST_PASSES = 1 if IS_COUNTED else 400
+LEAST_PASSES = 1 if IS_COUNTED else 200
 
 here = pathlib.Path(__file__).parent
 crate = here.parent / "crates/law_bench"
@@ -51,7 +51,7 @@ def rows():
     for shown, history, components, facts in LIVES:
         lives = lambda size, components=components, facts=facts: max(1, components * facts // size)
         for call in ("events", "spans", "marks", "duties"):
-            passes = max(LEAST_PASSES, (100_000 if call == "duties" else 10_000_000 // facts) // components)
+            passes = max(LEAST_PASSES, (40_000 if call == "duties" else 4_000_000 // facts) // components)
             words = lambda size, passes, call=call, history=history, lives=lives: (call, history, lives(size), size, passes)
             yield f"{shown}: {call}", words, facts, passes, lives
     for shown, call, size, passes in OTHERS:
