@@ -35,14 +35,10 @@ pub fn events_of(
     let mut left = fitness;
     for e in facts {
         standing = standing.moved_to(equipment, classes, e.0.day);
-        push_event(
-            &mut events,
-            equipment,
-            &standing.rules,
-            e,
-            &next_fitness(left),
-        )?;
+        // What is left is told before the fact is judged: so the compiler asks once whether it is a reading.
+        let next = next_fitness(left);
         left = fitness_left(&e.1.body, left);
+        push_event(&mut events, equipment, &standing.rules, e, &next)?;
     }
     Ok(events)
 }
@@ -116,7 +112,9 @@ fn next_fitness(left: &[Fitness]) -> Fitness
 fn fitness_left<'a>(body: &FactBody, left: &'a [Fitness]) -> &'a [Fitness]
     ensures value { result.now ≡ law.fitness_left body.now left.now }
 {
-    // Which facts are readings is hard for a processor to foretell: no branch asks for it.
-    let past = usize::from(is_reading(body)).min(left.len());
-    &left[past..]
+    if is_reading(body) && !left.is_empty() {
+        &left[1..]
+    } else {
+        left
+    }
 }

@@ -37,7 +37,8 @@ impl Asked<'_> {
         ClassStanding::on(self.item, self.classes, self.judging_day(days.last))
     }
 
-    /// That of another day, moved on to it.
+    /// That of another day, moved on to it. As a call it would copy a class that most months keep.
+    #[inline(always)]
     fn standing_moved_to(&self, under: ClassStanding, days: &MonthDays) -> ClassStanding
         requires value { IsInForce self.now.item.now self.now.classes.now under }
         ensures today { result.class ≡ class_on self.now.item.now self.now.classes.now (min days.now.last self.now.day) }
