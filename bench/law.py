@@ -74,21 +74,28 @@ def counted(program, words):
     return int(re.search(r"Collected : (\d+)", told.stderr)[1]), told.stdout
 
 
-def measured(programs, words, size, passes, calls):
-    """For each program what a call takes, run after run, the programs in turn."""
+def measured(programs, words, sizes, calls):
+    """For each size, and for each program, what a call takes: run after run, the sizes and programs in turn. What is left out
+    is the least that making the lives took."""
     taken = counted if IS_COUNTED else timed
-    passes = max(1, passes // PASSES_FOR_ONE_COUNTED)
-    took = [[] for _ in programs]
+    took = {(size, program): ([], []) for size, _ in sizes for program in programs}
     for _ in range(RUNS):
-        told = []
-        for program, times in zip(programs, took):
-            none, _ = taken(program, words(size, 0))
-            some, said = taken(program, words(size, passes))
-            times.append((some - none) / passes / calls(size))
-            told.append(said)
-        if len(set(told)) > 1:
-            sys.exit(f"they answer otherwise: {told}")
-    return took
+        for size, passes in sizes:
+            told = []
+            for program in programs:
+                making, all_calls = took[size, program]
+                making.append(taken(program, words(size, 0))[0])
+                some, said = taken(program, words(size, passes))
+                all_calls.append(some)
+                told.append(said)
+            if len(set(told)) > 1:
+                sys.exit(f"they answer otherwise: {told}")
+
+    def a_call(size, passes, program):
+        making, all_calls = took[size, program]
+        return [(some - min(making)) / passes / calls(size) for some in all_calls]
+
+    return [[a_call(size, passes, program) for program in programs] for size, passes in sizes]
 
 
 def main():
@@ -100,9 +107,9 @@ def main():
         unit = "instructions" if IS_COUNTED else "ns"
         print(f"{unit + ' a call: least, and ratios':40} {'ours':>10} {'Rust':>10} {'ratio':>6} {'median':>6} {'twice':>6} {'Rust':>6}")
         for shown, words, size, passes, calls in rows():
-            once = measured(programs, words, size, passes, calls)
+            passes = max(1, passes // PASSES_FOR_ONE_COUNTED)
             # The double size in half the passes.
-            twice = measured(programs, words, 2 * size, max(1, passes // 2), calls)
+            once, twice = measured(programs, words, ((size, passes), (2 * size, max(1, passes // 2))), calls)
             ours, plain = map(min, once)
             middle = statistics.median(mine / other for mine, other in zip(*once))
             growth = [min(more) / min(few) for more, few in zip(twice, once)]
