@@ -1,17 +1,48 @@
 -- The marks of the quarters from the first on, one after the other.
-use Rattle.std.proofs.Common.{◌≡◌, ℕ, ◌+◌, ◌-◌, ◌<◌, ◌≤◌, Bool, false, Option, List, map, set, sym, ap, ◌∙◌, inl, inr, arith}
+use Rattle.std.proofs.Common.{◌≡◌, ℕ, ◌+◌, ◌-◌, ◌<◌, ◌≤◌, Bool, false, true≢false, Option, List, map, replicate, set, refl, sym, ap, ◌∙◌, inl, inr, arith}
 use Rattle.std.proofs.lemmas.Bool.{cases_eq}
-use Rattle.std.proofs.lemmas.List.{get_or-set_same, get_or-set_other, length-set, same_lists}
+use Rattle.std.proofs.lemmas.List.{get_or-replicate, get_or-set_same, get_or-set_other, length-replicate, length-set, same_lists}
 use Rattle.std.proofs.lemmas.List.FromFn.{length-map-range_with_len, get_or-map-range_with_len}
 use Rattle.list_words.specs.Ranges.{until, from_to}
 use Rattle.fact_kinds.specs.declared.class.Class.{Class}
+use Rattle.fact_kinds.specs.declared.class.Kind.{Kind}
+use Rattle.fact_kinds.specs.declared.class.Kind.TheVariants.{Valve, Pump, Compressor, Relief}
+use Rattle.fact_kinds.specs.declared.class.Service.{Service}
+use Rattle.fact_kinds.specs.declared.class.Service.TheVariants as services
 use Rattle.fact_kinds.specs.declared.key.Key.{Key}
 use Rattle.fact_kinds.specs.Named.{is_numbered}
 use Rattle.ldar_law.specs.declared.equipment.Equipment.{Equipment}
 use Rattle.ldar_law.specs.declared.event.Event.{Event}
 use Rattle.ldar_law.specs.declared.tally.Mark.{Mark}
-use Rattle.ldar_law.specs.Percent.{is_first_missed}
+use Rattle.ldar_law.specs.Force.{class_on}
+use Rattle.ldar_law.specs.Kinds.{is_valve}
+use Rattle.ldar_law.specs.Limits.{regime_of}
+use Rattle.ldar_law.specs.Percent.{is_first_missed, judging_day, mark_of}
+use Rattle.ldar_law.specs.Standing.{are_valve_rules}
 use Rattle.skip_periods.specs.Seen.{AreSeen, AreMarkedTo, PutsMissed, mark_for, seen_in, seen_or_missed}
+
+-- the mark of what is counted in no quarter
+abbrev no_mark : Mark
+no_mark = record { leaking = false; monitored = false }
+
+-- what is no valve is under no rules for valves
+no_valve_rules : (kind : Kind) (service : Service) → is_valve kind ≡ false → are_valve_rules (regime_of kind service) ≡ false
+no_valve_rules Valve service other = absurd (true≢false other)
+no_valve_rules Pump services.Gas other = refl
+no_valve_rules Pump services.Light other = refl
+no_valve_rules Pump services.Heavy other = refl
+no_valve_rules Pump services.Vacuum other = refl
+no_valve_rules Pump services.Under300 other = refl
+no_valve_rules Compressor services.Gas other = refl
+no_valve_rules Compressor services.Light other = refl
+no_valve_rules Compressor services.Heavy other = refl
+no_valve_rules Compressor services.Vacuum other = refl
+no_valve_rules Compressor services.Under300 other = refl
+no_valve_rules Relief services.Gas other = refl
+no_valve_rules Relief services.Light other = refl
+no_valve_rules Relief services.Heavy other = refl
+no_valve_rules Relief services.Vacuum other = refl
+no_valve_rules Relief services.Under300 other = refl
 
 module _ (item : Equipment) (classes : List (Key × Class)) (startup : ℕ) (events : List Event) (delayed : List Bool) (day quarter : ℕ) where
   -- none of them yet
@@ -53,3 +84,22 @@ module _ (item : Equipment) (classes : List (Key × Class)) (startup : ℕ) (eve
       (λ k d within.
       all.marked k d (omega (arith, within, all.count, over))
       ∙ sym (get_or-map-range_with_len gives 1 (quarter + 1 - 1) k (k + 1) d (omega (arith, within, all.count)) (omega arith)))
+
+  -- what is no valve is counted in no quarter
+  not_counted : is_valve item.kind ≡ false → (q : ℕ) → no_mark ≡ mark_for item classes startup events delayed day q
+  unfolding mark_of
+  not_counted other q = rw (no_valve_rules item.kind (class_on item classes (judging_day startup q day)).service other) refl
+
+  -- .. so that all its marks are empty
+  pub none_marked : is_valve item.kind ≡ false →
+      replicate quarter (record { leaking = false; monitored = false }) ≡ map (mark_for item classes startup events delayed day) (from_to 1 quarter)
+  unfolding until
+  none_marked other =
+      let gives = mark_for item classes startup events delayed day in
+      let as_many : quarter + 1 - 1 ≡ quarter = omega arith in
+      let count = length-replicate quarter no_mark in
+      same_lists (replicate quarter no_mark) (map gives (from_to 1 quarter)) (count ∙ sym (length-map-range_with_len gives 1 (quarter + 1 - 1) ∙ as_many))
+      (λ k d within.
+      get_or-replicate quarter k no_mark d (omega (arith, within, count))
+      ∙ not_counted other (k + 1)
+      ∙ sym (get_or-map-range_with_len gives 1 (quarter + 1 - 1) k (k + 1) d (omega (arith, within, count)) (omega arith)))

@@ -8,10 +8,10 @@ ghost use Rattle.skip_periods.specs.Seen.{mark_for, PutsMissed};
 
 use crate::counting::Counting;
 use crate::percent::{mark_told, missed_quarter, with_missed};
-use crate::seen::seen_to;
+use crate::seen::{seen_to, unseen};
 use fact_kinds::{Class, Key, Memory};
 use ldar_days::Day;
-use ldar_law::{Equipment, Event, Mark};
+use ldar_law::{Equipment, Event, Mark, is_valve};
 use std::alloc::Global;
 
 /// Whether the list says that a quarter is delayed.
@@ -41,7 +41,8 @@ fn put_missed(seen: &mut Vec<Mark>, missed: Option<u16>)
 /// What a component adds to the counts of each quarter from the first to one (40 CFR 60.485a(h)), as a view of the day
 /// has it: entry 0 is the mark for quarter 1. The classes and the events are those of the component, the classes in key
 /// order; `delayed` says of each quarter, from the first on, what `mark` is told of it. The events are walked over once,
-/// whatever the number of quarters, and the class moves on with them. An error: no memory for the marks.
+/// whatever the number of quarters, and the class moves on with them; those of what is no valve, which is counted in no
+/// quarter, are not looked at. An error: no memory for the marks.
 pub fn marks_to(
     alloc: Global,
     equipment: &Equipment,
@@ -57,6 +58,9 @@ pub fn marks_to(
     ensures value { IfOk result (λ marks. marks.items
         ≡ map (mark_for equipment.now classes.now startup events.now delayed.now day) (from_to 1 quarter)) }
 {
+    if !is_valve(equipment.kind) {
+        return unseen(alloc, quarter);
+    }
     // The classes and the first event are asked for before room is made: memory brings them meanwhile.
     let mut counting = Counting::at_first(equipment, classes, startup, day);
     let missed = missed_quarter(equipment, classes, startup, events, day);

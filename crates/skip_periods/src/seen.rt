@@ -12,7 +12,7 @@ use ldar_law::{Event, Mark};
 use std::alloc::Global;
 
 /// So many quarters in which nothing is seen.
-fn unseen(alloc: Global, quarter: u16) -> Result<Vec<Mark>, Memory>
+pub fn unseen(alloc: Global, quarter: u16) -> Result<Vec<Mark>, Memory>
     ensures value { IfOk result (λ seen. seen.items ≡ replicate quarter (record { leaking = false; monitored = false })) }
 {
     let nothing = Mark {

@@ -1,7 +1,7 @@
-use Rattle.std.proofs.Common.{◌≡◌, ◌+◌, get_or, ap, ◌∙◌, arith}
+use Rattle.std.proofs.Common.{◌≡◌, ◌+◌, get_or, sym, ap, ◌∙◌, arith}
 use Rattle.skip_periods.specs.Seen.{told_in}
 use Rattle.skip_periods.proofs.CountingLemmas.{counts_on}
-use Rattle.skip_periods.proofs.MarkLemmas.{marked_none, marked_more, marked_all}
+use Rattle.skip_periods.proofs.MarkLemmas.{marked_none, marked_more, marked_all, none_marked}
 use Rattle.skip_periods.proofs.SeenLemmas.{mark_is}
 use Rattle.skip_periods.proofs.marks.marks_to.Goals as goal
 
@@ -33,6 +33,12 @@ loop-past-preserved c =
           c.move_to.new.self.is_counted c.is_delayed_in-is_delayed.result c.move_to.ensures.counted told
           c.is_delayed_in-is_delayed.ensures.value mark.ensures.leaking mark.ensures.monitored);
     }
+
+pub returns-then-not-is_valve : goal.returns-then-not-is_valve
+returns-then-not-is_valve c =
+    let a = c.args in
+    let none = none_marked a.equipment.now a.classes.now a.startup a.events.now a.delayed.now a.day a.quarter (sym c.if-not-is_valve.ensures.value) in
+    record { value = rw (sym none) c.unseen.ensures.value }
 
 pub returns : goal.returns
 returns c =
