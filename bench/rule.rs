@@ -299,6 +299,7 @@ fn spans_of(kind: Kind, events: &[Event]) -> Vec<Span> {
 fn marks_to(item: &Equipment, classes: &[(Key, Class)], startup: u16, events: &[Event], delayed: &[bool], quarters: u16, day: u16) -> Vec<Mark> {
     let first = first_quarter(startup);
     let mut marks = vec![Mark { leaking: false, monitored: false }; usize::from(quarters)];
+    if item.kind != Kind::Valve { return marks; }
     for event in events {
         if let Happening::Read { routine: true, counts: true, leak, .. } = event.what {
             let Some(past) = month_of(event.key.day).checked_sub(first) else { continue };
