@@ -25,6 +25,7 @@ use Rattle.ldar_law.specs.Months.{is_quarterly, month_in_quarter}
 use Rattle.ldar_law.specs.Standing.{are_pump_rules, are_relief_rules, is_unsafe_designated, is_difficult_designated, is_nde_designated}
 use Rattle.ldar_law.specs.Standing.{is_under_valve_rules, is_under_pump_rules, is_under_compressor_rules, is_under_relief_rules, is_under_heavy_liquid_rules}
 use Rattle.ldar_law.specs.Standing.{is_plain, is_unsafe}
+use Rattle.ldar_law.proofs.KindLemmas.{no_valve_rules}
 use Rattle.monitor_calendar.specs.Causes as causes
 use Rattle.monitor_calendar.specs.Concern.{has_unsafe_class, is_yearly_designated, has_yearly_class, is_relief}
 use Rattle.monitor_calendar.specs.Concern.{is_heavy_liquid, has_heavy_liquid_class, concerns}
@@ -32,7 +33,6 @@ use Rattle.monitor_calendar.specs.Following.{after_event}
 use Rattle.monitor_calendar.specs.declared.after_event.After.{After}
 use Rattle.monitor_calendar.specs.declared.after_event.After.TheVariants.{Drips, Release, Evidence}
 use Rattle.monitor_calendar.specs.declared.asked.Asked.{Asked}
-use Rattle.monitor_calendar.proofs.Judging.{no_valve_rules}
 use Rattle.monitor_calendar.proofs.Listing.{unowed}
 
 -- ---- what gives nothing

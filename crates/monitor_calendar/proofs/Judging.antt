@@ -5,10 +5,6 @@ use Rattle.std.proofs.Common.{◌&&◌, ◌||◌, nat_lt, nat_eq, min, refl, sym
 use Rattle.std.proofs.lemmas.Bool.{cases_Bool, and_parts, eqb-true, cases_lt}
 use Rattle.ldar_days.specs.Calendar.{first_day, last_day, end_by, month_of, week_first, week_last}
 use Rattle.fact_kinds.specs.declared.class.Class.{Class}
-use Rattle.fact_kinds.specs.declared.class.Kind.{Kind}
-use Rattle.fact_kinds.specs.declared.class.Kind.TheVariants.{Valve, Pump, Compressor, Relief}
-use Rattle.fact_kinds.specs.declared.class.Service.{Service}
-use Rattle.fact_kinds.specs.declared.class.Service.TheVariants.{Gas, Light, Heavy, Vacuum, Under300}
 use Rattle.fact_kinds.specs.declared.key.Key.{Key}
 use Rattle.ldar_law.specs.declared.event.Event.{Event}
 use Rattle.ldar_law.specs.Duties as law
@@ -17,6 +13,7 @@ use Rattle.ldar_law.specs.Kinds.{is_valve}
 use Rattle.ldar_law.specs.Limits.{regime_of}
 use Rattle.ldar_law.specs.Months.{is_quarterly}
 use Rattle.ldar_law.specs.Standing.{are_valve_rules, are_pump_rules, is_none_designated, is_unsafe_designated}
+use Rattle.ldar_law.proofs.KindLemmas.{no_valve_rules}
 use Rattle.monitor_calendar.specs.Causes as causes
 use Rattle.monitor_calendar.specs.Causes.{IsOf}
 use Rattle.monitor_calendar.specs.declared.asked.Asked.{Asked}
@@ -30,25 +27,6 @@ one_window n p some whole =
       | inl short ↦ let small : n % p ≡ n = mod-eq_of_lt short in absurd (omega (arith, small))
       | inr long ↦ long
     ]
-
--- only a valve is under the rules for valves
-pub no_valve_rules : (kind : Kind) (service : Service) → is_valve kind ≡ false → are_valve_rules (regime_of kind service) ≡ false
-no_valve_rules Valve service e = cc
-no_valve_rules Pump Gas e = refl
-no_valve_rules Pump Light e = refl
-no_valve_rules Pump Heavy e = refl
-no_valve_rules Pump Vacuum e = refl
-no_valve_rules Pump Under300 e = refl
-no_valve_rules Compressor Gas e = refl
-no_valve_rules Compressor Light e = refl
-no_valve_rules Compressor Heavy e = refl
-no_valve_rules Compressor Vacuum e = refl
-no_valve_rules Compressor Under300 e = refl
-no_valve_rules Relief Gas e = refl
-no_valve_rules Relief Light e = refl
-no_valve_rules Relief Heavy e = refl
-no_valve_rules Relief Vacuum e = refl
-no_valve_rules Relief Under300 e = refl
 
 -- what is under no rules for valves is owed in each month alike
 either_month : (judged : Judged) (a b : Bool) → are_valve_rules judged.regime ≡ false → causes.is_monthly_judged judged a ≡ causes.is_monthly_judged judged b

@@ -1,14 +1,10 @@
 -- The marks of the quarters from the first on, one after the other.
-use Rattle.std.proofs.Common.{◌≡◌, ℕ, ◌+◌, ◌-◌, ◌<◌, ◌≤◌, Bool, false, true≢false, Option, List, map, replicate, set, refl, sym, ap, ◌∙◌, inl, inr, arith}
+use Rattle.std.proofs.Common.{◌≡◌, ℕ, ◌+◌, ◌-◌, ◌<◌, ◌≤◌, Bool, false, Option, List, map, replicate, set, refl, sym, ap, ◌∙◌, inl, inr, arith}
 use Rattle.std.proofs.lemmas.Bool.{cases_eq}
 use Rattle.std.proofs.lemmas.List.{get_or-replicate, get_or-set_same, get_or-set_other, length-replicate, length-set, same_lists}
 use Rattle.std.proofs.lemmas.List.FromFn.{length-map-range_with_len, get_or-map-range_with_len}
 use Rattle.list_words.specs.Ranges.{until, from_to}
 use Rattle.fact_kinds.specs.declared.class.Class.{Class}
-use Rattle.fact_kinds.specs.declared.class.Kind.{Kind}
-use Rattle.fact_kinds.specs.declared.class.Kind.TheVariants.{Valve, Pump, Compressor, Relief}
-use Rattle.fact_kinds.specs.declared.class.Service.{Service}
-use Rattle.fact_kinds.specs.declared.class.Service.TheVariants as services
 use Rattle.fact_kinds.specs.declared.key.Key.{Key}
 use Rattle.fact_kinds.specs.Named.{is_numbered}
 use Rattle.ldar_law.specs.declared.equipment.Equipment.{Equipment}
@@ -16,33 +12,13 @@ use Rattle.ldar_law.specs.declared.event.Event.{Event}
 use Rattle.ldar_law.specs.declared.tally.Mark.{Mark}
 use Rattle.ldar_law.specs.Force.{class_on}
 use Rattle.ldar_law.specs.Kinds.{is_valve}
-use Rattle.ldar_law.specs.Limits.{regime_of}
 use Rattle.ldar_law.specs.Percent.{is_first_missed, judging_day, mark_of}
-use Rattle.ldar_law.specs.Standing.{are_valve_rules}
+use Rattle.ldar_law.proofs.KindLemmas.{no_valve_rules}
 use Rattle.skip_periods.specs.Seen.{AreSeen, AreMarkedTo, PutsMissed, mark_for, seen_in, seen_or_missed}
 
 -- the mark of what is counted in no quarter
 abbrev no_mark : Mark
 no_mark = record { leaking = false; monitored = false }
-
--- what is no valve is under no rules for valves
-no_valve_rules : (kind : Kind) (service : Service) → is_valve kind ≡ false → are_valve_rules (regime_of kind service) ≡ false
-no_valve_rules Valve service other = absurd (true≢false other)
-no_valve_rules Pump services.Gas other = refl
-no_valve_rules Pump services.Light other = refl
-no_valve_rules Pump services.Heavy other = refl
-no_valve_rules Pump services.Vacuum other = refl
-no_valve_rules Pump services.Under300 other = refl
-no_valve_rules Compressor services.Gas other = refl
-no_valve_rules Compressor services.Light other = refl
-no_valve_rules Compressor services.Heavy other = refl
-no_valve_rules Compressor services.Vacuum other = refl
-no_valve_rules Compressor services.Under300 other = refl
-no_valve_rules Relief services.Gas other = refl
-no_valve_rules Relief services.Light other = refl
-no_valve_rules Relief services.Heavy other = refl
-no_valve_rules Relief services.Vacuum other = refl
-no_valve_rules Relief services.Under300 other = refl
 
 module _ (item : Equipment) (classes : List (Key × Class)) (startup : ℕ) (events : List Event) (delayed : List Bool) (day quarter : ℕ) where
   -- none of them yet
