@@ -5,8 +5,8 @@ stands a plain Rust program with the same functions (law.rs).
 
 Each row is asked for a size and for twice that, of half as many components where there are many: so as many facts are gone
 over, and the caches of the processor hold no less of them. What making the lives takes is left out; the sums over the
-answers, which the two programs have to have in common, are in. The program crates/law_bench is proved and built first, so
-rt and rustc have to be on the path.
+answers, which the two programs have to have in common, are in: of the marks, each pass adds that of one quarter. The program
+crates/law_bench is proved and built first, so rt and rustc have to be on the path.
 usage: law.py [RUNS]            nanoseconds of processor time; 15 runs if left out
        law.py instructions      the instructions that valgrind counts, once: the same whatever else the machine does
 """

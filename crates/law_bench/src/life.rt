@@ -32,18 +32,19 @@ impl Call {
     }
 }
 
-/// A sum, with what one more component answers.
+/// A sum, with what one more component answers; of its marks, with that of the quarter at a place.
 pub fn add_answer(
     alloc: Global,
     call: Call,
     item: &Component,
     view: &View,
+    quarter: u16,
     sum: u64,
 ) -> Result<u64, Memory> {
     match call {
         Call::Events => add_events(alloc, item, sum),
         Call::Spans => add_spans(alloc, item, sum),
-        Call::Marks => add_marks(alloc, item, view, sum),
+        Call::Marks => add_marks(alloc, item, view, quarter, sum),
         Call::Duties => add_duties(alloc, item, view, sum),
     }
 }
@@ -72,7 +73,13 @@ fn add_spans(alloc: Global, item: &Component, sum: u64) -> Result<u64, Memory> {
     Ok(sum)
 }
 
-fn add_marks(alloc: Global, item: &Component, view: &View, sum: u64) -> Result<u64, Memory> {
+fn add_marks(
+    alloc: Global,
+    item: &Component,
+    view: &View,
+    quarter: u16,
+    sum: u64,
+) -> Result<u64, Memory> {
     let marks = marks_to(
         alloc,
         &item.equipment,
@@ -83,11 +90,10 @@ fn add_marks(alloc: Global, item: &Component, view: &View, sum: u64) -> Result<u
         view.quarters,
         view.day,
     )?;
-    let mut sum = sum;
-    for mark in &marks {
-        sum = said::add(sum, said::of_mark(mark));
+    match marks.get(usize::from(quarter)) {
+        Some(mark) => Ok(said::add(sum, said::of_mark(mark))),
+        None => Ok(sum),
     }
-    Ok(sum)
 }
 
 fn add_duties(alloc: Global, item: &Component, view: &View, sum: u64) -> Result<u64, Memory> {

@@ -32,4 +32,13 @@ impl View {
             delayed,
         })
     }
+
+    /// The place of the quarter behind one, from 0; behind the last comes the first.
+    pub fn quarter_behind(&self, place: u16) -> u16 {
+        if place < self.quarters.saturating_sub(1) {
+            place + 1
+        } else {
+            0
+        }
+    }
 }
