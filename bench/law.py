@@ -7,8 +7,9 @@ Each row is asked for a size and for twice that, of half as many components wher
 over, and the caches of the processor hold no less of them. What making the lives takes is left out; the sums over the
 answers, which the two programs have to have in common, are in: of the marks, each pass adds that of one quarter. The program
 crates/law_bench is proved and built first, so rt and rustc have to be on the path.
-usage: law.py [RUNS]            nanoseconds of processor time; 15 runs if left out
-       law.py instructions      the instructions that valgrind counts, once: the same whatever else the machine does
+usage: law.py [RUNS [PART]]            nanoseconds of processor time; 15 runs if left out
+       law.py instructions [PART]      the instructions that valgrind counts, once: the same whatever else the machine does
+With a PART only the rows whose names have it are measured.
 """
 import pathlib
 import re
@@ -18,7 +19,8 @@ import subprocess
 import sys
 import tempfile
 
-IS_COUNTED = sys.argv[1:] == ["instructions"]
+IS_COUNTED = sys.argv[1:2] == ["instructions"]
+PART = sys.argv[2] if len(sys.argv) > 2 else ""
 RUNS = 1 if IS_COUNTED else int(sys.argv[1]) if len(sys.argv) > 1 else 15
 # Counting is some fifty times as slow as running, and needs no long run.
 PASSES_FOR_ONE_COUNTED = 200 if IS_COUNTED else 1
@@ -51,7 +53,10 @@ def rows():
     for shown, history, components, facts in LIVES:
         lives = lambda size, components=components, facts=facts: max(1, components * facts // size)
         for call in ("events", "spans", "marks", "duties"):
-            passes = max(LEAST_PASSES, (40_000 if call == "duties" else 4_000_000 // facts) // components)
+            # A pump is counted in no quarter, so that making its marks takes some tens of nanoseconds.
+            is_counted_nowhere = call == "marks" and history in ("pump", "drips")
+            calls = 1_000_000 if is_counted_nowhere else 40_000 if call == "duties" else 4_000_000 // facts
+            passes = max(LEAST_PASSES, calls // components)
             words = lambda size, passes, call=call, history=history, lives=lives: (call, history, lives(size), size, passes)
             yield f"{shown}: {call}", words, facts, passes, lives
     for shown, call, size, passes in OTHERS:
@@ -107,6 +112,8 @@ def main():
         unit = "instructions" if IS_COUNTED else "ns"
         print(f"{unit + ' a call: least, and ratios':40} {'ours':>10} {'Rust':>10} {'ratio':>6} {'median':>6} {'twice':>6} {'Rust':>6}")
         for shown, words, size, passes, calls in rows():
+            if PART not in shown:
+                continue
             passes = max(1, passes // PASSES_FOR_ONE_COUNTED)
             # The double size in half the passes.
             once, twice = measured(programs, words, ((size, passes), (2 * size, max(1, passes // 2))), calls)
