@@ -104,6 +104,9 @@ def measured(programs, words, sizes, calls):
 
 
 def main():
+    sought = [row for row in rows() if PART in row[0]]
+    if not sought:
+        sys.exit(f"no row has {PART!r} in its name")
     subprocess.run(["rt", "run", "--", "repair", "1", "1"], cwd=crate, check=True, stdout=subprocess.DEVNULL, stderr=subprocess.DEVNULL)
     with tempfile.TemporaryDirectory() as folder:
         rust = pathlib.Path(folder) / "rust"
@@ -111,9 +114,7 @@ def main():
         programs = (crate / "out/law_bench", rust)
         unit = "instructions" if IS_COUNTED else "ns"
         print(f"{unit + ' a call: least, and ratios':40} {'ours':>10} {'Rust':>10} {'ratio':>6} {'median':>6} {'twice':>6} {'Rust':>6}")
-        for shown, words, size, passes, calls in rows():
-            if PART not in shown:
-                continue
+        for shown, words, size, passes, calls in sought:
             passes = max(1, passes // PASSES_FOR_ONE_COUNTED)
             # The double size in half the passes.
             once, twice = measured(programs, words, ((size, passes), (2 * size, max(1, passes // 2))), calls)
