@@ -1,5 +1,5 @@
-pub mod March
 pub mod Months
+pub mod Dates
 pub mod Quarters
 pub mod Weeks
 pub mod Sums

@@ -237,6 +237,3 @@ month_of-mono n later h h' le =
       | inl before ↦ absurd (omega (arith, first_day-lt (month_of later) (month_of n) (omega arith) before, month_length_bounds (month_of later)))
       | inr in_order ↦ in_order
     ]
-
--- for the bodies of `Month`
-pub ruleset months = (first_day-next, first_day-civil, month_length_bounds, month_bounds)

@@ -1,8 +1,8 @@
 -- Sums of days and months: within the calendar they keep the day's place, and at its end they stop.
-use Rattle.std.proofs.Common.{◌≡◌, ℕ, ◌+◌, ◌-◌, ◌≤◌, min, inl, inr, arith}
+use Rattle.std.proofs.Common.{◌≡◌, ℕ, ◌+◌, ◌-◌, ◌≤◌, min, inl, inr, refl, arith}
 use Rattle.std.proofs.lemmas.Bool.{cases_lt}
 use Rattle.ldar_days.specs.Calendar.{IsDay, IsMonth, month_length, month_of, place_of, day_at, later_by}
-use Rattle.ldar_days.proofs.Months.{first_day-lt, first_day-past, month_length_bounds, month_bounds, month_of-is, month_of-month, month_of-day, place_bound}
+use Rattle.ldar_days.proofs.Months.{first_day-lt, first_day-le, first_day-past, month_length_bounds, month_bounds, month_of-is, month_of-month, month_of-day, place_bound}
 
 -- the day at a place of a month lies in it, at that place or at its end
 pub month_of-day_at : (m place : ℕ) → IsMonth m → month_of (day_at m place) ≡ m
@@ -42,6 +42,25 @@ place_of-later_by k n h within =
 -- and any other is the calendar's last day
 pub later_by-past : (k n : ℕ) → 25_200 ≤ month_of n + k → later_by k n ≡ 47_481
 later_by-past k n past = omega (arith, first_day-past (month_of n + k) past)
+
+-- what is added past the length of the calendar makes no difference
+pub later_by-until : (k n : ℕ) → IsDay n → later_by (min k 25_199) n ≡ later_by k n
+later_by-until k n h =
+    let month = month_of-month n h in
+    elim (cases_lt k 25_200) [
+      | inl within ↦ let same : min k 25_199 ≡ k = omega arith in rw same refl
+      | inr more ↦
+          let end = later_by-past k n (omega arith) in
+          let end' = later_by-past (min k 25_199) n (omega arith) in
+          rw (end, end') refl
+    ]
+
+-- what is later is not before the calendar
+pub day_at-from : (k n : ℕ) → IsDay n → 13_879 ≤ day_at (month_of n + k) (place_of n)
+day_at-from k n h =
+    let month = month_of-month n h in
+    let first = first_day-le (month_of n) (month_of n + k) (omega arith) (omega arith) in
+    omega (arith, month_bounds (month_of n) month)
 
 -- a sum is a day, and none before the day that it is of
 pub later_by_bounds : (k n : ℕ) → IsDay n → IsDay (later_by k n) × (n ≤ later_by k n)

@@ -1,12 +1,12 @@
 -- The texts of days: each day has its own, and `day_of` finds the day again.
-use Rattle.std.proofs.Common.{◌≡◌, ℕ, ◌+◌, ◌-◌, ◌*◌, ◌/◌, ◌%◌, ◌≤◌, Bool, ◌&&◌, true, false, cond, nat_le, List, take, drop, get_or, refl, sym, ap, ◌∙◌}
-use Rattle.std.proofs.Common.{arith, Option, Some, None, IfSome, IsNone}
+use Rattle.std.proofs.Common.{◌≡◌, ℕ, ◌+◌, ◌-◌, ◌*◌, Bool, ◌&&◌, not, true, false, true≢false, cond, nat_le, List, take, drop, refl, sym, ap, ◌∙◌}
+use Rattle.std.proofs.Common.{arith, Some, None}
 use Rattle.std.specs.Str.{bytes_eq}
 use Rattle.std.proofs.lemmas.Bool.Decides.{nat_tests}
 use Rattle.std.proofs.lemmas.Slice.Eq.{bytes_eq-Decides}
-use Rattle.ldar_days.specs.Calendar.{IsDay, IsMonth, first_day, month_length, month_of, place_of}
-use Rattle.ldar_days.specs.Texts.{day_text, digits_value, day_named, day_of, IsDate, IsSpelled}
-use Rattle.ldar_days.proofs.Months.{month_bounds, month_of-is, month_of-month, month_of-day, place_bound, month_length_bounds}
+use Rattle.ldar_days.specs.Calendar.{IsDay, month_of, place_of}
+use Rattle.ldar_days.specs.Texts.{day_text, digits_value, day_named, day_of}
+use Rattle.ldar_days.proofs.Months.{month_of-is, month_of-month, place_bound, month_length_bounds}
 
 -- the digits of a day's text name it
 pub day_named-day_text : (n : ℕ) → IsDay n → day_named (day_text n) ≡ n
@@ -37,6 +37,11 @@ pub day_of-day_text : (n : ℕ) → IsDay n → day_of (day_text n) ≡ Some n
 unfolding day_of the_test
 day_of-day_text n h =
     rw (day_named-day_text n h, (bytes_eq-Decides (day_text n) (day_text n)).1 refl, passes n h)
+
+-- a test that is not denied
+not_false : (b : Bool) → false ≡ not b → b ≡ true
+not_false true h = refl
+not_false false h = absurd (true≢false (sym h))
 
 -- what a test lets through
 chosen : (b : Bool) (n k : ℕ) → cond b (Some n) None ≡ Some k → (b ≡ true) × (n ≡ k)
@@ -69,53 +74,12 @@ day_of-none text h =
 pub day_text-injective : (a b : ℕ) → IsDay a → IsDay b → day_text a ≡ day_text b → a ≡ b
 day_text-injective a b ha hb e = sym (day_named-day_text a ha) ∙ ap day_named e ∙ day_named-day_text b hb
 
--- a day's text spells its year, month and day
-pub IsSpelled-day_text : (n : ℕ) → IsDay n → IsSpelled (day_text n) (month_of n / 12) (month_of n % 12 + 1) (place_of n + 1)
-IsSpelled-day_text n h =
-    let month = month_of-month n h in
-    let place = place_bound n h in
-    (omega arith, omega arith, omega (arith, month_length_bounds (month_of n)), refl)
+-- bytes that are a day's text and this text: it is the day's
+pub day_of-same : (text bytes : List ℕ) (n : ℕ) → IsDay n → bytes ≡ day_text n → false ≡ not (bytes_eq bytes text) → Some n ≡ day_of text
+day_of-same text bytes n h is same =
+    let equal = (bytes_eq-Decides bytes text).0 (not_false (bytes_eq bytes text) same) in
+    rw (← equal, is) (sym (day_of-day_text n h))
 
--- a text spells only one year, month and day
-pub IsSpelled-only : (text : List ℕ) (y m d y' m' d' : ℕ) → IsSpelled text y m d → IsSpelled text y' m' d' → (y ≡ y') × (m ≡ m') × (d ≡ d')
-IsSpelled-only text y m d y' m' d' a b =
-    let same = sym a.3 ∙ b.3 in
-    let at = λ (k : ℕ). ap (λ t. get_or t k 0) same in
-    (omega (arith, at 0, at 1, at 2, at 3), omega (arith, at 5, at 6), omega (arith, at 8, at 9))
-
--- a text that spells a day's year, month and day is the day's
-pub IsSpelled-is : (text : List ℕ) (n y m d : ℕ) → IsSpelled text y m d → IsDate n y m d → text ≡ day_text n
-IsSpelled-is text n y m d a date = rw (date.0, date.1, date.2) a.3
-
--- the day at a place of a month has that date
-pub IsDate-day : (n month y m d : ℕ) → IsMonth month → month + 1 ≡ 12 * y + m → 1 ≤ m → m ≤ 12 → 1 ≤ d → d ≤ month_length month
-    → n + 1 ≡ first_day month + d → IsDay n × IsDate n y m d
-IsDate-day n month y m d h is low high first last place =
-    let bounds = month_bounds month h in
-    let of = month_of-day month (d - 1) h (omega arith) in
-    let same : first_day month + (d - 1) ≡ n = omega arith in
-    let month_is = rw same at of in
-    ((omega arith, omega arith), rw month_is (omega arith, omega arith, omega arith))
-
--- and a date that lies in the calendar is such a day's
-pub IsDate-only : (n y m d : ℕ) → IsDay n → IsDate n y m d → (2_008 ≤ y) × (y ≤ 2_099) × (1 ≤ m) × (m ≤ 12) × (month_of n + 1 ≡ 12 * y + m) × (1 ≤ d) ×
-    (d ≤ month_length (month_of n))
-IsDate-only n y m d h date =
-    let month = month_of-month n h in
-    let place = place_bound n h in
-    (omega arith, omega arith, omega arith, omega arith, omega arith, omega arith, omega arith)
-
--- so a text that spells no date at all is not read
-pub day_of-unspelled : (text : List ℕ) → ((y m d : ℕ) → ¬ (IsSpelled text y m d)) → day_of text ≡ None
-day_of-unspelled text h =
-    day_of-none text (λ n day is. h (month_of n / 12) (month_of n % 12 + 1) (place_of n + 1) (rw is (IsSpelled-day_text n day)))
-
--- and one that spells a date is read as the day of that date, if the calendar has it
-pub day_of-spelled : (text : List ℕ) (y m d : ℕ) (found : Option ℕ) → IsSpelled text y m d → IfSome found (λ n. IsDay n × IsDate n y m d)
-    → (IsNone found → (n : ℕ) → IsDay n → ¬ (IsDate n y m d)) → found ≡ day_of text
-day_of-spelled text y m d None spelled some none =
-    sym (day_of-none text (λ n day is.
-    let date = IsSpelled-only text y m d (month_of n / 12) (month_of n % 12 + 1) (place_of n + 1) spelled (rw is (IsSpelled-day_text n day)) in
-    none refl n day (sym date.0, sym date.1, sym date.2)))
-day_of-spelled text y m d (Some n) spelled some none =
-    rw (IsSpelled-is text n y m d spelled some.1, day_of-day_text n some.0)
+-- bytes that are a day's text and not this text: it is not the day's
+pub day_text-other : (text bytes : List ℕ) (n : ℕ) → bytes ≡ day_text n → text ≡ day_text n → true ≡ not (bytes_eq bytes text) → ⊥
+day_text-other text bytes n is is' other = true≢false (rw ((bytes_eq-Decides bytes text).1 (is ∙ sym is')) at other)

@@ -1,5 +1,5 @@
 -- Days and months as texts, YYYY-MM-DD and YYYY-MM, in bytes.
-use Rattle.std.specs.Prelude.{◌≡◌, ℕ, ◌+◌, ◌-◌, ◌*◌, ◌/◌, ◌%◌, ◌<◌, List, [], ◌∷◌, ◌++◌, take, drop, ◌&&◌, nat_le, if◌then◌else◌, Option, Some, None}
+use Rattle.std.specs.Prelude.{ℕ, ◌+◌, ◌-◌, ◌*◌, ◌/◌, ◌%◌, List, [], ◌∷◌, ◌++◌, take, drop, ◌&&◌, nat_le, if◌then◌else◌, Option, Some, None}
 use Rattle.std.specs.List.{fold}
 use Rattle.std.specs.Str.{bytes_eq}
 use Rattle.ldar_days.specs.Calendar.{first_day, month_of, place_of}
@@ -7,10 +7,6 @@ use Rattle.ldar_days.specs.Calendar.{first_day, month_of, place_of}
 -- a number below 100 as two digits
 abbrev pub pair : ℕ → List ℕ
 pair n = (48 + n / 10) ∷ (48 + n % 10) ∷ []
-
--- these bytes are the digits of a number below 100
-abbrev pub HasDigits : ℕ → ℕ → ℕ → Type 0
-HasDigits n tens ones = (n < 100) × (48 + n / 10 ≡ tens) × (48 + n % 10 ≡ ones)
 
 -- a year below 10,000 as four digits
 abbrev pub year_text : ℕ → List ℕ
@@ -39,12 +35,3 @@ unfoldable pub day_of : List ℕ → Option ℕ
 day_of text =
     let n = day_named text in
     if nat_le 13_879 n && nat_le n 47_481 && bytes_eq (day_text n) text then Some n else None
-
--- the day is of this year, this month of the year and this day of the month
-abbrev pub IsDate : ℕ → ℕ → ℕ → ℕ → Type 0
-IsDate n y m d = (month_of n / 12 ≡ y) × (month_of n % 12 + 1 ≡ m) × (place_of n + 1 ≡ d)
-
--- the text spells these numbers as a date
-abbrev pub IsSpelled : List ℕ → ℕ → ℕ → ℕ → Type 0
-IsSpelled text y m d =
-    (y < 10_000) × (m < 100) × (d < 100) × (text ≡ year_text y ++ (45 ∷ pair m ++ (45 ∷ pair d)))

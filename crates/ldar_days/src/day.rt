@@ -1,9 +1,13 @@
-ghost use Rattle.std.specs.Prelude.{◌≡◌, ℕ, ◌+◌, ◌*◌, ◌≤◌, ◌<◌, ◌-◌, min, IsNone, IfSome, pos};
-ghost use Rattle.jiff_core.specs.Calendar.{weekday_number};
-ghost use Rattle.ldar_days.specs.Calendar.{IsDay, IsMonth, IsInMonth, month_of, place_of, end_by, later_by, week_of, week_first, month_length};
+ghost use Rattle.std.specs.Prelude.{◌≡◌, ℕ, ◌+◌, ◌*◌, ◌≤◌, ◌<◌, ◌-◌, ◌/◌, ◌%◌, min, IsNone, IfSome, pos, ◌≤ℤ◌};
+ghost use Rattle.jiff_core.specs.Calendar.{weekday_number, IsBetween};
+ghost use Rattle.jiff_core.specs.Date.{epoch_day};
+ghost use Rattle.ldar_days.specs.Calendar.{IsDay, IsMonth, IsInMonth, month_of, place_of, end_by, later_by, day_at, week_of, week_first, month_length};
 
 use crate::Month;
 use crate::month::LAST_MONTH;
+use jiff::ToSpan;
+use jiff::civil::Date;
+use jiff_core::civil;
 use std::marker::Model;
 
 /// A day of the calendar, from 2008-01-01 to 2099-12-31. Contracts see its number: the days since 1970-01-01.
@@ -31,12 +35,8 @@ const FIRST_DAY: u32 = 13_879;
 /// The number of 2099-12-31, on which every sum ends that would pass it.
 pub const LAST_DAY: u32 = 47_481;
 
-// The number of 2000-03-01. No year from then to 2100-02-28 breaks the rule of one leap year in four,
-// and a year that begins in March has its 29 February at its end.
-const MARCH_2000: u32 = 11_017;
-
-// The same month, as year * 12 + month - 1.
-const MARCH_2000_MONTH: u32 = 24_002;
+// The days from jiff's first date, -9999-01-01, to 1970-01-01.
+pub(crate) const EPOCH: u32 = 4_371_587;
 
 impl Day {
     /// The day with this number, if the calendar has it.
@@ -72,22 +72,24 @@ impl Day {
     }
 
     /// The month in which the day lies.
-    #[tactic(auto, using(crate::proofs::March::march))]
+    #[tactic(auto, using(crate::proofs::Dates::month_of_day))]
     pub fn month(self) -> Month
         ensures value { result ≡ month_of self }
         ensures in_range { IsMonth result }
         ensures inside { IsInMonth result self }
         ensures no_other { (month : ℕ) → IsMonth month → IsInMonth month self → month ≡ result }
     {
-        Month::at(month_and_place(self.number()).0)
+        let date = self.date();
+        Month::at(12 * date.year() as u32 + date.month() as u32 - 1)
     }
 
     /// The day's place in its month, from 1 to 31.
+    #[tactic(auto, using(crate::proofs::Dates::month_of_day))]
     pub fn day_of_month(self) -> u32
         ensures value { result ≡ place_of self + 1 }
         ensures in_range { (1 ≤ result) × (result ≤ 31) }
     {
-        month_and_place(self.number()).1 + 1
+        self.date().day() as u32
     }
 
     /// The calendar week of the day (40 CFR 60.482-2a(a)(2)), from Monday to Sunday, which is our own rule;
@@ -106,11 +108,8 @@ impl Day {
         ensures value { result ≡ end_by (self + days) }
         ensures in_range { IsDay result }
     {
-        let number = self.number();
-        if days > LAST_DAY - number {
-            return Day::at(LAST_DAY);
-        }
-        Day::at(number + days)
+        // More days than the calendar has end with it too.
+        Day::until_end(self.days_later(days.min(LAST_DAY)))
     }
 
     /// The same place in the month that many months later, or that month's last day where the month is
@@ -126,26 +125,51 @@ impl Day {
             → place_of result ≡ min (place_of self) (month_length (month_of self + months) - 1) }
         ensures past_end { 25_199 < month_of self + months → result ≡ 47_481 }
     {
-        let (month, place) = month_and_place(self.number());
-        if months > LAST_MONTH - month {
-            return Day::at(LAST_DAY);
-        }
-        Month::at(month + months).day_at(place)
+        // More months than the calendar has end with it too.
+        Day::until_end(self.months_later(months.min(LAST_MONTH)))
     }
-}
 
-// The month of a day, and the day's place in it from 0.
-#[tactic(auto, using(crate::proofs::March::march))]
-fn month_and_place(day: u32) -> (u32, u32)
-    requires { IsDay day }
-    ensures month { result.0 ≡ month_of day }
-    ensures in_range { IsMonth result.0 }
-    ensures place { result.1 ≡ place_of day }
-    ensures in_month { result.1 ≤ 30 }
-{
-    // Quarters of a day since the first March: 1,461 of them are a year, and 153 fifths of a day a month.
-    let quarters = 4 * (day - MARCH_2000) + 3;
-    let fifths = 5 * (quarters % 1461 / 4) + 2;
-    let month = MARCH_2000_MONTH + 12 * (quarters / 1461) + fifths / 153;
-    (month, fifths % 153 / 5)
+    /// The day as jiff's date.
+    #[tactic(auto, using(crate::proofs::Dates::date_of_day))]
+    pub(crate) fn date(self) -> Date
+        ensures value { epoch_day result ≡ pos self }
+        ensures year { result.year ≡ pos (month_of self / 12) }
+        ensures month { result.month ≡ month_of self % 12 + 1 }
+        ensures day { result.day ≡ place_of self + 1 }
+    {
+        Date::from_plain(civil::Date::from_days_since_min(self.number() + EPOCH))
+    }
+
+    // The date that many days later, also after the calendar's end.
+    fn days_later(self, days: u32) -> Date
+        requires { days ≤ 47_481 }
+        ensures value { epoch_day result ≡ pos (self + days) }
+    {
+        self.date().saturating_add(i64::from(days).days())
+    }
+
+    // The date that many months later, also after the calendar's end.
+    fn months_later(self, months: u32) -> Date
+        requires { months ≤ 25_199 }
+        ensures value { epoch_day result ≡ pos (day_at (month_of self + months) (place_of self)) }
+    {
+        self.date().saturating_add(i64::from(months).months())
+    }
+
+    /// The day of a date of the calendar.
+    pub(crate) fn of_date(date: Date) -> Day
+        requires in_range { IsBetween (pos 13_879) (pos 47_481) (epoch_day date) }
+        ensures value { pos result ≡ epoch_day date }
+    {
+        Day::at(date.to_plain().days_since_min() - EPOCH)
+    }
+
+    // The day of a date that is not before the calendar, or 2099-12-31 for a date after it.
+    fn until_end(date: Date) -> Day
+        requires from_2008 { pos 13_879 ≤ℤ epoch_day date }
+        ensures value { (number : ℕ) → epoch_day date ≡ pos number → result ≡ end_by number }
+    {
+        let number = date.to_plain().days_since_min() - EPOCH;
+        Day::at(number.min(LAST_DAY))
+    }
 }

@@ -1,8 +1,10 @@
-ghost use Rattle.std.specs.Prelude.{◌≡◌, ℕ, ◌+◌, ◌-◌, ◌*◌, ◌/◌, ◌%◌, ◌<◌, ◌≤◌, min, pos};
+ghost use Rattle.std.specs.Prelude.{◌≡◌, ℕ, ◌+◌, ◌-◌, ◌*◌, ◌/◌, ◌%◌, ◌<◌, ◌≤◌, pos};
 ghost use Rattle.jiff_core.specs.Calendar.{days_from_civil};
-ghost use Rattle.ldar_days.specs.Calendar.{IsDay, IsMonth, first_day, last_day, month_length, day_at, month_of, place_of};
+ghost use Rattle.jiff_core.specs.Date.{epoch_day, IsYmd};
+ghost use Rattle.ldar_days.specs.Calendar.{IsDay, IsMonth, first_day, last_day};
 
 use crate::Day;
+use jiff::civil::{Date, date};
 use std::marker::Model;
 
 /// A month of the calendar, from January 2008 to December 2099. Contracts see its number: year * 12 + month - 1.
@@ -27,7 +29,7 @@ impl Model for Month {
 /// The number of December 2099.
 pub const LAST_MONTH: u32 = 25_199;
 
-#[tactic(auto, using(crate::proofs::Months::months))]
+#[tactic(auto, using(crate::proofs::Dates::dates))]
 impl Month {
     /// The month with this number, which the calendar has.
     pub fn at(number: u32) -> Month
@@ -92,7 +94,7 @@ impl Month {
         ensures in_range { IsDay result }
         ensures civil { pos result ≡ days_from_civil (pos (self / 12)) (self % 12 + 1) 1 }
     {
-        Day::at(first_day_of(self.number()))
+        Day::of_date(self.first_date())
     }
 
     /// The last day of the month.
@@ -101,41 +103,14 @@ impl Month {
         ensures in_range { IsDay result }
         ensures before_next { result + 1 ≡ first_day (self + 1) }
     {
-        Day::at(first_day_of(self.number() + 1) - 1)
+        Day::of_date(self.first_date().last_of_month())
     }
 
-    /// The day at a place of the month, counted from 0, or its last day where the month is shorter.
-    pub fn day_at(self, place: u32) -> Day
-        ensures value { result ≡ day_at self place }
-        ensures in_range { IsDay result }
-        ensures month { month_of result ≡ self }
-        ensures place { place_of result ≡ min place (month_length self - 1) }
+    // The first date of the month.
+    fn first_date(self) -> Date
+        ensures value { epoch_day result ≡ pos (first_day self) }
+        ensures parts { IsYmd (pos (self / 12)) (pos (self % 12 + 1)) (pos 1) result }
     {
-        let last_place = days_of(self.number()) - 1;
-        Day::at(first_day_of(self.number()) + place.min(last_place))
+        date(self.year() as i16, self.month_of_year() as i8, 1)
     }
-}
-
-// The first day of a month from January 2008 to January 2100, counted from 2000-03-01 (month 24,002, day 11,017).
-// Four years that begin in March have 1,461 days; March to July have 153, and so have August to December.
-#[tactic(auto, using(crate::proofs::March::march))]
-fn first_day_of(month: u32) -> u32
-    requires { (24_096 ≤ month) × (month ≤ 25_200) }
-    ensures value { result ≡ first_day month }
-{
-    let since_march = month - 24_002;
-    11_017 + 1461 * (since_march / 12) / 4 + (153 * (since_march % 12) + 2) / 5
-}
-
-// The days of a month: from 2008 to 2099 each fourth year is a leap year.
-#[tactic(auto, using(crate::proofs::March::lengths))]
-fn days_of(month: u32) -> u32
-    requires { IsMonth month }
-    ensures value { result ≡ month_length month }
-{
-    const DAYS: [u8; 12] = [31, 28, 31, 30, 31, 30, 31, 31, 30, 31, 30, 31];
-    if month % 48 == 1 {
-        return 29;
-    }
-    u32::from(DAYS[(month % 12) as usize])
 }

@@ -1,8 +1,10 @@
 ghost use Rattle.std.specs.Prelude.{◌≡◌, ℕ, ◌+◌, ◌-◌, ◌*◌, ◌/◌, ◌%◌, ◌<◌, ◌≤◌, [], ◌∷◌, ◌++◌, length, IsNone, IfSome, Some};
-ghost use Rattle.ldar_days.specs.Calendar.{IsDay, IsMonth, month_of, place_of};
-ghost use Rattle.ldar_days.specs.Texts.{pair, month_text, day_text, day_of, HasDigits, IsSpelled, IsDate};
+ghost use Rattle.ldar_days.specs.Calendar.{IsDay};
+ghost use Rattle.ldar_days.specs.Texts.{pair, month_text, day_text, day_of};
 
+use crate::day::EPOCH;
 use crate::{Day, Month};
+use jiff::fmt::temporal::{DateTimePrinter, parse_date};
 use std::fmt;
 
 impl Day {
@@ -10,12 +12,10 @@ impl Day {
     pub fn text(self) -> [u8; 10]
         ensures value { result ≡ day_text self }
     {
-        let month = self.month();
-        let [a, b] = digits(month.year() / 100);
-        let [c, d] = digits(month.year() % 100);
-        let [e, f] = digits(month.month_of_year());
-        let [g, h] = digits(self.day_of_month());
-        [a, b, c, d, b'-', e, f, b'-', g, h]
+        let text = DateTimePrinter::new().date_text(self.date().to_plain());
+        let mut bytes = [0; 10];
+        bytes.copy_from_slice(text.as_str().as_bytes());
+        bytes
     }
 
     /// The day that has this text, and `None` where it is not just the ten bytes of a day's text.
@@ -24,58 +24,24 @@ impl Day {
         ensures found { IfSome result (λ day. IsDay day × (text.now ≡ day_text day)) }
         ensures none { IsNone result → (n : ℕ) → IsDay n → ¬ (text.now ≡ day_text n) }
     {
-        let (year, month, day) = parts_of(text)?;
-        day_on(year, month, day)
+        let day = day_read(text)?;
+        // jiff reads other texts of the day too, as 20240220.
+        if day.text().as_slice() != text {
+            return None;
+        }
+        Some(day)
     }
 }
 
-// The year, the month and the day that ten bytes spell, whether the calendar has them or not.
-fn parts_of(text: &[u8]) -> Option<(u32, u32, u32)>
-    ensures found { IfSome result (λ p. IsSpelled text.now p.0 p.1 p.2) }
-    ensures none { IsNone result → (y m d : ℕ) → ¬ (IsSpelled text.now y m d) }
+// The day whose date jiff reads here, if the calendar has it.
+fn day_read(text: &[u8]) -> Option<Day>
+    ensures found { IfSome result IsDay }
+    ensures day_text { (n : ℕ) → IsDay n → text.now ≡ day_text n → result ≡ Some n }
 {
-    let &[a, b, c, d, b'-', e, f, b'-', g, h] = text else {
+    let Ok(date) = parse_date(text) else {
         return None;
     };
-    let year = 100 * number_of(a, b)? + number_of(c, d)?;
-    Some((year, number_of(e, f)?, number_of(g, h)?))
-}
-
-// The day of a year, a month from 1 and a day from 1, and `None` where the calendar does not have it.
-fn day_on(year: u32, month: u32, day: u32) -> Option<Day>
-    requires { year < 10_000 }
-    ensures found { IfSome result (λ n. IsDay n × IsDate n year month day) }
-    ensures none { IsNone result → (n : ℕ) → IsDay n → ¬ (IsDate n year month day) }
-{
-    if year < 2008 || year > 2099 || month < 1 || month > 12 {
-        return None;
-    }
-    let month = Month::at(12 * year + month - 1);
-    let (first, last) = (month.first_day().number(), month.last_day().number());
-    if day < 1 || day - 1 > last - first {
-        return None;
-    }
-    Some(Day::at(first + day - 1))
-}
-
-// The two digits of a number below 100.
-fn digits(number: u32) -> [u8; 2]
-    requires { number < 100 }
-    ensures value { result ≡ pair number }
-{
-    [b'0' + (number / 10) as u8, b'0' + (number % 10) as u8]
-}
-
-// The number that two digits spell, and `None` where they are none.
-fn number_of(tens: u8, ones: u8) -> Option<u32>
-    ensures found { IfSome result (λ n. HasDigits n tens ones) }
-    ensures none { IsNone result → (n : ℕ) → ¬ (HasDigits n tens ones) }
-{
-    if (b'0'..=b'9').contains(&tens) && (b'0'..=b'9').contains(&ones) {
-        Some(u32::from(tens - b'0') * 10 + u32::from(ones - b'0'))
-    } else {
-        None
-    }
+    Day::of_number(date.days_since_min().checked_sub(EPOCH)?)
 }
 
 #[derive(Clone, Copy)]
@@ -129,10 +95,7 @@ impl fmt::Display for Day {
     ghost output = { λ d. Some (day_text d) };
 
     fn fmt<W: fmt::Write>(&self, f: &mut fmt::Formatter<W>) -> fmt::Result {
-        let month = self.month();
-        let day = Pair {
-            number: self.day_of_month(),
-        };
-        write!(f, "{month}-{day}")
+        let date = self.date();
+        write!(f, "{date}")
     }
 }
