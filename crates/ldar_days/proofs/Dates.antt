@@ -146,12 +146,12 @@ add_months-day_at d n k h e =
     let day : min d.day (days_in_month (pos (m / 12)) (m % 12 + 1)) ≡ min (place_of n) (month_length m - 1) + 1 = rw are.2 (omega arith) in
     rw (year, month_is, day) (days_from_civil-place m (min (place_of n) (month_length m - 1)) (omega arith))
 
--- the same for a span of so many months
+-- the same for a span of some months
 pub date_add-later : (d : Date) (n k : ℕ) (s : Span) → IsDay n → epoch_day d ≡ pos n → IsOnly Month (pos k) s
     → date_add d s ≡ pos (day_at (month_of n + k) (place_of n))
 date_add-later d n k s h e only = date_add-months d (pos k) s only ∙ add_months-day_at d n k h e
 
--- which jiff has, where there are no more of them than the calendar has
+-- jiff can add them if the calendar has as many months
 pub can_add-later : (d : Date) (n k : ℕ) (s : Span) → IsDay n → epoch_day d ≡ pos n → k ≤ 25_199 → IsOnly Month (pos k) s → CanAddToDate d s
 can_add-later d n k s h e bound only =
     let are = date_parts_are d n h e in
