@@ -1,4 +1,4 @@
--- What one identity more, or one less, does to an index.
+-- How an index changes with one identity more, and with one less.
 use Rattle.std.proofs.Common.{◌≡◌, ◌≢◌, ◌<◌, ◌≤◌, ◌+◌, ◌-◌, ◌⊎◌, inl, inr, ℕ, zero, suc, eqb, List, [], ◌∷◌, ◌++◌, length, map, take, drop, set, min}
 use Rattle.std.proofs.Common.{replicate, slice_get, Option, Some, None, Bool, true, false, cond, not, refl, sym, ◌∙◌, ap, subst, arith, length-append}
 use Rattle.std.specs.Option.{option_map}
@@ -13,13 +13,13 @@ use Rattle.fact_kinds.specs.declared.identity.Identity.{Identity}
 use Rattle.batch_positions.specs.Links.{at_position}
 use Rattle.batch_positions.specs.Positions.{is_identity, position_in}
 use Rattle.batch_positions.specs.declared.entry.Entry.{Entry}
-use Rattle.batch_positions.specs.declared.late.Late.{Late}
+use Rattle.batch_positions.specs.declared.late_tree.Late.{Late}
 use Rattle.std.specs.List.{count_by, sum_by}
 use Rattle.std.proofs.lemmas.List.Sums.{sum_by-append}
 use Rattle.batch_positions.specs.Index.{runs_among, IsRoomy, identity_at, late_entry, IsInRun, IsLastOf, AreRuns, lates_of, AreApart, IsIndexed}
 use Rattle.batch_positions.proofs.TreeLemmas.{at_position-within, at_position-push, at_position-parts, at_position-last, at_position-some}
 
--- the entries below a position are the same in a list with one entry more
+-- the last entry below a position is the same after another entry is appended
 IsLastOf-push : (entries : List Entry) (e : Entry) (handheld bound link : ℕ) → bound ≤ length entries + 1 → IsLastOf entries handheld bound link
     → IsLastOf (entries ++ e ∷ []) handheld bound link
 IsLastOf-push entries e handheld bound link within last = record {
@@ -36,7 +36,7 @@ IsLastOf-push entries e handheld bound link within last = record {
     later at x in_run below (inl here) = last.no_later at x here in_run below
     later at x in_run below (inr end) = let place = end.0 in absurd (omega arith)
 
--- .. and in one with an entry of another run more
+-- .. and below the end, if the new entry is of another run
 IsLastOf-beyond : (entries : List Entry) (e : Entry) (handheld link : ℕ) → ¬ (IsInRun handheld e) → IsLastOf entries handheld (length entries + 1) link
     → IsLastOf (entries ++ e ∷ []) handheld (length (entries ++ e ∷ []) + 1) link
 IsLastOf-beyond entries e handheld link other last =
@@ -52,7 +52,7 @@ IsLastOf-beyond entries e handheld link other last =
     later at x in_run (inl here) = let within = at_position-within entries at x here in last.no_later at x here in_run (omega arith)
     later at x in_run (inr end) = absurd (other (subst (IsInRun handheld) end.1 in_run))
 
--- an entry that was pushed is the last of its run
+-- an appended entry is the last of its run
 IsLastOf-itself : (entries : List Entry) (e : Entry) → e.late ≡ false
     → IsLastOf (entries ++ e ∷ []) e.handheld (length (entries ++ e ∷ []) + 1) (length entries + 1)
 IsLastOf-itself entries e in_run =
@@ -65,7 +65,7 @@ IsLastOf-itself entries e in_run =
       no_later = λ at x here is below. omega (arith, length-append entries (e ∷ []));
     }
 
--- the runs of a list with a late entry more, or with one that goes on with its run
+-- the runs after a late entry, or one that continues its run, is appended
 AreRuns-push : (entries : List Entry) (e : Entry) → AreRuns entries → (e.late ≡ false → IsLastOf entries e.handheld (length entries + 1) e.earlier)
     → (e.late ≡ false → (last : Entry) → at_position entries e.earlier ≡ Some last → last.number < e.number) → AreRuns (entries ++ e ∷ [])
 AreRuns-push entries e runs last above = record {
@@ -84,7 +84,7 @@ AreRuns-push entries e runs last above = record {
         let e_run : e.late ≡ false = ap (λ (y : Entry). y.late) (sym end.1) ∙ in_run in
         rw (place, end.1) (IsLastOf-push entries e e.handheld (length entries + 1) e.earlier (omega arith) (last e_run))
 
-    -- an entry of the run is not above its last one
+    -- an appended entry's number is above every other of its run
     up_to_last : (p : ℕ) (x : Entry) → at_position entries p ≡ Some x → e.late ≡ false → IsInRun e.handheld x → x.number < e.number
     up_to_last p x here e_run in_run =
         let ends = last e_run in
@@ -119,7 +119,7 @@ AreRuns-push entries e runs last above = record {
     rise p q x y in_run y_run below (inr end) (inl there) = let within = at_position-within entries q y there in let place = end.0 in absurd (omega arith)
     rise p q x y in_run y_run below (inr end) (inr other) = let place = end.0 in let too = other.0 in absurd (omega arith)
 
--- a new identity keeps all apart
+-- a new identity keeps all identities apart
 AreApart-push : (entries : List Entry) (e : Entry) → AreApart entries
     → ((at : ℕ) (x : Entry) → at_position entries at ≡ Some x → identity_at x ≢ identity_at e) → AreApart (entries ++ e ∷ [])
 AreApart-push entries e apart new = λ p q x y here there same. by p q x y same (at_position-parts entries e p x here) (at_position-parts entries e q y there)
@@ -132,11 +132,11 @@ AreApart-push entries e apart new = λ p q x y here there same. by p q x y same 
     by p q x y same (inr end) (inl there) = absurd (new q y there (sym same ∙ ap identity_at end.1))
     by p q x y same (inr end) (inr other) = end.0 ∙ sym other.0
 
--- an entry as a late one, if it is one
+-- the entry as a list of late ones: itself if it is late, and otherwise nothing
 abbrev if_late : Bool → Entry → ℕ → List Late
 if_late late entry position = cond late (record { identity = identity_at entry; position = position } ∷ []) []
 
--- the late ones of a list with one entry more
+-- the late ones after an entry is appended
 lates_of-push : (at : ℕ) (entries : List Entry) (e : Entry) → lates_of at (entries ++ e ∷ []) ≡ lates_of at entries ++ if_late e.late e (at + length entries)
 lates_of-push at [] e = let same : at ≡ at + 0 = omega arith in ap (if_late e.late e) same
 lates_of-push at (x ∷ entries) e = by x.late (lates_of-push (at + 1) entries e)
@@ -152,7 +152,7 @@ lates_of-push at (x ∷ entries) e = by x.late (lates_of-push (at + 1) entries e
         let place : at + 1 + length entries ≡ at + suc (length entries) = omega arith in
         rest ∙ ap (λ n. lates_of (at + 1) entries ++ if_late e.late e n) place
 
--- no more are late than there are
+-- there are at most as many late ones as entries
 pub length-lates_of : (at : ℕ) (entries : List Entry) → length (lates_of at entries) ≤ length entries
 length-lates_of at [] = omega arith
 length-lates_of at (x ∷ entries) = by x.late (length-lates_of (at + 1) entries)
@@ -162,7 +162,7 @@ length-lates_of at (x ∷ entries) = by x.late (length-lates_of (at + 1) entries
     by true rest = omega arith
     by false rest = omega arith
 
--- each late one stands among the entries
+-- each late one is an entry
 lates_of-stand : (at : ℕ) (entries : List Entry) (i : ℕ) (late : Late) → slice_get (lates_of at entries) i ≡ Some late
     → (k : ℕ) × (x : Entry) × (slice_get entries k ≡ Some x) × (late ≡ record { identity = identity_at x; position = at + k })
 lates_of-stand at [] i late found = absurd cc
@@ -190,7 +190,7 @@ lates_of-stand at (x ∷ entries) i late found = by x.late i found (λ j. lates_
     by true (suc i) there rest = behind (rest i there)
     by false i there rest = behind (rest i there)
 
--- each late entry stands among the late ones
+-- each late entry is among the late ones
 lates_of-have : (at : ℕ) (entries : List Entry) (k : ℕ) (x : Entry) → slice_get entries k ≡ Some x → x.late ≡ true
     → (i : ℕ) × (slice_get (lates_of at entries) i ≡ Some (record { identity = identity_at x; position = at + k }))
 lates_of-have at [] k x here late = absurd cc
@@ -213,7 +213,7 @@ lates_of-have at (y ∷ entries) (suc k) x here late =
     by true i there = (suc i, there)
     by false i there = (i, there)
 
--- a list with one element written, at that place and at others
+-- an element of a list after a write, at that place or at another
 slice_get-set : {X : Type 0} (xs : List X) (i : ℕ) (y : X) (k : ℕ) (x : X) → slice_get (set xs i y) k ≡ Some x
     → ((k ≡ i) × (x ≡ y)) ⊎ ((k ≢ i) × (slice_get xs k ≡ Some x))
 slice_get-set [] i y k x here = absurd cc
@@ -225,7 +225,7 @@ slice_get-set (a ∷ xs) (suc i) y (suc k) x here = elim (slice_get-set xs i y k
   | inr other ↦ inr (λ e. other.0 (omega arith), other.1)
 ]
 
--- an index with one entry more, which goes on with its run
+-- the index after an entry that continues its run
 pub goes_on : (entries : List Entry) (heads : List ℕ) (lates : List Late) (e : Entry) → IsIndexed entries heads lates → e.late ≡ false
     → slice_get heads e.handheld ≡ Some e.earlier
     → ((last : Entry) → at_position entries e.earlier ≡ Some last → last.number < e.number)
@@ -247,7 +247,7 @@ goes_on entries heads lates e index in_run head above new = record {
     last handheld link (inl same) = rw (same.0, same.1) (IsLastOf-itself entries e in_run)
     last handheld link (inr other) = IsLastOf-beyond entries e handheld link (λ run. other.0 (sym run.1)) (index.ends.last handheld link other.1)
 
--- .. and with one that came late
+-- the index after a late entry
 pub comes_late : (entries : List Entry) (heads : List ℕ) (lates : List Late) (e : Entry) → IsIndexed entries heads lates → e.late ≡ true
     → ((at : ℕ) (x : Entry) → at_position entries at ≡ Some x → identity_at x ≢ identity_at e)
     → IsIndexed (entries ++ e ∷ []) heads (lates ++ record { identity = identity_at e; position = length entries + 1 } ∷ [])
@@ -265,7 +265,7 @@ comes_late entries heads lates e index late new = record {
       ∙ ap (λ (b : Bool). lates_of 1 entries ++ if_late b e (1 + length entries)) (sym late) ∙ sym (lates_of-push 1 entries e);
 }
 
--- the first entries of a list below a bound
+-- the last entry below a bound is the same without the last entry of the list
 IsLastOf-front : (front : List Entry) (e : Entry) (handheld bound link : ℕ) → IsLastOf (front ++ e ∷ []) handheld bound link
     → IsLastOf front handheld bound link
 IsLastOf-front front e handheld bound link last = record {
@@ -274,13 +274,14 @@ IsLastOf-front front e handheld bound link last = record {
   no_later = λ at x here in_run below. last.no_later at x (at_position-push front e at x here) in_run below;
 }
 
+-- the runs without the last entry
 AreRuns-front : (front : List Entry) (e : Entry) → AreRuns (front ++ e ∷ []) → AreRuns front
 AreRuns-front front e runs = record {
   earlier = λ at x here in_run. IsLastOf-front front e x.handheld at x.earlier (runs.earlier at x (at_position-push front e at x here) in_run);
   rise = λ p q x y here there in_run y_run below. runs.rise p q x y (at_position-push front e p x here) (at_position-push front e q y there) in_run y_run below;
 }
 
--- the last entry of another run stands among the first entries
+-- the last entry of another run is the same without the last entry of the list
 IsLastOf-other : (front : List Entry) (e : Entry) (handheld link : ℕ) → ¬ (IsInRun handheld e)
     → IsLastOf (front ++ e ∷ []) handheld (length (front ++ e ∷ []) + 1) link → IsLastOf front handheld (length front + 1) link
 IsLastOf-other front e handheld link other last =
@@ -292,7 +293,7 @@ IsLastOf-other front e handheld link other last =
       no_later = λ at x here in_run below. last.no_later at x (at_position-push front e at x here) in_run (omega (arith, length-append front (e ∷ [])));
     }
 
--- an index without its last entry, which was in a run
+-- the index without its last entry, which was in a run
 pub goes_back : (front : List Entry) (heads : List ℕ) (lates : List Late) (e : Entry) → IsIndexed (front ++ e ∷ []) heads lates → e.late ≡ false
     → IsIndexed front (set heads e.handheld e.earlier) lates
 goes_back front heads lates e index in_run = record {
@@ -313,7 +314,7 @@ goes_back front heads lates e index in_run = record {
         rw (same.0, same.1) (subst (λ n. IsLastOf front e.handheld n e.earlier) place (IsLastOf-front front e e.handheld (suc (length front)) e.earlier before))
     last handheld link (inr other) = IsLastOf-other front e handheld link (λ run. other.0 (sym run.1)) (index.ends.last handheld link other.1)
 
--- .. and one without its last entry, which came late
+-- the index without its last entry, which was late
 pub late_goes_back : (front : List Entry) (heads : List ℕ) (lates : List Late) (e : Entry) → IsIndexed (front ++ e ∷ []) heads lates → e.late ≡ true
     → IsIndexed front heads (take (length lates - 1) lates) × (0 < length lates)
 late_goes_back front heads lates e index late =
@@ -336,12 +337,15 @@ late_goes_back front heads lates e index late =
 
 -- ---- positions in the list of identities
 
+-- a number equals itself
 eqb-same : (n : ℕ) → eqb n n ≡ true
 eqb-same n = grind (arith, nat_tests)
 
+-- the test of equal identities is true
 is_identity-same : (a b : Identity) → a ≡ b → is_identity a b ≡ true
 is_identity-same a b same = ap (is_identity a) (sym same) ∙ rw (eqb-same a.handheld, eqb-same a.number) refl
 
+-- identities that pass the test are equal
 same-is_identity : (a b : Identity) → is_identity a b ≡ true → a ≡ b
 same-is_identity a b is =
     let handheld : a.handheld ≡ b.handheld = grind (arith, nat_tests, common_steps) in
@@ -351,6 +355,7 @@ same-is_identity a b is =
     made : ℕ → ℕ → Identity
     made h n = record { handheld = h; number = n }
 
+-- the position of an identity that is in the list
 position_from-found : (identity : Identity) (i : ℕ) (ids : List Identity) (k : ℕ) → slice_get ids k ≡ Some identity
     → ((j : ℕ) → slice_get ids j ≡ Some identity → j ≡ k)
     → position_from (is_identity identity) i ids ≡ Some (i + k)
@@ -366,6 +371,7 @@ position_from-found identity i (x ∷ ids) (suc k) here only =
     by true is rest = let first : 0 ≡ suc k = only 0 (ap Some (sym (same-is_identity identity x is))) in absurd (omega arith)
     by false is rest = let place : i + 1 + k ≡ i + suc k = omega arith in rest ∙ ap Some place
 
+-- an identity that is not in the list has no position
 position_from-none : (identity : Identity) (i : ℕ) (ids : List Identity) → ((j : ℕ) (x : Identity) → slice_get ids j ≡ Some x → x ≢ identity)
     → position_from (is_identity identity) i ids ≡ None
 position_from-none identity i [] none = refl
@@ -376,6 +382,7 @@ position_from-none identity i (x ∷ ids) none = by (is_identity identity x) ref
     by true is rest = absurd (none 0 x refl (sym (same-is_identity identity x is)))
     by false is rest = rest
 
+-- an identity without a position is not in the list
 none-position_from : (identity : Identity) (i : ℕ) (ids : List Identity) → position_from (is_identity identity) i ids ≡ None → (j : ℕ) (x : Identity)
     → slice_get ids j ≡ Some x → x ≢ identity
 none-position_from identity i [] none j x here same = absurd cc
@@ -388,7 +395,7 @@ none-position_from identity i (y ∷ ids) none j x here same =
     by false is none rest zero here = false≢true (sym is ∙ is_identity-same identity y (sym (same_Some y x here ∙ same)))
     by false is none rest (suc j) here = rest none j here
 
--- the identity of an entry stands at its position
+-- the identity of an entry has the entry's position
 pub position_found : (entries : List Entry) (identity : Identity) (at : ℕ) (x : Entry) → AreApart entries → at_position entries at ≡ Some x
     → identity_at x ≡ identity
     → position_in identity (map identity_at entries) ≡ Some at
@@ -404,7 +411,7 @@ position_found entries identity (suc k) x apart here same =
         let equal : suc j ≡ suc k = apart (suc j) (suc k) y x there here (same_Some (identity_at y) identity is ∙ sym same) in
         omega arith
 
--- .. and what no entry has stands nowhere
+-- an identity that no entry has has no position
 pub position_none : (entries : List Entry) (identity : Identity) → ((at : ℕ) (x : Entry) → at_position entries at ≡ Some x → identity_at x ≢ identity)
     → position_in identity (map identity_at entries) ≡ None
 position_none entries identity none = position_from-none identity 1 (map identity_at entries)
@@ -414,7 +421,7 @@ position_none entries identity none = position_from-none identity 1 (map identit
     by j x None there is same = absurd cc
     by j x (Some y) there is same = none (suc j) y there (same_Some (identity_at y) x is ∙ same)
 
--- an identity that stands nowhere is no entry's
+-- an identity without a position is no entry's
 pub is_new : (entries : List Entry) (identity : Identity) → position_in identity (map identity_at entries) ≡ None → (at : ℕ) (x : Entry)
     → at_position entries at ≡ Some x → identity_at x ≢ identity
 is_new entries identity none zero x here same = absurd cc
@@ -422,7 +429,7 @@ is_new entries identity none (suc k) x here same =
     none-position_from identity 1 (map identity_at entries) none k identity
     (slice_get-map identity_at entries k ∙ ap (option_map identity_at) here ∙ ap Some same) refl
 
--- what a look-up among the late ones finds, where none is in a run
+-- the result of a look-up among the late ones, if the identity is in no run
 pub late_position : (entries : List Entry) (heads : List ℕ) (lates : List Late) (identity : Identity) (found : Option ℕ) → IsIndexed entries heads lates
     → ((at : ℕ) (x : Entry) → at_position entries at ≡ Some x → x.late ≡ false → identity_at x ≢ identity)
     → ((position : ℕ) → found ≡ Some position → (i : ℕ) × (slice_get lates i ≡ Some (record { identity = identity; position = position })))
@@ -444,7 +451,7 @@ late_position entries heads lates identity (Some position) index no_run some non
     let same : identity_at stands.1 ≡ identity = sym (ap (λ (l : Late). l.identity) stands.3) in
     sym (position_found entries identity (suc stands.0) stands.1 index.apart stands.2 same ∙ ap Some at_place)
 
--- no identity yet
+-- the index without identities
 pub nothing_indexed : (heads : List ℕ) → length heads ≡ 65_536 → ((handheld link : ℕ) → slice_get heads handheld ≡ Some link → link ≡ 0) → IsIndexed [] heads []
 nothing_indexed heads long none = record {
   runs = record { earlier = λ at x here. absurd (nowhere at x here); rise = λ p q x y here. absurd (nowhere p x here) };
@@ -468,13 +475,14 @@ nothing_indexed heads long none = record {
 
 -- ---- room
 
--- the runs' entries among the last ones, with one entry more
+-- the number of run entries among the last ones, after an entry is appended
 last-push : (n : ℕ) (entries : List Entry) (e : Entry) → n ≤ length entries
     → drop (length (entries ++ e ∷ []) - (n + 1)) (entries ++ e ∷ []) ≡ drop (length entries - n) entries ++ e ∷ []
 last-push n entries e within =
     let place : length (entries ++ e ∷ []) - (n + 1) ≡ length entries - n = omega (arith, length-append entries (e ∷ [])) in
     ap (λ k. drop k (entries ++ e ∷ [])) place ∙ drop-append-le (length entries - n) entries (e ∷ []) (omega arith)
 
+-- .. counted with the new one
 pub runs_among-push : (n : ℕ) (entries : List Entry) (e : Entry) → n ≤ length entries
     → runs_among (n + 1) (entries ++ e ∷ []) ≡ runs_among n entries + cond e.late 0 1
 runs_among-push n entries e within =
@@ -486,7 +494,7 @@ runs_among-push n entries e within =
     one_of (inl late) = rw late refl
     one_of (inr in_run) = rw in_run refl
 
--- an entry that goes on with its run takes room, and the late ones keep theirs
+-- an entry that continues its run uses room, and the late ones keep theirs
 pub room_goes_on : (entries : List Entry) (room fresh late_room : ℕ) (e : Entry) → IsRoomy entries room fresh late_room → e.late ≡ false → 0 < room
     → IsRoomy (entries ++ e ∷ []) (room - 1) (fresh + 1) late_room
 room_goes_on entries room fresh late_room e roomy in_run some =
@@ -494,7 +502,7 @@ room_goes_on entries room fresh late_room e roomy in_run some =
     ∙ ap (λ (b : Bool). runs_among fresh entries + cond b 0 1) in_run in
     record { within = omega (arith, roomy.within, length-append entries (e ∷ [])); room = omega (arith, roomy.room) }
 
--- .. and one that comes late takes room of both
+-- a late entry uses room of both
 pub room_comes_late : (entries : List Entry) (room fresh late_room late_room' : ℕ) (e : Entry) → IsRoomy entries room fresh late_room → e.late ≡ true
     → 0 < room → late_room' + 1 ≡ late_room
     → IsRoomy (entries ++ e ∷ []) (room - 1) (fresh + 1) late_room'
@@ -503,11 +511,11 @@ room_comes_late entries room fresh late_room late_room' e roomy late some takes 
     ∙ ap (λ (b : Bool). runs_among fresh entries + cond b 0 1) late in
     record { within = omega (arith, roomy.within, length-append entries (e ∷ [])); room = omega (arith, roomy.room) }
 
--- none of the last none is in a run
+-- no run entry is among the last 0 entries
 runs_among-none : (entries : List Entry) → runs_among 0 entries ≡ 0
 runs_among-none entries = ap (count_by (λ (x : Entry). not x.late)) (drop_all (length entries - 0) entries (omega arith))
 
--- an entry that is taken out gives its room back, if it came since room was made
+-- a removed entry frees its room, if it was added since room was made
 pub room_goes_back : (front : List Entry) (room fresh late_room late_room' : ℕ) (e : Entry) → IsRoomy (front ++ e ∷ []) room fresh late_room
     → late_room' ≡ late_room + cond e.late 1 0
     → IsRoomy front (room + min fresh 1) (fresh - min fresh 1) late_room'
@@ -530,22 +538,26 @@ room_goes_back front room (suc n) late_room late_room' e roomy gives =
     by true within count gives = record { within = within; room = omega (arith, roomy.room) }
     by false within count gives = record { within = within; room = omega (arith, roomy.room) }
 
--- ---- the same for an index as its fields stand
+-- ---- the same, from the fields of the index
 
+-- each element of a list of zeros is 0
 slice_get-replicate : (n : ℕ) (k x : ℕ) → slice_get (replicate n 0) k ≡ Some x → x ≡ 0
 slice_get-replicate n k x here =
     let within = slice_get_within (replicate n 0) k x here in
     sym (get_or_from_slice_get (replicate n 0) k x 0 here) ∙ get_or-replicate n k 0 0 (omega (arith, length-replicate {A = ℕ} n 0))
 
+-- no room is always there
 pub roomy_none : (entries : List Entry) (late_room : ℕ) → IsRoomy entries 0 0 late_room
 roomy_none entries late_room = record { within = omega arith; room = omega (arith, runs_among-none entries) }
 
+-- the new index
 pub starts : (entries : List Entry) (heads : List ℕ) (lates : List Late) → entries ≡ [] → heads ≡ replicate 65_536 0 → lates ≡ []
     → IsIndexed entries heads lates
 starts entries heads lates no_entry zeros no_late =
     rw (no_entry, zeros, no_late) (nothing_indexed (replicate 65_536 0) (length-replicate {A = ℕ} 65_536 0)
     (λ handheld link. slice_get-replicate 65_536 handheld link))
 
+-- the index after a push that continues a run
 pub pushed_on : (entries entries' : List Entry) (heads heads' : List ℕ) (lates : List Late) (identity : Identity) (e : Entry) (head position : ℕ)
     → IsIndexed entries heads lates
     → identity_at e ≡ identity → e.late ≡ false → e.earlier ≡ head → slice_get heads identity.handheld ≡ Some head
@@ -559,6 +571,7 @@ pushed_on entries entries' heads heads' lates identity e head position index sam
     (λ at x there is. is_new entries identity new at x there (is ∙ same)) in
     rw (items_are, heads_are, ← handheld, position_is) index'
 
+-- the index after a push of a late identity
 pub pushed_late : (entries entries' : List Entry) (heads : List ℕ) (lates lates' : List Late) (identity : Identity) (position : ℕ)
     → IsIndexed entries heads lates
     → position_in identity (map identity_at entries) ≡ None → entries' ≡ entries ++ late_entry identity ∷ [] → position ≡ length entries + 1
@@ -566,5 +579,6 @@ pub pushed_late : (entries entries' : List Entry) (heads : List ℕ) (lates late
 pushed_late entries entries' heads lates lates' identity position index new items_are position_is lates_are =
     rw (items_are, lates_are, position_is) (comes_late entries heads lates (late_entry identity) index refl (is_new entries identity new))
 
+-- there are at most as many late ones as entries
 pub no_more_late : (entries : List Entry) (heads : List ℕ) (lates : List Late) → IsIndexed entries heads lates → length lates ≤ length entries
 no_more_late entries heads lates index = rw index.late (length-lates_of 1 entries)

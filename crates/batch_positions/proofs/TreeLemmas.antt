@@ -1,4 +1,4 @@
--- Ways through a tree of late identities.
+-- Paths through a tree of late identities.
 use Rattle.std.proofs.Common.{◌≡◌, ◌≢◌, ◌<◌, ◌≤◌, ◌+◌, ◌-◌, ◌/◌, ◌%◌, ◌⊎◌, inl, inr, ℕ, zero, suc, eqb, List, [], ◌∷◌, ◌++◌, length, map, take, drop}
 use Rattle.std.proofs.Common.{slice_get, ◌&&◌, Option, Some, None, Bool, true, false, cond, refl, sym, ◌∙◌, ap, arith, length-append}
 use Rattle.std.proofs.lemmas.Option.{slice_get_within, slice_get-map, same_Some}
@@ -8,9 +8,9 @@ use Rattle.std.proofs.lemmas.List.{append-nil, take_all, drop_all}
 use Rattle.batch_positions.specs.Links.{at_position}
 use Rattle.std.specs.Option.{option_map}
 use Rattle.fact_kinds.specs.declared.identity.Identity.{Identity}
-use Rattle.batch_positions.specs.declared.late.Late.{Late}
-use Rattle.batch_positions.specs.declared.late.Node.{Node}
-use Rattle.batch_positions.specs.LateTree.{child_of, path_of, Leads, IsReached, IsTree, GoesOn, EndsHere, KeepsPaths, with_child, SetsChild, SameLates, Hangs}
+use Rattle.batch_positions.specs.declared.late_tree.Late.{Late}
+use Rattle.batch_positions.specs.declared.late_tree.Node.{Node}
+use Rattle.batch_positions.specs.LateTree.{child_of, path_of, Leads, IsReached, IsTree, IsNextOnPath, EndsHere, KeepsPaths, with_child, SetsChild, SameLates, Hangs}
 use Rattle.batch_positions.specs.LateTree.{CutsOff}
 
 -- a position of an element is in range
@@ -18,29 +18,30 @@ pub at_position-within : {X : Type 0} (xs : List X) (p : ℕ) (x : X) → at_pos
 at_position-within xs zero x is = absurd cc
 at_position-within xs (suc i) x is = let within = slice_get_within xs i x is in (omega arith, omega arith)
 
+-- there is an element at each index within the list
 slice_get-some : {X : Type 0} (xs : List X) (i : ℕ) → i < length xs → (x : X) × (slice_get xs i ≡ Some x)
 slice_get-some [] i inside = absurd (omega arith)
 slice_get-some (x ∷ xs) zero inside = (x, refl)
 slice_get-some (x ∷ xs) (suc i) inside = slice_get-some xs i (omega arith)
 
--- an element stands at each position in range
+-- there is an element at each position in range
 pub at_position-some : {X : Type 0} (xs : List X) (p : ℕ) → 0 < p → p ≤ length xs → (x : X) × (at_position xs p ≡ Some x)
 at_position-some xs zero some inside = absurd (omega arith)
 at_position-some xs (suc i) some inside = slice_get-some xs i (omega arith)
 
--- one element more: the positions before stay
+-- an appended element leaves the others at their positions
 pub at_position-push : {X : Type 0} (xs : List X) (y : X) (p : ℕ) (x : X) → at_position xs p ≡ Some x → at_position (xs ++ y ∷ []) p ≡ Some x
 at_position-push xs y zero x is = is
 at_position-push [] y (suc i) x is = absurd cc
 at_position-push (a ∷ xs) y (suc zero) x is = is
 at_position-push (a ∷ xs) y (suc (suc i)) x is = at_position-push xs y (suc i) x is
 
--- .. and it stands at the last
+-- .. and is at the last position
 pub at_position-last : {X : Type 0} (xs : List X) (y : X) → at_position (xs ++ y ∷ []) (suc (length xs)) ≡ Some y
 at_position-last [] y = refl
 at_position-last (x ∷ xs) y = at_position-last xs y
 
--- what stands at a position of a list with one element more
+-- the element at a position after one was appended: an old one or the new one
 pub at_position-parts : {X : Type 0} (xs : List X) (y : X) (p : ℕ) (x : X) → at_position (xs ++ y ∷ []) p ≡ Some x
     → (at_position xs p ≡ Some x) ⊎ ((p ≡ suc (length xs)) × (x ≡ y))
 at_position-parts xs y zero x is = absurd cc
@@ -52,7 +53,7 @@ at_position-parts (a ∷ xs) y (suc (suc i)) x is = elim (at_position-parts xs y
   | inr last ↦ let place = last.0 in inr (omega arith, last.1)
 ]
 
--- a way leads on to later nodes
+-- a path leads only to later nodes
 pub Leads-later : (nodes : List Node) (goal n path link : ℕ) → Leads nodes goal n path link → link ≤ goal
 Leads-later nodes goal zero path link leads = omega arith
 Leads-later nodes goal (suc n) path link leads =
@@ -60,7 +61,7 @@ Leads-later nodes goal (suc n) path link leads =
     let step = leads.2 in
     omega arith
 
--- ways stay where each step of them does
+-- a path is unchanged if each of its steps is
 pub Leads-keeps : (old new : List Node) → KeepsPaths old new → (goal n path link : ℕ) → goal ≤ length old → Leads old goal n path link
     → Leads new goal n path link
 Leads-keeps old new keeps goal zero path link within leads = leads
@@ -71,14 +72,14 @@ Leads-keeps old new keeps goal (suc n) path link within leads =
     let rest = Leads-keeps old new keeps goal n (path / 2) (child_of path leads.0) within leads.3 in
     (after.0, after.1, rw after.2 leads.2, rw after.2 rest)
 
--- where a path ends at a node, no way goes on from it
+-- no path leads on from a node at which it ends
 pub no_way : (nodes : List Node) (goal n path link : ℕ) → EndsHere nodes path link → goal ≤ length nodes → ¬ (Leads nodes goal (suc n) path link)
 no_way nodes goal n path link ends within leads =
     let later = Leads-later nodes goal n (path / 2) (child_of path leads.0) leads.3 in
     ends leads.0 leads.1 leads.2 (omega arith)
 
--- the way of a search, one step on
-pub way_on : (nodes : List Node) (goal path link child : ℕ) → GoesOn nodes path link child → goal ≢ link → IsReached nodes goal path link
+-- the path of a search, one step further
+pub way_on : (nodes : List Node) (goal path link child : ℕ) → IsNextOnPath nodes path link child → goal ≢ link → IsReached nodes goal path link
     → IsReached nodes goal (path / 2) child
 way_on nodes goal path link child on other (zero, leads) = absurd (other (sym leads))
 way_on nodes goal path link child on other (suc n, leads) =
@@ -86,8 +87,8 @@ way_on nodes goal path link child on other (suc n, leads) =
     let child_is : child_of path leads.0 ≡ child = ap (child_of path) same ∙ sym on.is in
     (n, rw (← child_is) leads.3)
 
--- the way back from one step on
-pub way_back : (old new : List Node) (goal path link child : ℕ) → KeepsPaths old new → GoesOn old path link child → IsReached new goal (path / 2) child
+-- the path before that step
+pub way_back : (old new : List Node) (goal path link child : ℕ) → KeepsPaths old new → IsNextOnPath old path link child → IsReached new goal (path / 2) child
     → IsReached new goal path link
 way_back old new goal path link child keeps on reached =
     let later = on.later in
@@ -97,18 +98,20 @@ way_back old new goal path link child keeps on reached =
     let same : child_of path after.0 ≡ child = after.2 ∙ sym on.is in
     (suc reached.0, (after.0, after.1, rw same on.later, rw same reached.1))
 
--- the child on one side of a node, and the node with another there
+-- the child on one side of a node
 abbrev on_side : Bool → Node → ℕ
 on_side side node = cond side node.high node.low
 
+-- the node with another child on one side
 abbrev put_on_side : Bool → ℕ → Node → Node
 put_on_side side child node = cond side (record node { high = child }) (record node { low = child })
 
+-- the child that was put on one side
 on_side-put : (side : Bool) (child : ℕ) (node : Node) → on_side side (put_on_side side child node) ≡ child
 on_side-put true child node = refl
 on_side-put false child node = refl
 
--- the other side stays
+-- the other side is unchanged
 on_side-other : (one side : Bool) (child : ℕ) (node : Node) → (on_side one (put_on_side side child node) ≡ on_side one node)
     ⊎ (on_side one node ≡ on_side side node)
 on_side-other true true child node = inr refl
@@ -116,14 +119,16 @@ on_side-other true false child node = inl refl
 on_side-other false true child node = inl refl
 on_side-other false false child node = inr refl
 
+-- the node's identity is unchanged
 late-put : (side : Bool) (child : ℕ) (node : Node) → (put_on_side side child node).late ≡ node.late
 late-put true child node = refl
 late-put false child node = refl
 
+-- the child that was put on the side of a path's first bit
 pub child_of-with : (path child : ℕ) (node : Node) → child_of path (with_child path child node) ≡ child
 child_of-with path child node = on_side-put (eqb (path % 2) 1) child node
 
--- a written child changes no identity
+-- writing a child changes no identity
 pub SetsChild-lates : (place path child : ℕ) (old new : List Node) → SetsChild place path child old new → SameLates old new
 SetsChild-lates place path child old new sets = record { same = sets.same; late = λ at node here. late_of at node here (cases_eq at place) }
   where
@@ -137,7 +142,7 @@ SetsChild-lates place path child old new sets = record { same = sets.same; late 
     )
     late_of at node here (inr other) = (node, sets.others at other ∙ here, refl)
 
--- what a written child leaves of the children: each stays, or is the one that was written over
+-- writing a child changes no other child
 pub SetsChild-child : (place path child : ℕ) (old new : List Node) → SetsChild place path child old new → (other at : ℕ) (node : Node)
     → at_position old at ≡ Some node
     → ((after : Node) × (at_position new at ≡ Some after) × (child_of other after ≡ child_of other node))
@@ -156,13 +161,13 @@ SetsChild-child place path child old new sets other at node here = by (cases_eq 
     by (inl same) = here_by same (on_side-other (eqb (other % 2) 1) (eqb (path % 2) 1) child node)
     by (inr differs) = inl (node, sets.others at differs ∙ here, refl)
 
--- ways stay over two changes
+-- paths that are unchanged stay so after a node is appended
 pub KeepsPaths-push : (old new : List Node) (node : Node) → KeepsPaths old new → KeepsPaths old (new ++ node ∷ [])
 KeepsPaths-push old new node keeps = λ path place n here later within.
     let after = keeps path place n here later within in
     (after.0, at_position-push new node place after.0 after.1, after.2)
 
--- a child written where a path ended makes it lead to the place behind the nodes
+-- a child written where a path ends extends it to the place after the nodes
 pub hangs : (path rest end place : ℕ) (old new : List Node) → place ≡ length old + 1 → 0 < end → end ≤ length old → EndsHere old rest end
     → ((longer : List Node) (goal : ℕ) → KeepsPaths old longer → IsReached longer goal rest end → IsReached longer goal path 1)
     → SetsChild end rest place old new → Hangs place path old new
@@ -200,7 +205,7 @@ hangs path rest end place old new next some within ends goes_on sets = record {
           ),
         )
 
--- with no node yet, a path leads to the first place
+-- in an empty tree every path leads to the first place
 pub hangs_first : (path place : ℕ) (old : List Node) → place ≡ length old + 1 → length old ≡ 0 → Hangs place path old old
 hangs_first path place old next none = record {
   lates = record { same = refl; late = λ at node here. (node, here, refl) };
@@ -208,8 +213,8 @@ hangs_first path place old next none = record {
   leads = λ node. (0, omega arith);
 }
 
--- a child written off cuts no other way
-pub cuts_off : (parent rest place : ℕ) (old new : List Node) → GoesOn old rest parent place → SetsChild parent rest 0 old new → CutsOff place old new
+-- a removed child cuts no other path
+pub cuts_off : (parent rest place : ℕ) (old new : List Node) → IsNextOnPath old rest parent place → SetsChild parent rest 0 old new → CutsOff place old new
 cuts_off parent rest place old new on sets = record {
   lates = SetsChild-lates parent rest 0 old new sets;
   keeps = λ other at node here differs. by other at node here differs (SetsChild-child parent rest 0 old new sets other at node here);
@@ -224,13 +229,14 @@ cuts_off parent rest place old new on sets = record {
         let node_is : node ≡ on.node = same_Some node on.node (sym here ∙ ap (at_position old) over.0 ∙ on.here) in
         absurd (differs (over.1 ∙ ap (child_of rest) node_is ∙ sym on.is))
 
+-- an unchanged tree has no path cut
 pub cuts_nothing : (place : ℕ) (old : List Node) → CutsOff place old old
 cuts_nothing place old = record {
   lates = record { same = refl; late = λ at node here. (node, here, refl) };
   keeps = λ other at node here differs. (node, here, refl);
 }
 
--- an identity stands at its place before it was changed
+-- an identity was at the same place before the change
 back : (old new : List Node) → SameLates old new → (at : ℕ) (after : Node) → at_position new at ≡ Some after
     → (node : Node) × (at_position old at ≡ Some node) × (after.late ≡ node.late)
 back old new lates at after here =
@@ -244,7 +250,7 @@ back old new lates at after here =
         let same : after ≡ later.0 = same_Some after later.0 (sym here ∙ later.1) in
         (found.0, found.1, ap (λ (n : Node). n.late) same ∙ later.2)
 
--- a tree with one node more
+-- a tree after a node is appended
 pub tree_grows : (old new : List Node) (node : Node) → IsTree old → Hangs (length old + 1) (path_of node.late.identity) old new → IsTree (new ++ node ∷ [])
 tree_grows old new node tree hangs = λ at found here. by at found (at_position-parts new node at found here)
   where
@@ -262,7 +268,7 @@ tree_grows old new node tree hangs = λ at found here. by at found (at_position-
         let place : suc (length new) ≡ length old + 1 = omega arith in
         rw (last.0, last.1, place) (hangs.leads node)
 
--- a way to one of the first nodes stays where the last is cut off and taken out
+-- a path to an earlier node is unchanged when the last node is cut off and removed
 Leads-cut : (old new front : List Node) (last : Node) (place : ℕ) → CutsOff place old new → new ≡ front ++ last ∷ [] → place ≡ length new
     → (goal n path link : ℕ) → goal < place → Leads old goal n path link → Leads front goal n path link
 Leads-cut old new front last place cuts parts place_is goal zero path link before leads = leads
@@ -313,30 +319,31 @@ lates_stay old new lates = go old new lates.same (λ i node here. lates.late (su
         let rest = go old new (omega arith) (λ i. each (suc i)) in
         cc
 
--- where a path ends at a node, it leads to no other
+-- a path that ends at a node leads to no other
 pub ended : (nodes : List Node) (goal path link : ℕ) → EndsHere nodes path link → goal ≤ length nodes → goal ≢ link → ¬ (IsReached nodes goal path link)
 ended nodes goal path link ends within other (zero, leads) = other (sym leads)
 ended nodes goal path link ends within other (suc n, leads) = no_way nodes goal n path link ends within leads
 
--- no way leads from where no node stands to a node
+-- no path leads from a place without a node
 pub nowhere : (nodes : List Node) (goal path link : ℕ) (node : Node) → at_position nodes link ≡ None → at_position nodes goal ≡ Some node
     → ¬ (IsReached nodes goal path link)
 nowhere nodes goal path link node none here (zero, leads) = let same = sym here ∙ ap (at_position nodes) (sym leads) ∙ none in cc
 nowhere nodes goal path link node none here (suc n, leads) = let same = sym leads.1 ∙ none in cc
 
--- a node with another identity is another one
+-- a node with another identity is another node
 pub elsewhere : (nodes : List Node) (at place : ℕ) (node found : Node) (identity : Identity) → at_position nodes at ≡ Some node → node.late.identity ≡ identity
     → at_position nodes place ≡ Some found → found.late.identity ≢ identity → at ≢ place
 elsewhere nodes at place node found identity here same there other equal =
     let one : found ≡ node = same_Some found node (sym there ∙ ap (at_position nodes) (sym equal) ∙ here) in
     other (ap (λ (n : Node). n.late.identity) one ∙ same)
 
--- what is found of the nodes is found of their identities
+-- an identity found among the nodes is found among their identities
 pub lates_found : (nodes : List Node) (late : Late) (at : ℕ) (node : Node) → at_position nodes at ≡ Some node → node.late ≡ late
     → (i : ℕ) × (slice_get (map (λ n. n.late) nodes) i ≡ Some late)
 lates_found nodes late zero node here is = absurd cc
 lates_found nodes late (suc i) node here is = (i, slice_get-map (λ (n : Node). n.late) nodes i ∙ ap (option_map (λ (n : Node). n.late)) here ∙ ap Some is)
 
+-- an identity that no node has is not among their identities
 pub lates_none : (nodes : List Node) (identity : Identity) → ((at : ℕ) (node : Node) → at_position nodes at ≡ Some node → node.late.identity ≢ identity)
     → (i : ℕ) (late : Late) → slice_get (map (λ n. n.late) nodes) i ≡ Some late → late.identity ≢ identity
 lates_none nodes identity none i late found same = by (slice_get nodes i) refl (sym (slice_get-map (λ (n : Node). n.late) nodes i) ∙ found)
@@ -345,7 +352,7 @@ lates_none nodes identity none i late found same = by (slice_get nodes i) refl (
     by None here is = cc
     by (Some node) here is = none (suc i) node here (ap (λ (l : Late). l.identity) (same_Some node.late late is) ∙ same)
 
--- two identities are told apart by this test
+-- identities for which the test is false differ
 pub differs_by : (a b : Identity) (r : Bool) → r ≡ (eqb a.handheld b.handheld && eqb a.number b.number) → r ≡ false → a ≢ b
 differs_by a b r is fails same =
     let tested : (eqb a.handheld a.handheld && eqb a.number a.number) ≡ true = grind (arith, nat_tests) in

@@ -1,8 +1,8 @@
-//! Where the batches of a history stand, by their identities.
+//! The positions of a history's batches, found by their identities.
 #![tactic(auto)]
 
 mod entry;
-mod late;
+mod late_tree;
 mod links;
 mod positions;
 mod runs;

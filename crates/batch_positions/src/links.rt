@@ -1,7 +1,7 @@
 ghost use Rattle.std.specs.Prelude.{◌≡◌};
 ghost use Rattle.batch_positions.specs.Links.{at_position};
 
-/// The element at a position, from 1. There is none at 0, nor past the end.
+/// The element at a position, from 1, or `None` at 0 and past the end.
 pub fn at_position<T: Copy>(items: &[T], position: u32) -> Option<T>
     ensures value { result ≡ at_position items.now position }
 {

@@ -1,28 +1,38 @@
+//! The index of a history's identities: one entry for each, in order, so that the index of an entry is its position.
+//!
+//! - A number above the earlier ones of its handheld continues the handheld's run. Its entry links to the last one of the run
+//!   and to one further back, so that adding takes one step and a look-up a logarithmic number of steps.
+//! - Any other number is late and goes into a tree over the bits of identities (`late_tree.rt`), at most 48 steps deep.
+//! - Only the link to the entry before is promised. The link further back and its rank are hints, which a look-up checks
+//!   before it follows them.
+//! - Room for late ones is made together with the room for all. An entry that is older than the last `reserve` gives back its
+//!   own room when it is removed, but no room in the tree; `fresh` counts those that give back both.
+//!
+//! The number of steps is argued and not stated by a clause.
+
 ghost use Rattle.std.specs.Prelude.{◌≡◌, ◌+◌, ◌-◌, ◌^◌, ◌<◌, ◌≤◌, [], ◌∷◌, ◌++◌, length, take, min, None, IfOk, OnOk, OnErr};
 ghost use Rattle.batch_positions.specs.Positions.{position_in};
 
 use crate::entry::Entry;
-use crate::late::{Late, LateTree};
+use crate::late_tree::{Late, LateTree};
 use crate::runs::{head_of, is_above, next_in_run, position_in_run, set_head};
 use fact_kinds::Identity;
 use std::alloc::{AllocError, Global};
 use std::marker::Model;
 
-/// How many handhelds there may be.
+/// The number of possible handhelds.
 const HANDHELDS: usize = 1 << 16;
 
-/// Identities in order, each of which is found with its position, from 1. A number above those before it of its handheld goes
-/// behind them at once, and is found by links that skip; one that comes late goes into a tree. So a look-up is as quick as in
-/// an ordered map, whatever the order, and adding takes no memory.
+/// Identities in order, each with its position from 1. Adding an identity allocates nothing.
 #[derive(Drop)]
 pub struct Positions {
     entries: Vec<Entry>,
-    /// For each handheld the position of the last entry of its run, and 0 where there is none.
+    /// For each handheld the position of the last entry of its run, or 0 if it has none.
     heads: Vec<u32>,
     late: LateTree,
-    /// For how many more there is room.
+    /// The number of identities that can still be added.
     room: usize,
-    /// How many were added since room was made.
+    /// The number of identities added since room was last made.
     fresh: usize,
 }
 
@@ -42,7 +52,7 @@ impl Model for Positions {
 }
 
 impl Positions {
-    /// No identity yet.
+    /// An index without identities. The only error is out of memory.
     pub fn new(alloc: Global) -> Result<Positions, AllocError>
         ensures value { IfOk result (λ positions. positions ≡ record { identities = []; room = 0; fresh = 0 }) }
     {
@@ -55,14 +65,14 @@ impl Positions {
         })
     }
 
-    /// How many identities there are.
+    /// The number of identities.
     pub fn len(&self) -> usize
         ensures value { result ≡ length self.now.identities }
     {
         self.entries.len()
     }
 
-    /// Makes room for so many more. There is none for more than 2^32 - 1 together.
+    /// Makes room for `count` more identities, at most 2^32 - 1 in all. After an error the index is unchanged.
     pub fn reserve(&mut self, count: usize) -> Result<(), AllocError>
         ensures same { self.new.identities ≡ self.old.identities }
         ensures roomy { OnOk result (count ≤ self.new.room) }
@@ -83,7 +93,7 @@ impl Positions {
         Ok(())
     }
 
-    /// The position, from 1, of an identity, if it is there.
+    /// The position, from 1, of an identity, or `None` if it is not in the index.
     pub fn position(&self, identity: Identity) -> Option<u32>
         ensures value { result ≡ position_in identity self.now.identities }
     {
@@ -94,7 +104,7 @@ impl Positions {
         }
     }
 
-    /// Adds an identity. It takes no memory.
+    /// Adds an identity. It allocates nothing.
     pub fn push(&mut self, identity: Identity)
         requires roomy { 0 < self.old.room }
         requires is_new { position_in identity self.old.identities ≡ None }
@@ -116,7 +126,7 @@ impl Positions {
         self.late.push(Late { identity, position });
     }
 
-    /// Takes the last identity out again. If it was added since room was made, its room is there again.
+    /// Removes the last identity. If it was added since room was last made, its room is free again.
     pub fn pop(&mut self)
         requires some { 0 < length self.old.identities }
         ensures identities { self.new.identities ≡ take (length self.old.identities - 1) self.old.identities }

@@ -6,7 +6,7 @@ use crate::entry::Entry;
 use crate::links::at_position;
 use fact_kinds::Identity;
 
-/// The last position of a handheld's run.
+/// The last position of a handheld's run, or 0 if it has none.
 pub fn head_of(heads: &[u32], handheld: u16) -> u32
     requires { length heads.now ≡ 65_536 }
     ensures value { slice_get heads.now handheld ≡ Some result }
@@ -14,7 +14,7 @@ pub fn head_of(heads: &[u32], handheld: u16) -> u32
     heads[usize::from(handheld)]
 }
 
-/// Writes the last position of a handheld's run.
+/// Sets the last position of a handheld's run.
 pub fn set_head(heads: &mut Vec<u32>, handheld: u16, link: u32)
     requires { length heads.old.items ≡ 65_536 }
     ensures value { heads.new.items ≡ slice_set heads.old.items handheld link }
@@ -32,7 +32,7 @@ pub fn is_above(entries: &[Entry], head: u32, number: u32) -> bool
     }
 }
 
-/// The next entry of a run.
+/// The next entry of a run, for this identity.
 pub fn next_in_run(entries: &[Entry], head: u32, identity: Identity) -> Entry
     ensures identity { identity_at result ≡ identity }
     ensures in_run { result.late ≡ false }
@@ -49,8 +49,8 @@ pub fn next_in_run(entries: &[Entry], head: u32, identity: Identity) -> Entry
     }
 }
 
-/// Where the link far back of the next entry leads, and its rank. Two skips of one rank are followed by one of the next, so
-/// that a look-up needs few steps.
+/// The link `far` of a run's next entry, and its rank. Two skips of one rank are followed by one of the next rank, so that
+/// a look-up needs few steps.
 fn skip_behind(entries: &[Entry], head: u32) -> (u32, u8) {
     let Some(last) = at_position(entries, head) else {
         return (0, 1);
@@ -61,7 +61,7 @@ fn skip_behind(entries: &[Entry], head: u32) -> (u32, u8) {
     }
 }
 
-/// The position of an identity in its handheld's run, if it stands there.
+/// The position of an identity in its handheld's run, or `None` if it is not there.
 pub fn position_in_run(entries: &[Entry], head: u32, identity: Identity) -> Option<u32>
     requires head { IsLastOf entries.now identity.handheld (length entries.now + 1) head }
     requires runs { AreRuns entries.now }
@@ -81,7 +81,7 @@ pub fn position_in_run(entries: &[Entry], head: u32, identity: Identity) -> Opti
     None
 }
 
-/// Where a look-up goes on behind an entry whose number is too great.
+/// The next entry to look at after one whose number is too great.
 fn back_from(entries: &[Entry], place: u32, entry: &Entry, number: u32) -> u32
     ensures value { (result ≡ entry.now.earlier) ⊎ SkipsTo entries.now place entry.now.handheld number result }
 {

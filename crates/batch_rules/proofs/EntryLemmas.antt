@@ -5,13 +5,13 @@ use Rattle.fact_kinds.specs.declared.batch.Batch.{Batch}
 use Rattle.fact_kinds.specs.Facts.{key_of, entries_from}
 use Rattle.fact_kinds.specs.Stated.{Stated}
 
--- the keys of facts are by the batch's identity alone
+-- the keys of facts depend only on the batch's identity
 pub same_entries : (a b : Batch) → a.handheld ≡ b.handheld → a.number ≡ b.number → (index : ℕ) (facts : List Stated)
     → entries_from a index facts ≡ entries_from b index facts
 same_entries a b handheld number index [] = refl
 same_entries a b handheld number index (fact ∷ facts) = rw (handheld, number, same_entries a b handheld number (index + 1) facts) refl
 
--- facts behind others
+-- the entries of joined facts
 entries-append : (batch : Batch) (index : ℕ) (facts more : List Stated)
     → entries_from batch index (facts ++ more) ≡ entries_from batch index facts ++ entries_from batch (index + length facts) more
 entries-append batch index [] more = ap (λ i. entries_from batch i more) (omega arith)
@@ -20,7 +20,7 @@ entries-append batch index (fact ∷ facts) more =
     (entries-append batch (index + 1) facts more
     ∙ ap (λ i. entries_from batch (index + 1) facts ++ entries_from batch i more) (omega arith))
 
--- .. where the first of those behind stands at a place
+-- the entries after the first ones, at their place
 behind : (batch : Batch) (i : ℕ) (facts more : List Stated) → i ≤ length facts
     → entries_from batch 0 (take i facts ++ more) ≡ entries_from batch 0 (take i facts) ++ entries_from batch i more
 behind batch i facts more within =
@@ -29,20 +29,20 @@ behind batch i facts more within =
     entries-append batch 0 (take i facts) more
     ∙ ap (λ k. entries_from batch 0 (take i facts) ++ entries_from batch k more) place
 
--- the first facts with one more
+-- the entries of the first facts with one more
 pub entries-take_more : (batch : Batch) (i : ℕ) (facts : List Stated) (fact : Stated) → i < length facts → fact ≡ get_or facts i fact
     → entries_from batch 0 (take (i + 1) facts) ≡ entries_from batch 0 (take i facts) ++ (key_of batch i fact, fact) ∷ []
 entries-take_more batch i facts fact within is =
     ap (entries_from batch 0) (take_more facts i fact within ∙ ap (λ (f : Stated). take i facts ++ f ∷ []) (sym is))
     ∙ behind batch i facts (fact ∷ []) (omega (arith, within))
 
--- the facts from a place on
+-- the entries of the facts from a place on
 pub entries-drop_more : (batch : Batch) (i : ℕ) (facts : List Stated) (fact : Stated) → i < length facts → fact ≡ get_or facts i fact
     → entries_from batch i (drop i facts) ≡ (key_of batch i fact, fact) ∷ entries_from batch (i + 1) (drop (i + 1) facts)
 entries-drop_more batch i facts fact within is =
     ap (entries_from batch i) (drop_more facts i fact within ∙ ap (λ (f : Stated). f ∷ drop (i + 1) facts) (sym is))
 
--- all facts, where one stands
+-- all entries: those before a fact, its own, and those after it
 pub entries-split : (batch : Batch) (i : ℕ) (facts : List Stated) (fact : Stated) → i < length facts → fact ≡ get_or facts i fact
     → entries_from batch 0 (take i facts) ++ (key_of batch i fact, fact) ∷ entries_from batch (i + 1) (drop (i + 1) facts) ≡ entries_from batch 0 facts
 entries-split batch i facts fact within is =

@@ -10,26 +10,26 @@ use Rattle.ldar_law.specs.Verdicts.{numbered, rules, least_rule}
 use Rattle.ldar_law.proofs.VerdictLemmas.{no_rule_denies}
 use Rattle.batch_rules.specs.Passed.{is_reached, is_of, IsPassed, ArePassed, with_asked}
 
--- where no rule denies a fact, that on difficult valves lets it pass
+-- if no rule denies a fact, the rule on difficult valves passes it
 pub passes_share : (case : Case) → least_rule case ≡ None → too_many_difficult case ≡ false
 passes_share case none = no_rule_denies case none (numbered 15 (codes "60.482-7a(h)(2)(ii)") too_many_difficult)
     (Contains-from_among rules (numbered 15 (codes "60.482-7a(h)(2)(ii)") too_many_difficult)
     (inr (inr (inr (inr (inr (inr (inr (inr (inr (inr (inr (inr (inr (inr (inl refl))))))))))))))))
 
--- the rule looks at the day and the whole register alone
+-- the rule depends only on the day and the register with the whole batch
 reached_alike : (case other : Case) (unit : ℕ) → other.whole ≡ case.whole → other.entry.0.day ≡ case.entry.0.day
     → is_reached other unit ≡ is_reached case unit
 reached_alike case other unit whole day =
     ap (λ (r : Register). is_reached (record other { whole = r }) unit) whole
     ∙ ap (λ (d : ℕ). is_reached (record { entry = (record other.entry.0 { day = d }, other.entry.1); known = other.known; whole = case.whole }) unit) day
 
--- where a fact that makes one valve more difficult passes, so does each like it
+-- if a fact that makes one more valve difficult passes, so does each like it
 pub now_passed : (case : Case) (unit : ℕ) → too_many_difficult case ≡ false → unit_with_one_more case ≡ Some unit
     → IsPassed case.whole (unit, case.entry.0.day)
 now_passed case unit passes makes other whole day =
     reached_alike case other unit whole day ∙ (rw (makes, too_many_difficult) at passes)
 
--- where the rule was asked of the unit on the fact's day, it lets the fact pass
+-- if the rule passed an earlier fact for the unit and day, it passes this one
 pub passed_where : (case : Case) (unit : ℕ) (asked : List (ℕ × ℕ)) → ArePassed case.whole asked
     → list_any (is_of unit case.entry.0.day) asked ≡ true → is_reached case unit ≡ false
 passed_where case unit [] passed has = absurd cc
@@ -41,13 +41,13 @@ passed_where case unit (a ∷ rest) passed has = elim (cases_eq a.0 unit) [
   | inr differ ↦ passed_where case unit rest passed.1 (rw (ne_eqb a.0 unit differ) at has)
 ]
 
--- one more that passes
+-- one more unit and day for which the rule passes
 pub passed_with : (whole : Register) (unit : Option ℕ) (day : ℕ) (asked : List (ℕ × ℕ)) → ArePassed whole asked
     → IfSome unit (λ u. IsPassed whole (u, day)) → ArePassed whole (with_asked unit day asked)
 passed_with whole None day asked passed now = passed
 passed_with whole (Some unit) day asked passed now = all_append (IsPassed whole) asked ((unit, day) ∷ []) passed (now, tt)
 
--- there is one more at most
+-- at most one is added
 pub length-with_asked : (unit : Option ℕ) (day : ℕ) (asked : List (ℕ × ℕ)) → length (with_asked unit day asked) ≤ length asked + 1
 length-with_asked None day asked = omega arith
 length-with_asked (Some unit) day asked = omega (arith, length-append asked ((unit, day) ∷ []))

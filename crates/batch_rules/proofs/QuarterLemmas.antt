@@ -6,7 +6,7 @@ use Rattle.ldar_days.proofs.Months.{month_of-near}
 use Rattle.ldar_days.proofs.Quarters.{last_whole-near}
 use Rattle.ldar_law.specs.Denials.{begins_quarter}
 
--- a unit that starts up after the last day of a fact has no quarter by then
+-- a unit whose startup is after the last day of a fact has no quarter by then
 first_quarter-later : (startup day : ℕ) → 46_751 < startup → day ≤ 46_751 → month_of day < first_quarter startup
 unfolding first_quarter
 first_quarter-later startup day late in_time =
@@ -15,6 +15,7 @@ first_quarter-later startup day late in_time =
     let whole = last_whole-near (startup + 180) in
     omega (arith, late, in_time, near_day.0, near_day.1, near_start.0, near_start.1, whole.0, whole.1)
 
+-- .. so no day begins one
 pub begins_no_quarter : (startup day : ℕ) → 46_751 < startup → day ≤ 46_751 → begins_quarter startup day ≡ false
 begins_no_quarter startup day late in_time =
     let before = lt-ltb (month_of day) (first_quarter startup) (first_quarter-later startup day late in_time) in

@@ -13,13 +13,14 @@ use Rattle.fact_store.specs.Kept.{facts_in}
 use Rattle.ldar_law.proofs.ShareLemmas.{one_more_fact_counts, other_facts_count_nothing}
 use Rattle.ldar_law.specs.Judged.{register_with}
 use Rattle.ldar_law.specs.Slices.{is_registered, register_facts}
-use Rattle.batch_rules.specs.declared.known.Known.{Known}
+use Rattle.batch_rules.specs.declared.known_facts.Known.{Known}
 use Rattle.batch_rules.specs.Known.{batch_of, register_by}
 use Rattle.batch_rules.specs.Shares.{added, changed, share_in}
 use Rattle.batch_rules.proofs.EntryLemmas.{entries-take_more}
 
--- ---- a fact that is no entry in the register leaves it
+-- ---- a fact that is no entry does not change the register
 
+-- an insertion that fails the filter does not change the filtered list
 put_out : (q : Entry → Bool) (e : Entry) → q e ≡ false → (es : List Entry) → filter q (put_in_order goes_first e es) ≡ filter q es
 put_out q e out [] = rw out refl
 put_out q e out (x ∷ xs) =
@@ -28,10 +29,12 @@ put_out q e out (x ∷ xs) =
       | inr t ↦ rw (t, put_out q e out xs) refl
     ]
 
+-- the last of several insertions
 put_last : (more ys : List Entry) (e : Entry) → put_each goes_first (more ++ e ∷ []) ys ≡ put_in_order goes_first e (put_each goes_first more ys)
 put_last [] ys e = refl
 put_last (x ∷ xs) ys e = put_last xs (put_in_order goes_first x ys) e
 
+-- the register is unchanged by a fact that is no entry
 pub register_stays : (held more : List Entry) (e : Entry) → is_registered e.1.body ≡ false → register_with held (more ++ e ∷ []) ≡ register_with held more
 unfolding register_with
 register_stays held more e out =
@@ -43,12 +46,14 @@ register_stays held more e out =
     ap register_facts (put_last more held e) ∙ put_out (λ x. is_registered x.1.body) e out (put_each goes_first more held) in
     rw (entered, order) refl
 
--- ---- the share with one fact more
+-- ---- the share with one more fact
 
+-- the reach is at most the number of facts so far
 pub reach_within : (b : Bool) (index reach : ℕ) → reach ≤ index → cond b (index + 1) reach ≤ index + 1
 reach_within true index reach within = omega arith
 reach_within false index reach within = omega (arith, within)
 
+-- a fact that changes a component has its number
 named_so : (body : FactBody) (number : ℕ) → changed body ≡ Some number → component_of body ≡ Some number
 named_so body number e =
     elim (cases_Bool (is_registered body)) [
@@ -58,19 +63,20 @@ named_so body number e =
 
 module _ (unit day : ℕ) (known : Known) (index : ℕ) (fact : Stated) (within : index < length known.front.now)
     (is : fact ≡ get_or known.front.now index fact) where
+  -- the register with one more fact
   one_more : register_by known (index + 1)
       ≡ register_with (facts_in known.register.now)
       (entries_from (batch_of known) 0 (take index known.front.now) ++ (key_of (batch_of known) index fact, fact) ∷ [])
   one_more = ap (register_with (facts_in known.register.now)) (entries-take_more (batch_of known) index known.front.now fact within is)
 
-  -- a fact that is no entry leaves what is known
+  -- a fact that is no entry does not change what is known
   pub known_stays : is_registered fact.body ≡ false → register_by known (index + 1) ≡ register_by known index
   known_stays out =
       one_more
       ∙ register_stays (facts_in known.register.now) (entries_from (batch_of known) 0 (take index known.front.now))
       (key_of (batch_of known) index fact, fact) out
 
-  -- where the first facts up to the last entry are as good as all before a place, so they are behind it
+  -- the facts up to the last entry give the same register as all before a place
   pub reach_stays : (reach : ℕ) → register_by known reach ≡ register_by known index
       → register_by known (cond (is_registered fact.body) (index + 1) reach) ≡ register_by known (index + 1)
   reach_stays reach same = elim (cases_Bool (is_registered fact.body)) [
@@ -78,7 +84,7 @@ module _ (unit day : ℕ) (known : Known) (index : ℕ) (fact : Stated) (within 
     | inr out ↦ rw out (same ∙ sym (known_stays out))
   ]
 
-  -- a fact that changes nothing leaves the share
+  -- a fact that changes no component does not change the share
   pub share_same : changed fact.body ≡ None → share_in unit day (register_by known (index + 1)) ≡ share_in unit day (register_by known index)
   share_same e =
       let held = facts_in known.register.now in
@@ -93,7 +99,7 @@ module _ (unit day : ℕ) (known : Known) (index : ℕ) (fact : Stated) (within 
             rw (counts.0, counts.1) refl
       ]
 
-  -- one that changes a component changes it by what that component adds
+  -- a fact that changes a component changes the share by that component's part
   pub share_changes : (number : ℕ) → changed fact.body ≡ Some number
       → ((share_in unit day (register_by known (index + 1))).valves + (added unit day (register_by known index) number).valves
       ≡ (share_in unit day (register_by known index)).valves + (added unit day (register_by known (index + 1)) number).valves)

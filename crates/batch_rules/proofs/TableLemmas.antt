@@ -9,20 +9,22 @@ use Rattle.ldar_law.specs.Judged.{Case}
 use Rattle.ldar_law.specs.Verdicts.{Rule, rules, least_rule}
 use Rattle.batch_rules.specs.Table.{elected_if_in_time, first_true_from, first_true}
 
--- the first that is true, from a place on
+-- the first true element from a place on
 pub first_from_place : (bs : List Bool) (i : ℕ) → i < length bs
     → first_true_from (i + 1) (drop i bs) ≡ cond (get_or bs i false) (Some (i + 1)) (first_true_from (i + 1 + 1) (drop (i + 1) bs))
 first_from_place bs i within = rw (drop_more bs i false within) refl
 
--- what some rules say of a fact, each asked where those before it let the fact pass
+-- the findings of some rules on a fact, each evaluated only if those before it passed the fact
 Says : Case → ℕ → List Rule → List Bool → Type 0
 Says case number [] [] = Unit {0}
 Says case number (x ∷ xs) (b ∷ bs) = (x.number ≡ number) × (x.denies case ≡ b) × (b ≡ false → Says case (number + 1) xs bs)
 Says case number _ _ = ⊥
 
+-- the least of some rules that denies the fact
 told : Case → List Rule → Option ℕ
 told case xs = option_map (λ rule. rule.number) (find (λ rule. rule.denies case) xs)
 
+-- it is the first true finding
 first_told : (case : Case) (number : ℕ) (xs : List Rule) (bs : List Bool) → Says case number xs bs → told case xs ≡ first_true_from number bs
 unfolding told Says
 first_told case number [] [] says = refl
@@ -34,7 +36,7 @@ first_told case number (x ∷ xs) (b ∷ bs) says =
       | inr passes ↦ rw (says.1, passes) (first_told case (number + 1) xs bs (says.2 passes))
     ]
 
--- what the table says
+-- the findings of all rules
 abbrev pub findings : Case → List Bool
 findings case =
     denials.component_unknown case
@@ -60,6 +62,7 @@ findings case =
     ∷ denials.class_unsuited case
     ∷ []
 
+-- the findings are those of the rules
 all_say : (case : Case) → Says case 1 rules (findings case)
 unfolding Says
 all_say case = (
@@ -141,6 +144,7 @@ all_say case = (
   ),
 )
 
+-- the first true finding is the least rule that denies the fact
 pub first_finding_is : (case : Case) → first_true (findings case) ≡ least_rule case
 unfolding first_true told
 first_finding_is case = sym (first_told case 1 rules (findings case) (all_say case))

@@ -8,11 +8,11 @@ use Rattle.ldar_law.specs.declared.unit_entry.UnitEntry.{UnitEntry}
 use Rattle.ldar_law.specs.Denials.{number_entered}
 use Rattle.ldar_law.specs.Equipment.{retires, component_entered, unit_entered}
 
--- the component as the first of some facts of a batch enters it
+-- the component from its first entry among some facts of a batch
 abbrev pub entered_among : ℕ → List Stated → Option Equipment
 entered_among number facts = slice_get (filter_map (λ f. component_entered number None f.day f.body) facts) 0
 
--- .. and the process unit
+-- the process unit from its first entry among them
 abbrev pub unit_among : ℕ → List Stated → Option UnitEntry
 unit_among number facts = slice_get (filter_map (λ f. unit_entered number f.day f.body) facts) 0
 
@@ -27,7 +27,7 @@ entered_or_0 body = elim (number_entered body) [
   | Some number ↦ number
 ]
 
--- no fact enters a component of a greater number, where one is told
+-- no fact enters a component above the number, if there is a number
 abbrev pub are_up_to : Option ℕ → List Stated → Bool
 are_up_to None facts = true
 are_up_to (Some greatest) facts = list_all (λ f. nat_le (entered_or_0 f.body) greatest) facts

@@ -1,4 +1,4 @@
--- What is known of the component that a fact asks for.
+-- The case of a fact, and the component that the fact requires.
 use Rattle.std.specs.Prelude.{◌≡◌, ℕ, ◌≤◌, Option, List, length, take}
 use Rattle.fact_kinds.specs.declared.batch.Batch.{Batch}
 use Rattle.fact_kinds.specs.declared.class.Class.{Class}
@@ -6,17 +6,17 @@ use Rattle.fact_kinds.specs.declared.class.Kind.{Kind}
 use Rattle.fact_kinds.specs.Facts.{Entry, key_of, entries_from, entries_of}
 use Rattle.fact_kinds.specs.Stated.{Stated}
 use Rattle.ldar_law.specs.Judged.{Case, register_with}
-use Rattle.batch_rules.specs.declared.known.Known.{Known}
+use Rattle.batch_rules.specs.declared.known_facts.Known.{Known}
 use Rattle.batch_rules.specs.Known.{batch_of, register_at}
 use Rattle.batch_rules.specs.Passed.{ArePassed}
-use Rattle.batch_rules.specs.Standings.{standing_by}
+use Rattle.batch_rules.specs.KindsAndClasses.{kind_and_class_by}
 
--- a fact of a batch, by its place there from 0, with what is known before it and by the whole batch
+-- the case of a fact at a place (from 0) of a batch, with what is known before it and with the whole batch
 abbrev pub case_at : Stated → ℕ → Known → Known → Case
 case_at fact index known whole =
     record { entry = (key_of (batch_of whole) index fact, fact); known = register_at known; whole = register_at whole }
 
--- .. of a batch, after some facts
+-- the case of a fact of a batch, after some facts are held
 abbrev pub case_in : List Entry → Batch → ℕ → Stated → Case
 case_in held batch i fact = record {
   entry = (key_of batch i fact, fact);
@@ -24,13 +24,13 @@ case_in held batch i fact = record {
   whole = register_with held (entries_of batch);
 }
 
--- the kind of the component that a fact asks for, and its class on the fact's day
-unfoldable pub standing_asked : Case → Option (Kind × Class)
-standing_asked case = standing_by case.known case.entry.0.day case.entry.1.body
+-- the type and class, on the fact's day, of the component that the fact requires
+unfoldable pub kind_and_class_asked : Case → Option (Kind × Class)
+kind_and_class_asked case = kind_and_class_by case.known case.entry.0.day case.entry.1.body
 
--- what is true inside every case
-pub record IsSound (fact : Stated) (index : ℕ) (known whole : Known) (standing : Option (Kind × Class)) (asked_before : List (ℕ × ℕ)) : Type 0 where
+-- the invariant of a case
+pub record IsSound (fact : Stated) (index : ℕ) (known whole : Known) (kind_and_class : Option (Kind × Class)) (asked_before : List (ℕ × ℕ)) : Type 0 where
   pub few : length known.front.now ≤ 512
   pub whole_few : length whole.front.now ≤ 512
-  pub asked : standing ≡ standing_asked (case_at fact index known whole)
+  pub asked : kind_and_class ≡ kind_and_class_asked (case_at fact index known whole)
   pub passed : ArePassed (register_at whole) asked_before

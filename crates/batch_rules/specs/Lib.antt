@@ -1,7 +1,7 @@
 pub mod Among
 pub mod Cases
+pub mod KindsAndClasses
 pub mod Known
 pub mod Passed
 pub mod Shares
-pub mod Standings
 pub mod Table

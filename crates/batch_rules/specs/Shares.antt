@@ -1,4 +1,4 @@
--- How many valves of a process unit are in service on a day, and how many of them are difficult to monitor (40 CFR 60.482-7a(h)(2)(ii)).
+-- The number of valves of a process unit in service on a day, and how many are difficult to monitor (40 CFR 60.482-7a(h)(2)(ii)).
 use Rattle.std.specs.Prelude.{ℕ, Bool, if◌then◌else◌, Option, None}
 use Rattle.fact_kinds.specs.declared.body.FactBody.{FactBody}
 use Rattle.fact_kinds.specs.Named.{component_of}
@@ -13,7 +13,7 @@ use Rattle.batch_rules.specs.declared.share.Share.{Share}
 abbrev pub is_difficult_on : Register → ℕ → Equipment → Bool
 is_difficult_on register day item = is_difficult_designated (class_held register item day).designation
 
--- what a component adds to the share of a process unit on a day
+-- the share of a process unit on a day that a component adds
 abbrev pub added : ℕ → ℕ → Register → ℕ → Share
 added unit day register number =
     record { valves = adds (counts_as_valve unit day) register number; difficult = adds (counts_as_difficult unit day) register number }
@@ -23,7 +23,7 @@ abbrev pub share_in : ℕ → ℕ → Register → Share
 share_in unit day register =
     record { valves = count_in (counts_as_valve unit day) register; difficult = count_in (counts_as_difficult unit day) register }
 
--- a fact with its day, judged by a register
+-- a fact with its day, as a case over a register
 abbrev pub judged_by : Register → ℕ → FactBody → Case
 judged_by whole day body = record {
   entry = (record { day = day; minute = 0; handheld = 0; number = 0; index = 0 }, record { day = day; minute = 0; body = body });
@@ -31,6 +31,6 @@ judged_by whole day body = record {
   whole = whole;
 }
 
--- the component of which a fact changes what the register holds
+-- the component that a fact changes in the register
 abbrev pub changed : FactBody → Option ℕ
 changed body = if is_registered body then component_of body else None

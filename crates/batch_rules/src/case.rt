@@ -1,25 +1,25 @@
 ghost use Rattle.std.specs.Prelude.{◌≡◌, ◌≤◌, false, IsTrue, length};
 
-use crate::asked::Standing;
-use crate::known::Known;
-use crate::passed::Passed;
+use crate::kind_and_class::KindAndClass;
+use crate::known_facts::Known;
+use crate::passed_units::Passed;
 use fact_kinds::{Fact, FactBody};
 use ldar_days::Day;
 use std::marker::Model;
 
-/// A fact of a batch as it is judged, with what is known there. Contracts see the law's case.
+/// A fact of a batch that is judged, with the facts known to the judgment. In contracts it is the law's case.
 #[derive(Drop)]
 pub struct Case<'a> {
     fact: &'a Fact,
-    /// Its place in the batch, from 0.
+    /// The fact's place in the batch, from 0.
     index: usize,
-    /// What is known by the facts before it in its batch.
+    /// The register and the facts before this one in its batch.
     known: Known<'a>,
-    /// What is known by all facts of its batch.
+    /// The register and all facts of the batch.
     whole: Known<'a>,
-    /// The kind of the component that it asks for, and its class on the fact's day.
-    asked: Standing,
-    /// Where the rule on difficult valves was asked before, and let earlier facts pass.
+    /// The type and class, on the fact's day, of the component that the fact requires.
+    asked: KindAndClass,
+    /// The units and days for which the rule on difficult valves passed an earlier fact.
     passed: &'a Passed,
 }
 
@@ -36,10 +36,10 @@ impl<'a> Model for Case<'a> {
 
 impl<'a> Case<'a> {
     ghost use Rattle.batch_rules.specs.Known.{register_at};
-    ghost use Rattle.batch_rules.specs.Cases.{case_at, standing_asked};
+    ghost use Rattle.batch_rules.specs.Cases.{case_at, kind_and_class_asked};
     ghost use Rattle.batch_rules.specs.Passed.{is_reached, ArePassed};
 
-    /// A fact at a place of its batch.
+    /// The case of a fact at a place of its batch, from 0.
     pub fn new(
         fact: &'a Fact,
         index: usize,
@@ -63,7 +63,7 @@ impl<'a> Case<'a> {
         }
     }
 
-    /// What the fact says.
+    /// The body of the fact.
     pub fn body(&self) -> &FactBody
         ensures value { result.now ≡ self.now.entry.1.body }
     {
@@ -79,28 +79,28 @@ impl<'a> Case<'a> {
         fact.day
     }
 
-    /// The handheld that sends it.
+    /// The handheld that sent the batch.
     pub fn handheld(&self) -> u16
         ensures value { result ≡ self.now.entry.0.handheld }
     {
         self.whole.handheld
     }
 
-    /// The kind of the component that the fact asks for, and its class on the fact's day.
-    pub fn asked(&self) -> Standing
-        ensures value { result ≡ standing_asked self.now }
+    /// The type and class, on the fact's day, of the component that the fact requires.
+    pub fn asked(&self) -> KindAndClass
+        ensures value { result ≡ kind_and_class_asked self.now }
     {
         self.asked
     }
 
-    /// Whether the rule on difficult valves is known to let it pass, if it makes one more in this process unit.
+    /// Whether the rule on difficult valves has passed an earlier fact for this process unit on the fact's day.
     pub fn is_passed(&self, unit: u8) -> bool
         ensures passed { IsTrue result → is_reached self.now unit ≡ false }
     {
         self.passed.has(unit, self.day())
     }
 
-    /// What is known by the facts before it.
+    /// The register and the facts before this one.
     pub fn known(&self) -> &Known<'a>
         ensures value { register_at result.now ≡ self.now.known }
         ensures few { length result.now.front.now ≤ 512 }
@@ -108,7 +108,7 @@ impl<'a> Case<'a> {
         &self.known
     }
 
-    /// What is known by all facts of its batch.
+    /// The register and all facts of the batch.
     pub fn whole(&self) -> &Known<'a>
         ensures value { register_at result.now ≡ self.now.whole }
         ensures few { length result.now.front.now ≤ 512 }

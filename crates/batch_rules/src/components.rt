@@ -1,14 +1,14 @@
-//! The rules on components (40 CFR 60.482-1a to 60.482-8a, 60.486a). Each asks for one that is known, and for its class
-//! on the fact's day.
+//! The rules on components (40 CFR 60.482-1a to 60.482-8a, 60.486a). Each depends on the component's type, and on its
+//! class on the fact's day.
 
 ghost use Rattle.std.specs.Prelude.{◌≡◌, not};
 ghost use Rattle.ldar_law.specs.Denials as law;
 
-use crate::asked::{
+use crate::case::Case;
+use crate::kind_and_class::{
     is_in_vacuum, is_no_gas_compressor, is_no_gas_relief, is_no_light_pump, is_under_300,
     is_without_evidence,
 };
-use crate::case::Case;
 use fact_kinds::{FactBody, Sort};
 use ldar_law::component_asked;
 
@@ -22,7 +22,7 @@ pub fn component_unknown(case: &Case) -> bool
     }
 }
 
-/// The component that a reading or a visual inspection looks at.
+/// The component of a reading or a visual inspection.
 fn component_looked_at(body: &FactBody) -> Option<u16>
     ensures value { result ≡ law.component_looked_at body.now }
 {
@@ -43,7 +43,7 @@ pub fn looked_in_vacuum(case: &Case) -> bool
     }
 }
 
-/// Rule 3 (40 CFR 60.482-1a(e)): .. in VOC service less than 300 hours a year.
+/// Rule 3 (40 CFR 60.482-1a(e)): a reading or a visual inspection in VOC service less than 300 hours a year.
 pub fn looked_under_300_hours(case: &Case) -> bool
     ensures value { result ≡ law.looked_under_300_hours case.now }
 {
@@ -67,7 +67,7 @@ pub fn reading_unsigned(case: &Case) -> bool
     }
 }
 
-/// Rule 5 (40 CFR 60.482-2a(a)(2)): a visual inspection of what is no pump in light liquid service.
+/// Rule 5 (40 CFR 60.482-2a(a)(2)): a visual inspection of anything but a pump in light liquid service.
 pub fn no_pump_to_see(case: &Case) -> bool
     ensures value { result ≡ law.no_pump_to_see case.now }
 {
@@ -77,7 +77,7 @@ pub fn no_pump_to_see(case: &Case) -> bool
     }
 }
 
-/// Whether it is a sensor's indication.
+/// Whether it is an indication of a sensor.
 fn is_of_sensor(sort: Sort) -> bool
     ensures value { result ≡ law.is_of_sensor sort }
 {
@@ -91,7 +91,7 @@ fn is_of_evidence(sort: Sort) -> bool
     matches!(sort, Sort::Evidence)
 }
 
-/// Rule 6 (40 CFR 60.482-3a(f)): a sensor's indication at what is no compressor in gas service.
+/// Rule 6 (40 CFR 60.482-3a(f)): a sensor's indication at anything but a compressor in gas service.
 pub fn no_compressor_to_sense(case: &Case) -> bool
     ensures value { result ≡ law.no_compressor_to_sense case.now }
 {
@@ -103,7 +103,7 @@ pub fn no_compressor_to_sense(case: &Case) -> bool
     }
 }
 
-/// Rule 7 (40 CFR 60.482-4a(b)): a pressure release of what is no relief device in gas service.
+/// Rule 7 (40 CFR 60.482-4a(b)): a pressure release of anything but a relief device in gas service.
 pub fn no_relief_device(case: &Case) -> bool
     ensures value { result ≡ law.no_relief_device case.now }
 {
@@ -113,7 +113,7 @@ pub fn no_relief_device(case: &Case) -> bool
     }
 }
 
-/// Rule 8 (40 CFR 60.482-8a(a)): evidence of a potential leak at what the rule on evidence is not for.
+/// Rule 8 (40 CFR 60.482-8a(a)): evidence of a potential leak at a component to which the rule on evidence does not apply.
 pub fn no_evidence_counts(case: &Case) -> bool
     ensures value { result ≡ law.no_evidence_counts case.now }
 {

@@ -1,11 +1,10 @@
-//! The rules on delays of repair (40 CFR 60.482-9a, 60.486a(c)). Grounds are numbered as the paragraphs (a) to (e) stand,
-//! from 1.
+//! The rules on delays of repair (40 CFR 60.482-9a, 60.486a(c)). Grounds 1 to 5 are the paragraphs (a) to (e).
 
 ghost use Rattle.std.specs.Prelude.{◌≡◌};
 ghost use Rattle.ldar_law.specs.Denials as law;
 
-use crate::asked::{is_no_pump, is_no_valve};
 use crate::case::Case;
+use crate::kind_and_class::{is_no_pump, is_no_valve};
 use fact_kinds::FactBody;
 
 /// Paragraph (a): the repair needs a process unit shutdown.
@@ -20,7 +19,7 @@ const NEEDS_DUAL_SEAL: u8 = 4;
 /// Paragraph (e): valves are out of stock.
 const OUT_OF_STOCK: u8 = 5;
 
-/// Rule 9 (40 CFR 60.482-9a(c)): the purge would emit more, at what is no valve.
+/// Rule 9 (40 CFR 60.482-9a(c)): the purge would emit more, at anything but a valve.
 pub fn purges_no_valve(case: &Case) -> bool
     ensures value { result ≡ law.purges_no_valve case.now }
 {
@@ -30,7 +29,7 @@ pub fn purges_no_valve(case: &Case) -> bool
     }
 }
 
-/// Rule 10 (40 CFR 60.482-9a(d)): a dual seal for what is no pump.
+/// Rule 10 (40 CFR 60.482-9a(d)): a dual seal for anything but a pump.
 pub fn seals_no_pump(case: &Case) -> bool
     ensures value { result ≡ law.seals_no_pump case.now }
 {
@@ -40,7 +39,7 @@ pub fn seals_no_pump(case: &Case) -> bool
     }
 }
 
-/// Rule 11 (40 CFR 60.482-9a(e)): valves out of stock for what is no valve.
+/// Rule 11 (40 CFR 60.482-9a(e)): valves out of stock for anything but a valve.
 pub fn stocks_no_valve(case: &Case) -> bool
     ensures value { result ≡ law.stocks_no_valve case.now }
 {
@@ -50,7 +49,7 @@ pub fn stocks_no_valve(case: &Case) -> bool
     }
 }
 
-/// Rule 12 (40 CFR 60.486a(c)(6)): a delay for want of a shutdown has no signature of whose decision it was.
+/// Rule 12 (40 CFR 60.486a(c)(6)): a delay until a shutdown lacks the signature of the person who decided it.
 pub fn delay_unsigned(case: &Case) -> bool
     ensures value { result ≡ law.delay_unsigned case.now }
 {
@@ -60,7 +59,7 @@ pub fn delay_unsigned(case: &Case) -> bool
     }
 }
 
-/// Rule 13 (40 CFR 60.486a(c)(7)): a delay that is not withdrawn names no expected day of repair.
+/// Rule 13 (40 CFR 60.486a(c)(7)): a delay that is not withdrawn lacks an expected day of repair.
 pub fn repair_not_expected(case: &Case) -> bool
     ensures value { result ≡ law.repair_not_expected case.now }
 {

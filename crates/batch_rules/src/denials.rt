@@ -12,16 +12,16 @@ ghost use Rattle.batch_rules.specs.Among.{are_up_to};
 
 use crate::case::Case;
 use crate::difficult::newly_asked;
-use crate::known::Known;
-use crate::passed::Passed;
+use crate::known_facts::Known;
+use crate::passed_units::Passed;
 use crate::reach::{NO_REACH, Reach};
 use crate::rules::least_rule;
 use component_register::Register;
 use fact_kinds::{Batch, Fact, MOST_FACTS};
 use ldar_law::Verdict;
 
-/// The least rule that denies a fact, and the unit of which the rule on difficult valves was asked anew, where the fact
-/// passes.
+/// The least rule that denies a fact. If the fact passes, also the unit for which the rule on difficult valves was newly
+/// judged.
 fn judged<'a>(
     whole: &Known<'a>,
     fact: &'a Fact,
@@ -46,12 +46,12 @@ fn judged<'a>(
     }
 }
 
-/// The first fact of a batch that is denied, from 1, and the least rule that denies it, by what is known by all of them.
+/// The first denied fact of a batch, from 1, and the least rule that denies it; `whole` is all that is known with the batch.
 fn first_denied(whole: Known<'_>) -> Option<(u16, u8)>
     requires few { length whole.front.now ≤ 512 }
     ensures value { result ≡ denial_after (facts_in whole.entry.register.now) (batch_of whole.entry) }
 {
-    // Behind the last entry in the register nothing has to be looked through.
+    // The look-ups go through the batch only up to its last entry in the register.
     let mut reach = NO_REACH;
     let mut passed = Passed::new();
     for index in 0..whole.front.len() {
@@ -66,7 +66,7 @@ fn first_denied(whole: Known<'_>) -> Option<(u16, u8)>
     None
 }
 
-/// The first fact of a batch that is denied, from 1, and the least rule that denies it.
+/// The first denied fact of a batch, from 1, and the least rule that denies it.
 fn first_denial(register: &Register, batch: &Batch) -> Option<(u16, u8)>
     ensures value { result ≡ denial_after (facts_in register.now) batch.now }
 {
@@ -79,7 +79,7 @@ fn first_denial(register: &Register, batch: &Batch) -> Option<(u16, u8)>
     })
 }
 
-/// The verdict on what was found first, where there would be so many facts.
+/// The verdict, from the first denial and the number of facts that the office would have.
 fn verdict_found(denial: Option<(u16, u8)>, facts: u64) -> Verdict
     ensures value { result ≡ verdict_by denial facts }
 {
@@ -90,8 +90,8 @@ fn verdict_found(denial: Option<(u16, u8)>, facts: u64) -> Verdict
     }
 }
 
-/// The verdict on a batch, by the register of the office and the number of facts that it holds. The first fact that
-/// fails a rule is told, with the least rule that it fails. It takes no memory.
+/// The verdict on a batch, given the office's register and its number of facts. It has the first fact that fails a rule
+/// (from 1), and the least rule that this fact fails. It allocates nothing.
 pub fn verdict(register: &Register, held: u64, batch: &Batch) -> Verdict
     requires held { held ≤ MOST_FACTS }
     ensures value { (history : List FactBatch) → facts_in register.now ≡ register_facts (facts_of history)

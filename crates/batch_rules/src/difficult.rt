@@ -1,4 +1,4 @@
-//! The rule on valves that are difficult to monitor (40 CFR 60.482-7a(h)(2)(ii)).
+//! The rule on difficult-to-monitor valves (40 CFR 60.482-7a(h)(2)(ii)).
 
 ghost use Rattle.std.specs.Prelude.{◌≡◌, ◌&&◌, false, IfSome};
 ghost use Rattle.ldar_law.specs.Denials as law;
@@ -11,7 +11,7 @@ use crate::valves::share_known;
 use fact_kinds::{Class, FactBody, Kind};
 use ldar_law::{is_difficult_designated, is_valve};
 
-/// Whether a class makes a component a difficult valve.
+/// Whether a component of this type and class is a difficult-to-monitor valve.
 fn makes_difficult(kind: Kind, class: Class) -> bool
     ensures value { result ≡ (kinds.is_valve kind && standing.is_difficult_designated class.designation) }
 {
@@ -37,7 +37,7 @@ fn unit_with_one_more(case: &Case) -> Option<u8>
     }
 }
 
-/// Whether the unit was entered, and its share of difficult valves has a bound.
+/// Whether the unit was entered and its share of difficult valves is limited.
 fn is_bounded(case: &Case, unit: u8) -> bool
     ensures value { result ≡ law.is_bounded case.now unit }
 {
@@ -47,7 +47,7 @@ fn is_bounded(case: &Case, unit: u8) -> bool
     }
 }
 
-/// Whether three in a hundred or more of the unit's valves in service on the fact's day are difficult.
+/// Whether at least 3 percent of the unit's valves in service on the fact's day are difficult to monitor.
 fn is_share_reached(case: &Case, unit: u8) -> bool
     ensures value { result ≡ law.is_share_reached case.now unit }
 {
@@ -55,8 +55,8 @@ fn is_share_reached(case: &Case, unit: u8) -> bool
     share.valves * 3 <= share.difficult * 100
 }
 
-/// Rule 15 (40 CFR 60.482-7a(h)(2)(ii)): one valve more is made difficult to monitor, and so 3 percent of the unit's
-/// valves are.
+/// Rule 15 (40 CFR 60.482-7a(h)(2)(ii)): one more valve becomes difficult to monitor, and so the unit reaches
+/// 3 percent of its valves.
 pub fn too_many_difficult(case: &Case) -> bool
     ensures value { result ≡ law.too_many_difficult case.now }
 {
@@ -71,7 +71,7 @@ pub fn too_many_difficult(case: &Case) -> bool
     }
 }
 
-/// The unit of which the rule was asked for a fact that passes, if no earlier fact had answered for it.
+/// The unit for which the rule judged a fact that passed, if it had not judged an earlier fact for it.
 pub fn newly_asked(case: &Case) -> Option<u8>
     requires passes { law.too_many_difficult case.now ≡ false }
     ensures passed { IfSome result (λ unit. IsPassed case.now.whole (unit, case.now.entry.0.day)) }

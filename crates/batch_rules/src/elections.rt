@@ -27,7 +27,7 @@ fn begins_quarter(startup: Day, day: Day) -> bool
     requires in_time { day ≤ LAST_FACT_DAY }
     ensures value { result ≡ law.begins_quarter startup day }
 {
-    // A unit that starts up after the last day of a fact has no quarter by then.
+    // A unit whose startup is after the last day of a fact has no quarter by then.
     if startup.number() > LAST_FACT_DAY {
         return false;
     }
@@ -37,7 +37,7 @@ fn begins_quarter(startup: Day, day: Day) -> bool
     }
 }
 
-/// Rule 20 (our own): an election that does not begin with a quarter of its unit. It is not asked of a day that rule 19
+/// Rule 20 (our own): an election does not begin with a quarter of its unit. The rule does not judge a day that rule 19
 /// denies.
 pub fn elected_within_a_quarter(case: &Case) -> bool
     ensures value { result ≡ elected_if_in_time case.now }

@@ -1,14 +1,14 @@
-//! The office's own rules on entries in the register and on days.
+//! The office's own rules, on entries in the register and on days.
 
 ghost use Rattle.std.specs.Prelude.{◌≡◌};
 ghost use Rattle.ldar_law.specs.Denials as law;
 
-use crate::asked::is_unsuited;
 use crate::case::Case;
+use crate::kind_and_class::is_unsuited;
 use fact_kinds::FactBody;
 use ldar_law::{LAST_FACT_DAY, is_registered, suits, unit_asked};
 
-/// Rule 16 (our own): a handheld other than the office's own, which is 0, enters into the register.
+/// Rule 16 (our own): a handheld other than 0, which is the office's own, makes an entry in the register.
 pub fn entered_by_a_handheld(case: &Case) -> bool
     ensures value { result ≡ law.entered_by_a_handheld case.now }
 {
@@ -43,7 +43,7 @@ pub fn day_too_late(case: &Case) -> bool
     case.day().number() > LAST_FACT_DAY
 }
 
-/// Rule 21 (our own): the service or the designation does not suit the kind of component.
+/// Rule 21 (our own): the service or the designation does not suit the type of component.
 pub fn class_unsuited(case: &Case) -> bool
     ensures value { result ≡ law.class_unsuited case.now }
 {

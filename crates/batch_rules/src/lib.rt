@@ -1,7 +1,6 @@
-//! The rules by which the office denies a batch, and the verdict on one.
+//! The rules by which an office denies a batch, and the verdict on a batch.
 #![tactic(auto)]
 
-mod asked;
 mod case;
 mod components;
 mod delays;
@@ -9,13 +8,15 @@ mod denials;
 mod difficult;
 mod elections;
 mod entries;
-mod known;
-mod passed;
+mod kind_and_class;
+mod known_facts;
+mod passed_units;
 mod reach;
 mod rules;
 mod share;
-mod table;
 mod valves;
 
 pub use denials::verdict;
-pub use table::paragraph;
+
+/// The paragraph of the rule that denied a fact.
+pub use ldar_law::paragraph;

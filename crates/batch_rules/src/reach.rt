@@ -5,16 +5,16 @@ ghost use Rattle.batch_rules.specs.Among.{entered_or_0 as number_entered};
 use fact_kinds::FactBody;
 use ldar_law::is_registered;
 
-/// How far the entries of a batch in the register reach.
+/// How far a batch's entries in the register extend.
 #[derive(Clone, Copy)]
 pub struct Reach {
-    /// How many facts stand up to the last entry.
+    /// The number of facts up to the last entry.
     pub count: usize,
-    /// The greatest number of a component that they enter, or 0.
+    /// The greatest component number that they enter, or 0.
     pub greatest: u16,
 }
 
-/// Of a batch of which no fact has come.
+/// The reach of no facts.
 pub const NO_REACH: Reach = Reach {
     count: 0,
     greatest: 0,
@@ -31,7 +31,7 @@ fn entered_or_0(body: &FactBody) -> u16
 }
 
 impl Reach {
-    /// The reach where the fact at a place has come too.
+    /// The reach with one more fact, at this place of the batch.
     pub fn after(self, index: usize, body: &FactBody) -> Reach
         requires within { index < 2 ^ 16 }
         ensures count { result.count ≡ (if says_registered body.now then index + 1 else self.count) }

@@ -18,7 +18,7 @@ use crate::entries::{
     class_unsuited, day_too_late, entered_by_a_handheld, entered_twice, unit_unknown,
 };
 
-/// Which rules deny a fact, in order of number.
+/// For each of the 21 rules, in order, whether it denies the fact.
 fn findings(case: &Case) -> [bool; 21]
     ensures value { first_true result ≡ law.least_rule case.now }
 {
@@ -47,7 +47,7 @@ fn findings(case: &Case) -> [bool; 21]
     ]
 }
 
-/// The place of the first that is true, from 1.
+/// The place of the first true element, from 1.
 #[tactic(auto, unfolding(crate::specs::Table::first_true))]
 fn first_true(findings: &[bool; 21]) -> Option<u8>
     ensures value { result ≡ first_true findings.now }

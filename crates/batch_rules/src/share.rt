@@ -1,11 +1,11 @@
-/// How many valves count, and how many of them are difficult to monitor.
+/// The number of valves that count, and how many of them are difficult to monitor.
 #[derive(Clone, Copy)]
 pub struct Share {
     pub valves: u64,
     pub difficult: u64,
 }
 
-/// Nothing counts.
+/// No valves.
 pub const NOTHING: Share = Share {
     valves: 0,
     difficult: 0,

@@ -1,4 +1,4 @@
-//! How many valves of a process unit are in service on a day, and how many of them are difficult to monitor
+//! The number of valves of a process unit in service on a day, and how many of them are difficult to monitor
 //! (40 CFR 60.482-7a(h)(2)(ii)).
 
 ghost use Rattle.std.specs.Prelude.{◌≡◌, ◌+◌, ◌<◌, ◌≤◌, [], length, ◌^◌, sum_by};
@@ -9,7 +9,7 @@ ghost use Rattle.ldar_law.specs.ShareLaws.{adds, counts_as_difficult, counts_as_
 ghost use Rattle.batch_rules.specs.Known.{register_at, register_by};
 ghost use Rattle.batch_rules.specs.Shares.{added, changed as changed_by, is_difficult_on, share_in};
 
-use crate::known::Known;
+use crate::known_facts::Known;
 use crate::share::{NOTHING, Share};
 use component_register::Register;
 use fact_kinds::{FactBody, component_of};
@@ -34,7 +34,7 @@ fn is_difficult(known: &Known, item: &Equipment, day: Day) -> bool
     is_difficult_designated(known.class_of(item, day).designation)
 }
 
-/// What a component adds to the share of a process unit on a day.
+/// The share of a process unit on a day that a component adds.
 fn share_of(known: &Known, component: u16, unit: u8, day: Day) -> Share
     requires few { length known.now.front.now ≤ 512 }
     ensures value { result ≡ added unit day (register_at known.now) component }
@@ -77,7 +77,7 @@ fn share_of_all(known: &Known, components: &[u16], unit: u8, day: Day) -> Share
     share
 }
 
-/// The share by the register alone.
+/// The share from the register only.
 fn share_registered(register: &Register, unit: u8, day: Day) -> Share
     ensures value { result ≡ share_in unit day (register_with (facts_in register.now) []) }
     ensures few { (result.valves ≤ MOST_FACTS) × (result.difficult ≤ MOST_FACTS) }
@@ -92,7 +92,7 @@ fn share_registered(register: &Register, unit: u8, day: Day) -> Share
     share_of_all(&known, register.members(unit), unit, day)
 }
 
-/// The component of which a fact changes what the register holds.
+/// The component that a fact changes in the register.
 fn changed(body: &FactBody) -> Option<u16>
     ensures value { result ≡ changed_by body.now }
 {
@@ -103,7 +103,7 @@ fn changed(body: &FactBody) -> Option<u16>
     }
 }
 
-/// The share where a component adds otherwise than before.
+/// The share after a component's part of it changed.
 fn corrected(share: Share, before: Share, now: Share) -> Share
     requires valves { before.valves ≤ share.valves + now.valves }
     requires difficult { before.difficult ≤ share.difficult + now.difficult }
@@ -118,7 +118,7 @@ fn corrected(share: Share, before: Share, now: Share) -> Share
     }
 }
 
-/// The share where the fact at a place has come too.
+/// The share with one more fact, at this place of the batch.
 fn share_after(known: &Known, share: Share, index: usize, unit: u8, day: Day) -> Share
     requires within { index < length known.now.front.now }
     requires few { length known.now.front.now ≤ 512 }
@@ -138,7 +138,7 @@ fn share_after(known: &Known, share: Share, index: usize, unit: u8, day: Day) ->
     }
 }
 
-/// The share by the register and the facts of a batch.
+/// The share from the register and the facts of the batch.
 pub fn share_known(known: &Known, unit: u8, day: Day) -> Share
     requires few { length known.now.front.now ≤ 512 }
     ensures value { result ≡ share_in unit day (register_at known.now) }

@@ -1,19 +1,20 @@
-//! What `bench/denials.py` measures.
+//! The program that `bench/denials.py` measures.
 //!
-//! With `WORK SORT FACTS` it makes so many facts in batches of 512: `readings` with their calibrations, of a register of
-//! 20,000 valves, or an `import` of valves of which every 35th is difficult to monitor. Where WORK is `none` it makes
-//! them alone, with `insert` it enters those of an import, and with `judge` it asks for the verdict on each batch before.
-//! With no words it does a little of each.
+//! - `WORK SORT FACTS` makes that many facts in batches of 512. SORT is `readings`, with their calibrations, over a register
+//!   of 20,000 valves, or `import`, valves of which every 35th is difficult to monitor.
+//! - WORK is `none` to only make the facts, `insert` to enter the facts of an import, or `judge` to judge each batch before
+//!   it is entered.
+//! - Without words it does a little of each.
 #![tactic(auto)]
 
-mod made;
+mod bench_facts;
 mod office;
 
 use batch_rules::verdict;
+use bench_facts::{FactKind, batch_at, first_entries};
 use component_register::Register;
 use fact_kinds::Batch;
 use ldar_law::Verdict;
-use made::{Sort, batch_at, first_entries};
 use office::enter;
 use std::env;
 
@@ -36,7 +37,7 @@ fn a_little(rt: &HostRuntime) -> Result<(), anyhow::Error> {
 
 fn measured(rt: &HostRuntime, work: &str, sort: &str, facts: u32) -> Result<(), anyhow::Error> {
     let alloc = rt.alloc();
-    let kind = Sort::of(sort);
+    let kind = FactKind::of(sort);
     let mut register = Register::new(alloc);
     let mut entered = enter(&mut register, 0, &first_entries(alloc, kind)?)?;
     let mut passed = 0u64;
@@ -49,7 +50,7 @@ fn measured(rt: &HostRuntime, work: &str, sort: &str, facts: u32) -> Result<(), 
         if work == "judge" && verdict(&register, 1_000_000, &batch) == Verdict::Pass {
             passed = passed.saturating_add(1);
         }
-        if work != "none" && kind == Sort::Import {
+        if work != "none" && kind == FactKind::Import {
             entered = enter(&mut register, entered, batch.facts.as_slice())?;
         }
     }
@@ -57,7 +58,7 @@ fn measured(rt: &HostRuntime, work: &str, sort: &str, facts: u32) -> Result<(), 
     Ok(())
 }
 
-/// A sum over what the facts of a batch say, so that no making can be left out.
+/// A sum over the facts of a batch, so that the compiler cannot leave out making them.
 fn sum_of(batch: &Batch) -> u64 {
     let mut sum = 0u64;
     for fact in batch.facts.as_slice() {

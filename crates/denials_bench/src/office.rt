@@ -1,4 +1,4 @@
-//! A register into which the facts of batches are entered.
+//! A register that receives the facts of batches.
 
 ghost use Rattle.std.specs.Prelude.{◌≡◌, IfOk, IsTrue};
 ghost use Rattle.fact_store.specs.Kept.{facts_in};
@@ -9,7 +9,7 @@ use component_register::Register;
 use fact_kinds::{Fact, FactBody, Key, MOST_FACTS, Memory};
 use ldar_law::is_registered;
 
-/// Enters facts, each as a batch of its own with the next number. The result is how many there are then.
+/// Enters facts, each as a batch of its own with the next number. Returns the number of facts after that.
 pub fn enter(register: &mut Register, before: u32, facts: &[Fact]) -> Result<u32, Memory>
     requires numbered { AreNumbered before register.old.arrived }
     ensures numbered { IfOk result (λ entered. AreNumbered entered register.new.arrived) }
@@ -21,7 +21,7 @@ pub fn enter(register: &mut Register, before: u32, facts: &[Fact]) -> Result<u32
     Ok(entered)
 }
 
-/// Enters a fact, if it is an entry and the first of its number, and there is room.
+/// Enters a fact if it is an entry, the first of its number, and there is room.
 fn enter_one(register: &mut Register, before: u32, fact: &Fact) -> Result<u32, Memory>
     requires numbered { AreNumbered before register.old.arrived }
     ensures numbered { IfOk result (λ entered. AreNumbered entered register.new.arrived) }
@@ -37,7 +37,7 @@ fn enter_one(register: &mut Register, before: u32, fact: &Fact) -> Result<u32, M
     Ok(before + 1)
 }
 
-/// Whether a fact enters no number for the second time.
+/// Whether a fact enters a number that is not entered yet.
 fn is_first(register: &Register, body: &FactBody) -> bool
     ensures { IsTrue result → IsFirstOfNumber body.now (facts_in register.now) }
 {
@@ -48,7 +48,7 @@ fn is_first(register: &Register, body: &FactBody) -> bool
     }
 }
 
-/// The key of a fact that is alone in its batch.
+/// The key of a fact that is the only one of its batch.
 fn key_of(fact: &Fact, number: u32) -> Key
     ensures number { result.number ≡ number }
 {

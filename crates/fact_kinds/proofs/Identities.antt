@@ -13,17 +13,17 @@ use Rattle.fact_kinds.specs.Facts.{Entry, goes_first, key_of, entries_from, entr
 use Rattle.fact_kinds.specs.Identity.{is_same_identity, identities_differ}
 use Rattle.fact_kinds.proofs.KeyOrder.{apart_keys, tied_keys}
 
--- no element passes
+-- if none passes, each element fails
 all_fail : {X : Type 0} (p : X → Bool) (xs : List X) → list_any p xs ≡ false → AllByRecursion (λ x. p x ≡ false) xs
 all_fail p [] none = tt
 all_fail p (x ∷ xs) none = let parts = or_parts (p x) (list_any p xs) none in (parts.0, all_fail p xs parts.1)
 
--- where each fails the test, none passes it
+-- if each element fails, none passes
 none_passes : {X : Type 0} (p : X → Bool) (xs : List X) → AllByRecursion (λ x. p x ≡ false) xs → list_any p xs ≡ false
 none_passes p [] all = refl
 none_passes p (x ∷ xs) all = rw all.0 (none_passes p xs all.1)
 
--- identities that differ, in std's word
+-- different identities are distinct in std's sense
 pub distinct_identities : (history : List Batch) → IsTrue (identities_differ history) → IsDistinct is_same_identity history
 unfolding IsDistinct
 distinct_identities [] differ = tt
@@ -31,29 +31,29 @@ distinct_identities (batch ∷ batches) differ =
     let parts = and_parts (not (list_any (is_same_identity batch) batches)) (identities_differ batches) differ in
     (all_fail (is_same_identity batch) batches (not-true (list_any (is_same_identity batch) batches) parts.0), distinct_identities batches parts.1)
 
--- and back
+-- .. and the other way round
 identities_distinct : (history : List Batch) → IsDistinct is_same_identity history → IsTrue (identities_differ history)
 identities_distinct [] distinct = refl
 identities_distinct (batch ∷ batches) distinct =
     rw (none_passes (is_same_identity batch) batches (IsDistinct-head is_same_identity batch batches distinct))
     (identities_distinct batches (IsDistinct-tail is_same_identity batch batches distinct))
 
--- having the same identity does not depend on the order of the two
+-- having the same identity is symmetric
 identity_flips : (a b : Batch) → is_same_identity a b ≡ is_same_identity b a
 identity_flips a b = rw (nat_eq_equiv.symm a.handheld b.handheld, nat_eq_equiv.symm a.number b.number) refl
 
--- in any order of the batches
+-- a permutation of batches with different identities has different identities
 pub identities_stay : (history other : List Batch) → IsPermutation history other → IsTrue (identities_differ history) → IsTrue (identities_differ other)
 identities_stay history other moved differ =
     identities_distinct other (IsDistinct-IsPermutation is_same_identity identity_flips history other moved (distinct_identities history differ))
 
--- what an entry's key says of its batch
+-- an entry's key has the identity of its batch, and an index from this one on
 pub record Comes (batch : Batch) (index : ℕ) (entry : Entry) : Type 0 where
   pub handheld : entry.0.handheld ≡ batch.handheld
   pub number : entry.0.number ≡ batch.number
   pub behind : index ≤ entry.0.index
 
--- the entries of facts come from their batch, from their index on
+-- the entries of facts have the identity of their batch, and indexes from their first one on
 pub entries_come : (batch : Batch) (index : ℕ) (facts : List Stated) → AllByRecursion (Comes batch index) (entries_from batch index facts)
 entries_come batch index [] = tt
 entries_come batch index (fact ∷ facts) = (
@@ -63,7 +63,7 @@ entries_come batch index (fact ∷ facts) = (
       (entries_from batch (index + 1) facts) (entries_come batch (index + 1) facts),
 )
 
--- the facts of one batch differ in their places
+-- no two facts of one batch tie, since their indexes differ
 entries_apart : (batch : Batch) (index : ℕ) (facts : List Stated) → AllApart goes_first (entries_from batch index facts)
 entries_apart batch index [] = tt
 entries_apart batch index (fact ∷ facts) = (
@@ -74,7 +74,7 @@ entries_apart batch index (fact ∷ facts) = (
   entries_apart batch (index + 1) facts,
 )
 
--- those of two batches differ in handheld or number
+-- no facts of two batches tie, since handheld or number differs
 batches_apart : (a b : Batch) → is_same_identity a b ≡ false → (d e : Entry) → Among (entries_of a) d → Among (entries_of b) e
     → (goes_first d e || goes_first e d) ≡ true
 batches_apart a b differ d e of_a of_b =
@@ -86,7 +86,7 @@ batches_apart a b differ d e of_a of_b =
     let number : nat_eq a.number b.number ≡ true = eq-eqb a.number b.number (sym from_a.number ∙ tied.number ∙ from_b.number) in
     false≢true (sym differ ∙ rw (handheld, number) refl))
 
--- of each two facts of batches with identities that differ, one is before the other
+-- no two facts of batches with different identities tie
 pub history_apart : (history : List Batch) → IsTrue (identities_differ history) → AllApart goes_first (flat_map entries_of history)
 history_apart [] differ = tt
 history_apart (batch ∷ batches) differ =

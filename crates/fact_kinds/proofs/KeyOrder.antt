@@ -8,13 +8,13 @@ use Rattle.fact_kinds.specs.declared.key.Key.{Key}
 use Rattle.fact_kinds.specs.Facts.{key_cmp, is_earlier, goes_first}
 pub use Rattle.fact_kinds.specs.KeyLaws.{key_cmp_total}
 
--- an answer that is less, and one that is not
+-- an ordering for which `is_lt` is true is Less
 less_is : (o : Ordering) → is_lt o ≡ true → o ≡ Less
 less_is Less e = refl
 less_is Equal e = cc
 less_is Greater e = cc
 
--- an order by a total comparison of what is compared is strict
+-- being earlier, by the keys of any elements, is a strict order
 pub strict_earlier : {X : Type 0} (key : X → Key) → IsStrictOrder (λ a b. is_earlier (key a) (key b))
 strict_earlier key =
     record {
@@ -26,7 +26,7 @@ strict_earlier key =
 pub strict_goes_first : IsStrictOrder goes_first
 strict_goes_first = strict_earlier (λ e. e.0)
 
--- of two answers one is less, unless they are equal
+-- of an ordering that is not Equal and its reverse, one is Less
 apart_answer : (o p : Ordering) → o ≡ ordering_reverse p → ¬ (o ≡ Equal) → (is_lt o || is_lt p) ≡ true
 apart_answer Less p e differ = refl
 apart_answer Equal p e differ = absurd (differ refl)
@@ -34,11 +34,11 @@ apart_answer Greater Less e differ = refl
 apart_answer Greater Equal e differ = cc
 apart_answer Greater Greater e differ = cc
 
--- of two keys that do not tie one is the earlier
+-- of two keys that do not tie, one is earlier
 pub apart_keys : (a b : Key) → ¬ (key_cmp a b ≡ Equal) → (is_earlier a b || is_earlier b a) ≡ true
 apart_keys a b differ = apart_answer (key_cmp a b) (key_cmp b a) (key_cmp_total.antisymm a b) differ
 
--- of two opposite answers one of which is less, the first is not equal
+-- an ordering is not Equal if it or its reverse is Less
 answer_apart : (o p : Ordering) → o ≡ ordering_reverse p → (is_lt o || is_lt p) ≡ true → is_eq o ≡ false
 answer_apart Less p e apart = refl
 answer_apart Equal Less e apart = cc
@@ -46,11 +46,11 @@ answer_apart Equal Equal e apart = absurd (false≢true apart)
 answer_apart Equal Greater e apart = cc
 answer_apart Greater p e apart = refl
 
--- keys of which one is before the other do not tie
+-- two keys do not tie if one is earlier
 pub no_tie : (a b : Key) → (is_earlier a b || is_earlier b a) ≡ true → is_eq (key_cmp a b) ≡ false
 no_tie a b apart = answer_apart (key_cmp a b) (key_cmp b a) (key_cmp_total.antisymm a b) apart
 
--- what two comparisons call equal, each does
+-- if two comparisons together say Equal, each does
 then_tied : (o p : Ordering) → ordering_then o p ≡ Equal → (o ≡ Equal) × (p ≡ Equal)
 then_tied Less p e = cc
 then_tied Equal p e = (refl, e)
@@ -60,7 +60,7 @@ then_tied Greater p e = cc
 nat_tied : (x y : ℕ) → nat_cmp x y ≡ Equal → x ≡ y
 nat_tied x y e = subst (λ o. MatchOrdering o (x < y) (x ≡ y) (y < x)) e (ranked x y (nat_cmp x y) refl)
 
--- keys that tie are equal, part by part
+-- two keys have equal parts
 pub record Tied (a b : Key) : Type 0 where
   pub day : a.day ≡ b.day
   pub minute : a.minute ≡ b.minute
@@ -68,7 +68,7 @@ pub record Tied (a b : Key) : Type 0 where
   pub number : a.number ≡ b.number
   pub index : a.index ≡ b.index
 
--- keys that compare as equal are the same
+-- keys that compare as equal have equal parts
 pub tied_keys : (a b : Key) → key_cmp a b ≡ Equal → Tied a b
 tied_keys a b e =
     let days = then_tied (nat_cmp a.day b.day) _ e in

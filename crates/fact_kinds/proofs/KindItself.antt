@@ -1,4 +1,4 @@
--- What a fact says is told to be the same as itself.
+-- Each fact body equals itself, kind by kind.
 use Rattle.std.proofs.Common.{◌≡◌, ℕ, Bool, true, List, Option, arith}
 use Rattle.std.proofs.lemmas.Bool.Decides.{nat_tests}
 use Rattle.fact_kinds.specs.declared.class.Class.{Class}
@@ -14,97 +14,97 @@ use Rattle.fact_kinds.specs.contracts.body.FactBodyPartialEq.TheImpl as bodies
 use Rattle.fact_kinds.proofs.FieldEquality.{kind_itself, purpose_itself, state_itself, sort_itself, class_itself}
 use Rattle.fact_kinds.proofs.FieldEquality.{flag_itself, name_itself}
 
--- so it is of units
+-- a unit's body equals itself
 unit_fact_itself : (u : ℕ) (older : Bool) (name : List ℕ)
     → (bodies.eq-value).it (UnitFact u older name) (UnitFact u older name) ≡ true
 unit_fact_itself u older name =
     grind (arith, nat_tests, name_itself, flag_itself, kind_itself, class_itself, purpose_itself, state_itself, sort_itself)
 
--- so it is of components
+-- a component's body equals itself
 component_fact_itself : (c : ℕ) (u : ℕ) (kind : Kind) (monomer : Bool) (replaces : Bool) (class : Class)
     → (bodies.eq-value).it (ComponentFact c u kind monomer replaces class) (ComponentFact c u kind monomer replaces class) ≡ true
 component_fact_itself c u kind monomer replaces class =
     grind (arith, nat_tests, name_itself, flag_itself, kind_itself, class_itself, purpose_itself, state_itself, sort_itself)
 
--- so it is of classes
+-- a class's body equals itself
 class_fact_itself : (c : ℕ) (class : Class)
     → (bodies.eq-value).it (ClassFact c class) (ClassFact c class) ≡ true
 class_fact_itself c class =
     grind (arith, nat_tests, name_itself, flag_itself, kind_itself, class_itself, purpose_itself, state_itself, sort_itself)
 
--- so it is of retirements
+-- a retirement's body equals itself
 retire_fact_itself : (c : ℕ)
     → (bodies.eq-value).it (Retire c) (Retire c) ≡ true
 retire_fact_itself c =
     grind (arith, nat_tests, name_itself, flag_itself, kind_itself, class_itself, purpose_itself, state_itself, sort_itself)
 
--- so it is of elections
+-- an election's body equals itself
 election_fact_itself : (u : ℕ) (mode : ℕ) (notified : ℕ)
     → (bodies.eq-value).it (Election u mode notified) (Election u mode notified) ≡ true
 election_fact_itself u mode notified =
     grind (arith, nat_tests, name_itself, flag_itself, kind_itself, class_itself, purpose_itself, state_itself, sort_itself)
 
--- so it is of shutdowns
+-- a shutdown's body equals itself
 shutdown_fact_itself : (u : ℕ) (days : ℕ)
     → (bodies.eq-value).it (Shutdown u days) (Shutdown u days) ≡ true
 shutdown_fact_itself u days =
     grind (arith, nat_tests, name_itself, flag_itself, kind_itself, class_itself, purpose_itself, state_itself, sort_itself)
 
--- so it is of calibrations
+-- a calibration's body equals itself
 calibration_fact_itself : (i : ℕ) (gas : ℕ)
     → (bodies.eq-value).it (Calibration i gas) (Calibration i gas) ≡ true
 calibration_fact_itself i gas =
     grind (arith, nat_tests, name_itself, flag_itself, kind_itself, class_itself, purpose_itself, state_itself, sort_itself)
 
--- so it is of precision tests
+-- a precision test's body equals itself
 precision_fact_itself : (i : ℕ) (value : ℕ) (readings : ℕ × ℕ × ℕ)
     → (bodies.eq-value).it (Precision i value readings) (Precision i value readings) ≡ true
 precision_fact_itself i value readings =
     grind (arith, nat_tests, name_itself, flag_itself, kind_itself, class_itself, purpose_itself, state_itself, sort_itself)
 
--- so it is of drift assessments
+-- a drift assessment's body equals itself
 drift_fact_itself : (i : ℕ) (value : ℕ) (readings : ℕ × ℕ × ℕ)
     → (bodies.eq-value).it (Drift i value readings) (Drift i value readings) ≡ true
 drift_fact_itself i value readings =
     grind (arith, nat_tests, name_itself, flag_itself, kind_itself, class_itself, purpose_itself, state_itself, sort_itself)
 
--- so it is of readings
+-- a reading's body equals itself
 reading_fact_itself : (c : ℕ) (i : ℕ) (o : ℕ) (purpose : Purpose) (ppm : ℕ) (background : ℕ)
     → (bodies.eq-value).it (Reading c i o purpose ppm background) (Reading c i o purpose ppm background) ≡ true
 reading_fact_itself c i o purpose ppm background =
     grind (arith, nat_tests, name_itself, flag_itself, kind_itself, class_itself, purpose_itself, state_itself, sort_itself)
 
--- so it is of visual inspections
+-- a visual inspection's body equals itself
 visual_fact_itself : (c : ℕ) (state : VisualState)
     → (bodies.eq-value).it (Visual c state) (Visual c state) ≡ true
 visual_fact_itself c state =
     grind (arith, nat_tests, name_itself, flag_itself, kind_itself, class_itself, purpose_itself, state_itself, sort_itself)
 
--- so it is of attempts
+-- an attempt's body equals itself
 attempt_fact_itself : (c : ℕ) (complete : Bool)
     → (bodies.eq-value).it (Attempt c complete) (Attempt c complete) ≡ true
 attempt_fact_itself c complete =
     grind (arith, nat_tests, name_itself, flag_itself, kind_itself, class_itself, purpose_itself, state_itself, sort_itself)
 
--- so it is of delays
+-- a delay's body equals itself
 delay_fact_itself : (c : ℕ) (reason : ℕ) (signer : ℕ) (expected : Option ℕ)
     → (bodies.eq-value).it (Delay c reason signer expected) (Delay c reason signer expected) ≡ true
 delay_fact_itself c reason signer expected =
     grind (arith, nat_tests, name_itself, flag_itself, kind_itself, class_itself, purpose_itself, state_itself, sort_itself)
 
--- so it is of releases
+-- a release's body equals itself
 release_fact_itself : (c : ℕ)
     → (bodies.eq-value).it (Release c) (Release c) ≡ true
 release_fact_itself c =
     grind (arith, nat_tests, name_itself, flag_itself, kind_itself, class_itself, purpose_itself, state_itself, sort_itself)
 
--- so it is of indications
+-- an indication's body equals itself
 indication_fact_itself : (c : ℕ) (sort : Sort) (present : Bool)
     → (bodies.eq-value).it (Indication c sort present) (Indication c sort present) ≡ true
 indication_fact_itself c sort present =
     grind (arith, nat_tests, name_itself, flag_itself, kind_itself, class_itself, purpose_itself, state_itself, sort_itself)
 
--- and so of each kind
+-- every body equals itself
 pub body_itself : (a : FactBody) → (bodies.eq-value).it a a ≡ true
 body_itself (UnitFact a b c) = unit_fact_itself a b c
 body_itself (ComponentFact a b c d e f) = component_fact_itself a b c d e f

@@ -16,21 +16,21 @@ use Rattle.fact_kinds.specs.Identity.{identities_differ}
 use Rattle.fact_kinds.proofs.Identities.{identities_stay, history_apart}
 use Rattle.fact_kinds.proofs.KeyOrder.{strict_goes_first}
 
--- the facts of the same batches in another order are the same ones
+-- a permutation of the batches has the same facts as members
 flat_map_moved : {X A : Type 0} (f : X → List A) (xs ys : List X) (z : A) → IsPermutation xs ys → Among (flat_map f xs) z ↔ Among (flat_map f ys) z
 flat_map_moved f xs ys z moved = (
   λ h. let found = among_flat_map f xs z h in flat_map_among f ys found.0 z ((among_permutation xs ys found.0 moved).0 found.1) found.2,
   λ h. let found = among_flat_map f ys z h in flat_map_among f xs found.0 z ((among_permutation xs ys found.0 moved).1 found.1) found.2,
 )
 
--- batches in another order have the same facts
+-- a permutation of the batches has the same facts in the same order
 pub order_free : (history other : List Batch) → IsPermutation history other → IsTrue (identities_differ history) → facts_of other ≡ facts_of history
 order_free history other moved differ =
     sym (same_in_order goes_first strict_goes_first (flat_map entries_of history) (flat_map entries_of other)
     (history_apart history differ) (history_apart other (identities_stay history other moved differ))
     (λ z. flat_map_moved entries_of history other z moved))
 
--- the facts stand in the order of their keys
+-- the facts are in key order
 pub facts_ascend : (history : List Batch) → IsTrue (identities_differ history) → Ascends goes_first (facts_of history)
 facts_ascend history differ = ascends_in_order goes_first strict_goes_first (flat_map entries_of history) (history_apart history differ)
 
@@ -46,13 +46,13 @@ flat_length (batch ∷ batches) =
     length-append (entries_of batch) (flat_map entries_of batches)
     ∙ rw (length-entries_from batch 0 batch.facts, flat_length batches) (sym (sum_by-cons (λ b. length b.facts) batch batches))
 
--- there are as many facts as the batches have
+-- the number of facts is the sum over the batches
 pub facts_count : (history : List Batch) → length (facts_of history) ≡ sum_by (λ batch. length batch.facts) history
 facts_count history =
     length_permutation (flat_map entries_of history) (facts_of history) (in_order_permutes goes_first (flat_map entries_of history))
     ∙ flat_length history
 
--- one more batch's facts join the others in their order
+-- a further batch inserts each of its facts at its place
 pub one_more_batch : (history : List Batch) (batch : Batch) → IsTrue (identities_differ (history ++ batch ∷ []))
     → facts_of (history ++ batch ∷ []) ≡ put_each goes_first (entries_of batch) (facts_of history)
 one_more_batch history batch differ =
@@ -77,7 +77,7 @@ entry_is batch index (fact ∷ facts) entry h =
           (suc found.0, found.1, subst (λ n. entry.0 ≡ key_of batch n entry.1) place found.2)
     ]
 
--- the fact at a place of a batch has an entry with that index
+-- the fact at a place of a batch has an entry with its index
 entry_from : (batch : Batch) (index : ℕ) (facts : List Stated) (k : ℕ) (fact : Stated) → slice_get facts k ≡ Some fact
     → Among (entries_from batch index facts) (key_of batch (index + k) fact, fact)
 entry_from batch index [] k fact e = cc
@@ -89,7 +89,7 @@ entry_from batch index (first ∷ facts) (suc k) fact e =
     let place : index + 1 + k ≡ index + suc k = omega arith in
     inr (subst (λ n. Among (entries_from batch (index + 1) facts) (key_of batch n fact, fact)) place (entry_from batch (index + 1) facts k fact e))
 
--- the facts of batches are those that stand in them
+-- the facts of a history are exactly the facts in its batches
 pub facts_are_those_of : (history : List Batch) (entry : Entry) → Contains (facts_of history) entry ↔ IsFactOf history entry
 facts_are_those_of history entry =
     let moved = among_in_order goes_first (flat_map entries_of history) entry in (

@@ -1,4 +1,4 @@
--- The table of bytes: the fields of a fact, each in its width and within its ranges.
+-- The table of bytes: the fields of a fact, each with its width and its ranges.
 use Rattle.std.specs.Prelude.{ℕ, ◌/◌, ◌%◌, ◌^◌, ◌≤◌, ◌⊎◌, suc, zero, Bool, if◌then◌else◌, List, [], ◌∷◌, Option, Some, None}
 use Rattle.std.specs.List.{AllByRecursion}
 use Rattle.fact_kinds.specs.declared.class.Class.{Class}
@@ -21,23 +21,23 @@ use Rattle.fact_kinds.specs.declared.body.FactBody.TheVariants.{Indication}
 use Rattle.fact_kinds.specs.Name.{IsName, spelled_name}
 use Rattle.fact_kinds.specs.Stated.{Stated}
 
--- A field of the table of bytes: a number in so many bytes, within one of these ranges, or a name in twelve.
+-- A field of the table: a number of some width in bytes within one of the ranges, or a name in twelve bytes.
 pub data Field : Type 0 where
   number : (width : ℕ) (ranges : List (ℕ × ℕ)) (value : ℕ) → Field
   name : (bytes : List ℕ) → Field
 
--- the number lies in one of the ranges
+-- the number is in one of the ranges, ends included
 abbrev pub IsAmong : ℕ → List (ℕ × ℕ) → Type 0
 IsAmong n [] = ⊥
 IsAmong n (range ∷ []) = (range.0 ≤ n) × (n ≤ range.1)
 IsAmong n (range ∷ other ∷ ranges) = ((range.0 ≤ n) × (n ≤ range.1)) ⊎ IsAmong n (other ∷ ranges)
 
--- the field holds what it may hold
+-- the field's value is in its range
 abbrev pub IsFilled : Field → Type 0
 IsFilled (number width ranges value) = IsAmong value ranges
 IsFilled (name bytes) = IsName bytes
 
--- a number in so many bytes, the greatest first
+-- a number in some width of bytes, the most significant byte first
 abbrev pub big_endian : ℕ → ℕ → List ℕ
 big_endian zero n = []
 big_endian (suc width) n = (n / 256 ^ width % 256) ∷ big_endian width n
@@ -49,23 +49,23 @@ bytes_of (name bytes) = spelled_name bytes
 
 -- ---- the ranges of the table
 
--- the letter B, with which a batch begins
+-- the letter B, the first byte of a batch
 abbrev pub first_letters : List (ℕ × ℕ)
 first_letters = (66, 66) ∷ []
 
--- who sends a batch
+-- handhelds: any number of two bytes
 abbrev pub handhelds : List (ℕ × ℕ)
 handhelds = (0, 65_535) ∷ []
 
--- the number of a batch at its handheld
+-- batch numbers: any number of four bytes
 abbrev pub batch_numbers : List (ℕ × ℕ)
 batch_numbers = (0, 4_294_967_295) ∷ []
 
--- how many facts a batch has
+-- the number of facts in a batch
 abbrev pub counts : List (ℕ × ℕ)
 counts = (1, 512) ∷ []
 
--- days from 2008-01-01 to 2099-12-31, since 1970-01-01
+-- days from 2008-01-01 to 2099-12-31, counted from 1970-01-01
 abbrev pub days : List (ℕ × ℕ)
 days = (13_879, 47_481) ∷ []
 
@@ -73,7 +73,7 @@ days = (13_879, 47_481) ∷ []
 abbrev pub days_or_none : List (ℕ × ℕ)
 days_or_none = (0, 0) ∷ days
 
--- minutes of a day
+-- minutes of a day, from 0
 abbrev pub minutes : List (ℕ × ℕ)
 minutes = (0, 1_439) ∷ []
 
@@ -93,35 +93,35 @@ components = (1, 60_000) ∷ []
 abbrev pub instruments : List (ℕ × ℕ)
 instruments = (1, 65_535) ∷ []
 
--- a number of an instrument or a person, or 0 for none
+-- the number of an instrument or a person, or 0 for none
 abbrev pub numbers_or_none : List (ℕ × ℕ)
 numbers_or_none = (0, 65_535) ∷ []
 
--- parts per million that were read
+-- concentrations of a reading, in ppm by volume
 abbrev pub concentrations : List (ℕ × ℕ)
 concentrations = (0, 999_999) ∷ []
 
--- parts per million of a gas
+-- concentrations of a calibration gas, in ppm by volume
 abbrev pub known_values : List (ℕ × ℕ)
 known_values = (1, 999_999) ∷ []
 
--- no and yes
+-- 0 for no and 1 for yes
 abbrev pub flags : List (ℕ × ℕ)
 flags = (0, 1) ∷ []
 
--- what a component is
+-- the types of components
 abbrev pub component_kinds : List (ℕ × ℕ)
 component_kinds = (1, 4) ∷ []
 
--- what flows through a component
+-- the services of components
 abbrev pub services : List (ℕ × ℕ)
 services = (1, 5) ∷ []
 
--- how a component is designated
+-- the designations of components
 abbrev pub designations : List (ℕ × ℕ)
 designations = (0, 3) ∷ []
 
--- a plan has 1 to 60 months where the component is unsafe to monitor, and else none
+-- the months of a plan: 1 to 60 for an unsafe-to-monitor component, and otherwise 0
 abbrev pub plans : Designation → List (ℕ × ℕ)
 plans Plain = (0, 0) ∷ []
 plans Nde = (0, 0) ∷ []
@@ -132,31 +132,31 @@ plans Difficult = (0, 0) ∷ []
 abbrev pub months : List (ℕ × ℕ)
 months = (1, 3) ∷ []
 
--- the programmes of skip periods: none, 1 and 3
+-- the skip period programs: 0 for none, 1 and 3
 abbrev pub modes : List (ℕ × ℕ)
 modes = (0, 1) ∷ (3, 3) ∷ []
 
--- the days of a shutdown
+-- the length of a shutdown, in days
 abbrev pub shutdown_lengths : List (ℕ × ℕ)
 shutdown_lengths = (1, 366) ∷ []
 
--- why a reading was taken
+-- the purposes of readings
 abbrev pub purposes : List (ℕ × ℕ)
 purposes = (1, 2) ∷ []
 
--- what a visual inspection found
+-- the results of visual inspections
 abbrev pub visual_states : List (ℕ × ℕ)
 visual_states = (0, 2) ∷ []
 
--- withdrawn, or one of the grounds (a) to (e)
+-- 0 for a withdrawal, or one of the grounds (a) to (e) of 60.482-9a
 abbrev pub grounds : List (ℕ × ℕ)
 grounds = (0, 5) ∷ []
 
--- what an indication speaks of
+-- the kinds of indications
 abbrev pub sorts : List (ℕ × ℕ)
 sorts = (1, 2) ∷ []
 
--- ---- the fields that several kinds have
+-- ---- the fields that several kinds share
 
 -- the number of a component
 abbrev pub component : ℕ → Field
@@ -170,30 +170,30 @@ unit n = number 1 units n
 abbrev pub instrument : ℕ → Field
 instrument n = number 2 instruments n
 
--- the number of an instrument or a person, or 0
+-- the number of an instrument or a person, or 0 for none
 abbrev pub number_or_none : ℕ → Field
 number_or_none n = number 2 numbers_or_none n
 
--- a concentration that was read
+-- a concentration of a reading
 abbrev pub concentration : ℕ → Field
 concentration n = number 4 concentrations n
 
--- the concentration of a gas
+-- a concentration of a calibration gas
 abbrev pub known_value : ℕ → Field
 known_value n = number 4 known_values n
 
--- yes is 1 and no is 0
+-- 1 for yes and 0 for no
 abbrev pub flag : Bool → Field
 flag b = number 1 flags (if b then 1 else 0)
 
--- the number of what a component is
+-- the number of a component's type
 abbrev pub kind_number : Kind → ℕ
 kind_number Valve = 1
 kind_number Pump = 2
 kind_number Compressor = 3
 kind_number Relief = 4
 
--- the number of what flows through a component
+-- the number of a service
 abbrev pub service_number : Service → ℕ
 service_number Gas = 1
 service_number Light = 2
@@ -221,13 +221,13 @@ abbrev pub purpose_number : Purpose → ℕ
 purpose_number Routine = 1
 purpose_number FollowUp = 2
 
--- the number of what was found
+-- the number of a visual inspection's result
 abbrev pub state_number : VisualState → ℕ
 state_number Dry = 0
 state_number Drips = 1
 state_number Designated = 2
 
--- the number of what an indication speaks of
+-- the number of an indication's kind
 abbrev pub sort_number : Sort → ℕ
 sort_number Sensor = 1
 sort_number Evidence = 2
@@ -237,7 +237,7 @@ abbrev pub day_or_none : Option ℕ → Field
 day_or_none None = number 2 ((0, 0) ∷ []) 0
 day_or_none (Some day) = number 2 days day
 
--- three readings, one after the other
+-- three concentrations, in order
 abbrev pub readings_fields : ℕ × ℕ × ℕ → List Field
 readings_fields r = concentration r.0 ∷ concentration r.1 ∷ concentration r.2 ∷ []
 

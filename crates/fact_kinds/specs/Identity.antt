@@ -1,10 +1,10 @@
--- What tells one batch from another, and where a batch stands in a history.
+-- The identity of a batch, and the batch's position in a history.
 use Rattle.std.specs.Prelude.{ℕ, Bool, true, ◌&&◌, nat_eq, not, Option, List, [], ◌∷◌}
 use Rattle.std.specs.List.{list_any, position_from}
 use Rattle.fact_kinds.specs.declared.batch.Batch.{Batch}
 use Rattle.fact_kinds.specs.declared.identity.Identity.{Identity}
 
--- what tells a batch apart: who sent it, and its number there
+-- the handheld that sent the batch, and the batch's number there
 abbrev pub identity_of : Batch → Identity
 identity_of batch = record { handheld = batch.handheld; number = batch.number }
 
@@ -12,11 +12,11 @@ identity_of batch = record { handheld = batch.handheld; number = batch.number }
 abbrev pub is_of : Identity → Batch → Bool
 is_of identity batch = nat_eq identity.handheld batch.handheld && nat_eq identity.number batch.number
 
--- two batches have one identity
+-- two batches have the same identity
 abbrev pub is_same_identity : Batch → Batch → Bool
 is_same_identity a b = is_of (identity_of a) b
 
--- no two batches of a history have one identity
+-- no two batches of a history have the same identity
 abbrev pub identities_differ : List Batch → Bool
 identities_differ [] = true
 identities_differ (batch ∷ batches) = not (list_any (is_same_identity batch) batches) && identities_differ batches

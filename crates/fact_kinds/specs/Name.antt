@@ -12,6 +12,6 @@ pub record IsName (name : List ℕ) : Type 0 where
   pub fits : length name ≤ 12
   pub letters : IsTrue (list_all is_name_byte name)
 
--- a name in its twelve bytes, with zero bytes behind it
+-- a name, followed by zero bytes up to twelve
 abbrev pub spelled_name : List ℕ → List ℕ
 spelled_name name = name ++ replicate (12 - length name) 0

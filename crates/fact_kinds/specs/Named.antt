@@ -1,11 +1,11 @@
--- Which component, process unit and instrument a fact names. Each kind is listed, so that a new one is asked for.
+-- The component, process unit and instrument of a fact. Every kind is listed, so that a new one has to be added here.
 use Rattle.std.specs.Prelude.{ℕ, Bool, false, nat_eq, Option, Some, None}
 use Rattle.fact_kinds.specs.declared.body.FactBody.{FactBody}
 use Rattle.fact_kinds.specs.declared.body.FactBody.TheVariants.{Unit as UnitFact, Component as ComponentFact, Class as ClassFact, Retire, Election}
 use Rattle.fact_kinds.specs.declared.body.FactBody.TheVariants.{Shutdown, Calibration, Precision, Drift, Reading, Visual, Attempt, Delay, Release}
 use Rattle.fact_kinds.specs.declared.body.FactBody.TheVariants.{Indication}
 
--- the component that a fact names
+-- the component of a fact, if its kind has one
 abbrev pub component_of : FactBody → Option ℕ
 component_of (ComponentFact c _ _ _ _ _) = Some c
 component_of (ClassFact c _) = Some c
@@ -23,7 +23,7 @@ component_of (Calibration _ _) = None
 component_of (Precision _ _ _) = None
 component_of (Drift _ _ _) = None
 
--- the process unit that a fact names
+-- the process unit of a fact, if its kind has one
 abbrev pub unit_of : FactBody → Option ℕ
 unit_of (UnitFact u _ _) = Some u
 unit_of (ComponentFact _ u _ _ _ _) = Some u
@@ -41,7 +41,7 @@ unit_of (Delay _ _ _ _) = None
 unit_of (Release _) = None
 unit_of (Indication _ _ _) = None
 
--- the instrument that a calibration, a precision test or a drift assessment is of
+-- the instrument of a calibration, a precision test or a drift assessment
 abbrev pub tested_instrument : FactBody → Option ℕ
 tested_instrument (Calibration i _) = Some i
 tested_instrument (Precision i _ _) = Some i
@@ -59,7 +59,7 @@ tested_instrument (Delay _ _ _ _) = None
 tested_instrument (Release _) = None
 tested_instrument (Indication _ _ _) = None
 
--- the instrument of a reading
+-- the instrument of a reading, 0 if it has none
 abbrev pub reading_instrument : FactBody → Option ℕ
 reading_instrument (Reading _ i _ _ _ _) = Some i
 reading_instrument (UnitFact _ _ _) = None
@@ -77,7 +77,7 @@ reading_instrument (Delay _ _ _ _) = None
 reading_instrument (Release _) = None
 reading_instrument (Indication _ _ _) = None
 
--- the number, if there is one, is this
+-- the optional number is this one
 abbrev pub is_numbered : Option ℕ → ℕ → Bool
 is_numbered None n = false
 is_numbered (Some m) n = nat_eq m n

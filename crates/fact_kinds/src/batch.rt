@@ -3,7 +3,7 @@ ghost use Rattle.std.specs.Prelude.{◌≡◌, ℕ, ◌<◌, ◌≤◌, length, 
 use crate::fact::Fact;
 use std::marker::Model;
 
-/// The facts of a batch, 1 to 512. Contracts see the list.
+/// The facts of a batch, 1 to 512. In contracts it is its list.
 #[derive(Drop)]
 pub struct FactList {
     facts: Vec<Fact>,
@@ -21,7 +21,7 @@ impl Model for FactList {
 }
 
 impl FactList {
-    /// These facts, if there are 1 to 512.
+    /// A list of these facts, or `None` if there are not 1 to 512.
     pub fn new(facts: Vec<Fact>) -> Option<FactList>
         ensures none { IsNone result → ¬ ((0 < vec_len facts) × (vec_len facts ≤ 512)) }
         ensures value { IfSome result (λ list. list ≡ facts.items) }
@@ -43,7 +43,7 @@ impl FactList {
     }
 }
 
-/// What a handheld sends at once. Handheld and number are its identity.
+/// What a handheld sends at once. Its identity is the handheld and the number.
 #[derive(Drop)]
 pub struct Batch {
     pub handheld: u16,
@@ -52,7 +52,7 @@ pub struct Batch {
 }
 
 impl Batch {
-    /// A batch of these facts, if there are 1 to 512.
+    /// A batch of these facts, or `None` if there are not 1 to 512.
     pub fn new(handheld: u16, number: u32, facts: Vec<Fact>) -> Option<Batch>
         ensures none { IsNone result → ¬ ((0 < vec_len facts) × (vec_len facts ≤ 512)) }
         ensures value { IfSome result (λ batch.

@@ -5,9 +5,9 @@ use ldar_days::Day;
 /// Why a reading was taken.
 #[derive(Clone, Copy, Debug, PartialEq, Eq)]
 pub enum Purpose {
-    /// A monitoring that a period asks for.
+    /// A monitoring that the monitoring period requires.
     Routine,
-    /// A look after a repair or between two monitorings.
+    /// A reading after a repair or between two monitorings.
     FollowUp,
 }
 
@@ -20,27 +20,27 @@ pub enum VisualState {
     Designated,
 }
 
-/// What an indication speaks of.
+/// The kind of an indication.
 #[derive(Clone, Copy, Debug, PartialEq, Eq)]
 pub enum Sort {
     /// A compressor's barrier fluid sensor (40 CFR 60.482-3a(e)).
     Sensor,
-    /// A potential leak found by sight, sound, smell or another way (40 CFR 60.482-8a(a)).
+    /// A potential leak found by sight, sound, smell or another method (40 CFR 60.482-8a(a)).
     Evidence,
 }
 
-/// What a fact says. Numbers of components go from 1 to 60,000, of units from 1 to 64; concentrations are in
-/// parts per million by volume. A fact keeps each field in its range.
+/// What a fact states. Each field is in its range: components from 1 to 60,000, units from 1 to 64,
+/// concentrations in parts per million by volume.
 #[derive(Clone, Copy, PartialEq, Eq)]
 pub enum FactBody {
-    /// A process unit, initially started up on the fact's day (40 CFR 60.481a).
+    /// A process unit, whose initial startup is on the fact's day (40 CFR 60.481a).
     Unit {
         unit: u8,
-        /// The share of difficult valves has no bound.
+        /// The share of difficult-to-monitor valves is not limited.
         older: bool,
         name: Name,
     },
-    /// A component, whose startup period has ended by the fact's day.
+    /// A component; its startup period has ended by the fact's day.
     Component {
         component: u16,
         unit: u8,
@@ -56,17 +56,17 @@ pub enum FactBody {
         component: u16,
         class: Class,
     },
-    /// A component that is out of service from the fact's day on.
+    /// A component is out of service from the fact's day on.
     Retire {
         component: u16,
     },
-    /// The programme of skip periods from the fact's day on: 0 none, 1 or 3 (40 CFR 60.483-2a).
+    /// The skip period program from the fact's day on: 0 for none, 1 or 3 (40 CFR 60.483-2a).
     Election {
         unit: u8,
         mode: u8,
         notified: Day,
     },
-    /// A process unit shutdown of so many days, 1 to 366, from the fact's day on.
+    /// A process unit shutdown of 1 to 366 days, the first of them the fact's day.
     Shutdown {
         unit: u8,
         days: u16,
@@ -88,7 +88,7 @@ pub enum FactBody {
         value: u32,
         readings: (u32, u32, u32),
     },
-    /// A reading at a component (40 CFR 60.485a(b)). Instrument 0 and operator 0 are none.
+    /// A reading at a component (40 CFR 60.485a(b)). Instrument 0 and operator 0 mean none.
     Reading {
         component: u16,
         instrument: u16,
@@ -102,13 +102,13 @@ pub enum FactBody {
         component: u16,
         state: VisualState,
     },
-    /// An attempt at a repair; complete where a sensor's leak is repaired by it.
+    /// An attempt at a repair. It is complete if it repairs a leak that a sensor indicated.
     Attempt {
         component: u16,
         complete: bool,
     },
-    /// A delay of repair (40 CFR 60.482-9a) of ground 1 to 5, for (a) to (e), or 0 where it is withdrawn.
-    /// Signer 0 is none.
+    /// A delay of repair (40 CFR 60.482-9a). Grounds 1 to 5 are paragraphs (a) to (e), and 0 withdraws the delay.
+    /// Signer 0 means none.
     Delay {
         component: u16,
         ground: u8,

@@ -1,4 +1,4 @@
-/// What a component is.
+/// The type of a component.
 #[derive(Clone, Copy, Debug, PartialEq, Eq)]
 pub enum Kind {
     Valve,
@@ -7,7 +7,7 @@ pub enum Kind {
     Relief,
 }
 
-/// What flows through a component, or that it is left out of the programme.
+/// The service of a component, or the reason that excludes it from the program.
 #[derive(Clone, Copy, Debug, PartialEq, Eq)]
 pub enum Service {
     /// In gas or vapor service.
@@ -22,12 +22,12 @@ pub enum Service {
     Under300,
 }
 
-/// How a component is designated.
+/// The designation of a component.
 #[derive(Clone, Copy, Debug, PartialEq, Eq)]
 pub enum Designation {
-    /// Not designated.
+    /// No designation.
     Plain,
-    /// For no detectable emissions (40 CFR 60.482-2a(e), 60.482-3a(i), 60.482-7a(f)).
+    /// Designated for no detectable emissions (40 CFR 60.482-2a(e), 60.482-3a(i), 60.482-7a(f)).
     Nde,
     /// Unsafe to monitor (40 CFR 60.482-2a(g), 60.482-7a(g)).
     Unsafe,
@@ -35,13 +35,13 @@ pub enum Designation {
     Difficult,
 }
 
-/// What the register says of a component from a day on.
+/// The class of a component from a day on.
 #[derive(Clone, Copy, Debug, PartialEq, Eq)]
 pub struct Class {
     pub service: Service,
     pub designation: Designation,
-    /// The months between monitorings by the written plan of a component that is unsafe to monitor, 1 to 60;
-    /// 0 with every other designation.
+    /// The months between monitorings in the written plan of an unsafe-to-monitor component, 1 to 60.
+    /// It is 0 for every other designation.
     pub plan: u8,
     /// The month of the quarter, 1 to 3, in which the component is monitored.
     pub month: u8,

@@ -4,7 +4,7 @@ use crate::body::FactBody;
 use ldar_days::Day;
 use std::marker::Model;
 
-/// What was entered, for which day and minute (0 to 1439). Each field is in its range.
+/// An entry, with its day and its minute of the day (0 to 1439). Each field is in its range.
 #[derive(Clone, Copy, PartialEq, Eq)]
 pub struct Fact {
     pub day: Day,

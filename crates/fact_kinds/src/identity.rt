@@ -3,7 +3,7 @@ ghost use Rattle.fact_kinds.specs.Identity.{identity_of};
 
 use crate::batch::{Batch, FactList};
 
-/// Who sent a batch, and under which number. Ordered by the handheld, then by the number.
+/// The handheld that sent a batch, and the batch's number there. Ordered by handheld, then by number.
 #[derive(Clone, Copy, Debug, PartialEq, Eq, PartialOrd, Ord, Hash)]
 pub struct Identity {
     pub handheld: u16,
@@ -11,7 +11,7 @@ pub struct Identity {
 }
 
 impl Batch {
-    /// The identity, by which a batch that comes again is known.
+    /// The batch's identity, by which a repeated batch is recognized.
     pub fn identity(&self) -> Identity
         ensures value { result ≡ identity_of self.now }
     {
@@ -21,7 +21,7 @@ impl Batch {
         }
     }
 
-    /// Whether the other batch is the same in all its parts.
+    /// Whether the other batch is equal in all its parts.
     pub fn same_content(&self, other: &Batch) -> bool
         ensures value { IsTrue result ↔ (self.now ≡ other.now) }
     {

@@ -1,3 +1,5 @@
+//! Keys of facts. `Ord` is written by hand and cites `key_cmp`, since the fields are not in the order in which they compare.
+
 ghost use Rattle.std.specs.Prelude.{◌≡◌};
 ghost use Rattle.std.proofs.Common.{rules};
 ghost use Rattle.std.specs.Cmp.{partial_order_from_own_ties, partial_order_from_total};
@@ -9,8 +11,8 @@ ghost use Rattle.fact_kinds.specs.KeyLaws.{key_cmp_total};
 use ldar_days::Day;
 use std::cmp::Ordering;
 
-/// Where a fact stands among all facts: ordered by day, minute, handheld, batch number and index in the batch,
-/// from 0. The index lies before the number, where it leaves no gap.
+/// The place of a fact in the order of all facts: by day, minute, handheld, batch number and index in the batch.
+/// The index counts from 0. It is declared before the number so that the struct has no padding.
 #[derive(Clone, Copy, Debug, PartialEq, Eq)]
 pub struct Key {
     pub day: Day,
@@ -21,7 +23,7 @@ pub struct Key {
 }
 
 impl Key {
-    /// Its parts, those that go first in the order in front.
+    /// The parts, in the order in which they are compared.
     fn parts(&self) -> (Day, u16, u16, u32, u16)
         ensures value { result ≡ (self.now.day, self.now.minute, self.now.handheld, self.now.number, self.now.index) }
     {

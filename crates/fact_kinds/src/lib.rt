@@ -1,4 +1,4 @@
-//! Facts of a leak programme, their kinds, the batches in which they come, and their order.
+//! The facts of a leak detection and repair program, their kinds, the batches that carry them, and their order.
 #![tactic(auto)]
 
 mod batch;
@@ -9,9 +9,9 @@ mod identity;
 mod key;
 mod limits;
 mod name;
-mod named;
 mod order;
 pub mod order_laws;
+mod subject;
 
 pub use batch::{Batch, FactList};
 pub use body::{FactBody, Purpose, Sort, VisualState};
@@ -22,6 +22,6 @@ pub use key::Key;
 pub use ldar_days::Day;
 pub use limits::{FRAME_BATCHES, LONGEST_SHUTDOWN, MOST_FACTS};
 pub use name::Name;
-pub use named::{component_of, reading_instrument, tested_instrument, unit_of};
 pub use order::precedes;
 pub use std::alloc::AllocError as Memory;
+pub use subject::{component_of, reading_instrument, tested_instrument, unit_of};

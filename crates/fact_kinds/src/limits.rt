@@ -1,10 +1,10 @@
-//! Limits that several crates keep, each under one name (our own rules).
+//! Limits that several crates share (our own rules).
 
-/// The office holds so many facts at most.
+/// Maximum number of facts in an office.
 pub const MOST_FACTS: u64 = 8_000_000;
 
-/// A process unit shutdown has so many days at most.
+/// Maximum length of a process unit shutdown, in days.
 pub const LONGEST_SHUTDOWN: u16 = 366;
 
-/// So many batches stand in one frame of the journal at most, and are asked of the office at once.
+/// Maximum number of batches in one frame of the journal, and in one group of requests to the office.
 pub const FRAME_BATCHES: usize = 16;

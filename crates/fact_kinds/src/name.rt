@@ -4,7 +4,7 @@ ghost use Rattle.fact_kinds.specs.Name.{IsName, is_name_byte, spelled_name};
 
 use std::marker::Model;
 
-/// The name of a process unit: 1 to 12 capital letters, digits and hyphens. Contracts see its bytes.
+/// The name of a process unit: 1 to 12 capital letters, digits and hyphens. In contracts it is its bytes.
 #[derive(Clone, Copy, PartialEq, Eq)]
 pub struct Name {
     bytes: [u8; 12],
@@ -25,7 +25,7 @@ impl Model for Name {
 }
 
 impl Name {
-    /// The name with these bytes, if they are 1 to 12 capital letters, digits and hyphens.
+    /// The name with these bytes, or `None` if they are not 1 to 12 capital letters, digits and hyphens.
     pub fn new(bytes: &[u8]) -> Option<Name>
         ensures none { IsNone result → ¬ (IsName bytes.now) }
         ensures value { IfSome result (λ name. IsName bytes.now × (name ≡ bytes.now)) }
@@ -42,7 +42,7 @@ impl Name {
         })
     }
 
-    /// The bytes of the name, as text.
+    /// The bytes of the name.
     pub fn as_bytes(&self) -> &[u8]
         ensures value { result.now ≡ self.now }
         ensures in_range { IsName result.now }
@@ -50,7 +50,7 @@ impl Name {
         &self.bytes[..usize::from(self.len)]
     }
 
-    /// The bytes of the name, with zero bytes behind them up to twelve.
+    /// The bytes of the name, followed by zero bytes up to twelve.
     pub fn padded(&self) -> &[u8]
         ensures value { result.now ≡ spelled_name self.now }
     {
@@ -58,7 +58,7 @@ impl Name {
     }
 }
 
-/// Whether each byte may stand in a name.
+/// Whether each byte is allowed in a name.
 fn are_letters(bytes: &[u8]) -> bool
     ensures { result ≡ list_all is_name_byte bytes.now }
 {

@@ -1,27 +1,29 @@
-//! What `bench/batches.py` and `bench/store.py` measure.
+//! The program that `bench/batches.py` and `bench/store.py` measure.
 //!
-//! With `read FILE PASSES` it reads the batches of a file so many times. With `READS ORDER SORT FACTS` it makes so many
-//! facts of 20,000 components, puts them into a store, and reads each component's list so many times; where READS is no
-//! number it makes them alone. They come in `key`, `reverse` or `shuffled` order, and are `attempts` or `readings`. With
-//! `listed` in front they are listed at once when all have come, and with `late` in front a half of them when it has come,
-//! and then the other half. With no words it does a little of each.
+//! - `read FILE PASSES` reads the batches of a file that many times.
+//! - `READS ORDER SORT FACTS` makes that many facts of 20,000 components, puts them into a store, and reads each
+//!   component's list READS times. If READS is not a number, it only makes the facts. ORDER is the order in which they
+//!   arrive: `key`, `reverse` or `shuffled`. SORT is `attempts` or `readings`.
+//! - `listed` before these words lists all facts at once, after they arrived. `late` lists one half of them after it
+//!   arrived, and then the other half.
+//! - Without words it does a little of each.
 #![tactic(auto)]
 
-mod filling;
-mod listing;
+mod batch_reader;
+mod component_lists;
+mod fact_kind;
+mod filled_stores;
 mod order;
-mod reading;
-mod sort;
 mod total;
 mod way;
 
+use batch_reader::read_all;
+use component_lists::listed;
+use fact_kind::{FactKind, fact_at};
 use fact_kinds::Memory;
 use fact_store::FactStore;
-use filling::{filled, filled_at_once, filled_late};
-use listing::listed;
+use filled_stores::{filled, filled_at_once, filled_late};
 use order::{Order, places};
-use reading::read_all;
-use sort::{Sort, fact_at};
 use std::alloc::Global;
 use std::marker::Brand;
 use std::sync::ledger::Blank;
@@ -80,8 +82,8 @@ fn store(
 ) -> Result<(), anyhow::Error> {
     let places = places(rt.alloc(), Order::of(order), facts)?;
     let total = match reads.parse::<u32>() {
-        Ok(reads) => stored(rt.alloc(), way, &places, Sort::of(sort), reads)?,
-        Err(_) => made(&places, Sort::of(sort)),
+        Ok(reads) => stored(rt.alloc(), way, &places, FactKind::of(sort), reads)?,
+        Err(_) => made(&places, FactKind::of(sort)),
     };
     println!(rt;
         "{reads} {order} {sort}: {} facts, {}",
@@ -90,8 +92,8 @@ fn store(
     Ok(())
 }
 
-/// The total of the facts of these places, which are put into no store.
-fn made(places: &[u32], sort: Sort) -> Total {
+/// The total over the facts at these places, without a store.
+fn made(places: &[u32], sort: FactKind) -> Total {
     let mut total = Total::new();
     for place in places {
         total.add(&fact_at(*place, sort));
@@ -99,20 +101,20 @@ fn made(places: &[u32], sort: Sort) -> Total {
     total
 }
 
-/// The total of the facts of these places, which are read so many times from a store, component by component.
+/// The total over the facts at these places, read `reads` times from a store, component by component.
 fn stored(
     alloc: Global,
     way: Way,
     places: &[u32],
-    sort: Sort,
+    sort: FactKind,
     reads: u32,
 ) -> Result<Total, Memory> {
     let store = store_of(alloc, way, places, sort)?;
     Ok(listed::<Brand>(Blank::new(1), &store, reads))
 }
 
-/// A store of the facts of these places, listed in this way.
-fn store_of(alloc: Global, way: Way, places: &[u32], sort: Sort) -> Result<FactStore, Memory> {
+/// A store of the facts at these places, listed in this way.
+fn store_of(alloc: Global, way: Way, places: &[u32], sort: FactKind) -> Result<FactStore, Memory> {
     match way {
         Way::OneByOne => filled(alloc, places, sort),
         Way::AtOnce => filled_at_once(alloc, places, sort),

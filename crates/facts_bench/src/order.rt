@@ -1,6 +1,6 @@
 use std::alloc::{AllocError, Global};
 
-/// The order in which facts come, by their places in key order.
+/// The order in which facts arrive. Their places are those in key order.
 #[derive(Clone, Copy)]
 pub enum Order {
     Key,
@@ -9,7 +9,7 @@ pub enum Order {
 }
 
 impl Order {
-    /// The order that a word names: `key` where it names no other.
+    /// The order with this name, or `key` for any other word.
     pub fn of(word: &str) -> Order {
         match word {
             "reverse" => Order::Reverse,
@@ -19,7 +19,7 @@ impl Order {
     }
 }
 
-/// The places of so many facts, in the order in which they come.
+/// The places of `count` facts, in the order in which they arrive.
 pub fn places(alloc: Global, order: Order, count: u32) -> Result<Vec<u32>, AllocError> {
     let mut places: Vec<u32> = (0..count).collect(alloc)?;
     match order {
@@ -30,7 +30,7 @@ pub fn places(alloc: Global, order: Order, count: u32) -> Result<Vec<u32>, Alloc
     Ok(places)
 }
 
-/// A number that says little about the place, and is another for each.
+/// A different number for each place, which looks random.
 fn mixed(place: u32) -> u32 {
     let once = (place ^ (place >> 16)).wrapping_mul(0x7feb_352d);
     let twice = (once ^ (once >> 15)).wrapping_mul(0x846c_a68b);

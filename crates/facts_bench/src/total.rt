@@ -1,6 +1,6 @@
 use fact_kinds::{Fact, component_of};
 
-/// How many facts were read, and a sum over them, so that no reading can be left out.
+/// The number of facts that were read, and a sum over them, so that the compiler cannot leave out a read.
 #[derive(Clone, Copy)]
 pub struct Total {
     pub facts: u64,
@@ -21,7 +21,7 @@ impl Total {
         self.sum = self.sum.wrapping_mul(3).wrapping_add(said);
     }
 
-    /// Counts facts whatever they say.
+    /// Counts facts without looking at them.
     pub fn count(&mut self, facts: usize) {
         self.facts = self.facts.saturating_add(facts as u64);
     }

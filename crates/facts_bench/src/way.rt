@@ -1,16 +1,16 @@
-/// How facts are listed.
+/// The way in which facts are listed.
 #[derive(Clone, Copy)]
 pub enum Way {
-    /// Each as it comes.
+    /// Each fact when it arrives.
     OneByOne,
-    /// All at once, when they have come.
+    /// All at once, after they arrived.
     AtOnce,
-    /// A half when it has come, and then the other.
+    /// One half after it arrived, then the other.
     Late,
 }
 
 impl Way {
-    /// The way that a word names: `listed` where it names no other.
+    /// The way with this name, or `listed` for any other word.
     pub fn of(word: &str) -> Way {
         match word {
             "late" => Way::Late,

@@ -17,26 +17,26 @@ use Rattle.ldar_days.specs.Calendar.{IsDay, IsMonth, first_day, month_length, la
 use Rattle.ldar_days.specs.Texts.{day_text}
 use Rattle.ldar_days.proofs.Months.{first_day-civil, first_day-near, first_day-next, month_of-is, month_of-only, month_of-month, place_bound, month_bounds, month_length_bounds}
 
--- a place of a month is a day of the civil calendar
+-- each place of a month is a day of the civil calendar
 place_civil : (m place : ℕ) → IsMonth m → place < month_length m → IsCivilDate (pos (m / 12)) (m % 12 + 1) (place + 1)
 unfolding month_length
 place_civil m place h lt = ((omega (arith, signed_arith), omega (arith, signed_arith)), (omega arith, omega arith), (omega arith, omega arith))
 
--- with the place's day number
+-- .. and has the day number of that place
 days_from_civil-place : (m place : ℕ) → 23_640 ≤ m → days_from_civil (pos (m / 12)) (m % 12 + 1) (place + 1) ≡ pos (first_day m + place)
 days_from_civil-place m place h =
     omega (arith, signed_arith, first_day-civil m h, days_from_civil-day (pos (m / 12)) (m % 12 + 1) 1 (place + 1) (omega arith) (omega arith))
 
--- so is a date with the parts of such a place
+-- a date with the year, month and day of a place has its day number
 pub epoch_day-place : (d : Date) (m place : ℕ) → 23_640 ≤ m → d.year ≡ pos (m / 12) → d.month ≡ m % 12 + 1 → d.day ≡ place + 1
     → epoch_day d ≡ pos (first_day m + place)
 epoch_day-place d m place h year month day = rw (year, month, day) (days_from_civil-place m place h)
 
--- an error is no value
+-- an error is not a value
 err≢ok : {A E : Type 0} {e : E} {x : A} → Err e ≡ Ok x → ⊥
 err≢ok h = cc
 
--- one value
+-- a result has at most one value
 value_same : {A E : Type 0} (r : Result A E) {x y : A} → r ≡ Ok x → r ≡ Ok y → x ≡ y
 value_same r h k = cc
 
@@ -52,7 +52,7 @@ date_of n h =
       day_in = c.2;
     }
 
--- it has the day's number
+-- that date has the day's number
 date_of-epoch_day : (n : ℕ) (h : IsDay n) → epoch_day (date_of n h) ≡ pos n
 unfolding date_of
 date_of-epoch_day n h =
@@ -65,7 +65,7 @@ pub date_parts_are : (d : Date) (n : ℕ) → IsDay n → epoch_day d ≡ pos n
 unfolding date_of
 date_parts_are d n h e = epoch_day_injective d (date_of n h) (e ∙ sym (date_of-epoch_day n h))
 
--- and its text
+-- .. and the day's text
 pub date_text-day_text : (d : Date) (n : ℕ) → IsDay n → epoch_day d ≡ pos n → date_text d ≡ day_text n
 date_text-day_text d n h e = let are = date_parts_are d n h e in rw (are.0, are.1, are.2) refl
 
@@ -74,19 +74,19 @@ parse_date-day_text : (n : ℕ) (h : IsDay n) → parse_date (day_text n) ≡ Ok
 parse_date-day_text n h =
     ap parse_date (sym (date_text-day_text (date_of n h) n h (date_of-epoch_day n h))) ∙ parse_date-date_text (date_of n h)
 
--- so it refuses none
+-- jiff does not refuse a day's text
 pub day_text-not_refused : (text : List ℕ) (n : ℕ) (e : Error) → date_view (Err e) ≡ parse_date text → IsDay n → text ≡ day_text n → ⊥
 day_text-not_refused text n e refused h is =
     let read = rw (← is) at (parse_date-day_text n h) in
     err≢ok (refused ∙ read)
 
--- and as the day that it is
+-- jiff reads a day's text as that day
 pub day_text-read : (text : List ℕ) (n : ℕ) (d : Date) → date_view (Ok d) ≡ parse_date text → IsDay n → text ≡ day_text n → epoch_day d ≡ pos n
 day_text-read text n d read h is =
     let same : date_parts d ≡ date_parts (date_of n h) = value_same (parse_date text) (sym read) (rw (← is) at (parse_date-day_text n h)) in
     epoch_day_same d (date_of n h) (ap (λ p. p.year) same) (ap (λ p. p.month) same) (ap (λ p. p.day) same) ∙ date_of-epoch_day n h
 
--- the day of a number that the calendar has
+-- `of_number` returns the day of a number in the calendar
 pub some_is : (found : Option ℕ) (k n : ℕ) → (IsNone found → IsDay k → ⊥) → IfSome found (λ day. IsDay k × (day ≡ k)) → IsDay n → k ≡ n → found ≡ Some n
 some_is None k n none value day same = absurd (none refl (rw same day))
 some_is (Some x) k n none value day same = rw (value.1, same) refl
@@ -109,12 +109,12 @@ pub ruleset date_of_day = (date_year, date_month, date_day)
 -- for the bodies of `Day::month` and `Day::day_of_month`
 pub ruleset month_of_day = (month_of-is, month_of-only, month_of-month, place_bound, month_length_bounds)
 
--- nothing is 0 under either sign
+-- zero with either sign is 0
 signed_zero : (b : Bool) (n : ℕ) → n ≡ 0 → signed b n ≡ pos 0
 signed_zero true n h = rw h refl
 signed_zero false n h = rw h refl
 
--- a span of months moves the date by as many months
+-- adding a span of months to a date adds the months
 date_add-months : (d : Date) (k : ℤ) (s : Span) → IsOnly Month k s → date_add d s ≡ add_months d k
 date_add-months d k s h =
     let months : span_months s ≡ k = omega (arith, signed_arith, h.months) in
@@ -132,7 +132,7 @@ date_add-months d k s h =
     )) in
     rw (months, days, clock) (omega (arith, signed_arith))
 
--- the day some months later is at the day's place of the month, or at that month's end
+-- the date some months later is at the same place of its month, or at that month's end
 add_months-day_at : (d : Date) (n k : ℕ) → IsDay n → epoch_day d ≡ pos n → add_months d (pos k) ≡ pos (day_at (month_of n + k) (place_of n))
 unfolding month_length
 add_months-day_at d n k h e =
@@ -146,12 +146,12 @@ add_months-day_at d n k h e =
     let day : min d.day (days_in_month (pos (m / 12)) (m % 12 + 1)) ≡ min (place_of n) (month_length m - 1) + 1 = rw are.2 (omega arith) in
     rw (year, month_is, day) (days_from_civil-place m (min (place_of n) (month_length m - 1)) (omega arith))
 
--- the same for a span of some months
+-- adding a span of months to a day's date is `day_at`
 pub date_add-later : (d : Date) (n k : ℕ) (s : Span) → IsDay n → epoch_day d ≡ pos n → IsOnly Month (pos k) s
     → date_add d s ≡ pos (day_at (month_of n + k) (place_of n))
 date_add-later d n k s h e only = date_add-months d (pos k) s only ∙ add_months-day_at d n k h e
 
--- jiff can add them if the calendar has as many months
+-- jiff can add at most as many months as the calendar has
 pub can_add-later : (d : Date) (n k : ℕ) (s : Span) → IsDay n → epoch_day d ≡ pos n → k ≤ 25_199 → IsOnly Month (pos k) s → CanAddToDate d s
 can_add-later d n k s h e bound only =
     let are = date_parts_are d n h e in
@@ -167,11 +167,11 @@ can_add-later d n k s h e bound only =
       rw (date_add-later d n k s h e only) (omega (arith, signed_arith), omega (arith, signed_arith)),
     )
 
--- the first day of a month
+-- a date with the parts of a month's first day has its day number
 pub epoch_day-first : (d : Date) (m : ℕ) → IsMonth m → IsYmd (pos (m / 12)) (pos (m % 12 + 1)) (pos 1) d → epoch_day d ≡ pos (first_day m)
 epoch_day-first d m h is = omega (arith, signed_arith, epoch_day-place d m 0 (omega arith) is.0 (omega (arith, signed_arith, is.1)) (omega (arith, signed_arith, is.2)))
 
--- and its last day, from the first one's parts
+-- a date with the parts of a month's last day has its day number
 pub epoch_day-last : (d first : Date) (m : ℕ) → IsMonth m → IsYmd (pos (m / 12)) (pos (m % 12 + 1)) (pos 1) first
     → IsYmd first.year (pos first.month) (pos (length_of first)) d → epoch_day d ≡ pos (last_day m)
 unfolding month_length

@@ -7,12 +7,12 @@ use Rattle.ldar_days.specs.Quarters.{last_whole, first_quarter, quarter_first, q
 use Rattle.ldar_days.proofs.Months.{month_of-is, month_of-near, month_of-month, month_of-only, first_day-next, first_day-lt, first_day-le, first_day-past}
 use Rattle.ldar_days.proofs.Months.{month_length_bounds, month_bounds}
 
--- a month that goes on after the day is not whole by it
+-- if the day's month goes on after it, the month before is the last whole one
 last_whole-more : (n : ℕ) → n < last_day (month_of n) → last_whole n ≡ month_of n - 1
 unfolding last_whole
 last_whole-more n h = grind (arith, nat_tests)
 
--- and one that ends by it is
+-- if the day's month ends on it, that month is the last whole one
 last_whole-all : (n : ℕ) → last_day (month_of n) ≤ n → last_whole n ≡ month_of n
 unfolding last_whole
 last_whole-all n h = grind (arith, nat_tests)
@@ -22,7 +22,7 @@ pub last_whole-near : (n : ℕ) → (month_of n ≤ last_whole n + 1) × (last_w
 unfolding last_whole
 last_whole-near n = grind (arith, nat_tests)
 
--- the last month that is whole by a day ends by it, and the next one ends after it
+-- the last whole month ends by the day, and the next one ends after it
 pub last_whole-is : (n : ℕ) → IsDay n → (last_day (last_whole n) ≤ n) × (n < last_day (last_whole n + 1))
 last_whole-is n h =
     let is = month_of-is n h in
@@ -35,7 +35,7 @@ last_whole-is n h =
       | inr whole ↦ rw (last_whole-all n whole) (omega arith, omega (arith, first_day-next (month_of n) (omega arith), month_length_bounds (month_of n + 1)))
     ]
 
--- 40 CFR 60.481a: the first quarter ends with the last month all of whose days are among startup + 1 to startup + 180
+-- 40 CFR 60.481a: the third month of quarter 1 is the last one all of whose days are within startup + 1 to startup + 180
 pub first_quarter-is : (s : ℕ) → IsDay s → s ≤ 46_751 → (s < first_day (first_quarter s + 2)) × (last_day (first_quarter s + 2) ≤ s + 180) ×
     (s + 180 < last_day (first_quarter s + 3))
 unfolding first_quarter
@@ -57,7 +57,7 @@ first_quarter-is s h in_range =
       is.1,
     )
 
--- quarter 1 lies in the calendar
+-- quarter 1 is in the calendar
 pub first_quarter-month : (s : ℕ) → IsDay s → s ≤ 46_751 → IsMonth (first_quarter s) × IsMonth (first_quarter s + 2)
 unfolding first_quarter
 first_quarter-month s h in_range =
@@ -65,11 +65,11 @@ first_quarter-month s h in_range =
     let last = last_whole-near (s + 180) in
     ((omega arith, omega arith), (omega arith, omega arith))
 
--- so the third month of quarter 1 lies within the 180 days
+-- the third month of quarter 1 is within the 180 days
 pub first_quarter-third : (s : ℕ) → IsDay s → s ≤ 46_751 → IsWithin180Days s (first_quarter s + 2)
 first_quarter-third s h in_range = let is = first_quarter-is s h in_range in (omega arith, is.1)
 
--- and no later month does
+-- no later month is within the 180 days
 pub first_quarter-no_later : (s m : ℕ) → IsDay s → s ≤ 46_751 → IsMonth m → IsWithin180Days s m → m ≤ first_quarter s + 2
 first_quarter-no_later s m h in_range month within =
     let is = first_quarter-is s h in_range in
@@ -91,7 +91,7 @@ month_of-next_day n h before_end =
     sym (month_of-only (n + 1) (last_whole n + 1) (omega arith) (omega arith)
     (omega (arith, first_day-next (last_whole n) (omega arith), month_length_bounds (last_whole n)), omega arith))
 
--- so quarter 1 begins three months before the month of startup + 181
+-- quarter 1 begins three months before the month of startup + 181
 pub first_quarter-month_of : (s : ℕ) → IsDay s → s ≤ 46_751 → month_of (s + 181) ≡ first_quarter s + 3
 unfolding first_quarter
 first_quarter-month_of s h in_range =
@@ -101,7 +101,7 @@ first_quarter-month_of s h in_range =
     let is = rw next at (month_of-next_day (s + 180) (omega arith) (omega arith)) in
     omega arith
 
--- a month of a quarter lies in it
+-- each day of a quarter's month is in the quarter
 pub quarter-days : (s m q : ℕ) → IsMonth (first_quarter s) → IsMonth m → first_quarter s + 3 * q ≤ m + 3 → m < first_quarter s + 3 * q
     → (quarter_first s q ≤ first_day m) × (last_day m ≤ quarter_last s q)
 quarter-days s m q first month low high =
@@ -110,13 +110,13 @@ quarter-days s m q first month low high =
     let bounds = month_bounds m month in
     (omega (arith, begin.0), omega (arith, end.1))
 
--- the next quarter begins on the day after
+-- the next quarter begins the day after the last day of a quarter
 pub quarter_first-next : (s q : ℕ) → IsMonth (first_quarter s) → 1 ≤ q → quarter_last s q < 47_481 → quarter_first s (q + 1) ≡ quarter_last s q + 1
 quarter_first-next s q first low within =
     let same : first_quarter s + 3 * (q + 1) - 3 ≡ first_quarter s + 3 * q - 1 + 1 = omega arith in
     rw same (omega (arith, first_day-next (first_quarter s + 3 * q - 1) (omega arith), month_length_bounds (first_quarter s + 3 * q - 1)))
 
--- for the bodies over quarters
+-- for the bodies of the quarters' calls
 pub ruleset quarters = (
   first_quarter-month_of,
   first_quarter-month,

@@ -1,49 +1,49 @@
--- Sums of days and months: within the calendar they keep the day's place, and at its end they stop.
+-- Sums of days and months: within the calendar they keep the day of the month, and past its end they are its last day.
 use Rattle.std.proofs.Common.{◌≡◌, ℕ, ◌+◌, ◌-◌, ◌≤◌, min, inl, inr, refl, arith}
 use Rattle.std.proofs.lemmas.Bool.{cases_lt}
 use Rattle.ldar_days.specs.Calendar.{IsDay, IsMonth, month_length, month_of, place_of, day_at, later_by}
 use Rattle.ldar_days.proofs.Months.{first_day-lt, first_day-le, first_day-past, month_length_bounds, month_bounds, month_of-is, month_of-month, month_of-day, place_bound}
 
--- the day at a place of a month lies in it, at that place or at its end
+-- the day at a place of a month is in that month
 pub month_of-day_at : (m place : ℕ) → IsMonth m → month_of (day_at m place) ≡ m
 month_of-day_at m place h =
     month_of-day m (min place (month_length m - 1)) h (omega (arith, month_length_bounds m))
 
--- its place is the one asked for, or the last
+-- its place is the requested one, or the month's last
 pub place_of-day_at : (m place : ℕ) → IsMonth m → place_of (day_at m place) ≡ min place (month_length m - 1)
 place_of-day_at m place h = rw (month_of-day_at m place h) (omega arith)
 
--- and the calendar has it
+-- it is in the calendar if the month is
 pub day_at_bounds : (m place : ℕ) → IsMonth m → IsDay (day_at m place)
 day_at_bounds m place h =
     let bounds = month_bounds m h in
     let long = month_length_bounds m in
     (omega arith, omega arith)
 
--- so is a sum that the calendar has
+-- a sum within the calendar is the day at a place of the later month
 pub later_by-day_at : (k n : ℕ) → IsDay n → month_of n + k ≤ 25_199 → later_by k n ≡ day_at (month_of n + k) (place_of n)
 later_by-day_at k n h within =
     let month = month_of-month n h in
     let day = day_at_bounds (month_of n + k) (place_of n) (omega arith, within) in
     omega arith
 
--- so it lies in the month that many months later
+-- the sum's month is that many months later
 pub month_of-later_by : (k n : ℕ) → IsDay n → month_of n + k ≤ 25_199 → month_of (later_by k n) ≡ month_of n + k
 month_of-later_by k n h within =
     let month = month_of-month n h in
     rw (later_by-day_at k n h within) (month_of-day_at (month_of n + k) (place_of n) (omega arith, within))
 
--- at the place of the day that it is of, or at the month's end
+-- the sum's place is that of the day, or the month's last
 pub place_of-later_by : (k n : ℕ) → IsDay n → month_of n + k ≤ 25_199 → place_of (later_by k n) ≡ min (place_of n) (month_length (month_of n + k) - 1)
 place_of-later_by k n h within =
     let month = month_of-month n h in
     rw (later_by-day_at k n h within) (place_of-day_at (month_of n + k) (place_of n) (omega arith, within))
 
--- and any other is the calendar's last day
+-- a sum past the calendar is its last day
 pub later_by-past : (k n : ℕ) → 25_200 ≤ month_of n + k → later_by k n ≡ 47_481
 later_by-past k n past = omega (arith, first_day-past (month_of n + k) past)
 
--- what is added past the length of the calendar makes no difference
+-- adding more months than the calendar has changes nothing
 pub later_by-until : (k n : ℕ) → IsDay n → later_by (min k 25_199) n ≡ later_by k n
 later_by-until k n h =
     let month = month_of-month n h in
@@ -55,14 +55,14 @@ later_by-until k n h =
           rw (end, end') refl
     ]
 
--- what is later is not before the calendar
+-- a sum is not before the calendar
 pub day_at-from : (k n : ℕ) → IsDay n → 13_879 ≤ day_at (month_of n + k) (place_of n)
 day_at-from k n h =
     let month = month_of-month n h in
     let first = first_day-le (month_of n) (month_of n + k) (omega arith) (omega arith) in
     omega (arith, month_bounds (month_of n) month)
 
--- a sum is a day, and none before the day that it is of
+-- a sum is in the calendar, and not before its day
 pub later_by_bounds : (k n : ℕ) → IsDay n → IsDay (later_by k n) × (n ≤ later_by k n)
 later_by_bounds k n h =
     let month = month_of-month n h in

@@ -12,11 +12,11 @@ pair n = (48 + n / 10) ∷ (48 + n % 10) ∷ []
 abbrev pub year_text : ℕ → List ℕ
 year_text y = pair (y / 100) ++ pair (y % 100)
 
--- a month's year, a dash, and its number in the year
+-- a month's year, a dash, and its number in the year in two digits
 abbrev pub month_text : ℕ → List ℕ
 month_text m = year_text (m / 12) ++ (45 ∷ pair (m % 12 + 1))
 
--- a day's month, a dash, and its number in the month
+-- a day's month, a dash, and its day of the month in two digits
 abbrev pub day_text : ℕ → List ℕ
 day_text n = month_text (month_of n) ++ (45 ∷ pair (place_of n + 1))
 
@@ -24,13 +24,13 @@ day_text n = month_text (month_of n) ++ (45 ∷ pair (place_of n + 1))
 abbrev pub digits_value : List ℕ → ℕ
 digits_value digits = fold (λ n digit. 10 * n + (digit - 48)) 0 digits
 
--- the day that a text names, where it is a day's text
+-- the day that a text names, if it is a day's text; otherwise an arbitrary number
 abbrev pub day_named : List ℕ → ℕ
 day_named text =
     first_day (12 * digits_value (take 4 text) + digits_value (take 2 (drop 5 text)) - 1)
     + digits_value (drop 8 text) - 1
 
--- the day whose text this is, if there is one
+-- the day with this text, or None if no day has it
 unfoldable pub day_of : List ℕ → Option ℕ
 day_of text =
     let n = day_named text in

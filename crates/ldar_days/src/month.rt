@@ -1,3 +1,9 @@
+//! Months by number.
+//!
+//! The definitions of months are `unfoldable`, since a goal that names a month would otherwise grow to pages. An example that
+//! computes names them in its attribute (`unfolding(ldar_days::specs::Calendar::first_day, ..)`); other proofs cite the lemmas
+//! of `proofs/Months.antt`, `Sums.antt`, `Quarters.antt` and `Texts.antt`.
+
 ghost use Rattle.std.specs.Prelude.{◌≡◌, ℕ, ◌+◌, ◌-◌, ◌*◌, ◌/◌, ◌%◌, ◌<◌, ◌≤◌, pos};
 ghost use Rattle.jiff_core.specs.Calendar.{days_from_civil};
 ghost use Rattle.jiff_core.specs.Date.{epoch_day, IsYmd};
@@ -7,7 +13,7 @@ use crate::Day;
 use jiff::civil::{Date, date};
 use std::marker::Model;
 
-/// A month of the calendar, from January 2008 to December 2099. Contracts see its number: year * 12 + month - 1.
+/// A month of the calendar, from January 2008 to December 2099. In contracts it is its number: year * 12 + month - 1.
 #[derive(Clone, Copy, Debug, PartialEq, Eq, PartialOrd, Ord, Hash)]
 pub struct Month {
     number: u16,
@@ -31,7 +37,7 @@ pub const LAST_MONTH: u32 = 25_199;
 
 #[tactic(auto, using(crate::proofs::Dates::dates))]
 impl Month {
-    /// The month with this number, which the calendar has.
+    /// The month with this number (year * 12 + month - 1), which must be in the calendar.
     pub fn at(number: u32) -> Month
         requires in_range { IsMonth number }
         ensures value { result ≡ number }
@@ -41,7 +47,7 @@ impl Month {
         }
     }
 
-    /// The month's year times 12, and the months of that year before it.
+    /// The month's number: year * 12 + month - 1.
     pub fn number(self) -> u32
         ensures value { result ≡ self }
         ensures in_range { IsMonth result }
@@ -57,14 +63,14 @@ impl Month {
         self.number() / 12
     }
 
-    /// The month's place in its year, from 1 to 12.
+    /// The month of the year, from 1 to 12.
     pub fn month_of_year(self) -> u32
         ensures value { result ≡ self % 12 + 1 }
     {
         self.number() % 12 + 1
     }
 
-    /// The next month, where the calendar has it.
+    /// The next month, which must be in the calendar.
     pub fn next(self) -> Month
         requires in_range { self < 25_199 }
         ensures value { result ≡ self + 1 }
@@ -72,7 +78,7 @@ impl Month {
         self.later(1)
     }
 
-    /// The month that many months later, where the calendar has it.
+    /// The month `months` months later, which must be in the calendar.
     pub fn later(self, months: u32) -> Month
         requires in_range { self + months ≤ 25_199 }
         ensures value { result ≡ self + months }
@@ -80,7 +86,7 @@ impl Month {
         Month::at(self.number() + months)
     }
 
-    /// The month that many months earlier, where the calendar has it.
+    /// The month `months` months earlier, which must be in the calendar.
     pub fn earlier(self, months: u32) -> Month
         requires in_range { 24_096 + months ≤ self }
         ensures value { result + months ≡ self }

@@ -8,12 +8,12 @@ use crate::day::LAST_DAY;
 use crate::month::LAST_MONTH;
 use crate::{Day, Month};
 
-/// The last day of an initial startup whose quarters are told: 2097-12-31 (our own rule).
+/// The last day of an initial startup for which quarters are computed: 2097-12-31 (our own rule).
 pub const LAST_STARTUP: u32 = 46_751;
 
-/// The first month of a unit's quarter 1, by the day of its initial startup (40 CFR 60.481a).
+/// The first month of a unit's quarter 1, from the day of its initial startup (40 CFR 60.481a).
 ///
-/// The quarter's last month is the last one all of whose days are among startup + 1 to startup + 180.
+/// The last month of quarter 1 is the last one all of whose days are within startup + 1 to startup + 180.
 pub fn first_quarter(startup: Day) -> Month
     requires in_range { startup ≤ LAST_STARTUP }
     ensures value { result ≡ spec.first_quarter startup }
@@ -21,11 +21,11 @@ pub fn first_quarter(startup: Day) -> Month
     ensures third_month { spec.IsWithin180Days startup (result + 2) }
     ensures no_later_month { (month : ℕ) → IsMonth month → spec.IsWithin180Days startup month → month ≤ result + 2 }
 {
-    // The month before that of startup + 181 is the last one that is over by startup + 180.
+    // The month before that of startup + 181 is the last one that ends by startup + 180.
     Day::at(startup.number() + 181).month().earlier(3)
 }
 
-/// The quarter of a month, counted from 1, and `None` before quarter 1.
+/// The quarter of a month, counted from 1, or `None` if the month is before quarter 1.
 pub fn quarter_of(startup: Day, month: Month) -> Option<u16>
     requires in_range { startup ≤ LAST_STARTUP }
     ensures value { result ≡ spec.quarter_of startup month }
@@ -40,7 +40,7 @@ pub fn quarter_of(startup: Day, month: Month) -> Option<u16>
     Some(((month - first) / 3 + 1) as u16)
 }
 
-/// The first day of a quarter, or 2099-12-31 where it would begin after that day (our own rule).
+/// The first day of a quarter, at most 2099-12-31 (our own rule).
 pub fn quarter_first(startup: Day, quarter: u16) -> Day
     requires in_range { startup ≤ LAST_STARTUP }
     requires quarter { 1 ≤ quarter }
@@ -54,7 +54,7 @@ pub fn quarter_first(startup: Day, quarter: u16) -> Day
     Month::at(number).first_day()
 }
 
-/// The last day of a quarter, or 2099-12-31 where it would end after that day (our own rule).
+/// The last day of a quarter, at most 2099-12-31 (our own rule).
 pub fn quarter_last(startup: Day, quarter: u16) -> Day
     requires in_range { startup ≤ LAST_STARTUP }
     requires quarter { 1 ≤ quarter }

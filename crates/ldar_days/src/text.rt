@@ -18,14 +18,14 @@ impl Day {
         bytes
     }
 
-    /// The day that has this text, and `None` where it is not just the ten bytes of a day's text.
+    /// The day with this text, or `None` if the bytes are not exactly the ten bytes of a day's text.
     pub fn read(text: &[u8]) -> Option<Day>
         ensures value { result ≡ day_of text.now }
         ensures found { IfSome result (λ day. IsDay day × (text.now ≡ day_text day)) }
         ensures none { IsNone result → (n : ℕ) → IsDay n → ¬ (text.now ≡ day_text n) }
     {
         let day = day_read(text)?;
-        // jiff reads other texts of the day too, as 20240220.
+        // jiff also reads other texts of the same day, such as 20240220.
         if day.text().as_slice() != text {
             return None;
         }
@@ -33,7 +33,7 @@ impl Day {
     }
 }
 
-// The day whose date jiff reads here, if the calendar has it.
+// The day of the date that jiff reads, if the calendar has it.
 fn day_read(text: &[u8]) -> Option<Day>
     ensures found { IfSome result IsDay }
     ensures day_text { (n : ℕ) → IsDay n → text.now ≡ day_text n → result ≡ Some n }
@@ -60,7 +60,7 @@ impl fmt::Display for Pair {
     }
 }
 
-/// A month's text, `YYYY-MM`, also of a month that the calendar does not have: its number is year * 12 + month - 1.
+/// A month's text, `YYYY-MM`. The month's number is year * 12 + month - 1 and may be outside the calendar.
 #[derive(Clone, Copy, Debug, PartialEq, Eq)]
 pub struct MonthText {
     pub number: u32,

@@ -2,7 +2,7 @@ use crate::by_jiff::is_as_jiff;
 use crate::row::{Checksums, Row};
 use ldar_days::Day;
 
-/// How many months of the table have been compared, and in how many each part of the calendar is as Python has it.
+/// The number of months compared so far, and for each part of the calendar the number of those that agree with Python.
 #[derive(Drop)]
 pub struct Agreement {
     pub compared: u32,
@@ -70,7 +70,7 @@ fn count(counted: &mut u32, holds: bool) {
     *counted = counted.saturating_add(u32::from(holds));
 }
 
-// The day's month has the first and the last day that the table says.
+// Whether the day's month has the table's first and last day.
 fn has_ends(day: Day, row: Row) -> bool {
     let month = day.month();
     month.first_day().number() == row.first

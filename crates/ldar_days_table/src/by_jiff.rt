@@ -9,7 +9,7 @@ pub fn month_by_jiff(day: Day) -> u32 {
     month_number(date_of(day))
 }
 
-/// The day number that many months later by jiff's civil calendar, at most that of 2099-12-31.
+/// The day number `months` months later by jiff's civil calendar, at most that of 2099-12-31.
 pub fn plus_months_by_jiff(day: Day, months: u32) -> u32 {
     let date = date_of(day);
     let later = month_number(date).saturating_add(months);
@@ -20,7 +20,7 @@ pub fn plus_months_by_jiff(day: Day, months: u32) -> u32 {
     date.days_since_min().saturating_sub(EPOCH)
 }
 
-/// Whether the day has the year, the month and the day of the month that jiff gives it.
+/// Whether the day has the year, month and day of the month that jiff computes.
 pub fn is_as_jiff(day: Day) -> bool {
     month_by_jiff(day) == day.month().number() && u32::from(date_of(day).day) == day.day_of_month()
 }

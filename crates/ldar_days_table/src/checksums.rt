@@ -1,7 +1,7 @@
 use crate::row::Checksums;
 use ldar_days::{Day, LAST_STARTUP, first_quarter};
 
-// How many days and how many months later the table looks: all that a duty or a delay asks, and far past the end.
+// The numbers of days and months that the table adds: all that duties and delays need, and far past the calendar's end.
 const MOST_DAYS: u32 = 63;
 
 const MORE_DAYS: [u32; 5] = [180, 181, 366, 20_000, u32::MAX];
@@ -22,7 +22,7 @@ impl Checksums {
         }
     }
 
-    /// Takes the next day of the month into each checksum.
+    /// Adds the next day of the month to each checksum.
     pub fn add(&mut self, day: Day) {
         self.months = mixed(mixed(self.months, day.month().number()), day.day_of_month());
         self.weeks = mixed(self.weeks, day.week());
@@ -57,7 +57,7 @@ fn with_later_months(mut sum: u64, day: Day) -> u64 {
     sum
 }
 
-// One step of a checksum, as `bench/calendar_table.py` makes it.
+// One step of a checksum, as in `bench/calendar_table.py`.
 fn mixed(sum: u64, value: u32) -> u64 {
     (sum ^ u64::from(value)).wrapping_mul(1_099_511_628_211)
 }

@@ -1,5 +1,9 @@
-//! Compares the calendar of `ldar_days` with the table that `bench/calendar_table.py` made by Python's datetime.
-//! With a function's name and a number it calls that function so many times for each day, for `bench/days.py`.
+//! Compares the calendar of `ldar_days` with the table that `bench/calendar_table.py` made with Python's datetime.
+//! With a function's name and a number it calls that function that many times for each day, for `bench/days.py`.
+//!
+//! Each of the 1,104 months has a line in `data/calendar.txt`: its first day, its length and checksums. The checksums are over
+//! the day of the month, the month, the text, the week, 68 sums of days, 124 sums of months and the first quarter of each day.
+//! A 64-bit checksum replaces the values to keep the table small, so a wrong value could have the right checksum.
 #![tactic(auto)]
 
 mod agreement;

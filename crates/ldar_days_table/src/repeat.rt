@@ -1,7 +1,7 @@
 use crate::by_jiff::{month_by_jiff, plus_months_by_jiff};
 use ldar_days::{Day, LAST_STARTUP, Month, quarter_of};
 
-/// Calls a function so many times for each startup day of the calendar, and adds up what it gives.
+/// Calls a function `passes` times for each possible startup day, and returns the sum of the results.
 pub fn repeated(call: &str, passes: u32) -> u64 {
     match call {
         "month" => over_days(passes, |day, _| day.month().number()),

@@ -1,4 +1,4 @@
-/// A month of the table: its first day, how many days it has, and what its days add up to.
+/// A month of the table: its first day, its number of days, and the checksums of its days.
 #[derive(Clone, Copy)]
 pub struct Row {
     pub first: u32,
@@ -17,7 +17,7 @@ pub struct Checksums {
     pub quarters: u64,
 }
 
-/// The month that a line has, and `None` where it is no line of the table.
+/// The month of a line, or `None` if the line is not one of the table.
 pub fn row_of(line: &str) -> Option<Row> {
     let mut words = line.split(' ');
     Some(Row {

@@ -1,4 +1,4 @@
--- Each kind's form has the texts of its row of the table, and each fact of the kind is read.
+-- The form of each kind agrees with its row of the table: it has the same texts, and every fact of the kind has one.
 use Rattle.std.proofs.Common.{◌≡◌, ℕ, ◌<◌, ◌≤◌, Bool, true, false, refl, sym, subst, arith}
 use Rattle.std.specs.Prelude.{◌==◌}
 use Rattle.std.specs.List.{AllByRecursion}
@@ -15,7 +15,7 @@ use Rattle.ldar_facts.specs.Compose.{either}
 use Rattle.ldar_facts.specs.FactForms as forms
 use Rattle.ldar_facts.proofs.FieldTies as field
 
--- a form has the texts of a kind's row
+-- the texts of the form are the bytes of a kind's fields
 pub record IsKind (form : Form FactBody) (kind : ℕ) : Type 0 where
   pub number : (p : form.Path) → body_number (form.value p) ≡ kind
   pub filled : (p : form.Path) → AllByRecursion IsFilled (body_fields (form.value p))
@@ -188,7 +188,7 @@ indication = record {
 
 -- ---- by the number of the kind
 
--- this number or a greater one
+-- a choice by the number of the kind: this number, or a greater one
 or_later : (kind n : ℕ) (form later : Form FactBody) → n ≤ kind → IsKind form n → (n < kind → IsKind later kind) → IsKind (either (kind == n) form later) kind
 or_later kind n form later le here there = go (kind == n) refl
   where
@@ -223,7 +223,7 @@ body kind among =
 
 -- ---- each fact is read
 
--- what a fact may say has a way through the form of its kind
+-- every fact body in its ranges has a path through the form of its kind
 pub path : (b : FactBody) → AllByRecursion IsFilled (body_fields b) → (p : (forms.body (body_number b)).Path) × ((forms.body (body_number b)).value p ≡ b)
 unfolding forms.body forms.unit_fact forms.component_fact forms.class_fact forms.retire forms.election forms.shutdown forms.calibration forms.precision
     forms.drift forms.reading forms.visual forms.attempt forms.delay forms.release forms.indication

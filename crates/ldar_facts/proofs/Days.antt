@@ -6,7 +6,7 @@ use Rattle.ldar_days.specs.Calendar.{IsDay}
 use Rattle.fact_kinds.specs.Fields.{IsAmong, days_or_none}
 use Rattle.ldar_facts.specs.FieldForms.{expected_of}
 
--- the day with a number, as it is found
+-- `of_number` finds the day of a number in the calendar
 pub is_some : (n : ℕ) (found : Option ℕ) → IsDay n → (IsNone found → IsDay n → ⊥) → IsSome found
 is_some n (Some d) is_day none = refl
 is_some n None is_day none = absurd (none refl is_day)

@@ -1,4 +1,4 @@
--- The forms of a fact and of a batch have the texts of the grammar, and each fact and batch is read.
+-- The forms of a fact and of a batch agree with the grammar: they have the same texts, and every fact and batch has one.
 use Rattle.std.proofs.Common.{◌≡◌, ℕ, zero, suc, List, [], ◌∷◌, ◌++◌, length, refl, sym, ap, subst, arith}
 use Rattle.std.specs.List.{flat_map, AllByRecursion}
 use Rattle.std.proofs.lemmas.List.{append-nil}
@@ -16,7 +16,7 @@ use Rattle.ldar_facts.proofs.BodyTies as kind
 
 -- ---- a fact
 
--- each filled fact has a way through the form of a fact
+-- each fact in its ranges has a path through the form of a fact
 fact_path : (fact : Stated) → AllByRecursion IsFilled (fact_fields fact) → (p : (forms.fact).Path) × ((forms.fact).value p ≡ fact)
 unfolding forms.fact
 fact_path fact h =
@@ -40,29 +40,29 @@ fact = record {
   path = fact_path;
 }
 
--- ---- so many facts
+-- ---- this many facts
 
--- so many facts are read as so many
+-- the form of this many facts reads this many
 pub facts-length : (n : ℕ) (p : (forms.facts n).Path) → length ((forms.facts n).value p) ≡ n
 unfolding forms.facts
 facts-length zero p = refl
 facts-length (suc n) p = ap suc (facts-length n p.1.0)
 
--- fields behind others are spelled behind them
+-- the bytes of joined fields are the joined bytes
 pub spelled-append : (xs ys : List Field) → spelled (xs ++ ys) ≡ spelled xs ++ spelled ys
 spelled-append xs ys = flat_map-append bytes_of xs ys
 
--- filled fields behind filled fields are filled
+-- joined fields are in their ranges if both lists are
 pub filled-append : (xs ys : List Field) → AllByRecursion IsFilled xs → AllByRecursion IsFilled ys → AllByRecursion IsFilled (xs ++ ys)
 filled-append [] ys h k = k
 filled-append (x ∷ xs) ys h k = (h.0, filled-append xs ys h.1 k)
 
--- where all fields are filled, the first and the others are
+-- .. and only if both lists are
 pub filled-front : (xs ys : List Field) → AllByRecursion IsFilled (xs ++ ys) → AllByRecursion IsFilled xs × AllByRecursion IsFilled ys
 filled-front [] ys h = (tt, h)
 filled-front (x ∷ xs) ys h = let rest = filled-front xs ys h.1 in ((h.0, rest.0), rest.1)
 
--- the facts of a way have filled fields
+-- the facts of a path have their fields in their ranges
 facts-filled : (n : ℕ) (p : (forms.facts n).Path) → AllByRecursion IsFilled (flat_map fact_fields ((forms.facts n).value p))
 unfolding forms.facts
 facts-filled zero p = tt
@@ -77,7 +77,7 @@ facts-text (suc n) p =
     rw (append-nil, fact.text p.0, facts-text n p.1.0)
     (sym (spelled-append (fact_fields ((forms.fact).value p.0)) (flat_map fact_fields ((forms.facts n).value p.1.0))))
 
--- filled facts have a way through the form of so many facts
+-- facts in their ranges have a path through the form of this many facts
 facts-path : (facts : List Stated) → AllByRecursion IsFilled (flat_map fact_fields facts)
     → (p : (forms.facts (length facts)).Path) × ((forms.facts (length facts)).value p ≡ facts)
 unfolding forms.facts
@@ -90,7 +90,7 @@ facts-path (first ∷ facts) h =
 
 -- ---- a batch
 
--- the batch of a way has filled fields
+-- the batch of a path has its fields in their ranges
 batch_filled : (p : (forms.batch).Path) → AllByRecursion IsFilled (batch_fields ((forms.batch).value p))
 unfolding forms.batch forms.head
 batch_filled p =
@@ -105,7 +105,7 @@ batch_text p =
     let letter : p.0.0.0 ≡ 66 = omega (arith, p.0.0.1) in
     rw (letter, append-nil, facts-text count.0 p.1.0, facts-length count.0 p.1.0)
 
--- a batch with filled fields has a way through the form of a batch
+-- a batch in its ranges has a path through the form of a batch
 batch_path : (batch : Batch) → AllByRecursion IsFilled (batch_fields batch) → (p : (forms.batch).Path) × ((forms.batch).value p ≡ batch)
 unfolding forms.batch forms.head
 batch_path batch h =

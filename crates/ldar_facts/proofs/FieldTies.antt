@@ -1,4 +1,4 @@
--- Each field's form has the texts of the table: filled as the table says, and each filling is read.
+-- The form of each field agrees with the table: it has the same texts, and every value in the range has one.
 use Rattle.std.proofs.Common.{◌≡◌, ℕ, zero, suc, Bool, true, false, List, Option, Some, None, refl, sym, subst, inl, inr, arith}
 use Rattle.std.specs.Prelude.{if◌then◌else◌, ◌==◌}
 use Rattle.std.specs.List.{AllByRecursion}
@@ -24,7 +24,7 @@ use Rattle.ldar_facts.specs.Letters.{name_form}
 use Rattle.ldar_facts.proofs.NameForm.{name_text, name_path}
 use Rattle.ldar_facts.specs.FieldForms as forms
 
--- a form has the texts of a field
+-- the texts of the form are the bytes of the field
 pub record IsField {A : Type 0} (form : Form A) (field : A → Field) : Type 0 where
   pub filled : (p : form.Path) → IsFilled (field (form.value p))
   pub text : (p : form.Path) → form.text p ≡ bytes_of (field (form.value p))
@@ -47,17 +47,17 @@ pub instrument : IsField forms.instrument fields.instrument
 unfolding forms.instrument
 instrument = record { filled = λ p. p.1; text = λ p. refl; path = λ n among. ((n, among), refl) }
 
--- the number of an instrument or a person, or 0
+-- the number of an instrument or a person, or 0 for none
 pub number_or_none : IsField forms.number_or_none fields.number_or_none
 unfolding forms.number_or_none
 number_or_none = record { filled = λ p. p.1; text = λ p. refl; path = λ n among. ((n, among), refl) }
 
--- a concentration that was read
+-- a concentration of a reading
 pub concentration : IsField forms.concentration fields.concentration
 unfolding forms.concentration
 concentration = record { filled = λ p. p.1; text = λ p. refl; path = λ n among. ((n, among), refl) }
 
--- the concentration of a gas
+-- a concentration of a calibration gas
 pub known_value : IsField forms.known_value fields.known_value
 unfolding forms.known_value
 known_value = record { filled = λ p. p.1; text = λ p. refl; path = λ n among. ((n, among), refl) }
@@ -82,7 +82,7 @@ pub month : IsField forms.month (number 1 fields.months)
 unfolding forms.month
 month = record { filled = λ p. p.1; text = λ p. refl; path = λ n among. ((n, among), refl) }
 
--- a programme of skip periods
+-- a skip period program
 pub mode : IsField forms.mode (number 1 fields.modes)
 unfolding forms.mode
 mode = record { filled = λ p. p.1; text = λ p. refl; path = λ n among. ((n, among), refl) }
@@ -108,24 +108,24 @@ plan d = record { filled = λ p. p.1; text = λ p. refl; path = λ n among. ((n,
 pub unit_name : IsField name_form name
 unit_name = record { filled = λ p. (name_text p).0; text = λ p. (name_text p).1; path = name_path }
 
--- ---- numbers that stand for something: there and back
+-- ---- numbers with a meaning: there and back
 
--- the number of no and of yes
+-- the number of a flag
 abbrev flag_number : Bool → ℕ
 flag_number b = if b then 1 else 0
 
--- the number of what a flag's number stands for is that number
+-- a number in the range is that of its flag
 flag_is : (n : ℕ) → IsAmong n fields.flags → flag_number (n == 1) ≡ n
 flag_is zero h = refl
 flag_is (suc zero) h = refl
 flag_is (suc (suc n)) h = absurd (omega (arith, h))
 
--- the number of no or yes stands for it
+-- a flag is that of its number
 is_flag : (x : Bool) → (flag_number x == 1) ≡ x
 is_flag false = refl
 is_flag true = refl
 
--- no or yes
+-- a flag
 pub flag : IsField forms.flag fields.flag
 unfolding forms.flag
 flag = record {
@@ -134,7 +134,7 @@ flag = record {
   path = λ x among. (((flag_number x, among), tt), is_flag x);
 }
 
--- the number of what a kind's number stands for is that number
+-- a number in the range is that of its type of component
 kind_is : (n : ℕ) → IsAmong n fields.component_kinds → fields.kind_number (forms.kind_of n) ≡ n
 kind_is zero h = absurd (omega (arith, h))
 kind_is (suc zero) h = refl
@@ -143,14 +143,14 @@ kind_is (suc (suc (suc zero))) h = refl
 kind_is (suc (suc (suc (suc zero)))) h = refl
 kind_is (suc (suc (suc (suc (suc n))))) h = absurd (omega (arith, h))
 
--- a kind's number stands for it
+-- a type of component is that of its number
 is_kind : (x : Kind) → forms.kind_of (fields.kind_number x) ≡ x
 is_kind Valve = refl
 is_kind Pump = refl
 is_kind Compressor = refl
 is_kind Relief = refl
 
--- what a component is
+-- a component's type
 pub kind : IsField forms.kind (λ x. number 1 fields.component_kinds (fields.kind_number x))
 unfolding forms.kind
 kind = record {
@@ -159,7 +159,7 @@ kind = record {
   path = λ x among. (((fields.kind_number x, among), tt), is_kind x);
 }
 
--- the number of what a service's number stands for is that number
+-- a number in the range is that of its service
 service_is : (n : ℕ) → IsAmong n fields.services → fields.service_number (forms.service_of n) ≡ n
 service_is zero h = absurd (omega (arith, h))
 service_is (suc zero) h = refl
@@ -169,7 +169,7 @@ service_is (suc (suc (suc (suc zero)))) h = refl
 service_is (suc (suc (suc (suc (suc zero))))) h = refl
 service_is (suc (suc (suc (suc (suc (suc n)))))) h = absurd (omega (arith, h))
 
--- a service's number stands for it
+-- a service is that of its number
 is_service : (x : Service) → forms.service_of (fields.service_number x) ≡ x
 is_service Gas = refl
 is_service Light = refl
@@ -177,7 +177,7 @@ is_service Heavy = refl
 is_service Vacuum = refl
 is_service Under300 = refl
 
--- what flows through a component
+-- a component's service
 pub service : IsField forms.service (λ x. number 1 fields.services (fields.service_number x))
 unfolding forms.service
 service = record {
@@ -186,7 +186,7 @@ service = record {
   path = λ x among. (((fields.service_number x, among), tt), is_service x);
 }
 
--- the number of what a designation's number stands for is that number
+-- a number in the range is that of its designation
 designation_is : (n : ℕ) → IsAmong n fields.designations → fields.designation_number (forms.designation_of n) ≡ n
 designation_is zero h = refl
 designation_is (suc zero) h = refl
@@ -194,14 +194,14 @@ designation_is (suc (suc zero)) h = refl
 designation_is (suc (suc (suc zero))) h = refl
 designation_is (suc (suc (suc (suc n)))) h = absurd (omega (arith, h))
 
--- a designation's number stands for it
+-- a designation is that of its number
 is_designation : (x : Designation) → forms.designation_of (fields.designation_number x) ≡ x
 is_designation Plain = refl
 is_designation Nde = refl
 is_designation Unsafe = refl
 is_designation Difficult = refl
 
--- how a component is designated
+-- a component's designation
 pub designation : IsField forms.designation (λ x. number 1 fields.designations (fields.designation_number x))
 unfolding forms.designation
 designation = record {
@@ -210,19 +210,19 @@ designation = record {
   path = λ x among. (((fields.designation_number x, among), tt), is_designation x);
 }
 
--- the number of what a purpose's number stands for is that number
+-- a number in the range is that of its purpose
 purpose_is : (n : ℕ) → IsAmong n fields.purposes → fields.purpose_number (forms.purpose_of n) ≡ n
 purpose_is zero h = absurd (omega (arith, h))
 purpose_is (suc zero) h = refl
 purpose_is (suc (suc zero)) h = refl
 purpose_is (suc (suc (suc n))) h = absurd (omega (arith, h))
 
--- a purpose's number stands for it
+-- a purpose is that of its number
 is_purpose : (x : Purpose) → forms.purpose_of (fields.purpose_number x) ≡ x
 is_purpose Routine = refl
 is_purpose FollowUp = refl
 
--- why a reading was taken
+-- a reading's purpose
 pub purpose : IsField forms.purpose (λ x. number 1 fields.purposes (fields.purpose_number x))
 unfolding forms.purpose
 purpose = record {
@@ -231,20 +231,20 @@ purpose = record {
   path = λ x among. (((fields.purpose_number x, among), tt), is_purpose x);
 }
 
--- the number of what a state's number stands for is that number
+-- a number in the range is that of its state
 state_is : (n : ℕ) → IsAmong n fields.visual_states → fields.state_number (forms.state_of n) ≡ n
 state_is zero h = refl
 state_is (suc zero) h = refl
 state_is (suc (suc zero)) h = refl
 state_is (suc (suc (suc n))) h = absurd (omega (arith, h))
 
--- a state's number stands for it
+-- a state is that of its number
 is_state : (x : VisualState) → forms.state_of (fields.state_number x) ≡ x
 is_state Dry = refl
 is_state Drips = refl
 is_state Designated = refl
 
--- what a visual inspection found
+-- a visual inspection's result
 pub state : IsField forms.state (λ x. number 1 fields.visual_states (fields.state_number x))
 unfolding forms.state
 state = record {
@@ -253,19 +253,19 @@ state = record {
   path = λ x among. (((fields.state_number x, among), tt), is_state x);
 }
 
--- the number of what a sort's number stands for is that number
+-- a number in the range is that of its indication kind
 sort_is : (n : ℕ) → IsAmong n fields.sorts → fields.sort_number (forms.sort_of n) ≡ n
 sort_is zero h = absurd (omega (arith, h))
 sort_is (suc zero) h = refl
 sort_is (suc (suc zero)) h = refl
 sort_is (suc (suc (suc n))) h = absurd (omega (arith, h))
 
--- a sort's number stands for it
+-- an indication kind is that of its number
 is_sort : (x : Sort) → forms.sort_of (fields.sort_number x) ≡ x
 is_sort Sensor = refl
 is_sort Evidence = refl
 
--- what an indication speaks of
+-- an indication's kind
 pub sort : IsField forms.sort (λ x. number 1 fields.sorts (fields.sort_number x))
 unfolding forms.sort
 sort = record {
@@ -276,13 +276,13 @@ sort = record {
 
 -- ---- a day or none
 
--- a number for a day or none fills the field with what it stands for
+-- a number in the range of a day or none is the field of its day
 expected_filled : (n : ℕ) → IsAmong n fields.days_or_none → IsFilled (fields.day_or_none (forms.expected_of n)) ×
     (big_endian 2 n ≡ bytes_of (fields.day_or_none (forms.expected_of n)))
 expected_filled n (inl none) = let is : n ≡ 0 = omega (arith, none) in rw is ((omega arith, omega arith), refl)
 expected_filled n (inr is_day) = let positive : (n ≡ 0) → ⊥ = λ is. omega (arith, is_day) in rw (ne_eqb n 0 positive) (is_day, refl)
 
--- each day, and none, has a number
+-- each day in the range, and none, has a path
 expected_path : (o : Option ℕ) → IsFilled (fields.day_or_none o) → (p : (forms.day_or_none).Path) × ((forms.day_or_none).value p ≡ o)
 unfolding forms.day_or_none
 expected_path None filled = (((0, inl filled), tt), refl)
@@ -299,17 +299,17 @@ day_or_none = record {
 
 -- ---- several fields
 
--- a form has the texts of some fields
+-- the texts of the form are the bytes of some fields
 pub record AreFields {A : Type 0} (form : Form A) (fields : A → List Field) : Type 0 where
   pub filled : (p : form.Path) → AllByRecursion IsFilled (fields (form.value p))
   pub text : (p : form.Path) → form.text p ≡ spelled (fields (form.value p))
   pub path : (a : A) → AllByRecursion IsFilled (fields a) → (p : form.Path) × (form.value p ≡ a)
 
--- the class of these four
+-- the class with these four fields
 abbrev class_with : Service → Designation → ℕ → ℕ → Class
 class_with s d p m = record { service = s; designation = d; plan = p; month = m }
 
--- classes with the same four fields are the same
+-- classes with equal fields are equal
 same_class : (s s' : Service) (d d' : Designation) (p p' m m' : ℕ) → s ≡ s' → d ≡ d' → p ≡ p' → m ≡ m' → class_with s d p m ≡ class_with s' d' p' m'
 same_class s s' d d' p p' m m' a b c e = cc
 

@@ -24,11 +24,11 @@ use Rattle.ldar_facts.proofs.FactTies.{spelled-append, filled-front}
 pub one_batch : (bytes : List ℕ) (b other : Batch) → Spells bytes b → Spells bytes other → b ≡ other
 one_batch bytes b other is is_other = (ok_pair (b, []) (other, []) (sym (read_again bytes b [] is) ∙ read_again bytes other [] is_other)).0
 
--- a batch has one spelling
+-- a batch has exactly one spelling
 pub one_spelling : (bytes other : List ℕ) (b : Batch) → Spells bytes b → Spells other b → bytes ≡ other
 one_spelling bytes other b is is_other = is.spells ∙ sym is_other.spells
 
--- no spelling of a batch is a proper front of another
+-- no spelling is a proper prefix of another
 pub no_proper_front : (bytes more : List ℕ) (b other : Batch) → Spells bytes b → Spells (bytes ++ more) other → more ≡ []
 no_proper_front bytes more b other is is_other =
     let whole : batch.read (bytes ++ more) ≡ Ok (other, []) = subst (λ l. batch.read l ≡ Ok (other, [])) (append-nil (bytes ++ more))
@@ -37,7 +37,7 @@ no_proper_front bytes more b other is is_other =
 
 -- ---- lengths
 
--- a name stands in twelve bytes
+-- a name has twelve bytes
 name_length : (name : List ℕ) → IsName name → length (spelled_name name) ≡ 12
 name_length name is = omega (arith, is.fits, length-append name (replicate (12 - length name) 0), length-replicate {A = ℕ} (12 - length name) 0)
 
@@ -68,7 +68,7 @@ body_length (Indication c sort present) h = (omega arith, omega arith)
 pub fact_length : (fact : Stated) → IsFact fact → (7 ≤ length (spelled (fact_fields fact))) × (length (spelled (fact_fields fact)) ≤ 23)
 fact_length fact h = let body = body_length fact.body h.1.1.1 in (omega (arith, body.0), omega (arith, body.1))
 
--- so many facts have 7 to 23 times as many bytes
+-- facts have 7 to 23 bytes each
 facts_length : (facts : List Stated) → AllByRecursion IsFilled (flat_map fact_fields facts)
     → (7 * length facts ≤ length (spelled (flat_map fact_fields facts))) × (length (spelled (flat_map fact_fields facts)) ≤ 23 * length facts)
 facts_length [] h = (omega arith, omega arith)
@@ -93,11 +93,11 @@ spelling_length bytes b is =
 
 -- ---- beginnings
 
--- what begins a batch has only such fronts
+-- a prefix of the beginning of a batch begins a batch
 pub begins_front : (front rest : List ℕ) → Begins (front ++ rest) → Begins front
 begins_front front rest begins = (begins.0, rest ++ begins.1, subst (λ l. Spells l begins.0) (append_assoc front rest begins.1) begins.2)
 
--- so no place of it is wrong
+-- bytes that begin a batch have no wrong place
 pub none_wrong : (bytes : List ℕ) (at : ℕ) → Begins bytes → IsFirstWrongPlace bytes at → ⊥
 none_wrong bytes at begins is = is.after
     (begins_front (take (at + 1) bytes) (drop (at + 1) bytes) (subst Begins (sym (take-append-drop (at + 1) bytes)) begins))

@@ -1,4 +1,4 @@
--- What is read as a name is one, and each name is read.
+-- What the form of a name reads is a name, and every name is read.
 use Rattle.std.specs.Prelude.{◌≡◌, ℕ, zero, suc, ◌+◌, ◌-◌, ◌/◌, ◌%◌, ◌<◌, ◌≤◌, Bool, true, false, ◌&&◌, ◌||◌, nat_le, ◌==◌, List, [], ◌∷◌, ◌++◌, length}
 use Rattle.std.specs.Prelude.{replicate, refl}
 use Rattle.std.specs.List.{list_all}
@@ -14,7 +14,7 @@ use Rattle.ldar_facts.specs.Letters.{letters, letters_or_zero, letter, zeros, en
 
 -- ---- letters are the bytes of names
 
--- a byte among the letters may stand in a name
+-- a letter is a byte of names
 is_letter : (b : ℕ) → IsAmong b letters → is_name_byte b ≡ true
 is_letter b (inl hyphen) =
     let is : b ≡ 45 = omega arith in
@@ -26,7 +26,7 @@ is_letter b (inr (inr capital)) =
     or_right (b == 45 || (nat_le 48 b && nat_le b 57)) (nat_le 65 b && nat_le b 90)
     (and_from (nat_le 65 b) (nat_le b 90) (le-leb 65 b capital.0) (le-leb b 90 capital.1))
 
--- a byte that may stand in a name is among the letters
+-- a byte of names is a letter
 among_letters : (b : ℕ) → is_name_byte b ≡ true → IsAmong b letters
 among_letters b h =
     elim (or_cases (b == 45 || (nat_le 48 b && nat_le b 57)) (nat_le 65 b && nat_le b 90) h) [
@@ -50,29 +50,29 @@ one_byte b lt = omega arith
 
 -- ---- what is read is a name in its twelve bytes
 
--- so many zero bytes are spelled as so many zeros
+-- the text of this many zero bytes
 zeros_text : (more : ℕ) (p : (zeros more).Path) → (zeros more).text p ≡ replicate more 0
 unfolding zeros
 zeros_text zero p = refl
 zeros_text (suc more) p = let is : p.0.0 ≡ 0 = omega (arith, p.0.1) in rw (is, zeros_text more p.1)
 
--- the beginning of a name, with so many bytes to come
+-- the beginning of a name, with at most this many letters to come
 pub record BeginsName (more : ℕ) (name : List ℕ) : Type 0 where
   pub some : 0 < length name
   pub room : length name + more ≡ 12
   pub letters : list_all is_name_byte name ≡ true
 
--- the bytes behind the beginning complete a name
+-- the bytes after the beginning complete a name
 abbrev Completes : ℕ → List ℕ → List ℕ → List ℕ → Type 0
 Completes more name whole text = IsName whole × (name ++ text ≡ spelled_name whole)
 
--- the beginning of a name is itself a name, which zero bytes complete
+-- zero bytes complete the beginning of a name, which is itself a name
 is_whole : (more : ℕ) (name : List ℕ) → BeginsName more name → Completes more name name (replicate more 0)
 is_whole more name h =
     let room : more ≡ 12 - length name = omega (arith, h.room) in
     (record { some = h.some; fits = omega (arith, h.room); letters = h.letters }, rw room)
 
--- with a letter behind it, the beginning of a name goes on
+-- the beginning of a name and one more letter begin a name
 longer : (more : ℕ) (name : List ℕ) (b : ℕ) → BeginsName (suc more) name → is_name_byte b ≡ true → BeginsName more (name ++ b ∷ [])
 longer more name b h letter =
     let len : length (name ++ b ∷ []) ≡ length name + 1 = length-append name (b ∷ []) in
@@ -88,7 +88,7 @@ nonzero_letter : (b : ℕ) → IsAmong b letters_or_zero → (b == 0) ≡ false 
 nonzero_letter b (inl h) not_zero = let is : b ≡ 0 = omega arith in absurd (eqb-false b 0 not_zero is)
 nonzero_letter b (inr h) not_zero = h
 
--- by the next byte: zero, or a letter behind which so many bytes complete the name
+-- by the next byte: a zero byte, or a letter after which the other bytes complete the name
 step_text : (more : ℕ) (name : List ℕ) (b : ℕ) → BeginsName (suc more) name → IsAmong b letters_or_zero
     → (BeginsName more (name ++ b ∷ []) → (q : (behind more (name ++ b ∷ [])).Path)
     → Completes more (name ++ b ∷ []) ((behind more (name ++ b ∷ [])).value q) ((behind more (name ++ b ∷ [])).text q))
@@ -104,14 +104,14 @@ step_text more name b begins among rest false e q =
     let whole = rest (longer more name b begins (is_letter b letter)) q in
     (whole.0, rw one (sym (append_assoc name (b ∷ []) ((behind more (name ++ b ∷ [])).text q)) ∙ whole.1))
 
--- what is read behind the beginning of a name completes it
+-- what is read after the beginning of a name completes it
 behind_text : (more : ℕ) (name : List ℕ) → BeginsName more name → (p : (behind more name).Path)
     → Completes more name ((behind more name).value p) ((behind more name).text p)
 unfolding behind
 behind_text zero name begins p = is_whole 0 name begins
 behind_text (suc more) name begins p = step_text more name p.0.0 begins p.0.1 (behind_text more (name ++ p.0.0 ∷ [])) (p.0.0 == 0) refl p.1
 
--- what is read is a name, and these are its bytes
+-- what is read is a name, and its text is the name in its twelve bytes
 pub name_text : (p : name_form.Path) → IsName (name_form.value p) × (name_form.text p ≡ spelled_name (name_form.value p))
 unfolding name_form
 name_text p =
@@ -124,19 +124,19 @@ name_text p =
 
 -- ---- each name is read
 
--- zero bytes have one way
+-- the one path of zero bytes
 zeros_path : (more : ℕ) → (zeros more).Path
 unfolding zeros
 zeros_path zero = tt
 zeros_path (suc more) = ((0, (omega arith, omega arith)), zeros_path more)
 
--- the way by a test's answer
+-- the path of the second form, if the test is false
 pub either_path : {A : Type 0} (first second : Form A) (test : Bool) (a : A) → test ≡ false → (p : second.Path) → second.value p ≡ a
     → (q : (either test first second).Path) × ((either test first second).value q ≡ a)
 either_path first second true a e p is = absurd cc
 either_path first second false a e p is = (p, is)
 
--- each rest of a name is read behind its beginning
+-- every rest of a name has a path after its beginning
 behind_path : (more : ℕ) (name rest : List ℕ) → length rest ≤ more → list_all is_name_byte rest ≡ true
     → (p : (behind more name).Path) × ((behind more name).value p ≡ name ++ rest)
 unfolding behind
@@ -153,7 +153,7 @@ behind_path (suc more) name (b ∷ rest) fit h =
     (q.1 ∙ append_assoc name (b ∷ []) rest) in
     (((b, inr letter), p.0), p.1)
 
--- letters, 1 to 12, are read as a name
+-- 1 to 12 letters are read as a name
 first_path : (name : List ℕ) → 0 < length name → length name ≤ 12 → list_all is_name_byte name ≡ true → (p : name_form.Path) × (name_form.value p ≡ name)
 unfolding name_form
 first_path [] some fit h = absurd (omega (arith, some))
@@ -162,6 +162,6 @@ first_path (b ∷ rest) some fit h =
     let q = behind_path 11 (b ∷ []) rest (omega (arith, fit)) parts.1 in
     (((b, among_letters b parts.0), q.0), q.1)
 
--- each name has a way through the form of a name
+-- every name has a path through the form of a name
 pub name_path : (name : List ℕ) → IsName name → (p : name_form.Path) × (name_form.value p ≡ name)
 name_path name is = first_path name is.some is.fits is.letters

@@ -1,25 +1,25 @@
--- What a function that looks at all the digits of a number at once has to know.
+-- Facts about a function that looks at all digits of a number at once.
 use Rattle.std.specs.Prelude.{◌≡◌, ℕ, zero, suc, ◌+◌, ◌*◌, ◌^◌, ◌<◌, true, false}
 use Rattle.std.specs.Prelude.{List, [], ◌∷◌, ◌++◌, length, Ok, Err, refl}
 use Rattle.std.proofs.Common.{sym, ◌∙◌, arith}
 use Rattle.std.proofs.lemmas.Bool.{false≢true}
 use Rattle.std.proofs.Math.Nat.{pow-suc}
-use Rattle.ldar_facts.specs.declared.stop.Stop.TheVariants.{Wrong}
+use Rattle.ldar_facts.specs.declared.read_end.ReadEnd.TheVariants.{Wrong}
 use Rattle.ldar_facts.specs.Form.{Outcome, IsBytes}
 use Rattle.ldar_facts.specs.Number.{may_be, number_from, among, stop_of, IsIn, may_be-from, is_among, may_be-among, no_value, block_up}
 
--- the number that goes on with these digits
+-- the number continued by these digits
 abbrev pub value_from : ℕ → List ℕ → ℕ
 value_from n [] = n
 value_from n (b ∷ digits) = value_from (n * 256 + b) digits
 
--- what goes on with these digits begins with that number
+-- a number continued by digits begins with the number
 value_in : (digits : List ℕ) (n : ℕ) → IsBytes digits → IsIn (256 ^ length digits) n (value_from n digits)
 value_in [] n are = record { low = omega arith; high = omega arith }
 value_in (b ∷ digits) n are = rw pow-suc
     (block_up (256 ^ length digits) n b (value_from (n * 256 + b) digits) (are 0) (value_in digits (n * 256 + b) (λ i. are (suc i))))
 
--- digits of a number among the ranges are read
+-- the digits of a number in the ranges are read
 pub read_whole : (digits rest : List ℕ) (ranges : List (ℕ × ℕ)) (n : ℕ) → IsBytes digits → among ranges (value_from n digits) ≡ true
     → number_from (length digits) ranges n (digits ++ rest) ≡ Ok (value_from n digits, rest)
 unfolding number_from
@@ -30,12 +30,12 @@ read_whole (b ∷ digits) rest ranges n are h =
     (value_in digits (n * 256 + b) behind) in
     rw passes (read_whole digits rest ranges (n * 256 + b) behind h)
 
--- a reading that is no value is a stop
+-- a reading without a value ended for some reason
 pub stopped : {A : Type 0} (r : Outcome A) → ((x : A × List ℕ) → r ≡ Ok x → ⊥) → r ≡ Err (stop_of r)
 stopped (Ok x) h = absurd (h x refl)
 stopped (Err stop) h = refl
 
--- digits of no such number are not
+-- the digits of a number outside the ranges have no value
 pub read_none : (b : ℕ) (digits rest : List ℕ) (ranges : List (ℕ × ℕ)) (n : ℕ) → among ranges (value_from n (b ∷ digits)) ≡ false → (x : ℕ × List ℕ)
     → number_from (length (b ∷ digits)) ranges n (b ∷ digits ++ rest) ≡ Ok x → ⊥
 unfolding number_from
@@ -48,7 +48,7 @@ read_none b (d ∷ digits) rest ranges n h x e =
     (Wrong (suc (length bytes))) x e in
     read_none d digits rest ranges (n * 256 + b) h x step.1
 
--- nor are too few
+-- too few digits have no value
 pub read_early : (more : ℕ) (bytes : List ℕ) (ranges : List (ℕ × ℕ)) (n : ℕ) → length bytes < more → (x : ℕ × List ℕ)
     → number_from more ranges n bytes ≡ Ok x → ⊥
 unfolding number_from

@@ -1,11 +1,11 @@
--- Bytes that are read as if others followed: what the reading of all says of the reading of the first ones.
+-- Bytes that are read as if others followed: what the reading of all of them means for the first ones.
 use Rattle.std.proofs.Common.{◌≡◌, ℕ, suc, ◌+◌, ◌-◌, ◌<◌, ◌≤◌, List, [], ◌∷◌, ◌++◌, length, take, drop, Ok, Err, refl, sym, ap, ◌∙◌}
 use Rattle.std.proofs.Common.{append_assoc, length-append, arith}
 use Rattle.std.proofs.Common.{zero, replicate, inl, inr}
 use Rattle.std.proofs.lemmas.Bool.{cases_lt, lt-ltb, le-ltb}
 use Rattle.std.proofs.lemmas.List.{take_at, take-append-drop, take-append-le, length-drop}
-use Rattle.ldar_facts.specs.declared.stop.Stop.{Stop}
-use Rattle.ldar_facts.specs.declared.stop.Stop.TheVariants.{Short, Wrong}
+use Rattle.ldar_facts.specs.declared.read_end.ReadEnd.{ReadEnd}
+use Rattle.ldar_facts.specs.declared.read_end.ReadEnd.TheVariants.{Short, Wrong}
 use Rattle.ldar_facts.specs.Compose.{ok_pair}
 use Rattle.ldar_facts.specs.Form.{Outcome, IsBytes, Form}
 use Rattle.ldar_facts.specs.Places.{stop_before}
@@ -18,7 +18,7 @@ module _ {A : Type 0} (form : Form A) (bytes pad : List ℕ) (are : IsBytes byte
       let grouped : bytes ++ pad ≡ form.text p.0 ++ (rest ++ pad) = ap (λ l. l ++ pad) p.2 ∙ append_assoc (form.text p.0) rest pad in
       ap form.read grouped ∙ form.reads.again p.0 (rest ++ pad) ∙ ap (λ v. Ok (v, rest ++ pad)) p.1
 
-  -- where the first bytes go wrong all do
+  -- a wrong byte among the first bytes is wrong among all
   as_wrong : (left : ℕ) → form.read bytes ≡ Err (Wrong left) → form.read (bytes ++ pad) ≡ Err (Wrong (left + length pad))
   as_wrong left e =
       let w = form.reads.wrong bytes left are e in
@@ -26,7 +26,7 @@ module _ {A : Type 0} (form : Form A) (bytes pad : List ℕ) (are : IsBytes byte
       let len : suc (length (w.back ++ pad)) ≡ left + length pad = omega (arith, w.left_is, length-append w.back pad) in
       ap form.read grouped ∙ w.stops (w.back ++ pad) ∙ ap (λ n. Err (Wrong n)) len
 
-  -- a value that ends among the first bytes stands in them
+  -- a value that ends within the first bytes is read of them
   pub within : (a : A) (rest : List ℕ) → form.read (bytes ++ pad) ≡ Ok (a, rest) → length pad ≤ length rest
       → form.read bytes ≡ Ok (a, drop (length (bytes ++ pad) - length rest) bytes)
   within a rest e long =
@@ -41,7 +41,7 @@ module _ {A : Type 0} (form : Form A) (bytes pad : List ℕ) (are : IsBytes byte
       ap form.read splits ∙ form.reads.again p.0 (drop (length text) bytes) ∙ ap (λ v. Ok (v, drop (length text) bytes)) p.1
       ∙ ap (λ n. Ok (a, drop n bytes)) used
 
-  -- one that ends behind them begins with them
+  -- if a value ends after the first bytes, they are cut short
   pub past : (a : A) (rest : List ℕ) → form.read (bytes ++ pad) ≡ Ok (a, rest) → length rest < length pad
       → (reading : Outcome A) → form.read bytes ≡ reading → form.read bytes ≡ Err Short
   past a rest e few (Ok found) is =
@@ -51,13 +51,13 @@ module _ {A : Type 0} (form : Form A) (bytes pad : List ℕ) (are : IsBytes byte
   past a rest e few (Err Short) is = is
   past a rest e few (Err (Wrong left)) is = let other = as_wrong left is in absurd cc
 
-  -- all are short only where the first are
+  -- if all bytes are cut short, so are the first ones
   pub as_short : form.read (bytes ++ pad) ≡ Err Short → (reading : Outcome A) → form.read bytes ≡ reading → form.read bytes ≡ Err Short
   as_short e (Ok found) is = let other = further found.0 found.1 is in absurd cc
   as_short e (Err Short) is = is
   as_short e (Err (Wrong left)) is = let other = as_wrong left is in absurd cc
 
-  -- what goes wrong behind the first bytes begins with them
+  -- if the wrong byte is after the first bytes, they are cut short
   pub behind : (left : ℕ) → form.read (bytes ++ pad) ≡ Err (Wrong left) → left ≤ length pad
       → (reading : Outcome A) → form.read bytes ≡ reading → form.read bytes ≡ Err Short
   behind left e few (Ok found) is = let other = further found.0 found.1 is in absurd cc
@@ -68,7 +68,7 @@ module _ {A : Type 0} (form : Form A) (bytes pad : List ℕ) (are : IsBytes byte
       let same : left ≡ more + length pad = cc in
       absurd (omega (arith, w.left_is))
 
-  -- what goes wrong among the first bytes does so in them
+  -- a wrong byte within the first bytes is wrong there too
   pub among : (left : ℕ) → form.read (bytes ++ pad) ≡ Err (Wrong left) → length pad < left → form.read bytes ≡ Err (Wrong (left - length pad))
   among left e many =
       let w = form.reads.wrong (bytes ++ pad) left all e in
@@ -85,8 +85,8 @@ module _ {A : Type 0} (form : Form A) (bytes pad : List ℕ) (are : IsBytes byte
       omega (arith, lengths, w.left_is, length-drop k bytes, length-append bytes pad, length-append w.front (w.byte ∷ w.back)) in
       ap form.read splits ∙ w.stops (drop k bytes) ∙ ap (λ n. Err (Wrong n)) left_is
 
-  -- where reading of all stops, reading of the first ones does
-  pub stops : (stop : Stop) → form.read (bytes ++ pad) ≡ Err stop → form.read bytes ≡ Err (stop_before stop (length pad))
+  -- the reason why reading all of them ends determines that for the first ones
+  pub stops : (stop : ReadEnd) → form.read (bytes ++ pad) ≡ Err stop → form.read bytes ≡ Err (stop_before stop (length pad))
   stops Short e = as_short e (form.read bytes) refl
   stops (Wrong left) e =
       elim (cases_lt (length pad) left) [
@@ -94,7 +94,7 @@ module _ {A : Type 0} (form : Form A) (bytes pad : List ℕ) (are : IsBytes byte
         | inr few ↦ behind left e few (form.read bytes) refl ∙ rw (le-ltb _ _ few)
       ]
 
--- zeros are bytes, also behind bytes
+-- bytes followed by zeros are bytes
 pub IsBytes-zeros : (bytes : List ℕ) (n : ℕ) → IsBytes bytes → IsBytes (bytes ++ replicate n 0)
 IsBytes-zeros [] zero are i = are i
 IsBytes-zeros [] (suc n) are zero = omega arith

@@ -1,4 +1,4 @@
--- A name in its twelve bytes, looked at as a whole: letters, and zero bytes behind them.
+-- A name in its twelve bytes, looked at as a whole: letters, then zero bytes.
 use Rattle.std.proofs.Common.{◌≡◌, ℕ, ◌+◌, ◌-◌, ◌<◌, ◌≤◌, true, List, [], ◌∷◌, ◌++◌, length, take, drop, replicate, Ok, refl, sym, ap, subst, ◌∙◌, arith}
 use Rattle.std.specs.Prelude.{◌==◌, Option, Some, None, IfSome}
 use Rattle.std.specs.List.{list_all}
@@ -8,7 +8,7 @@ use Rattle.fact_kinds.specs.Name.{IsName, is_name_byte, spelled_name}
 use Rattle.ldar_facts.specs.Letters.{name_form}
 use Rattle.ldar_facts.proofs.NameForm.{name_text, name_path}
 
--- bytes that are all zero are so many zeros
+-- bytes that are all zero are a list of zeros
 all_zeros : (bytes : List ℕ) → list_all (λ b. b == 0) bytes ≡ true → bytes ≡ replicate (length bytes) 0
 all_zeros [] h = refl
 all_zeros (b ∷ bytes) h =
@@ -16,7 +16,7 @@ all_zeros (b ∷ bytes) h =
     let is : b ≡ 0 = eqb-true b 0 parts.0 in
     rw is (ap (λ l. 0 ∷ l) (all_zeros bytes parts.1))
 
--- a name at the front of twelve bytes, and zero bytes behind it, are the name in its twelve bytes
+-- a prefix of twelve bytes, if only zero bytes follow, is the name in these bytes
 padded_name : (len : ℕ) (bytes name : List ℕ) → length bytes ≡ 12 → len ≤ 12 → list_all (λ b. b == 0) (take (12 - len) (drop len bytes)) ≡ true
     → name ≡ take len bytes → bytes ≡ spelled_name name
 padded_name len bytes name twelve fits zeros is =
@@ -28,7 +28,7 @@ padded_name len bytes name twelve fits zeros is =
     (sym (take-append-drop len bytes)
     ∙ ap (λ l. take len bytes ++ l) (all_zeros (drop len bytes) (rw all at zeros) ∙ ap (λ n. replicate n 0) left))
 
--- a name that is made of the bytes at the front is the one in the twelve bytes
+-- the name made from the prefix is the name in the twelve bytes
 pub front_is_name : (len : ℕ) (bytes : List ℕ) (result : Option (List ℕ)) → length bytes ≡ 12 → len ≤ 12
     → list_all (λ b. b == 0) (take (12 - len) (drop len bytes)) ≡ true → IfSome result (λ name. IsName (take len bytes) × (name ≡ take len bytes))
     → IfSome result (λ name. IsName name × (bytes ≡ spelled_name name))

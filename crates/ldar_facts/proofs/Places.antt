@@ -1,27 +1,27 @@
--- Fields at known places of some bytes are read as those in front of what is left.
+-- Fields at fixed places are read like fields at the start of the rest.
 use Rattle.std.proofs.Common.{◌≡◌, ℕ, zero, suc, ◌+◌, ◌*◌, ◌-◌, ◌≤◌, List, [], ◌∷◌, length, get_or, take, drop, Result, Ok, Err, sym}
 use Rattle.std.proofs.Common.{replicate, ap, ◌∙◌, length-append, arith}
 use Rattle.std.proofs.lemmas.List.{drop_more, drop_at, drop-drop, take-append-drop, length-replicate}
-use Rattle.ldar_facts.specs.declared.stop.Stop.{Stop}
-use Rattle.ldar_facts.specs.declared.stop.Stop.TheVariants.{Wrong}
+use Rattle.ldar_facts.specs.declared.read_end.ReadEnd.{ReadEnd}
+use Rattle.ldar_facts.specs.declared.read_end.ReadEnd.TheVariants.{Wrong}
 use Rattle.ldar_facts.specs.Compose.{IsBytes-behind, ok_pair}
 use Rattle.ldar_facts.specs.Form.{IsBytes, Takes}
 use Rattle.ldar_facts.specs.Letters.{name_form}
 use Rattle.ldar_facts.specs.Number.{number_from, may_be, no_value}
 use Rattle.ldar_facts.proofs.NameForm.{name_text}
 
--- bytes from a place on are bytes
+-- the rest of bytes is bytes
 pub IsBytes-drop : (bytes : List ℕ) (at : ℕ) → IsBytes bytes → IsBytes (drop at bytes)
 IsBytes-drop bytes at are = IsBytes-behind bytes (take at bytes) (drop at bytes) (sym (take-append-drop at bytes)) are
 
--- two bytes stand at a place
+-- the two bytes at a place, and the rest after them
 pub two_stand : (bytes : List ℕ) (at : ℕ) → at + 2 ≤ length bytes → drop at bytes ≡ get_or bytes at 0 ∷ get_or bytes (at + 1) 0 ∷ drop (at + 2) bytes
 two_stand bytes at within =
     let next : at + 1 + 1 ≡ at + 2 = omega arith in
     drop_more bytes at 0 (omega arith)
     ∙ ap (λ l. get_or bytes at 0 ∷ l) (drop_more bytes (at + 1) 0 (omega arith) ∙ ap (λ k. get_or bytes (at + 1) 0 ∷ drop k bytes) next)
 
--- four bytes stand at a place
+-- the four bytes at a place, and the rest after them
 pub four_stand : (bytes : List ℕ) (at : ℕ) → at + 4 ≤ length bytes
     → drop at bytes ≡ get_or bytes at 0 ∷ get_or bytes (at + 1) 0 ∷ get_or bytes (at + 2) 0 ∷ get_or bytes (at + 3) 0 ∷ drop (at + 4) bytes
 four_stand bytes at within =
@@ -33,9 +33,9 @@ four_stand bytes at within =
     ∙ ap (λ k. get_or bytes (at + 2) 0 ∷ get_or bytes (at + 3) 0 ∷ drop k bytes) behind in
     two_stand bytes at (omega arith) ∙ ap (λ l. get_or bytes at 0 ∷ get_or bytes (at + 1) 0 ∷ l) later
 
--- ---- how far a field reaches
+-- ---- where a field ends
 
--- a number ends behind its bytes
+-- the unread bytes after a number are those after its width
 number_ends : (more : ℕ) (ranges : List (ℕ × ℕ)) (n : ℕ) (bytes : List ℕ) (v : ℕ) (rest : List ℕ)
     → number_from more ranges n bytes ≡ Ok (v, rest) → rest ≡ drop more bytes
 unfolding number_from
@@ -45,13 +45,13 @@ number_ends (suc more) ranges n (b ∷ bytes) v rest e =
     let step = no_value (may_be more ranges (n * 256 + b)) (number_from more ranges (n * 256 + b) bytes) (Wrong (suc (length bytes))) (v, rest) e in
     number_ends more ranges (n * 256 + b) bytes v rest step.1
 
--- a number at a place ends so many bytes behind it
+-- .. also for a number at a place
 pub number_to : (width at : ℕ) (ranges : List (ℕ × ℕ)) (bytes : List ℕ) (v : ℕ) (rest : List ℕ)
     → number_from width ranges 0 (drop at bytes) ≡ Ok (v, rest) → number_from width ranges 0 (drop at bytes) ≡ Ok (v, drop (at + width) bytes)
 number_to width at ranges bytes v rest e =
     e ∙ ap (λ (l : List ℕ). Ok (v, l)) (number_ends width ranges 0 (drop at bytes) v rest e ∙ drop-drop width at bytes)
 
--- a name ends behind its twelve bytes
+-- the unread bytes after a name are those after twelve bytes
 name_ends : (bytes rest : List ℕ) (name : List ℕ) → IsBytes bytes → name_form.read bytes ≡ Ok (name, rest) → rest ≡ drop 12 bytes
 name_ends bytes rest name are e =
     let p = name_form.reads.found bytes name rest are e in
@@ -62,8 +62,8 @@ name_ends bytes rest name are e =
     ∙ rw (length-replicate {A = ℕ} (12 - length (name_form.value p.0)) 0) (omega (arith, fits)) in
     sym (rw p.2 (drop_at (name_form.text p.0) rest 12 len))
 
--- a name at a place ends twelve bytes behind it
-pub name_to : (at : ℕ) (bytes rest : List ℕ) (result : Result (List ℕ) Stop) → IsBytes bytes → Takes name_form.read result (drop at bytes) rest
+-- .. also for a name at a place
+pub name_to : (at : ℕ) (bytes rest : List ℕ) (result : Result (List ℕ) ReadEnd) → IsBytes bytes → Takes name_form.read result (drop at bytes) rest
     → Takes name_form.read result (drop at bytes) (drop (at + 12) bytes)
 name_to at bytes rest (Ok name) are e =
     e ∙ ap (λ (l : List ℕ). Ok (name, l)) (name_ends (drop at bytes) rest name (IsBytes-drop bytes at are) e ∙ drop-drop 12 at bytes)

@@ -1,4 +1,4 @@
--- Writing the facts of a batch, as a loop does.
+-- The steps of a loop that writes the facts of a batch.
 use Rattle.std.proofs.Common.{◌≡◌, ℕ, ◌+◌, ◌<◌, ◌≤◌, List, [], ◌∷◌, ◌++◌, length, get_or, take, sym, ap, ◌∙◌, append_assoc, arith}
 use Rattle.std.proofs.Common.{Result, Ok, Err}
 use Rattle.std.specs.Prelude.{OnOk}
@@ -11,7 +11,7 @@ use Rattle.fact_kinds.specs.Fields.{Field, number, IsFilled, IsFact, first_lette
 use Rattle.ldar_facts.specs.Grammar.{spelled, Spells}
 use Rattle.ldar_facts.proofs.FactTies.{spelled-append, filled-append}
 
--- what stands before the facts
+-- the fields before the facts
 abbrev pub head_fields : Batch → List Field
 head_fields batch =
     number 1 first_letters 66 ∷ number 2 handhelds batch.handheld ∷ number 4 batch_numbers batch.number ∷ number 2 counts (length batch.facts) ∷ []
@@ -21,7 +21,7 @@ pub record IsWritten (batch : Batch) (count : ℕ) (bytes : List ℕ) : Type 0 w
   pub items : bytes ≡ spelled (head_fields batch) ++ spelled (flat_map fact_fields (take count batch.facts))
   pub filled : AllByRecursion IsFilled (flat_map fact_fields (take count batch.facts))
 
--- one fact more has its fields behind the others
+-- the fields of one more fact are after the others
 more_fields : (facts : List Stated) (i : ℕ) (fact : Stated) → i < length facts → fact ≡ get_or facts i fact
     → flat_map fact_fields (take (i + 1) facts) ≡ flat_map fact_fields (take i facts) ++ fact_fields fact
 more_fields facts i fact lt is =
@@ -29,11 +29,11 @@ more_fields facts i fact lt is =
     ap (flat_map fact_fields) more ∙ flat_map-append fact_fields (take i facts) (fact ∷ [])
     ∙ ap (λ l. flat_map fact_fields (take i facts) ++ l) (append-nil (fact_fields fact))
 
--- nothing but the head
+-- only the head is written
 pub head_written : (batch : Batch) (bytes : List ℕ) → bytes ≡ spelled (head_fields batch) → IsWritten batch 0 bytes
 head_written batch bytes is = record { items = is; filled = tt }
 
--- one fact more
+-- one more fact is written
 pub one_more : (batch : Batch) (i : ℕ) (bytes bytes' : List ℕ) (fact : Stated) → IsWritten batch i bytes → i < length batch.facts
     → fact ≡ get_or batch.facts i fact → IsFact fact
     → bytes' ≡ bytes ++ spelled (fact_fields fact) → IsWritten batch (i + 1) bytes'
@@ -47,7 +47,7 @@ one_more batch i bytes bytes' fact so_far lt is is_fact added =
       filled = rw fields (filled-append so (fact_fields fact) so_far.filled is_fact);
     }
 
--- all of them
+-- all facts are written
 pub all_written : (batch : Batch) (i : ℕ) (bytes : List ℕ) → IsWritten batch i bytes → length batch.facts ≤ i → 0 < length batch.facts
     → length batch.facts ≤ 512
     → batch.handheld ≤ 65_535 → batch.number ≤ 4_294_967_295 → Spells bytes batch
@@ -58,13 +58,13 @@ all_written batch i bytes so_far le some few any_handheld any_number =
       spells = so_far.items ∙ ap (λ (facts : List Stated). spelled (head_fields batch) ++ spelled (flat_map fact_fields facts)) all;
     }
 
--- ---- bytes added one after the other
+-- ---- appending in several calls
 
--- these were added, and those behind them
+-- what two calls append is the joined bytes
 pub more : (old mid new added other : List ℕ) → mid ≡ old ++ added → new ≡ mid ++ other → new ≡ old ++ (added ++ other)
 more old mid new added other first second = second ∙ ap (λ l. l ++ other) first ∙ append_assoc old added other
 
--- and where the last call did not want memory, those behind them
+-- .. also if the last call was not out of memory
 pub last : (old mid new added other : List ℕ) {E : Type 0} (answer : Result (Unit {0}) E) → mid ≡ old ++ added → OnOk answer (new ≡ mid ++ other)
     → OnOk answer (new ≡ old ++ (added ++ other))
 last old mid new added other (Ok x) first second = more old mid new added other first second

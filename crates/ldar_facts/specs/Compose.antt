@@ -1,41 +1,41 @@
--- How the private readers are proved; nothing here has to be believed. It stands in specs/ since their clauses cite it.
--- One form behind another: if each is read rightly, so are both.
+-- Internal: how the private readers are proved. It is in specs/ only because their clauses cite it.
+-- One form after another: if each is read correctly, so are both.
 use Rattle.std.specs.Prelude.{◌≡◌, ℕ, ◌+◌, ◌<◌, Bool, true, false, if◌then◌else◌, ◌⊎◌, List, [], ◌∷◌, ◌++◌, length, get_or, Ok, Err, refl}
 use Rattle.std.proofs.Common.{sym, ap, subst, ◌∙◌, inl, inr, append_assoc}
 use Rattle.std.proofs.lemmas.List.{get_or-append-add}
-use Rattle.ldar_facts.specs.declared.stop.Stop.{Stop}
-use Rattle.ldar_facts.specs.declared.stop.Stop.TheVariants.{Short, Wrong}
+use Rattle.ldar_facts.specs.declared.read_end.ReadEnd.{ReadEnd}
+use Rattle.ldar_facts.specs.declared.read_end.ReadEnd.TheVariants.{Short, Wrong}
 use Rattle.ldar_facts.specs.Form.{Outcome, ◌then◌, IsBytes, IsWrong, Reads, Form}
 
--- what stands behind a text of bytes has bytes
+-- the bytes after a text are bytes
 pub IsBytes-behind : (bytes text rest : List ℕ) → bytes ≡ text ++ rest → IsBytes bytes → IsBytes rest
 IsBytes-behind bytes text rest splits are i =
     let behind = get_or-append-add text rest i 0 in
     subst (λ b. b < 256) behind (subst (λ (l : List ℕ). get_or l (length text + i) 0 < 256) splits (are (length text + i)))
 
--- the step that did not stop
+-- if a sequence has a value, its first step has one
 then_ok : {A B : Type 0} (r : Outcome A) (next : A × List ℕ → Outcome B) (y : B × List ℕ) → (r then next) ≡ Ok y
     → (x : A × List ℕ) × (r ≡ Ok x) × (next x ≡ Ok y)
 then_ok (Ok x) next y e = (x, refl, e)
 then_ok (Err stop) next y e = absurd cc
 
--- the step that stopped
-then_err : {A B : Type 0} (r : Outcome A) (next : A × List ℕ → Outcome B) (stop : Stop) → (r then next) ≡ Err stop
+-- if a sequence ends without a value, its first step or its second one does
+then_err : {A B : Type 0} (r : Outcome A) (next : A × List ℕ → Outcome B) (stop : ReadEnd) → (r then next) ≡ Err stop
     → (r ≡ Err stop) ⊎ ((x : A × List ℕ) × (r ≡ Ok x) × (next x ≡ Err stop))
 then_err (Ok x) next stop e = inr (x, refl, e)
 then_err (Err stop) next other e = inl cc
 
--- ---- a value that stands in no bytes
+-- ---- a value without bytes
 
--- a reading that did not stop
+-- a reading with a value
 abbrev read_so : {A : Type 0} → A × List ℕ → Outcome A
 read_so x = Ok x
 
--- what two readings agree on
+-- equal readings have equal values and equal unread bytes
 pub ok_pair : {A : Type 0} (x y : A × List ℕ) → read_so x ≡ read_so y → (x.0 ≡ y.0) × (x.1 ≡ y.1)
 ok_pair {A = A} x y e = let same : x ≡ y = cc in (ap (λ (p : A × List ℕ). p.0) same, ap (λ (p : A × List ℕ). p.1) same)
 
--- such a value is read rightly
+-- a value without bytes is read correctly
 pub done_reads : {A : Type 0} (a : A) → Reads {P = Unit {0}} (λ p. a) (λ p. []) (λ bytes. Ok (a, bytes))
 done_reads a = record {
   some = tt;
@@ -46,7 +46,7 @@ done_reads a = record {
   wrong = λ bytes left are e. absurd cc;
 }
 
--- what stands in no bytes
+-- the form of a value without bytes
 abbrev pub done : {A : Type 0} → A → Form A
 done a = record {
   Path = Unit {0};
@@ -56,10 +56,10 @@ done a = record {
   reads = done_reads a;
 }
 
--- ---- a form, and one behind it that the first one's value decides
+-- ---- a form, then one that depends on its value
 
 module _ {A B : Type 0} (first : Form A) (next : A → Form B) where
-  -- the ways of both
+  -- the paths of both
   abbrev pub Both : Type 0
   Both = (p : first.Path) × (next (first.value p)).Path
 
@@ -71,11 +71,11 @@ module _ {A B : Type 0} (first : Form A) (next : A → Form B) where
   abbrev pub text : Both → List ℕ
   text p = first.text p.0 ++ (next (first.value p.0)).text p.1
 
-  -- how both are read
+  -- the reading of both
   abbrev pub read : List ℕ → Outcome B
   read bytes = first.read bytes then λ x. (next x.0).read x.1
 
-  -- what is read has a way
+  -- each value that is read has a path
   leads : (bytes : List ℕ) (b : B) (rest : List ℕ) → read bytes ≡ Ok (b, rest) → (p : Both) × (value p ≡ b)
   leads bytes b rest e =
       let step = then_ok (first.read bytes) (λ x. (next x.0).read x.1) (b, rest) e in
@@ -84,7 +84,7 @@ module _ {A B : Type 0} (first : Form A) (next : A → Form B) where
       let q = (next (first.value p.0)).reads.leads step.0.1 b rest follows in
       ((p.0, q.0), q.1)
 
-  -- of bytes, it stands there
+  -- .. and its text is at the start of the bytes
   found : (bytes : List ℕ) (b : B) (rest : List ℕ) → IsBytes bytes → read bytes ≡ Ok (b, rest) → (p : Both) × (value p ≡ b) × (bytes ≡ text p ++ rest)
   found bytes b rest are e =
       let step = then_ok (first.read bytes) (λ x. (next x.0).read x.1) (b, rest) e in
@@ -94,7 +94,7 @@ module _ {A B : Type 0} (first : Form A) (next : A → Form B) where
       let q = (next (first.value p.0)).reads.found behind b rest (IsBytes-behind bytes (first.text p.0) behind p.2 are) follows in
       ((p.0, q.0), q.1, p.2 ∙ ap (λ l. first.text p.0 ++ l) q.2 ∙ sym (append_assoc (first.text p.0) ((next (first.value p.0)).text q.0) rest))
 
-  -- what stands there is read
+  -- each text is read
   again : (p : Both) (rest : List ℕ) → read (text p ++ rest) ≡ Ok (value p, rest)
   again p rest =
       let front = first.text p.0 in
@@ -104,19 +104,19 @@ module _ {A B : Type 0} (first : Form A) (next : A → Form B) where
       ap (λ r. r then λ x. (next x.0).read x.1) (first.reads.again p.0 (second.text p.1 ++ rest)) in
       ap read grouped ∙ once ∙ second.reads.again p.1 rest
 
-  -- whatever the first one's value, some text of the second completes it
+  -- for any value of the first form, some text of the second completes it
   completed : (bytes : List ℕ) (p : first.Path) (more : List ℕ) → bytes ++ more ≡ first.text p → (q : Both) × (rest : List ℕ) × (bytes ++ rest ≡ text q)
   completed bytes p more begins =
       let second = next (first.value p) in
       let q = second.reads.some in
       ((p, q), more ++ second.text q, sym (append_assoc bytes more (second.text q)) ∙ ap (λ l. l ++ second.text q) begins)
 
-  -- the second one's text continues the first one's
+  -- the second form's text continues the first one's
   continued : (rest more : List ℕ) (p : first.Path) (q : (next (first.value p)).Path) → rest ++ more ≡ (next (first.value p)).text q
       → (first.text p ++ rest) ++ more ≡ first.text p ++ (next (first.value p)).text q
   continued rest more p q begins = append_assoc (first.text p) rest more ∙ ap (λ l. first.text p ++ l) begins
 
-  -- what is short begins a text of both
+  -- bytes that are cut short begin a text of both
   short : (bytes : List ℕ) → IsBytes bytes → read bytes ≡ Err Short → (q : Both) × (more : List ℕ) × (bytes ++ more ≡ text q)
   short bytes are e =
       elim (then_err (first.read bytes) (λ x. (next x.0).read x.1) Short e) [
@@ -129,7 +129,7 @@ module _ {A B : Type 0} (first : Form A) (next : A → Form B) where
             ((p.0, q.0), q.1, ap (λ l. l ++ q.1) p.2 ∙ continued behind q.1 p.0 q.0 q.2)
       ]
 
-  -- what is wrong is so at the first wrong place
+  -- a wrong byte is at the first wrong place
   wrong : (bytes : List ℕ) (left : ℕ) → IsBytes bytes → read bytes ≡ Err (Wrong left) → IsWrong text read bytes left
   wrong bytes left are e =
       elim (then_err (first.read bytes) (λ x. (next x.0).read x.1) (Wrong left) e) [
@@ -170,7 +170,7 @@ module _ {A B : Type 0} (first : Form A) (next : A → Form B) where
             }
       ]
 
-  -- both together are read rightly
+  -- both together are read correctly
   pub both_read : Reads value text read
   both_read = record {
     some = (first.reads.some, (next (first.value first.reads.some)).reads.some);
@@ -182,7 +182,7 @@ module _ {A B : Type 0} (first : Form A) (next : A → Form B) where
   }
 
 infixl 10 ◌>>=◌
--- a form, and behind it the one that its value decides
+-- a form, then the one that its value selects
 abbrev pub ◌>>=◌ : {A B : Type 0} → Form A → (A → Form B) → Form B
 first >>= next = record {
   Path = Both first next;
@@ -192,9 +192,9 @@ first >>= next = record {
   reads = both_read first next;
 }
 
--- ---- one of two forms, by a test
+-- ---- one of two forms, selected by a test
 
--- the ways of the one that the test picks
+-- the paths of the form that the test selects
 abbrev pub Either : Bool → Type 0 → Type 0 → Type 0
 Either true P Q = P
 Either false P Q = Q
@@ -210,16 +210,16 @@ module _ {A : Type 0} (first second : Form A) where
   either_text true p = first.text p
   either_text false p = second.text p
 
-  -- how it is read
+  -- its reading
   abbrev pub either_read : Bool → List ℕ → Outcome A
   either_read test bytes = if test then first.read bytes else second.read bytes
 
-  -- the one that the test picks is read rightly
+  -- the form that the test selects is read correctly
   pub either_reads : (test : Bool) → Reads (either_value test) (either_text test) (either_read test)
   either_reads true = first.reads
   either_reads false = second.reads
 
--- the first form where the test is passed, and else the second
+-- the first form if the test is true, and otherwise the second
 abbrev pub either : {A : Type 0} → Bool → Form A → Form A → Form A
 either test first second = record {
   Path = Either test first.Path second.Path;

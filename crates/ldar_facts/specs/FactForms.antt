@@ -1,5 +1,5 @@
--- How the private readers are proved; nothing here has to be believed. It stands in specs/ since their clauses cite it.
--- How the facts of each kind are read, and a batch of them.
+-- Internal: how the private readers are proved. It is in specs/ only because their clauses cite it.
+-- The forms of the facts of each kind, and of a batch.
 use Rattle.std.specs.Prelude.{ℕ, zero, suc, ◌==◌, List, [], ◌∷◌, refl}
 use Rattle.fact_kinds.specs.declared.batch.Batch.{Batch}
 use Rattle.fact_kinds.specs.declared.body.FactBody.{FactBody}
@@ -34,7 +34,7 @@ component_fact = do
   class ← field.class
   done (ComponentFact component unit kind monomer replaces class)
 
--- a class of a component
+-- a component's class
 unfoldable pub class_fact : Form FactBody
 class_fact = do
   component ← field.component
@@ -47,7 +47,7 @@ retire = do
   component ← field.component
   done (Retire component)
 
--- the choice of a programme of skip periods
+-- an election of a skip period program
 unfoldable pub election : Form FactBody
 election = do
   unit ← field.unit
@@ -133,7 +133,7 @@ indication = do
   present ← field.flag
   done (Indication component sort present)
 
--- what a fact says, by the number of its kind
+-- a fact's body, by the number of its kind
 unfoldable pub body : ℕ → Form FactBody
 body kind =
     either (kind == 1) unit_fact (either (kind == 2) component_fact (either (kind == 3) class_fact (either (kind == 4) retire
@@ -141,7 +141,7 @@ body kind =
     (either (kind == 9) drift (either (kind == 10) reading (either (kind == 11) visual (either (kind == 12) attempt
     (either (kind == 13) delay (either (kind == 14) release indication)))))))))))))
 
--- a fact: its kind, day and minute, and what it says
+-- a fact: its kind, day and minute, and its body
 unfoldable pub fact : Form Stated
 fact = do
   kind ← field.fact_kind
@@ -150,7 +150,7 @@ fact = do
   body ← body kind
   done (record { day = day; minute = minute; body = body })
 
--- so many facts
+-- this many facts
 unfoldable pub facts : ℕ → Form (List Stated)
 facts zero = done []
 facts (suc more) = do
@@ -158,7 +158,7 @@ facts (suc more) = do
   others ← facts more
   done (first ∷ others)
 
--- what stands before the facts of a batch
+-- the fields before the facts of a batch
 unfoldable pub head : Form Head
 head = do
   letter ← number_form 1 fields.first_letters refl

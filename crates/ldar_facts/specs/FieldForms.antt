@@ -1,5 +1,5 @@
--- How the private readers are proved; nothing here has to be believed. It stands in specs/ since their clauses cite it.
--- How each field of the table is read.
+-- Internal: how the private readers are proved. It is in specs/ only because their clauses cite it.
+-- The form of each field of the table.
 use Rattle.std.specs.Prelude.{ℕ, Bool, ◌==◌, IsTrue, if◌then◌else◌, Option, Some, None, refl}
 use Rattle.fact_kinds.specs.declared.class.Class.{Class}
 use Rattle.fact_kinds.specs.declared.class.Kind.{Kind}
@@ -31,15 +31,15 @@ unit = number_form 1 fields.units refl
 unfoldable pub instrument : Form ℕ
 instrument = number_form 2 fields.instruments refl
 
--- the number of an instrument or a person, or 0
+-- the number of an instrument or a person, or 0 for none
 unfoldable pub number_or_none : Form ℕ
 number_or_none = number_form 2 fields.numbers_or_none refl
 
--- a concentration that was read
+-- a concentration of a reading
 unfoldable pub concentration : Form ℕ
 concentration = number_form 4 fields.concentrations refl
 
--- the concentration of a gas
+-- a concentration of a calibration gas
 unfoldable pub known_value : Form ℕ
 known_value = number_form 4 fields.known_values refl
 
@@ -59,7 +59,7 @@ fact_kind = number_form 1 fields.fact_kinds refl
 unfoldable pub month : Form ℕ
 month = number_form 1 fields.months refl
 
--- a programme of skip periods
+-- a skip period program
 unfoldable pub mode : Form ℕ
 mode = number_form 1 fields.modes refl
 
@@ -71,19 +71,19 @@ shutdown_length = number_form 2 fields.shutdown_lengths refl
 unfoldable pub delay_ground : Form ℕ
 delay_ground = number_form 1 fields.grounds refl
 
--- no or yes
+-- a flag
 unfoldable pub flag : Form Bool
 flag = do
   n ← number_form 1 fields.flags refl
   done (n == 1)
 
--- ---- what a number stands for
+-- ---- the meaning of a number
 
--- what a component with this number is
+-- the type of component with this number
 abbrev pub kind_of : ℕ → Kind
 kind_of n = if n == 1 then Valve else (if n == 2 then Pump else (if n == 3 then Compressor else Relief))
 
--- what flows there by this number
+-- the service with this number
 abbrev pub service_of : ℕ → Service
 service_of n = if n == 1 then Gas else (if n == 2 then Light else (if n == 3 then Heavy else (if n == 4 then Vacuum else Under300)))
 
@@ -95,49 +95,49 @@ designation_of n = if n == 0 then Plain else (if n == 1 then Nde else (if n == 2
 abbrev pub purpose_of : ℕ → Purpose
 purpose_of n = if n == 1 then Routine else FollowUp
 
--- what was found, by this number
+-- the result of a visual inspection with this number
 abbrev pub state_of : ℕ → VisualState
 state_of n = if n == 0 then Dry else (if n == 1 then Drips else Designated)
 
--- the sort with this number
+-- the kind of indication with this number
 abbrev pub sort_of : ℕ → Sort
 sort_of n = if n == 1 then Sensor else Evidence
 
--- the day with this number, or none
+-- the day with this number, or None for 0
 abbrev pub expected_of : ℕ → Option ℕ
 expected_of n = if n == 0 then None else Some n
 
--- what a component is
+-- a component's type
 unfoldable pub kind : Form Kind
 kind = do
   n ← number_form 1 fields.component_kinds refl
   done (kind_of n)
 
--- what flows through a component
+-- a component's service
 unfoldable pub service : Form Service
 service = do
   n ← number_form 1 fields.services refl
   done (service_of n)
 
--- how a component is designated
+-- a component's designation
 unfoldable pub designation : Form Designation
 designation = do
   n ← number_form 1 fields.designations refl
   done (designation_of n)
 
--- why a reading was taken
+-- a reading's purpose
 unfoldable pub purpose : Form Purpose
 purpose = do
   n ← number_form 1 fields.purposes refl
   done (purpose_of n)
 
--- what a visual inspection found
+-- a visual inspection's result
 unfoldable pub state : Form VisualState
 state = do
   n ← number_form 1 fields.visual_states refl
   done (state_of n)
 
--- what an indication speaks of
+-- an indication's kind
 unfoldable pub sort : Form Sort
 sort = do
   n ← number_form 1 fields.sorts refl
@@ -158,11 +158,11 @@ plans_proper Nde = refl
 plans_proper Unsafe = refl
 plans_proper Difficult = refl
 
--- the months of a plan, as the designation allows
+-- the months of a plan, in the range that the designation allows
 unfoldable pub plan : Designation → Form ℕ
 plan d = number_form 1 (fields.plans d) (plans_proper d)
 
--- the class of a component
+-- a component's class
 unfoldable pub class : Form Class
 class = do
   service ← service

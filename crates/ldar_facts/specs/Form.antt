@@ -1,21 +1,21 @@
--- How the private readers are proved; nothing here has to be believed. It stands in specs/ since their clauses cite it.
--- Reading from the front of some bytes, and what it means that this is done rightly; what `read_batch` promises is in Grammar.
+-- Internal: how the private readers are proved. It is in specs/ only because their clauses cite it.
+-- Forms: how a value is read from the start of some bytes, and when that is correct. The promise of `read_batch` is in Grammar.
 use Rattle.std.specs.Prelude.{◌≡◌, ℕ, suc, ◌<◌, List, ◌∷◌, ◌++◌, length, slice_index, Result, Ok, Err}
-use Rattle.ldar_facts.specs.declared.stop.Stop.{Stop}
-use Rattle.ldar_facts.specs.declared.stop.Stop.TheVariants.{Short, Wrong}
+use Rattle.ldar_facts.specs.declared.read_end.ReadEnd.{ReadEnd}
+use Rattle.ldar_facts.specs.declared.read_end.ReadEnd.TheVariants.{Short, Wrong}
 
--- a value and the bytes behind it, or why there is none
+-- a value and the unread bytes, or the reason why there is none
 abbrev pub Outcome : Type 0 → Type 0
-Outcome A = Result (A × List ℕ) Stop
+Outcome A = Result (A × List ℕ) ReadEnd
 
--- what comes next reads the bytes behind
+-- a step, then another that reads the bytes after it
 infixl 10 ◌then◌
 abbrev pub ◌then◌ : {A B : Type 0} → Outcome A → (A × List ℕ → Outcome B) → Outcome B
 (Ok x) then next = next x
 (Err stop) then next = Err stop
 
--- a function returned what reading gives
-abbrev pub Gives : {X Y : Type 0} → (X → Y) → Result X Stop → Result Y Stop → Type 0
+-- a function returned the result of a reading
+abbrev pub Gives : {X Y : Type 0} → (X → Y) → Result X ReadEnd → Result Y ReadEnd → Type 0
 Gives view (Ok x) reading = reading ≡ Ok (view x)
 Gives view (Err stop) reading = reading ≡ Err stop
 
@@ -23,8 +23,7 @@ Gives view (Err stop) reading = reading ≡ Err stop
 abbrev pub IsBytes : List ℕ → Type 0
 IsBytes bytes = (i : ℕ) → slice_index bytes i < 256
 
--- The bytes go wrong at a place: what stands before it begins one of the texts, and with the byte there reading stops,
--- whatever follows.
+-- The byte at a place is wrong: the bytes before it begin one of the texts, and with it reading ends, whatever follows.
 pub record IsWrong {P A : Type 0} (text : P → List ℕ) (read : List ℕ → Outcome A) (bytes : List ℕ) (left : ℕ) : Type 0 where
   pub front : List ℕ
   pub byte : ℕ
@@ -36,23 +35,23 @@ pub record IsWrong {P A : Type 0} (text : P → List ℕ) (read : List ℕ → O
   pub begins : front ++ more ≡ text path
   pub stops : (other : List ℕ) → read (front ++ byte ∷ other) ≡ Err (Wrong (suc (length other)))
 
--- Outcome is right for some texts, each with its value.
+-- A reading is correct for some texts, each with its value.
 pub record Reads {P A : Type 0} (value : P → A) (text : P → List ℕ) (read : List ℕ → Outcome A) : Type 0 where
-  -- there is one
+  -- there is a text
   pub some : P
-  -- what is read is the value of one
+  -- each value that is read belongs to a text
   pub leads : (bytes : List ℕ) (a : A) (rest : List ℕ) → read bytes ≡ Ok (a, rest) → (p : P) × (value p ≡ a)
-  -- and of bytes it stands there
+  -- .. and its text is at the start of the bytes
   pub found : (bytes : List ℕ) (a : A) (rest : List ℕ) → IsBytes bytes → read bytes ≡ Ok (a, rest)
       → (p : P) × (value p ≡ a) × (bytes ≡ text p ++ rest)
-  -- what stands there is read
+  -- each text is read
   pub again : (p : P) (rest : List ℕ) → read (text p ++ rest) ≡ Ok (value p, rest)
-  -- what is short begins one
+  -- bytes that are cut short begin a text
   pub short : (bytes : List ℕ) → IsBytes bytes → read bytes ≡ Err Short → (p : P) × (more : List ℕ) × (bytes ++ more ≡ text p)
-  -- what is wrong is so at the first wrong place
+  -- a wrong byte is at the first wrong place
   pub wrong : (bytes : List ℕ) (left : ℕ) → IsBytes bytes → read bytes ≡ Err (Wrong left) → IsWrong text read bytes left
 
--- A form: its texts, the value of each, and how it is read.
+-- A form: its texts, the value of each, and its reading.
 pub record Form (A : Type 0) : Type 1 where
   pub Path : Type 0
   pub value : Path → A
@@ -60,7 +59,7 @@ pub record Form (A : Type 0) : Type 1 where
   pub read : List ℕ → Outcome A
   pub reads : Reads value text read
 
--- a function took from the front of the old bytes what reading gives, and left the new ones
-abbrev pub Takes : {A : Type 0} → (List ℕ → Outcome A) → Result A Stop → List ℕ → List ℕ → Type 0
+-- a function took a value from the start of the old bytes and left the new ones
+abbrev pub Takes : {A : Type 0} → (List ℕ → Outcome A) → Result A ReadEnd → List ℕ → List ℕ → Type 0
 Takes read (Ok a) old new = read old ≡ Ok (a, new)
 Takes read (Err stop) old new = read old ≡ Err stop

@@ -1,5 +1,5 @@
--- How the private readers are proved; nothing here has to be believed. It stands in specs/ since their clauses cite it.
--- A number in so many bytes, the greatest first, which stops at the first byte with which it can lie in none of its ranges.
+-- Internal: how the private readers are proved. It is in specs/ only because their clauses cite it.
+-- A number, most significant byte first. Its reading ends at the first byte with which it can be in none of its ranges.
 use Rattle.std.specs.Prelude.{◌≡◌, ℕ, zero, suc, ◌+◌, ◌*◌, ◌-◌, ◌/◌, ◌%◌, ◌^◌, ◌<◌, ◌≤◌, ◌⊎◌, Bool, true, false, ◌&&◌, nat_le, nat_lt, IsTrue}
 use Rattle.std.specs.Prelude.{if◌then◌else◌, List, [], ◌∷◌, ◌++◌, length, Ok, Err, refl}
 use Rattle.std.specs.List.{list_any, list_all}
@@ -8,21 +8,21 @@ use Rattle.std.proofs.lemmas.Bool.{cases_lt, cases_Bool, leb-true, ltb-true, le-
 use Rattle.std.proofs.lemmas.Bool.{cond-false}
 use Rattle.std.proofs.lemmas.Nat.{mul-le, le-div, div_below}
 use Rattle.std.proofs.Math.Nat.{pow-suc, one-le-pow, div-eq_of_lt-le}
-use Rattle.ldar_facts.specs.declared.stop.Stop.{Stop}
-use Rattle.ldar_facts.specs.declared.stop.Stop.TheVariants.{Short, Wrong}
+use Rattle.ldar_facts.specs.declared.read_end.ReadEnd.{ReadEnd}
+use Rattle.ldar_facts.specs.declared.read_end.ReadEnd.TheVariants.{Short, Wrong}
 use Rattle.fact_kinds.specs.Fields.{IsAmong, big_endian}
 use Rattle.ldar_facts.specs.Compose.{ok_pair}
 use Rattle.ldar_facts.specs.Form.{Outcome, ◌then◌, IsBytes, IsWrong, Reads, Form}
 
--- one range lets a number begin so, when so many bytes are still to come
+-- a number in the range begins like this, with this many bytes still to come
 abbrev pub may_be_in : ℕ → ℕ → ℕ × ℕ → Bool
 may_be_in more n range = nat_le (n * 256 ^ more) range.1 && nat_le range.0 (n * 256 ^ more + (256 ^ more - 1))
 
--- one of the ranges does
+-- a number in one of the ranges begins like this
 abbrev pub may_be : ℕ → List (ℕ × ℕ) → ℕ → Bool
 may_be more ranges n = list_any (may_be_in more n) ranges
 
--- the rest of a number that begins so
+-- the rest of a number that begins like this
 unfoldable pub number_from : ℕ → List (ℕ × ℕ) → ℕ → List ℕ → Outcome ℕ
 number_from zero ranges n bytes = Ok (n, bytes)
 number_from (suc more) ranges n [] = Err Short
@@ -31,20 +31,20 @@ number_from (suc more) ranges n (b ∷ bytes) =
 
 -- ---- ranges
 
--- a number of the first range or of the others
+-- a number in the first range or in the others is in the ranges
 among_cons : (range : ℕ × ℕ) (ranges : List (ℕ × ℕ)) (n : ℕ) → ((range.0 ≤ n) × (n ≤ range.1)) ⊎ IsAmong n ranges → IsAmong n (range ∷ ranges)
 among_cons range [] n (inl here) = here
 among_cons range [] n (inr there) = absurd there
 among_cons range (other ∷ ranges) n h = h
 
--- a number of some ranges lies in the first or in the others
+-- a number in the ranges is in the first one or in the others
 among_cases : (range : ℕ × ℕ) (ranges : List (ℕ × ℕ)) (n : ℕ) → IsAmong n (range ∷ ranges) → ((range.0 ≤ n) × (n ≤ range.1)) ⊎ IsAmong n ranges
 among_cases range [] n h = inl h
 among_cases range (other ∷ ranges) n h = h
 
 -- ---- a number and its digits, over 256 ^ more = p
 
--- v begins with n, and some so many further digits
+-- v is n followed by some further digits, p = 256 ^ (how many)
 pub record IsIn (p n v : ℕ) : Type 0 where
   pub low : n * p ≤ v
   pub high : v < n * p + p
@@ -63,15 +63,15 @@ block_down p n v pos h =
     let is : n * 256 + v / p % 256 ≡ v / p = omega arith in
     rw is (record { low = omega arith; high = omega arith })
 
--- the next digit of what begins so is that digit
+-- the next digit is determined by what the number begins with
 digit_of : (p n b v : ℕ) → 0 < p → b < 256 → IsIn p (n * 256 + b) v → v / p % 256 ≡ b
 digit_of p n b v pos lt h =
     let is : v / p ≡ n * 256 + b = div-eq_of_lt-le p (omega (arith, h.low)) (omega (arith, h.high)) in
     omega arith
 
--- ---- which beginnings the ranges let pass
+-- ---- which beginnings the ranges allow
 
--- a range that lets a beginning pass has a number that begins so
+-- a range that allows a beginning has a number that begins like this
 some_in_range : (p n : ℕ) (range : ℕ × ℕ) → 0 < p → n * p ≤ range.1 → range.0 ≤ n * p + (p - 1) → range.0 ≤ range.1
     → (v : ℕ) × (range.0 ≤ v) × (v ≤ range.1) × IsIn p n v
 some_in_range p n range pos low high fit =
@@ -84,11 +84,11 @@ some_in_range p n range pos low high fit =
 abbrev pub AreRanges : List (ℕ × ℕ) → Type 0
 AreRanges ranges = IsTrue (list_all (λ range. nat_le range.0 range.1) ranges)
 
--- so many bytes hold something
+-- a power of 256 is positive
 pow_pos : (more : ℕ) → 0 < 256 ^ more
 pow_pos more = one-le-pow more 256 (omega arith)
 
--- some number that begins so is among the ranges
+-- some number in the ranges begins like this
 pub may_be-finds : (more n : ℕ) (ranges : List (ℕ × ℕ)) → AreRanges ranges → may_be more ranges n ≡ true → (v : ℕ) × IsAmong v ranges × IsIn (256 ^ more) n v
 may_be-finds more n [] are h = absurd cc
 may_be-finds more n (range ∷ ranges) are h =
@@ -103,7 +103,7 @@ may_be-finds more n (range ∷ ranges) are h =
           (v.0, among_cons range ranges v.0 (inr v.1), v.2)
     ]
 
--- what begins a number of the ranges passes
+-- the beginning of a number in the ranges is allowed
 pub may_be-from : (more n v : ℕ) (ranges : List (ℕ × ℕ)) → IsAmong v ranges → IsIn (256 ^ more) n v → may_be more ranges n ≡ true
 may_be-from more n v [] among is_in = absurd among
 may_be-from more n v (range ∷ ranges) among is_in =
@@ -118,16 +118,16 @@ may_be-from more n v (range ∷ ranges) among is_in =
 
 -- ---- reading
 
--- a reading that stopped so
-abbrev stops_so : {A : Type 0} → Stop → Outcome A
+-- a reading that ended like this
+abbrev stops_so : {A : Type 0} → ReadEnd → Outcome A
 stops_so stop = Err stop
 
--- readings that stopped at a wrong place alike left the same bytes
+-- equal readings that ended at a wrong byte have equally many unread bytes
 left_of : {A : Type 0} {m n : ℕ} → stops_so {A = A} (Wrong m) ≡ stops_so (Wrong n) → n ≡ m
 left_of e = cc
 
 module _ (ranges : List (ℕ × ℕ)) (are_ranges : AreRanges ranges) where
-  -- a number of the ranges that begins with n, with so many bytes behind it
+  -- a number in the ranges that is n followed by this many bytes
   abbrev Rest : ℕ → ℕ → Type 0
   Rest more n = (v : ℕ) × IsAmong v ranges × IsIn (256 ^ more) n v
 
@@ -135,28 +135,28 @@ module _ (ranges : List (ℕ × ℕ)) (are_ranges : AreRanges ranges) where
   abbrev text : (more n : ℕ) → Rest more n → List ℕ
   text more n p = big_endian more p.0
 
-  -- how the rest of a number is read
+  -- the reading of the rest of a number
   abbrev read : (more n : ℕ) → List ℕ → Outcome ℕ
   read more n bytes = number_from more ranges n bytes
 
-  -- a number that goes on with one more digit
+  -- a number continued by one more digit
   wider : (more n b : ℕ) → b < 256 → (p : Rest more (n * 256 + b))
       → (q : Rest (suc more) n) × (q.0 ≡ p.0) × (text (suc more) n q ≡ b ∷ text more (n * 256 + b) p)
   wider more n b lt p =
       let q : Rest (suc more) n = (p.0, p.1, rw pow-suc (block_up (256 ^ more) n b p.0 lt p.2)) in
       (q, refl, ap (λ d. d ∷ big_endian more p.0) (digit_of (256 ^ more) n b p.0 (pow_pos more) lt p.2))
 
-  -- the number that begins so with nothing behind it
+  -- the number itself, with no bytes to come
   itself : (n : ℕ) → may_be 0 ranges n ≡ true → (p : Rest 0 n) × (p.0 ≡ n)
   itself n may =
       let v = may_be-finds 0 n ranges are_ranges may in
       (v, omega (arith, v.2.low, v.2.high))
 
-  -- the first byte of some is one
+  -- the first of some bytes is a byte
   first_is_byte : (b : ℕ) (bytes : List ℕ) → IsBytes (b ∷ bytes) → b < 256
   first_is_byte b bytes are = are 0
 
-  -- what is read is a number of the ranges, and stands there
+  -- a number that is read is in the ranges, and its text is at the start of the bytes
   found : (more n : ℕ) → may_be more ranges n ≡ true → (bytes : List ℕ) (a : ℕ) (rest : List ℕ) → IsBytes bytes → read more n bytes ≡ Ok (a, rest)
       → (p : Rest more n) × (p.0 ≡ a) × (bytes ≡ text more n p ++ rest)
   unfolding number_from
@@ -178,7 +178,7 @@ module _ (ranges : List (ℕ × ℕ)) (are_ranges : AreRanges ranges) where
             absurd cc
       ]
 
-  -- what stands there is read
+  -- each text is read
   again : (more n : ℕ) (p : Rest more n) (rest : List ℕ) → read more n (text more n p ++ rest) ≡ Ok (p.0, rest)
   unfolding number_from
   again zero n p rest = let same : n ≡ p.0 = omega (arith, p.2.low, p.2.high) in ap (λ v. Ok (v, rest)) same
@@ -189,7 +189,7 @@ module _ (ranges : List (ℕ × ℕ)) (are_ranges : AreRanges ranges) where
       let passes = may_be-from more (n * 256 + b) p.0 ranges p.1 narrow in
       rw passes (again more (n * 256 + b) (p.0, p.1, narrow) rest)
 
-  -- what is short begins a number of the ranges
+  -- bytes that are cut short begin a number in the ranges
   short : (more n : ℕ) → may_be more ranges n ≡ true → (bytes : List ℕ) → IsBytes bytes → read more n bytes ≡ Err Short
       → (p : Rest more n) × (rest : List ℕ) × (bytes ++ rest ≡ text more n p)
   unfolding number_from
@@ -210,7 +210,7 @@ module _ (ranges : List (ℕ × ℕ)) (are_ranges : AreRanges ranges) where
             absurd cc
       ]
 
-  -- what is wrong is so at the first wrong place
+  -- a wrong byte is at the first wrong place
   wrong : (more n : ℕ) → may_be more ranges n ≡ true → (bytes : List ℕ) (left : ℕ) → IsBytes bytes → read more n bytes ≡ Err (Wrong left)
       → IsWrong (text more n) (read more n) bytes left
   unfolding number_from
@@ -251,13 +251,13 @@ module _ (ranges : List (ℕ × ℕ)) (are_ranges : AreRanges ranges) where
             }
       ]
 
--- ---- a number that was read, whatever the bytes
+-- ---- a number that was read, from any bytes
 
--- whether a number lies in one of the ranges
+-- the number is in one of the ranges, as a test
 abbrev pub among : List (ℕ × ℕ) → ℕ → Bool
 among ranges n = list_any (λ range. nat_le range.0 n && nat_le n range.1) ranges
 
--- what passes the test lies among the ranges
+-- a number that passes the test is in the ranges
 pub is_among : (ranges : List (ℕ × ℕ)) (n : ℕ) → among ranges n ≡ true → IsAmong n ranges
 is_among [] n h = absurd cc
 is_among (range ∷ ranges) n h =
@@ -266,7 +266,7 @@ is_among (range ∷ ranges) n h =
       | inr there ↦ among_cons range ranges n (inr (is_among ranges n there))
     ]
 
--- with no byte to come, what may be among the ranges is
+-- with no bytes to come, an allowed beginning is in the ranges
 pub may_be-among : (ranges : List (ℕ × ℕ)) (n : ℕ) → may_be 0 ranges n ≡ true → among ranges n ≡ true
 may_be-among [] n h = h
 may_be-among (range ∷ ranges) n h =
@@ -279,12 +279,12 @@ may_be-among (range ∷ ranges) n h =
       | inr there ↦ or_right (nat_le range.0 n && nat_le n range.1) (among ranges n) (may_be-among ranges n there)
     ]
 
--- a value where reading may stop was read behind a test that passed
-pub no_value : {A : Type 0} (test : Bool) (next : Outcome A) (stop : Stop) (x : A × List ℕ) → cond test next (Err stop) ≡ Ok x → (test ≡ true) × (next ≡ Ok x)
+-- a step with a value passed its test
+pub no_value : {A : Type 0} (test : Bool) (next : Outcome A) (stop : ReadEnd) (x : A × List ℕ) → cond test next (Err stop) ≡ Ok x → (test ≡ true) × (next ≡ Ok x)
 no_value true next stop x e = (refl, e)
 no_value false next stop x e = absurd cc
 
--- a number that is read lies among the ranges
+-- a number that is read is in the ranges
 pub read_among : (more : ℕ) (ranges : List (ℕ × ℕ)) (n : ℕ) (bytes : List ℕ) (v : ℕ) (rest : List ℕ) → 0 < more
     → number_from more ranges n bytes ≡ Ok (v, rest) → IsAmong v ranges
 unfolding number_from
@@ -300,16 +300,16 @@ read_among (suc (suc more)) ranges n (b ∷ bytes) v rest pos e =
 
 -- ---- the form
 
--- the range has a number, and all its numbers have so many bytes
+-- the range is not empty, and its numbers fit this many bytes
 abbrev pub is_proper_range : ℕ → ℕ × ℕ → Bool
 is_proper_range width range = nat_le range.0 range.1 && nat_lt range.1 (256 ^ width)
 
--- there is a byte, and there are ranges, each a proper one
+-- there is at least one byte and one range, and each range is proper
 abbrev pub is_proper : ℕ → List (ℕ × ℕ) → Bool
 is_proper width [] = false
 is_proper width (range ∷ ranges) = nat_lt 0 width && list_all (is_proper_range width) (range ∷ ranges)
 
--- proper ranges have a number each
+-- proper ranges are not empty
 are_ranges : (width : ℕ) (ranges : List (ℕ × ℕ)) → IsTrue (list_all (is_proper_range width) ranges) → AreRanges ranges
 are_ranges width [] h = refl
 are_ranges width (range ∷ ranges) h =
@@ -317,7 +317,7 @@ are_ranges width (range ∷ ranges) h =
     let parts = and_parts (nat_le range.0 range.1) (nat_lt range.1 (256 ^ width)) each.0 in
     and_from (nat_le range.0 range.1) (list_all (λ range. nat_le range.0 range.1) ranges) parts.0 (are_ranges width ranges each.1)
 
--- a number of proper ranges fits their bytes
+-- a number in proper ranges fits their bytes
 fits : (width : ℕ) (ranges : List (ℕ × ℕ)) (v : ℕ) → IsTrue (list_all (is_proper_range width) ranges) → IsAmong v ranges → v < 256 ^ width
 fits width [] v h among = absurd among
 fits width (range ∷ ranges) v h among =
@@ -328,17 +328,17 @@ fits width (range ∷ ranges) v h among =
       | inr there ↦ fits width ranges v each.1 there
     ]
 
--- where ranges are proper, each is
+-- each of some proper ranges is proper
 each_proper : (width : ℕ) (ranges : List (ℕ × ℕ)) → IsTrue (is_proper width ranges) → IsTrue (list_all (is_proper_range width) ranges)
 each_proper width [] h = absurd cc
 each_proper width (range ∷ ranges) h = (and_parts (nat_lt 0 width) (list_all (is_proper_range width) (range ∷ ranges)) h).1
 
--- proper ranges are of one byte at least
+-- proper ranges have at least one byte
 wide : (width : ℕ) (ranges : List (ℕ × ℕ)) → IsTrue (is_proper width ranges) → 0 < width
 wide width [] h = absurd cc
 wide width (range ∷ ranges) h = ltb-true 0 width (and_parts (nat_lt 0 width) (list_all (is_proper_range width) (range ∷ ranges)) h).0
 
--- some number is among them
+-- some number is in them
 some_among : (width : ℕ) (ranges : List (ℕ × ℕ)) → IsTrue (is_proper width ranges) → (v : ℕ) × IsAmong v ranges
 some_among width [] h = absurd cc
 some_among width (range ∷ ranges) h =
@@ -347,21 +347,21 @@ some_among width (range ∷ ranges) h =
     (range.0, among_cons range ranges range.0 (inl (omega arith, leb-true _ _ parts.0)))
 
 module _ (width : ℕ) (ranges : List (ℕ × ℕ)) (proper : IsTrue (is_proper width ranges)) where
-  -- a number of the ranges
+  -- a number in the ranges
   abbrev One : Type 0
   One = (v : ℕ) × IsAmong v ranges
 
-  -- it is a number that begins with nothing
+  -- .. is a number that begins with nothing
   in_width : (p : One) → IsIn (256 ^ width) 0 p.0
   in_width p = let fit = fits width ranges p.0 (each_proper width ranges proper) p.1 in record { low = omega arith; high = omega arith }
 
-  -- before the first digit the ranges let some number pass
+  -- before the first digit some number is allowed
   any_begin : may_be width ranges 0 ≡ true
   any_begin =
       let v = some_among width ranges proper in
       may_be-from width 0 v.0 ranges v.1 (in_width v)
 
-  -- a number in so many bytes is read rightly
+  -- a number in this many bytes is read correctly
   pub number_reads : Reads {P = One} (λ p. p.0) (λ p. big_endian width p.0) (number_from width ranges 0)
   number_reads =
       let are = are_ranges width ranges (each_proper width ranges proper) in
@@ -386,7 +386,7 @@ module _ (width : ℕ) (ranges : List (ℕ × ℕ)) (proper : IsTrue (is_proper 
             };
       }
 
--- a number of these ranges in so many bytes
+-- the form of a number in this many bytes, in these ranges
 abbrev pub number_form : (width : ℕ) (ranges : List (ℕ × ℕ)) → IsTrue (is_proper width ranges) → Form ℕ
 number_form width ranges proper = record {
   Path = (v : ℕ) × IsAmong v ranges;
@@ -396,7 +396,7 @@ number_form width ranges proper = record {
   reads = number_reads width ranges proper;
 }
 
--- why reading stopped; Short where it did not
-abbrev pub stop_of : {A : Type 0} → Outcome A → Stop
+-- the reason why a reading ended, or Short if it has a value
+abbrev pub stop_of : {A : Type 0} → Outcome A → ReadEnd
 stop_of (Ok x) = Short
 stop_of (Err stop) = stop

@@ -1,24 +1,24 @@
--- How the private readers are proved; nothing here has to be believed. It stands in specs/ since their clauses cite it.
--- What is left to read of a fact behind its head, and a fact that was added to others.
+-- Internal: how the private readers are proved. It is in specs/ only because their clauses cite it.
+-- The rest of a fact after its first five bytes, and a fact that was pushed to a list.
 use Rattle.std.specs.Prelude.{◌≡◌, ℕ, ◌-◌, nat_lt, if◌then◌else◌, List, [], ◌∷◌, ◌++◌, drop, Ok}
-use Rattle.ldar_facts.specs.declared.stop.Stop.{Stop}
-use Rattle.ldar_facts.specs.declared.stop.Stop.TheVariants.{Short, Wrong}
+use Rattle.ldar_facts.specs.declared.read_end.ReadEnd.{ReadEnd}
+use Rattle.ldar_facts.specs.declared.read_end.ReadEnd.TheVariants.{Short, Wrong}
 use Rattle.fact_kinds.specs.Stated.{Stated}
 use Rattle.ldar_facts.specs.Form.{◌then◌}
 use Rattle.ldar_facts.specs.FactForms as forms
 
--- in front of the bytes stands the head of a fact, in five bytes: what reading the fact gives is decided by those behind
-abbrev pub GoesOn : List ℕ → ℕ → ℕ → ℕ → Type 0
-GoesOn bytes kind day minute =
+-- the bytes begin with a kind, day and minute, so that the bytes after place 5 decide how the fact is read
+abbrev pub BeginsFact : List ℕ → ℕ → ℕ → ℕ → Type 0
+BeginsFact bytes kind day minute =
     (forms.fact).read bytes ≡ ((forms.body kind).read (drop 5 bytes) then λ x. Ok (record { day = day; minute = minute; body = x.0 }, x.1))
 
--- the fact in front of some bytes was taken, and added to some
+-- the fact at the start of the bytes was read and pushed to a list
 pub record TakesFact (bytes : List ℕ) (old new : List Stated) (rest : List ℕ) : Type 0 where
   pub fact : Stated
   pub read : (forms.fact).read bytes ≡ Ok (fact, rest)
   pub items : new ≡ old ++ fact ∷ []
 
--- why reading stopped, if so many bytes at the end had not been there
-abbrev pub stop_before : Stop → ℕ → Stop
+-- the reason why a reading would have ended without this many appended bytes
+abbrev pub stop_before : ReadEnd → ℕ → ReadEnd
 stop_before Short added = Short
 stop_before (Wrong left) added = if nat_lt added left then Wrong (left - added) else Short

@@ -1,9 +1,13 @@
-//! A fact in front of some bytes is added to others: each kind of fact has its fields at known places.
+//! Reads a fact from the start of some bytes and pushes it to a list. Each kind of fact has its fields at fixed places.
+//!
+//! If at least 23 bytes are there, the length of the longest fact, each field is read at its place. Only a number that is out
+//! of range is read again byte by byte, to find the first wrong byte. Fewer than 23 bytes are copied and padded with zero bytes;
+//! if the fact or the wrong byte reaches into the padding, the bytes were cut short.
 
 ghost use Rattle.std.specs.Prelude.{◌≡◌, ◌+◌, ◌<◌, ◌≤◌, length, drop, vec_len, vec_capacity, Err, OnOk, IfOk, IfErr};
 ghost use Rattle.ldar_facts.specs.Form.{Takes};
 ghost use Rattle.ldar_facts.specs.FactForms as forms;
-ghost use Rattle.ldar_facts.specs.Places.{GoesOn, TakesFact};
+ghost use Rattle.ldar_facts.specs.Places.{BeginsFact, TakesFact};
 
 use crate::body_at::{
     LONGEST_FACT, attempt_at, calibration_at, class_fact_at, component_at, delay_at, drift_at,
@@ -12,11 +16,11 @@ use crate::body_at::{
 };
 use crate::field_at::{byte_at, day_at, two_bytes_at};
 use crate::ranges::LAST_MINUTE;
-use crate::stop::Stop;
+use crate::read_end::ReadEnd;
 use fact_kinds::{Fact, FactBody};
 use ldar_days::Day;
 
-/// What stands before what a fact says.
+/// The fields before a fact's body.
 #[derive(Clone, Copy)]
 struct FactHead {
     kind: u8,
@@ -24,8 +28,8 @@ struct FactHead {
     minute: u16,
 }
 
-/// Adds the fact in front of bytes that are long enough for any, and gives those behind it.
-pub(crate) fn add_fact<'a>(bytes: &'a [u8], facts: &mut Vec<Fact>) -> Result<&'a [u8], Stop>
+/// Pushes the fact at the start of bytes that are long enough for any fact. Returns the bytes after it.
+pub(crate) fn add_fact<'a>(bytes: &'a [u8], facts: &mut Vec<Fact>) -> Result<&'a [u8], ReadEnd>
     requires long { LONGEST_FACT ≤ length bytes.now }
     requires room { vec_len facts.old < vec_capacity facts.old }
     ensures taken { IfOk result (λ rest. TakesFact bytes.now facts.old.items facts.new.items rest.now) }
@@ -56,9 +60,9 @@ pub(crate) fn add_fact<'a>(bytes: &'a [u8], facts: &mut Vec<Fact>) -> Result<&'a
 /// The kind, day and minute of a fact.
 #[inline(always)]
 #[tactic(auto, unfolding(crate::specs::FactForms::fact, crate::specs::FieldForms::fact_kind, crate::specs::FieldForms::minute))]
-fn head_at(bytes: &[u8]) -> Result<FactHead, Stop>
+fn head_at(bytes: &[u8]) -> Result<FactHead, ReadEnd>
     requires { LONGEST_FACT ≤ length bytes.now }
-    ensures value { IfOk result (λ head. GoesOn bytes.now head.kind head.day head.minute) }
+    ensures value { IfOk result (λ head. BeginsFact bytes.now head.kind head.day head.minute) }
     ensures stopped { IfErr result (λ stop. forms.fact.read bytes.now ≡ Err stop) }
 {
     let kind = byte_at(bytes, 0, 1, 15)?;
@@ -67,18 +71,18 @@ fn head_at(bytes: &[u8]) -> Result<FactHead, Stop>
     Ok(FactHead { kind, day, minute })
 }
 
-/// Adds a fact that says this up to a place, and gives the bytes from there on.
+/// Pushes a fact with this head and body, which ends at this place. Returns the bytes from there on.
 #[inline(always)]
 fn push<'a>(
     bytes: &'a [u8],
     to: usize,
     head: FactHead,
-    body: Result<FactBody, Stop>,
+    body: Result<FactBody, ReadEnd>,
     facts: &mut Vec<Fact>,
-) -> Result<&'a [u8], Stop>
+) -> Result<&'a [u8], ReadEnd>
     requires within { to ≤ length bytes.now }
     requires room { vec_len facts.old < vec_capacity facts.old }
-    requires head { GoesOn bytes.now head.kind head.day head.minute }
+    requires head { BeginsFact bytes.now head.kind head.day head.minute }
     requires says { Takes (forms.body head.kind).read body (drop 5 bytes.now) (drop to bytes.now) }
     ensures taken { IfOk result (λ rest. TakesFact bytes.now facts.old.items facts.new.items rest.now) }
     ensures stopped { IfErr result (λ stop. forms.fact.read bytes.now ≡ Err stop) }

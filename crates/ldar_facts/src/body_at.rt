@@ -1,4 +1,26 @@
-//! What each kind of fact says, in fields at known places behind its kind, day and minute.
+//! The bodies of facts: the fields of each kind, after its kind, day and minute. Places count from the fact's first byte.
+//!
+//! | kind | name | fields: place, width in bytes, range | length of the fact |
+//! |---|---|---|---|
+//! | 1 | Unit | unit 5, 1, 1 to 64; older 6, 1, 0 or 1; name 7, 12 | 19 |
+//! | 2 | Component | component 5, 2; unit 7, 1; type 8, 1, 1 to 4; monomer 9, 1; replaces 10, 1; class 11, 4 | 15 |
+//! | 3 | Class | component 5, 2; class 7, 4 | 11 |
+//! | 4 | Retire | component 5, 2, 1 to 60000 | 7 |
+//! | 5 | Election | unit 5, 1; mode 6, 1, 0, 1 or 3; notified 7, 2, a day | 9 |
+//! | 6 | Shutdown | unit 5, 1; days 6, 2, 1 to 366 | 8 |
+//! | 7 | Calibration | instrument 5, 2, 1 to 65535; gas 7, 4, 1 to 999999 ppm | 11 |
+//! | 8 | Precision | instrument 5, 2; value 7, 4, 1 to 999999 ppm; three readings 11, 15, 19, 4 each, 0 to 999999 ppm | 23 |
+//! | 9 | Drift | as Precision | 23 |
+//! | 10 | Reading | component 5, 2; instrument 7, 2; operator 9, 2; purpose 11, 1, 1 or 2; ppm 12, 4; background 16, 4 | 20 |
+//! | 11 | Visual | component 5, 2; state 7, 1, 0 to 2 | 8 |
+//! | 12 | Attempt | component 5, 2; complete 7, 1, 0 or 1 | 8 |
+//! | 13 | Delay | component 5, 2; ground 7, 1, 0 to 5; signer 8, 2; expected 10, 2, 0 or a day | 12 |
+//! | 14 | Release | component 5, 2 | 7 |
+//! | 15 | Indication | component 5, 2; sort 7, 1, 1 or 2; present 8, 1, 0 or 1 | 9 |
+//!
+//! A name is 1 to 12 capital letters, digits and hyphens, then zero bytes up to twelve. A class is its service (1 to 5),
+//! designation (0 to 3), plan and month of the quarter (1 to 3). The plan is 1 to 60 months if the designation is 2, and
+//! otherwise 0. In a reading, instrument 0 and operator 0 mean none, as does signer 0 in a delay.
 
 ghost use Rattle.std.specs.Prelude.{◌+◌, ◌<◌, ◌≤◌, length, drop};
 ghost use Rattle.ldar_facts.specs.Form.{Takes};
@@ -9,16 +31,16 @@ use crate::field_at::{
     purpose_at, readings_at, sort_at, state_at, two_bytes_at,
 };
 use crate::ranges::{LAST_COMPONENT, LAST_UNIT, MOST_PPM};
-use crate::stop::Stop;
+use crate::read_end::ReadEnd;
 use fact_kinds::{FactBody, LONGEST_SHUTDOWN};
 
-/// The bytes of the longest fact, a precision test or a drift assessment.
+/// The length in bytes of the longest facts, precision tests and drift assessments.
 pub(crate) const LONGEST_FACT: usize = 23;
 
-/// What a process unit's fact says.
+/// The body of a process unit's fact.
 #[inline(always)]
 #[tactic(auto, unfolding(crate::specs::FactForms::unit_fact, crate::specs::FieldForms::unit))]
-pub(crate) fn unit_at(bytes: &[u8]) -> Result<FactBody, Stop>
+pub(crate) fn unit_at(bytes: &[u8]) -> Result<FactBody, ReadEnd>
     requires { LONGEST_FACT ≤ length bytes.now }
     ensures { Takes forms.unit_fact.read result (drop 5 bytes.now) (drop 19 bytes.now) }
 {
@@ -28,10 +50,10 @@ pub(crate) fn unit_at(bytes: &[u8]) -> Result<FactBody, Stop>
     Ok(FactBody::Unit { unit, older, name })
 }
 
-/// What a component's fact says.
+/// The body of a component's fact.
 #[inline(always)]
 #[tactic(auto, unfolding(crate::specs::FactForms::component_fact, crate::specs::FieldForms::component, crate::specs::FieldForms::unit))]
-pub(crate) fn component_at(bytes: &[u8]) -> Result<FactBody, Stop>
+pub(crate) fn component_at(bytes: &[u8]) -> Result<FactBody, ReadEnd>
     requires { LONGEST_FACT ≤ length bytes.now }
     ensures { Takes forms.component_fact.read result (drop 5 bytes.now) (drop 15 bytes.now) }
 {
@@ -51,10 +73,10 @@ pub(crate) fn component_at(bytes: &[u8]) -> Result<FactBody, Stop>
     })
 }
 
-/// What the fact of a class says.
+/// The body of a class's fact.
 #[inline(always)]
 #[tactic(auto, unfolding(crate::specs::FactForms::class_fact, crate::specs::FieldForms::component))]
-pub(crate) fn class_fact_at(bytes: &[u8]) -> Result<FactBody, Stop>
+pub(crate) fn class_fact_at(bytes: &[u8]) -> Result<FactBody, ReadEnd>
     requires { LONGEST_FACT ≤ length bytes.now }
     ensures { Takes forms.class_fact.read result (drop 5 bytes.now) (drop 11 bytes.now) }
 {
@@ -63,10 +85,10 @@ pub(crate) fn class_fact_at(bytes: &[u8]) -> Result<FactBody, Stop>
     Ok(FactBody::Class { component, class })
 }
 
-/// What a retirement says.
+/// The body of a retirement.
 #[inline(always)]
 #[tactic(auto, unfolding(crate::specs::FactForms::retire, crate::specs::FieldForms::component))]
-pub(crate) fn retire_at(bytes: &[u8]) -> Result<FactBody, Stop>
+pub(crate) fn retire_at(bytes: &[u8]) -> Result<FactBody, ReadEnd>
     requires { LONGEST_FACT ≤ length bytes.now }
     ensures { Takes forms.retire.read result (drop 5 bytes.now) (drop 7 bytes.now) }
 {
@@ -74,10 +96,10 @@ pub(crate) fn retire_at(bytes: &[u8]) -> Result<FactBody, Stop>
     Ok(FactBody::Retire { component })
 }
 
-/// What the choice of a programme of skip periods says.
+/// The body of an election of a skip period program.
 #[inline(always)]
 #[tactic(auto, unfolding(crate::specs::FactForms::election, crate::specs::FieldForms::unit))]
-pub(crate) fn election_at(bytes: &[u8]) -> Result<FactBody, Stop>
+pub(crate) fn election_at(bytes: &[u8]) -> Result<FactBody, ReadEnd>
     requires { LONGEST_FACT ≤ length bytes.now }
     ensures { Takes forms.election.read result (drop 5 bytes.now) (drop 9 bytes.now) }
 {
@@ -91,10 +113,10 @@ pub(crate) fn election_at(bytes: &[u8]) -> Result<FactBody, Stop>
     })
 }
 
-/// What a shutdown says.
+/// The body of a shutdown.
 #[inline(always)]
 #[tactic(auto, unfolding(crate::specs::FactForms::shutdown, crate::specs::FieldForms::unit, crate::specs::FieldForms::shutdown_length))]
-pub(crate) fn shutdown_at(bytes: &[u8]) -> Result<FactBody, Stop>
+pub(crate) fn shutdown_at(bytes: &[u8]) -> Result<FactBody, ReadEnd>
     requires { LONGEST_FACT ≤ length bytes.now }
     ensures { Takes forms.shutdown.read result (drop 5 bytes.now) (drop 8 bytes.now) }
 {
@@ -103,10 +125,10 @@ pub(crate) fn shutdown_at(bytes: &[u8]) -> Result<FactBody, Stop>
     Ok(FactBody::Shutdown { unit, days })
 }
 
-/// What a calibration says.
+/// The body of a calibration.
 #[inline(always)]
 #[tactic(auto, unfolding(crate::specs::FactForms::calibration, crate::specs::FieldForms::instrument, crate::specs::FieldForms::known_value))]
-pub(crate) fn calibration_at(bytes: &[u8]) -> Result<FactBody, Stop>
+pub(crate) fn calibration_at(bytes: &[u8]) -> Result<FactBody, ReadEnd>
     requires { LONGEST_FACT ≤ length bytes.now }
     ensures { Takes forms.calibration.read result (drop 5 bytes.now) (drop 11 bytes.now) }
 {
@@ -115,10 +137,10 @@ pub(crate) fn calibration_at(bytes: &[u8]) -> Result<FactBody, Stop>
     Ok(FactBody::Calibration { instrument, gas })
 }
 
-/// What a precision test says.
+/// The body of a precision test.
 #[inline(always)]
 #[tactic(auto, unfolding(crate::specs::FactForms::precision, crate::specs::FieldForms::instrument, crate::specs::FieldForms::known_value))]
-pub(crate) fn precision_at(bytes: &[u8]) -> Result<FactBody, Stop>
+pub(crate) fn precision_at(bytes: &[u8]) -> Result<FactBody, ReadEnd>
     requires { LONGEST_FACT ≤ length bytes.now }
     ensures { Takes forms.precision.read result (drop 5 bytes.now) (drop 23 bytes.now) }
 {
@@ -132,10 +154,10 @@ pub(crate) fn precision_at(bytes: &[u8]) -> Result<FactBody, Stop>
     })
 }
 
-/// What a drift assessment says.
+/// The body of a drift assessment.
 #[inline(always)]
 #[tactic(auto, unfolding(crate::specs::FactForms::drift, crate::specs::FieldForms::instrument, crate::specs::FieldForms::known_value))]
-pub(crate) fn drift_at(bytes: &[u8]) -> Result<FactBody, Stop>
+pub(crate) fn drift_at(bytes: &[u8]) -> Result<FactBody, ReadEnd>
     requires { LONGEST_FACT ≤ length bytes.now }
     ensures { Takes forms.drift.read result (drop 5 bytes.now) (drop 23 bytes.now) }
 {
@@ -149,10 +171,10 @@ pub(crate) fn drift_at(bytes: &[u8]) -> Result<FactBody, Stop>
     })
 }
 
-/// What a reading says.
+/// The body of a reading.
 #[inline(always)]
 #[tactic(auto, unfolding(crate::specs::FactForms::reading, crate::specs::FieldForms::component, crate::specs::FieldForms::number_or_none, crate::specs::FieldForms::concentration))]
-pub(crate) fn reading_at(bytes: &[u8]) -> Result<FactBody, Stop>
+pub(crate) fn reading_at(bytes: &[u8]) -> Result<FactBody, ReadEnd>
     requires { LONGEST_FACT ≤ length bytes.now }
     ensures { Takes forms.reading.read result (drop 5 bytes.now) (drop 20 bytes.now) }
 {
@@ -172,10 +194,10 @@ pub(crate) fn reading_at(bytes: &[u8]) -> Result<FactBody, Stop>
     })
 }
 
-/// What a visual inspection says.
+/// The body of a visual inspection.
 #[inline(always)]
 #[tactic(auto, unfolding(crate::specs::FactForms::visual, crate::specs::FieldForms::component))]
-pub(crate) fn visual_at(bytes: &[u8]) -> Result<FactBody, Stop>
+pub(crate) fn visual_at(bytes: &[u8]) -> Result<FactBody, ReadEnd>
     requires { LONGEST_FACT ≤ length bytes.now }
     ensures { Takes forms.visual.read result (drop 5 bytes.now) (drop 8 bytes.now) }
 {
@@ -184,10 +206,10 @@ pub(crate) fn visual_at(bytes: &[u8]) -> Result<FactBody, Stop>
     Ok(FactBody::Visual { component, state })
 }
 
-/// What an attempt at a repair says.
+/// The body of an attempt at a repair.
 #[inline(always)]
 #[tactic(auto, unfolding(crate::specs::FactForms::attempt, crate::specs::FieldForms::component))]
-pub(crate) fn attempt_at(bytes: &[u8]) -> Result<FactBody, Stop>
+pub(crate) fn attempt_at(bytes: &[u8]) -> Result<FactBody, ReadEnd>
     requires { LONGEST_FACT ≤ length bytes.now }
     ensures { Takes forms.attempt.read result (drop 5 bytes.now) (drop 8 bytes.now) }
 {
@@ -199,10 +221,10 @@ pub(crate) fn attempt_at(bytes: &[u8]) -> Result<FactBody, Stop>
     })
 }
 
-/// What a delay of repair says.
+/// The body of a delay of repair.
 #[inline(always)]
 #[tactic(auto, unfolding(crate::specs::FactForms::delay, crate::specs::FieldForms::component, crate::specs::FieldForms::delay_ground, crate::specs::FieldForms::number_or_none))]
-pub(crate) fn delay_at(bytes: &[u8]) -> Result<FactBody, Stop>
+pub(crate) fn delay_at(bytes: &[u8]) -> Result<FactBody, ReadEnd>
     requires { LONGEST_FACT ≤ length bytes.now }
     ensures { Takes forms.delay.read result (drop 5 bytes.now) (drop 12 bytes.now) }
 {
@@ -218,10 +240,10 @@ pub(crate) fn delay_at(bytes: &[u8]) -> Result<FactBody, Stop>
     })
 }
 
-/// What a pressure release says.
+/// The body of a pressure release.
 #[inline(always)]
 #[tactic(auto, unfolding(crate::specs::FactForms::release, crate::specs::FieldForms::component))]
-pub(crate) fn release_at(bytes: &[u8]) -> Result<FactBody, Stop>
+pub(crate) fn release_at(bytes: &[u8]) -> Result<FactBody, ReadEnd>
     requires { LONGEST_FACT ≤ length bytes.now }
     ensures { Takes forms.release.read result (drop 5 bytes.now) (drop 7 bytes.now) }
 {
@@ -229,10 +251,10 @@ pub(crate) fn release_at(bytes: &[u8]) -> Result<FactBody, Stop>
     Ok(FactBody::Release { component })
 }
 
-/// What an indication says.
+/// The body of an indication.
 #[inline(always)]
 #[tactic(auto, unfolding(crate::specs::FactForms::indication, crate::specs::FieldForms::component))]
-pub(crate) fn indication_at(bytes: &[u8]) -> Result<FactBody, Stop>
+pub(crate) fn indication_at(bytes: &[u8]) -> Result<FactBody, ReadEnd>
     requires { LONGEST_FACT ≤ length bytes.now }
     ensures { Takes forms.indication.read result (drop 5 bytes.now) (drop 9 bytes.now) }
 {

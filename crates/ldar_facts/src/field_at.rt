@@ -1,4 +1,4 @@
-//! Fields at known places of bytes that are long enough for them. Only a wrong field is looked at again, for its place.
+//! Fields at fixed places, in bytes that are long enough. Only a wrong field is read a second time, for its first wrong byte.
 
 ghost use Rattle.std.specs.Prelude.{◌≡◌, ◌+◌, ◌<◌, ◌≤◌, [], ◌∷◌, length, drop, IfOk};
 ghost use Rattle.ldar_facts.specs.Form.{Takes};
@@ -9,12 +9,12 @@ ghost use Rattle.ldar_facts.specs.FieldForms as forms;
 use crate::cursor::Cursor;
 use crate::padded_name::padded_name;
 use crate::ranges::{DAYS_OR_NONE, MODES, MOST_PPM};
+use crate::read_end::ReadEnd;
 use crate::read_number::{self, first_wrong};
-use crate::stop::Stop;
 use fact_kinds::{Class, Designation, Kind, Name, Purpose, Service, Sort, VisualState};
 use ldar_days::Day;
 
-/// Whether the number lies in the range.
+/// Whether the number is in the range.
 #[inline(always)]
 fn lies(number: u32, least: u32, most: u32) -> bool
     ensures { result ≡ among ((least, most) ∷ []) number }
@@ -30,9 +30,9 @@ fn bytes_from(bytes: &[u8], at: usize) -> &[u8]
     &bytes[at..]
 }
 
-/// Where a number at a place goes wrong.
+/// The first wrong byte of a number at a place that is out of its range.
 #[cold]
-fn wrong_at(bytes: &[u8], at: usize, width: usize, least: u32, most: u32) -> Stop
+fn wrong_at(bytes: &[u8], at: usize, width: usize, least: u32, most: u32) -> ReadEnd
     requires fits { width ≤ 4 }
     requires within { at ≤ length bytes.now }
     ensures { result ≡ stop_of (number_from width ((least, most) ∷ []) 0 (drop at bytes.now)) }
@@ -40,9 +40,9 @@ fn wrong_at(bytes: &[u8], at: usize, width: usize, least: u32, most: u32) -> Sto
     first_wrong(bytes_from(bytes, at), width, &[(least, most)])
 }
 
-/// The byte at a place, if it lies in a range.
+/// The byte at a place, if it is in the range.
 #[inline(always)]
-pub(crate) fn byte_at(bytes: &[u8], at: usize, least: u8, most: u8) -> Result<u8, Stop>
+pub(crate) fn byte_at(bytes: &[u8], at: usize, least: u8, most: u8) -> Result<u8, ReadEnd>
     requires { at < length bytes.now }
     ensures read { Takes (number_from 1 ((least, most) ∷ []) 0) result (drop at bytes.now) (drop (at + 1) bytes.now) }
     ensures in_range { IfOk result (λ n. (least ≤ n) × (n ≤ most)) }
@@ -54,9 +54,9 @@ pub(crate) fn byte_at(bytes: &[u8], at: usize, least: u8, most: u8) -> Result<u8
     Ok(number)
 }
 
-/// The number of two bytes at a place, if it lies in a range.
+/// The number of two bytes at a place, if it is in the range.
 #[inline(always)]
-pub(crate) fn two_bytes_at(bytes: &[u8], at: usize, least: u16, most: u16) -> Result<u16, Stop>
+pub(crate) fn two_bytes_at(bytes: &[u8], at: usize, least: u16, most: u16) -> Result<u16, ReadEnd>
     requires { at + 2 ≤ length bytes.now }
     ensures read { Takes (number_from 2 ((least, most) ∷ []) 0) result (drop at bytes.now) (drop (at + 2) bytes.now) }
     ensures in_range { IfOk result (λ n. (least ≤ n) × (n ≤ most)) }
@@ -68,9 +68,9 @@ pub(crate) fn two_bytes_at(bytes: &[u8], at: usize, least: u16, most: u16) -> Re
     Ok(number)
 }
 
-/// The number of four bytes at a place, if it lies in a range.
+/// The number of four bytes at a place, if it is in the range.
 #[inline(always)]
-pub(crate) fn four_bytes_at(bytes: &[u8], at: usize, least: u32, most: u32) -> Result<u32, Stop>
+pub(crate) fn four_bytes_at(bytes: &[u8], at: usize, least: u32, most: u32) -> Result<u32, ReadEnd>
     requires { at + 4 ≤ length bytes.now }
     ensures { Takes (number_from 4 ((least, most) ∷ []) 0) result (drop at bytes.now) (drop (at + 4) bytes.now) }
 {
@@ -81,10 +81,10 @@ pub(crate) fn four_bytes_at(bytes: &[u8], at: usize, least: u32, most: u32) -> R
     Ok(number)
 }
 
-/// No or yes, at a place.
+/// A flag at a place: 0 for no, 1 for yes.
 #[inline(always)]
 #[tactic(auto, unfolding(crate::specs::FieldForms::flag))]
-pub(crate) fn flag_at(bytes: &[u8], at: usize) -> Result<bool, Stop>
+pub(crate) fn flag_at(bytes: &[u8], at: usize) -> Result<bool, ReadEnd>
     requires { at < length bytes.now }
     ensures { Takes forms.flag.read result (drop at bytes.now) (drop (at + 1) bytes.now) }
 {
@@ -95,7 +95,7 @@ pub(crate) fn flag_at(bytes: &[u8], at: usize) -> Result<bool, Stop>
 /// The day at a place.
 #[inline(always)]
 #[tactic(auto, unfolding(crate::specs::FieldForms::day))]
-pub(crate) fn day_at(bytes: &[u8], at: usize) -> Result<Day, Stop>
+pub(crate) fn day_at(bytes: &[u8], at: usize) -> Result<Day, ReadEnd>
     requires { at + 2 ≤ length bytes.now }
     ensures { Takes forms.day.read result (drop at bytes.now) (drop (at + 2) bytes.now) }
 {
@@ -103,9 +103,9 @@ pub(crate) fn day_at(bytes: &[u8], at: usize) -> Result<Day, Stop>
     Ok(Day::at(u32::from(number)))
 }
 
-/// A day, or 0 for none, at a place.
+/// A day at a place, or 0 for none.
 #[tactic(auto, unfolding(crate::specs::FieldForms::day_or_none))]
-pub(crate) fn day_or_none_at(bytes: &[u8], at: usize) -> Result<Option<Day>, Stop>
+pub(crate) fn day_or_none_at(bytes: &[u8], at: usize) -> Result<Option<Day>, ReadEnd>
     requires { at + 2 ≤ length bytes.now }
     ensures { Takes forms.day_or_none.read result (drop at bytes.now) (drop (at + 2) bytes.now) }
 {
@@ -113,9 +113,9 @@ pub(crate) fn day_or_none_at(bytes: &[u8], at: usize) -> Result<Option<Day>, Sto
     Ok(Day::of_number(u32::from(number)))
 }
 
-/// A programme of skip periods, at a place.
+/// A skip period program at a place.
 #[tactic(auto, unfolding(crate::specs::FieldForms::mode))]
-pub(crate) fn mode_at(bytes: &[u8], at: usize) -> Result<u8, Stop>
+pub(crate) fn mode_at(bytes: &[u8], at: usize) -> Result<u8, ReadEnd>
     requires { at < length bytes.now }
     ensures { Takes forms.mode.read result (drop at bytes.now) (drop (at + 1) bytes.now) }
 {
@@ -123,8 +123,8 @@ pub(crate) fn mode_at(bytes: &[u8], at: usize) -> Result<u8, Stop>
     Ok(mode)
 }
 
-/// The name of a process unit, at a place.
-pub(crate) fn name_at(bytes: &[u8], at: usize) -> Result<Name, Stop>
+/// The name of a process unit at a place.
+pub(crate) fn name_at(bytes: &[u8], at: usize) -> Result<Name, ReadEnd>
     requires { at + 12 ≤ length bytes.now }
     ensures { Takes name_form.read result (drop at bytes.now) (drop (at + 12) bytes.now) }
 {
@@ -136,19 +136,19 @@ pub(crate) fn name_at(bytes: &[u8], at: usize) -> Result<Name, Stop>
     }
 }
 
-/// The name of a process unit in front of some bytes, read letter by letter, so that its first wrong place is found.
+/// The name of a process unit at the start of some bytes, read letter by letter to find the first wrong byte.
 #[cold]
-fn name_by_letters(bytes: &[u8]) -> Result<Name, Stop>
+fn name_by_letters(bytes: &[u8]) -> Result<Name, ReadEnd>
     requires { 12 ≤ length bytes.now }
     ensures { Takes name_form.read result bytes.now (drop 12 bytes.now) }
 {
     Cursor::new(bytes).name()
 }
 
-/// What a component is, at a place.
+/// The type of a component at a place.
 #[inline(always)]
 #[tactic(auto, unfolding(crate::specs::FieldForms::kind))]
-pub(crate) fn kind_at(bytes: &[u8], at: usize) -> Result<Kind, Stop>
+pub(crate) fn kind_at(bytes: &[u8], at: usize) -> Result<Kind, ReadEnd>
     requires { at < length bytes.now }
     ensures { Takes forms.kind.read result (drop at bytes.now) (drop (at + 1) bytes.now) }
 {
@@ -156,10 +156,10 @@ pub(crate) fn kind_at(bytes: &[u8], at: usize) -> Result<Kind, Stop>
     Ok(kind_of(number))
 }
 
-/// What flows through a component, at a place.
+/// The service of a component at a place.
 #[inline(always)]
 #[tactic(auto, unfolding(crate::specs::FieldForms::service))]
-fn service_at(bytes: &[u8], at: usize) -> Result<Service, Stop>
+fn service_at(bytes: &[u8], at: usize) -> Result<Service, ReadEnd>
     requires { at < length bytes.now }
     ensures { Takes forms.service.read result (drop at bytes.now) (drop (at + 1) bytes.now) }
 {
@@ -167,10 +167,10 @@ fn service_at(bytes: &[u8], at: usize) -> Result<Service, Stop>
     Ok(service_of(number))
 }
 
-/// How a component is designated, at a place.
+/// The designation of a component at a place.
 #[inline(always)]
 #[tactic(auto, unfolding(crate::specs::FieldForms::designation))]
-fn designation_at(bytes: &[u8], at: usize) -> Result<Designation, Stop>
+fn designation_at(bytes: &[u8], at: usize) -> Result<Designation, ReadEnd>
     requires { at < length bytes.now }
     ensures { Takes forms.designation.read result (drop at bytes.now) (drop (at + 1) bytes.now) }
 {
@@ -178,10 +178,10 @@ fn designation_at(bytes: &[u8], at: usize) -> Result<Designation, Stop>
     Ok(designation_of(number))
 }
 
-/// Why a reading was taken, at a place.
+/// The purpose of a reading at a place.
 #[inline(always)]
 #[tactic(auto, unfolding(crate::specs::FieldForms::purpose))]
-pub(crate) fn purpose_at(bytes: &[u8], at: usize) -> Result<Purpose, Stop>
+pub(crate) fn purpose_at(bytes: &[u8], at: usize) -> Result<Purpose, ReadEnd>
     requires { at < length bytes.now }
     ensures { Takes forms.purpose.read result (drop at bytes.now) (drop (at + 1) bytes.now) }
 {
@@ -189,10 +189,10 @@ pub(crate) fn purpose_at(bytes: &[u8], at: usize) -> Result<Purpose, Stop>
     Ok(purpose_of(number))
 }
 
-/// What a visual inspection found, at a place.
+/// The result of a visual inspection at a place.
 #[inline(always)]
 #[tactic(auto, unfolding(crate::specs::FieldForms::state))]
-pub(crate) fn state_at(bytes: &[u8], at: usize) -> Result<VisualState, Stop>
+pub(crate) fn state_at(bytes: &[u8], at: usize) -> Result<VisualState, ReadEnd>
     requires { at < length bytes.now }
     ensures { Takes forms.state.read result (drop at bytes.now) (drop (at + 1) bytes.now) }
 {
@@ -200,10 +200,10 @@ pub(crate) fn state_at(bytes: &[u8], at: usize) -> Result<VisualState, Stop>
     Ok(state_of(number))
 }
 
-/// What an indication speaks of, at a place.
+/// The kind of an indication at a place.
 #[inline(always)]
 #[tactic(auto, unfolding(crate::specs::FieldForms::sort))]
-pub(crate) fn sort_at(bytes: &[u8], at: usize) -> Result<Sort, Stop>
+pub(crate) fn sort_at(bytes: &[u8], at: usize) -> Result<Sort, ReadEnd>
     requires { at < length bytes.now }
     ensures { Takes forms.sort.read result (drop at bytes.now) (drop (at + 1) bytes.now) }
 {
@@ -211,10 +211,10 @@ pub(crate) fn sort_at(bytes: &[u8], at: usize) -> Result<Sort, Stop>
     Ok(sort_of(number))
 }
 
-/// The months of a plan, as the designation allows, at a place.
+/// The months of a plan at a place, in the range that the designation allows.
 #[inline(always)]
 #[tactic(auto, unfolding(crate::specs::FieldForms::plan))]
-fn plan_at(bytes: &[u8], at: usize, designation: Designation) -> Result<u8, Stop>
+fn plan_at(bytes: &[u8], at: usize, designation: Designation) -> Result<u8, ReadEnd>
     requires { at < length bytes.now }
     ensures { Takes (forms.plan designation).read result (drop at bytes.now) (drop (at + 1) bytes.now) }
 {
@@ -226,10 +226,10 @@ fn plan_at(bytes: &[u8], at: usize, designation: Designation) -> Result<u8, Stop
     }
 }
 
-/// The class of a component, at a place.
+/// The class of a component at a place.
 #[inline(always)]
 #[tactic(auto, unfolding(crate::specs::FieldForms::class, crate::specs::FieldForms::month))]
-pub(crate) fn class_at(bytes: &[u8], at: usize) -> Result<Class, Stop>
+pub(crate) fn class_at(bytes: &[u8], at: usize) -> Result<Class, ReadEnd>
     requires { at + 4 ≤ length bytes.now }
     ensures { Takes forms.class.read result (drop at bytes.now) (drop (at + 4) bytes.now) }
 {
@@ -245,10 +245,10 @@ pub(crate) fn class_at(bytes: &[u8], at: usize) -> Result<Class, Stop>
     })
 }
 
-/// Three readings, at a place.
+/// Three readings at a place, in ppm.
 #[inline(always)]
 #[tactic(auto, unfolding(crate::specs::FieldForms::readings, crate::specs::FieldForms::concentration))]
-pub(crate) fn readings_at(bytes: &[u8], at: usize) -> Result<(u32, u32, u32), Stop>
+pub(crate) fn readings_at(bytes: &[u8], at: usize) -> Result<(u32, u32, u32), ReadEnd>
     requires { at + 12 ≤ length bytes.now }
     ensures { Takes forms.readings.read result (drop at bytes.now) (drop (at + 12) bytes.now) }
 {

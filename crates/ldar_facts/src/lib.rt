@@ -1,4 +1,4 @@
-//! Batches of facts and the bytes that a handheld sends.
+//! Batches of facts: reading them from the bytes that a handheld sends, and writing them.
 #![tactic(auto)]
 
 mod add_fact;
@@ -9,10 +9,10 @@ pub mod laws;
 mod padded_name;
 mod ranges;
 mod read;
+mod read_end;
 mod read_fact;
 mod read_name;
 mod read_number;
-mod stop;
 mod write;
 mod write_body;
 mod write_field;

@@ -1,4 +1,4 @@
-//! The ranges of numbers that stand in several fields of the table, each from the least to the greatest.
+//! Ranges that several fields share, each from its least to its greatest number.
 
 /// The greatest number of a component.
 pub(crate) const LAST_COMPONENT: u16 = 60_000;
@@ -6,13 +6,13 @@ pub(crate) const LAST_COMPONENT: u16 = 60_000;
 /// The greatest number of a process unit.
 pub(crate) const LAST_UNIT: u8 = 64;
 
-/// The most parts per million by volume that are read.
+/// The greatest concentration of a reading, in ppm by volume.
 pub(crate) const MOST_PPM: u32 = 999_999;
 
 /// The last minute of a day.
 pub(crate) const LAST_MINUTE: u16 = 1_439;
 
-/// The programmes of skip periods.
+/// The skip period programs: 0 for none, 1 and 3.
 pub(crate) const MODES: [(u32, u32); 2] = [(0, 1), (3, 3)];
 
 /// A day, or 0 for none.

@@ -1,3 +1,25 @@
+//! Reading a batch of facts, from its first byte to its last. Numbers are big-endian.
+//!
+//! | place | width | field | range |
+//! |---|---|---|---|
+//! | 0 | 1 | the letter `B` | 66 |
+//! | 1 | 2 | handheld | any |
+//! | 3 | 4 | number of the batch at its handheld | any |
+//! | 7 | 2 | number of facts | 1 to 512 |
+//! | 9 | 7 to 23 each | the facts, in order | |
+//!
+//! A fact is these fields, at places from its first byte:
+//!
+//! | place | width | field | range |
+//! |---|---|---|---|
+//! | 0 | 1 | kind | 1 to 15 |
+//! | 1 | 2 | day, since 1970-01-01 | 13879 to 47481 |
+//! | 3 | 2 | minute of the day | 0 to 1439 |
+//! | 5 | 2 to 18 | the fields of its kind: the table in `body_at.rt` | |
+//!
+//! Bytes are a batch if every field is in its range and the count is the number of facts. Each batch has one spelling
+//! (`laws::one_spelling`). The bytes after a batch are not read.
+
 ghost use Rattle.std.specs.Prelude.{◌≡◌, ℕ, ◌≤◌, length, take, IfOk};
 ghost use Rattle.fact_kinds.specs.declared.batch.Batch.{Batch};
 ghost use Rattle.ldar_facts.specs.declared.read.Read.{Read};
@@ -6,22 +28,22 @@ ghost use Rattle.ldar_facts.specs.Front.{IsWithin, read_of, read_of_stop};
 ghost use Rattle.ldar_facts.specs.Grammar.{Spells, Begins, HasNoBatch, IsFirstWrongPlace, IfWhole, OnShort, IfBad};
 
 use crate::cursor::Cursor;
-use crate::stop::Stop;
+use crate::read_end::ReadEnd;
 use fact_kinds::Batch;
 use std::alloc::{AllocError, Global};
 
-/// What stands at the front of some bytes.
+/// What some bytes begin with.
 #[derive(Drop)]
 pub enum Read {
-    /// A batch, in so many bytes.
+    /// A batch, in the first `used` bytes.
     Whole { batch: Batch, used: usize },
-    /// The beginning of a batch, and no batch.
+    /// The beginning of a batch: the bytes were cut short.
     Short,
-    /// No batch. The bytes before this place, counted from 0, begin a batch; with the one there they begin none.
+    /// No batch. The bytes before place `at` (from 0) begin a batch, and with the byte at that place they do not.
     Bad { at: usize },
 }
 
-/// Reads the batch at the front. Bytes may follow it.
+/// Reads the batch at the start of some bytes. Other bytes may follow it. The only error is out of memory.
 pub fn read_batch(alloc: Global, bytes: &[u8]) -> Result<Read, AllocError>
     ensures whole { IfOk result (λ read. IfWhole read (λ batch used.
         (used ≤ length bytes.now) × Spells (take used bytes.now) batch)) }
@@ -29,14 +51,14 @@ pub fn read_batch(alloc: Global, bytes: &[u8]) -> Result<Read, AllocError>
     ensures bad { IfOk result (λ read. IfBad read (λ at.
         IsFirstWrongPlace bytes.now at × HasNoBatch bytes.now)) }
 
-    // Where a batch stands at the front, it is the one that is read.
+    // If the bytes begin with a batch, that batch is read.
     ensures found { (batch : Batch) (used : ℕ) → used ≤ length bytes.now → Spells (take used bytes.now) batch
         → IfOk result (λ read. read ≡ Read.Whole batch used) }
 {
     read_front(alloc, bytes)
 }
 
-/// Reads from left to right, as the form of a batch says.
+/// Reads from the first byte on, following the form of a batch.
 #[tactic(auto, unfolding(crate::specs::FactForms::batch))]
 fn read_front(alloc: Global, bytes: &[u8]) -> Result<Read, AllocError>
     ensures { IfOk result (λ read. read ≡ read_of (length bytes.now) (forms.batch.read bytes.now)) }
@@ -60,13 +82,13 @@ fn read_front(alloc: Global, bytes: &[u8]) -> Result<Read, AllocError>
     }
 }
 
-/// What stands at the front of so many bytes, where reading stopped so.
-fn stopped(stop: Stop, len: usize) -> Read
+/// The result of a reading of `len` bytes that ended like this.
+fn stopped(stop: ReadEnd, len: usize) -> Read
     requires { IsWithin len stop }
     ensures { result ≡ read_of_stop len stop }
 {
     match stop {
-        Stop::Short => Read::Short,
-        Stop::Wrong { left } => Read::Bad { at: len - left },
+        ReadEnd::Short => Read::Short,
+        ReadEnd::Wrong { left } => Read::Bad { at: len - left },
     }
 }

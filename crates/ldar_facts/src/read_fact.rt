@@ -6,22 +6,22 @@ ghost use Rattle.ldar_facts.specs.Places.{TakesFact, stop_before};
 use crate::add_fact::add_fact;
 use crate::body_at::LONGEST_FACT;
 use crate::cursor::Cursor;
-use crate::stop::Stop;
+use crate::read_end::ReadEnd;
 use fact_kinds::{Fact, FactList};
 
-/// What stands before the facts of a batch.
+/// The fields before the facts of a batch.
 #[derive(Clone, Copy)]
 pub(crate) struct Head {
     pub(crate) handheld: u16,
     pub(crate) number: u32,
-    /// How many facts follow.
+    /// The number of facts that follow, 1 to 512.
     pub(crate) count: u16,
 }
 
 impl Cursor<'_> {
-    /// Takes what stands before the facts of a batch.
+    /// Takes the fields before the facts of a batch.
     #[tactic(auto, unfolding(crate::specs::FactForms::head))]
-    pub(crate) fn head(&mut self) -> Result<Head, Stop>
+    pub(crate) fn head(&mut self) -> Result<Head, ReadEnd>
         ensures { Takes forms.head.read result self.old self.new }
     {
         self.byte(&[(66, 66)])?;
@@ -32,8 +32,8 @@ impl Cursor<'_> {
         })
     }
 
-    /// Takes so many facts, for which there is room.
-    pub(crate) fn facts(&mut self, count: u16, room: Vec<Fact>) -> Result<FactList, Stop>
+    /// Takes `count` facts, for which `room` has capacity.
+    pub(crate) fn facts(&mut self, count: u16, room: Vec<Fact>) -> Result<FactList, ReadEnd>
         requires some { (1 ≤ count) × (count ≤ 512) }
         requires empty { vec_len room ≡ 0 }
         requires fits { count ≤ vec_capacity room }
@@ -46,8 +46,8 @@ impl Cursor<'_> {
         Ok(FactList::new(facts).unwrap())
     }
 
-    /// Takes a fact, and adds it to others that have room for it.
-    fn next_fact(&mut self, facts: &mut Vec<Fact>) -> Result<(), Stop>
+    /// Takes a fact and pushes it to a list that has capacity for it.
+    fn next_fact(&mut self, facts: &mut Vec<Fact>) -> Result<(), ReadEnd>
         requires { vec_len facts.old < vec_capacity facts.old }
         ensures taken { OnOk result (TakesFact self.old facts.old.items facts.new.items self.new) }
         ensures stopped { IfErr result (λ stop. forms.fact.read self.old ≡ Err stop) }
@@ -64,10 +64,10 @@ impl Cursor<'_> {
     }
 }
 
-/// Adds the fact in front of bytes that are too few for some facts, and gives those behind it: it is read as if zero bytes
-/// followed.
+/// Pushes the fact at the start of bytes that are fewer than the longest fact has. Returns the bytes after it.
+/// The fact is read as if zero bytes followed.
 #[cold]
-fn add_last_fact<'a>(bytes: &'a [u8], facts: &mut Vec<Fact>) -> Result<&'a [u8], Stop>
+fn add_last_fact<'a>(bytes: &'a [u8], facts: &mut Vec<Fact>) -> Result<&'a [u8], ReadEnd>
     requires few { length bytes.now < LONGEST_FACT }
     requires room { vec_len facts.old < vec_capacity facts.old }
     ensures taken { IfOk result (λ rest. TakesFact bytes.now facts.old.items facts.new.items rest.now) }
@@ -80,7 +80,7 @@ fn add_last_fact<'a>(bytes: &'a [u8], facts: &mut Vec<Fact>) -> Result<&'a [u8],
     match add_fact(&longer, facts) {
         Ok(rest) => {
             if rest.len() < zeros {
-                return Err(Stop::Short);
+                return Err(ReadEnd::Short);
             }
             Ok(&bytes[LONGEST_FACT - rest.len()..])
         }
@@ -88,7 +88,7 @@ fn add_last_fact<'a>(bytes: &'a [u8], facts: &mut Vec<Fact>) -> Result<&'a [u8],
     }
 }
 
-/// The bytes, with zero bytes behind them up to those of the longest fact.
+/// The bytes, followed by zero bytes up to the length of the longest fact.
 fn padded(bytes: &[u8]) -> [u8; LONGEST_FACT]
     requires { length bytes.now < LONGEST_FACT }
     ensures { result ≡ bytes.now ++ replicate (LONGEST_FACT - length bytes.now) 0 }
@@ -98,17 +98,17 @@ fn padded(bytes: &[u8]) -> [u8; LONGEST_FACT]
     longer
 }
 
-/// Why reading stopped, without so many bytes that were added at the end.
-fn before(stop: Stop, added: usize) -> Stop
+/// The end of a reading with the bytes that were appended taken away.
+fn before(stop: ReadEnd, added: usize) -> ReadEnd
     ensures { result ≡ stop_before stop added }
 {
     match stop {
-        Stop::Short => Stop::Short,
-        Stop::Wrong { left } => {
+        ReadEnd::Short => ReadEnd::Short,
+        ReadEnd::Wrong { left } => {
             if added < left {
-                Stop::Wrong { left: left - added }
+                ReadEnd::Wrong { left: left - added }
             } else {
-                Stop::Short
+                ReadEnd::Short
             }
         }
     }

@@ -2,18 +2,18 @@ ghost use Rattle.ldar_facts.specs.Form.{Takes};
 ghost use Rattle.ldar_facts.specs.Letters.{name_form, zeros};
 
 use crate::cursor::Cursor;
-use crate::stop::Stop;
+use crate::read_end::ReadEnd;
 use fact_kinds::Name;
 
-/// What may stand in a name: hyphen, digits and capital letters.
+/// The bytes of names: hyphen, digits and capital letters.
 const LETTERS: [(u32, u32); 3] = [(45, 45), (48, 57), (65, 90)];
 
 const LETTERS_OR_ZERO: [(u32, u32); 4] = [(0, 0), (45, 45), (48, 57), (65, 90)];
 
 impl Cursor<'_> {
-    /// Takes the name of a process unit in its twelve bytes.
+    /// Takes the name of a process unit, in its twelve bytes.
     #[tactic(auto, unfolding(crate::specs::Letters::name_form))]
-    pub(crate) fn name(&mut self) -> Result<Name, Stop>
+    pub(crate) fn name(&mut self) -> Result<Name, ReadEnd>
         ensures { Takes name_form.read result self.old self.new }
     {
         let mut letters = [0u8; 12];
@@ -29,8 +29,8 @@ impl Cursor<'_> {
         Ok(Name::new(&letters).unwrap())
     }
 
-    /// Takes so many zero bytes.
-    fn zeros(&mut self, count: usize) -> Result<(), Stop>
+    /// Takes `count` zero bytes.
+    fn zeros(&mut self, count: usize) -> Result<(), ReadEnd>
         ensures { Takes (zeros count).read result self.old self.new }
     {
         for _ in 0..count {

@@ -2,10 +2,10 @@ ghost use Rattle.std.specs.Prelude.{◌≡◌, ◌^◌, ◌<◌, ◌≤◌};
 ghost use Rattle.ldar_facts.specs.Form.{Gives};
 ghost use Rattle.ldar_facts.specs.Number.{number_from, among, may_be, stop_of};
 
-use crate::stop::Stop;
+use crate::read_end::ReadEnd;
 
-/// A byte in one of the ranges.
-pub(crate) fn byte<'a>(bytes: &'a [u8], ranges: &[(u32, u32)]) -> Result<(u8, &'a [u8]), Stop>
+/// A byte that is in one of the ranges, and the bytes after it.
+pub(crate) fn byte<'a>(bytes: &'a [u8], ranges: &[(u32, u32)]) -> Result<(u8, &'a [u8]), ReadEnd>
     ensures { Gives (λ x. (x.0, x.1.now)) result (number_from 1 ranges.now 0 bytes.now) }
 {
     if bytes.is_empty() {
@@ -19,8 +19,11 @@ pub(crate) fn byte<'a>(bytes: &'a [u8], ranges: &[(u32, u32)]) -> Result<(u8, &'
     Ok((number, rest))
 }
 
-/// A number of two bytes in one of the ranges.
-pub(crate) fn two_bytes<'a>(bytes: &'a [u8], ranges: &[(u32, u32)]) -> Result<(u16, &'a [u8]), Stop>
+/// A number of two bytes that is in one of the ranges, and the bytes after it.
+pub(crate) fn two_bytes<'a>(
+    bytes: &'a [u8],
+    ranges: &[(u32, u32)],
+) -> Result<(u16, &'a [u8]), ReadEnd>
     ensures { Gives (λ x. (x.0, x.1.now)) result (number_from 2 ranges.now 0 bytes.now) }
 {
     if bytes.len() < 2 {
@@ -34,11 +37,11 @@ pub(crate) fn two_bytes<'a>(bytes: &'a [u8], ranges: &[(u32, u32)]) -> Result<(u
     Ok((number, rest))
 }
 
-/// A number of four bytes in one of the ranges.
+/// A number of four bytes that is in one of the ranges, and the bytes after it.
 pub(crate) fn four_bytes<'a>(
     bytes: &'a [u8],
     ranges: &[(u32, u32)],
-) -> Result<(u32, &'a [u8]), Stop>
+) -> Result<(u32, &'a [u8]), ReadEnd>
     ensures { Gives (λ x. (x.0, x.1.now)) result (number_from 4 ranges.now 0 bytes.now) }
 {
     if bytes.len() < 4 {
@@ -52,7 +55,7 @@ pub(crate) fn four_bytes<'a>(
     Ok((number, rest))
 }
 
-/// Whether the number lies in one of the ranges.
+/// Whether the number is in one of the ranges.
 fn is_among(number: u32, ranges: &[(u32, u32)]) -> bool
     ensures { result ≡ among ranges.now number }
 {
@@ -61,27 +64,27 @@ fn is_among(number: u32, ranges: &[(u32, u32)]) -> bool
         .any(|range| range.0 <= number && number <= range.1)
 }
 
-/// Where a number of so many bytes goes wrong, or that the bytes end within it.
-pub(crate) fn first_wrong(bytes: &[u8], width: usize, ranges: &[(u32, u32)]) -> Stop
+/// The first wrong byte of a number of `width` bytes, or `Short` if the bytes end within it.
+pub(crate) fn first_wrong(bytes: &[u8], width: usize, ranges: &[(u32, u32)]) -> ReadEnd
     requires { width ≤ 4 }
     ensures { result ≡ stop_of (number_from width ranges.now 0 bytes.now) }
 {
     let mut number = 0;
     for i in 0..width {
         if i >= bytes.len() {
-            return Stop::Short;
+            return ReadEnd::Short;
         }
         number = number * 256 + u64::from(bytes[i]);
         if !may_begin(number, width - 1 - i, ranges) {
-            return Stop::Wrong {
+            return ReadEnd::Wrong {
                 left: bytes.len() - i,
             };
         }
     }
-    Stop::Short
+    ReadEnd::Short
 }
 
-/// Whether a number of the ranges begins so, with so many bytes to come.
+/// Whether a number in the ranges begins like this, with `more` bytes still to come.
 fn may_begin(number: u64, more: usize, ranges: &[(u32, u32)]) -> bool
     requires few { more < 4 }
     requires fits { number < 2 ^ 32 }

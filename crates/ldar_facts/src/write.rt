@@ -7,13 +7,13 @@ use crate::write_field::{put_byte, put_day, put_four_bytes, put_two_bytes};
 use fact_kinds::{Batch, Fact};
 use std::alloc::{AllocError, Global};
 
-/// Adds the one spelling of a batch at the end.
+/// Appends the one spelling of a batch. When out of memory, `out` is unchanged.
 pub fn write_batch(alloc: Global, batch: &Batch, out: &mut Vec<u8>) -> Result<(), AllocError>
     ensures value { OnOk result (out.new.items ≡ out.old.items ++ spelled (batch_fields batch.now)) }
     ensures spells { OnOk result (Spells (spelled (batch_fields batch.now)) batch.now) }
     ensures unchanged { OnErr result (out.new.items ≡ out.old.items) }
 {
-    // Where memory runs out on the way, nothing has been added yet.
+    // The spelling is made first, so that out of memory leaves `out` unchanged.
     let spelling = spelling_of(alloc, batch)?;
     out.extend_from_slice(&spelling)
 }
@@ -34,7 +34,7 @@ fn spelling_of(alloc: Global, batch: &Batch) -> Result<Vec<u8>, AllocError>
     Ok(out)
 }
 
-/// Adds a fact.
+/// Appends a fact.
 fn put_fact(out: &mut Vec<u8>, fact: &Fact) -> Result<(), AllocError>
     ensures value { OnOk result (out.new.items ≡ out.old.items ++ spelled (fact_fields fact.now)) }
     ensures in_range { IsFact fact.now }

@@ -11,7 +11,7 @@ use fact_kinds::{Class, FactBody, Kind, Name, Purpose, Sort, VisualState};
 use ldar_days::Day;
 use std::alloc::AllocError;
 
-/// Adds what a fact says.
+/// Appends the fields of a fact's body.
 pub(crate) fn put_body(out: &mut Vec<u8>, body: &FactBody) -> Result<(), AllocError>
     ensures { OnOk result (out.new.items ≡ out.old.items ++ spelled (body_fields body.now)) }
 {
@@ -74,7 +74,7 @@ pub(crate) fn put_body(out: &mut Vec<u8>, body: &FactBody) -> Result<(), AllocEr
     }
 }
 
-/// Adds a process unit.
+/// Appends the fields of a process unit.
 fn put_unit(out: &mut Vec<u8>, unit: u8, older: bool, name: &Name) -> Result<(), AllocError>
     ensures { OnOk result (out.new.items ≡ out.old.items ++ spelled (body_fields (says.Unit unit older name.now))) }
 {
@@ -83,7 +83,7 @@ fn put_unit(out: &mut Vec<u8>, unit: u8, older: bool, name: &Name) -> Result<(),
     put_name(out, name)
 }
 
-/// Adds a component.
+/// Appends the fields of a component.
 fn put_component(
     out: &mut Vec<u8>,
     component: u16,
@@ -103,7 +103,7 @@ fn put_component(
     put_class(out, class)
 }
 
-/// Adds a class of a component.
+/// Appends the fields of a component's class.
 fn put_class_fact(out: &mut Vec<u8>, component: u16, class: Class) -> Result<(), AllocError>
     ensures { OnOk result (out.new.items ≡ out.old.items ++ spelled (body_fields (says.Class component class))) }
 {
@@ -111,7 +111,7 @@ fn put_class_fact(out: &mut Vec<u8>, component: u16, class: Class) -> Result<(),
     put_class(out, class)
 }
 
-/// Adds the choice of a programme of skip periods.
+/// Appends the fields of an election of a skip period program.
 fn put_election(out: &mut Vec<u8>, unit: u8, mode: u8, notified: Day) -> Result<(), AllocError>
     ensures { OnOk result (out.new.items ≡ out.old.items ++ spelled (body_fields (says.Election unit mode notified))) }
 {
@@ -120,7 +120,7 @@ fn put_election(out: &mut Vec<u8>, unit: u8, mode: u8, notified: Day) -> Result<
     put_day(out, notified)
 }
 
-/// Adds a shutdown.
+/// Appends the fields of a shutdown.
 fn put_shutdown(out: &mut Vec<u8>, unit: u8, days: u16) -> Result<(), AllocError>
     ensures { OnOk result (out.new.items ≡ out.old.items ++ spelled (body_fields (says.Shutdown unit days))) }
 {
@@ -128,7 +128,7 @@ fn put_shutdown(out: &mut Vec<u8>, unit: u8, days: u16) -> Result<(), AllocError
     put_two_bytes(out, days)
 }
 
-/// Adds an instrument and a known value.
+/// Appends an instrument and a known value in ppm.
 fn put_known(out: &mut Vec<u8>, instrument: u16, value: u32) -> Result<(), AllocError>
     ensures { OnOk result (out.new.items ≡ out.old.items ++ spelled (body_fields (says.Calibration instrument value))) }
 {
@@ -136,7 +136,7 @@ fn put_known(out: &mut Vec<u8>, instrument: u16, value: u32) -> Result<(), Alloc
     put_four_bytes(out, value)
 }
 
-/// Adds a precision test or a drift assessment: both have the same fields.
+/// Appends the fields of a precision test or a drift assessment, which are the same.
 fn put_assessment(
     out: &mut Vec<u8>,
     instrument: u16,
@@ -149,7 +149,7 @@ fn put_assessment(
     put_readings(out, readings)
 }
 
-/// Adds a reading.
+/// Appends the fields of a reading.
 fn put_reading(
     out: &mut Vec<u8>,
     component: u16,
@@ -169,7 +169,7 @@ fn put_reading(
     put_four_bytes(out, background)
 }
 
-/// Adds a visual inspection.
+/// Appends the fields of a visual inspection.
 fn put_visual(out: &mut Vec<u8>, component: u16, state: VisualState) -> Result<(), AllocError>
     ensures { OnOk result (out.new.items ≡ out.old.items ++ spelled (body_fields (says.Visual component state))) }
 {
@@ -177,7 +177,7 @@ fn put_visual(out: &mut Vec<u8>, component: u16, state: VisualState) -> Result<(
     put_byte(out, state_number(state))
 }
 
-/// Adds an attempt at a repair.
+/// Appends the fields of an attempt at a repair.
 fn put_attempt(out: &mut Vec<u8>, component: u16, complete: bool) -> Result<(), AllocError>
     ensures { OnOk result (out.new.items ≡ out.old.items ++ spelled (body_fields (says.Attempt component complete))) }
 {
@@ -185,7 +185,7 @@ fn put_attempt(out: &mut Vec<u8>, component: u16, complete: bool) -> Result<(), 
     put_flag(out, complete)
 }
 
-/// Adds a delay of repair.
+/// Appends the fields of a delay of repair.
 fn put_delay(
     out: &mut Vec<u8>,
     component: u16,
@@ -201,7 +201,7 @@ fn put_delay(
     put_day_or_none(out, expected)
 }
 
-/// Adds an indication.
+/// Appends the fields of an indication.
 fn put_indication(
     out: &mut Vec<u8>,
     component: u16,

@@ -7,42 +7,42 @@ use fact_kinds::{Class, Designation, Kind, Name, Purpose, Service, Sort, VisualS
 use ldar_days::Day;
 use std::alloc::AllocError;
 
-/// Adds a byte.
+/// Appends a byte.
 pub(crate) fn put_byte(out: &mut Vec<u8>, number: u8) -> Result<(), AllocError>
     ensures { OnOk result (out.new.items ≡ out.old.items ++ fields.big_endian 1 number) }
 {
     out.extend_from_slice(&number.to_be_bytes())
 }
 
-/// Adds a number of two bytes.
+/// Appends a number in two bytes.
 pub(crate) fn put_two_bytes(out: &mut Vec<u8>, number: u16) -> Result<(), AllocError>
     ensures { OnOk result (out.new.items ≡ out.old.items ++ fields.big_endian 2 number) }
 {
     out.extend_from_slice(&number.to_be_bytes())
 }
 
-/// Adds a number of four bytes.
+/// Appends a number in four bytes.
 pub(crate) fn put_four_bytes(out: &mut Vec<u8>, number: u32) -> Result<(), AllocError>
     ensures { OnOk result (out.new.items ≡ out.old.items ++ fields.big_endian 4 number) }
 {
     out.extend_from_slice(&number.to_be_bytes())
 }
 
-/// Adds no or yes.
+/// Appends a flag: 0 for no, 1 for yes.
 pub(crate) fn put_flag(out: &mut Vec<u8>, flag: bool) -> Result<(), AllocError>
     ensures { OnOk result (out.new.items ≡ out.old.items ++ fields.bytes_of (fields.flag flag)) }
 {
     put_byte(out, u8::from(flag))
 }
 
-/// Adds a day.
+/// Appends a day.
 pub(crate) fn put_day(out: &mut Vec<u8>, day: Day) -> Result<(), AllocError>
     ensures { OnOk result (out.new.items ≡ out.old.items ++ fields.big_endian 2 day) }
 {
     put_two_bytes(out, day.number() as u16)
 }
 
-/// Adds a day, or 0 for none.
+/// Appends a day, or 0 for none.
 pub(crate) fn put_day_or_none(out: &mut Vec<u8>, expected: Option<Day>) -> Result<(), AllocError>
     ensures { OnOk result (out.new.items ≡ out.old.items ++ fields.bytes_of (fields.day_or_none expected)) }
 {
@@ -52,14 +52,14 @@ pub(crate) fn put_day_or_none(out: &mut Vec<u8>, expected: Option<Day>) -> Resul
     }
 }
 
-/// Adds a name, and zero bytes up to twelve.
+/// Appends a name, followed by zero bytes up to twelve.
 pub(crate) fn put_name(out: &mut Vec<u8>, name: &Name) -> Result<(), AllocError>
     ensures { OnOk result (out.new.items ≡ out.old.items ++ spelled_name name.now) }
 {
     out.extend_from_slice(name.padded())
 }
 
-/// Adds three readings.
+/// Appends three readings, in ppm.
 pub(crate) fn put_readings(out: &mut Vec<u8>, readings: (u32, u32, u32)) -> Result<(), AllocError>
     ensures { OnOk result (out.new.items ≡ out.old.items ++ spelled (fields.readings_fields readings)) }
 {
@@ -68,7 +68,7 @@ pub(crate) fn put_readings(out: &mut Vec<u8>, readings: (u32, u32, u32)) -> Resu
     put_four_bytes(out, readings.2)
 }
 
-/// Adds a class.
+/// Appends a class.
 pub(crate) fn put_class(out: &mut Vec<u8>, class: Class) -> Result<(), AllocError>
     ensures { OnOk result (out.new.items ≡ out.old.items ++ spelled (fields.class_fields class)) }
 {

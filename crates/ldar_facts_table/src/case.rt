@@ -1,32 +1,32 @@
 use std::alloc::Global;
 
-/// What is read from some bytes.
+/// The expected result of reading some bytes.
 #[derive(Clone, Copy, PartialEq, Eq)]
-pub enum Front {
-    /// A batch, in so many bytes.
+pub enum Expected {
+    /// A batch, in the first `used` bytes.
     Whole { used: usize },
     Short,
-    /// No batch, and the first wrong place.
+    /// No batch; `at` is the first wrong place, from 0.
     Bad { at: usize },
 }
 
-/// A line of the table: some bytes, and what is to be read from them.
+/// A line of the table: some bytes, and the expected result of reading them.
 #[derive(Drop)]
 pub struct Case {
     pub bytes: Vec<u8>,
-    pub want: Front,
+    pub want: Expected,
 }
 
-/// The case that a line has, and `None` where it is no line of the table.
+/// The case of a line, or `None` if the line is not one of the table.
 pub fn case_of(alloc: Global, line: &str) -> Option<Case> {
     let mut words = line.split(' ');
     let bytes = hex::decode(alloc, words.next()?).ok()?;
     let want = match words.next()? {
-        "whole" => Front::Whole {
+        "whole" => Expected::Whole {
             used: words.next()?.parse().ok()?,
         },
-        "short" => Front::Short,
-        "bad" => Front::Bad {
+        "short" => Expected::Short,
+        "bad" => Expected::Bad {
             at: words.next()?.parse().ok()?,
         },
         _ => return None,

@@ -1,5 +1,5 @@
-//! Compares `read_batch` and `write_batch` with the table of bytes that `bench/batch_table.py` made: each kind of fact
-//! with each field at its ends and past them, and each name, plan, count and cut.
+//! Compares `read_batch` and `write_batch` with the table of bytes that `bench/batch_table.py` made. The table has each kind
+//! of fact with each field at its ends and past them, and names, plans, counts and cuts.
 #![tactic(auto)]
 
 mod agreement;

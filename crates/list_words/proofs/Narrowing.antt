@@ -4,11 +4,11 @@ use Rattle.std.proofs.lemmas.Bool.{cases_Bool, false≢true}
 use Rattle.list_words.specs.Words.{last_such}
 use Rattle.list_words.proofs.WordLemmas.{last_such-cons, option_or-None}
 
--- what a test that fails q fails as well
+-- an element that fails q fails p, which implies q
 fails_too : {X : Type 0} (p q : X → Bool) → ((x : X) → p x ≡ true → q x ≡ true) → (x : X) → q x ≡ false → p x ≡ false
 fails_too p q implies x e = elim (cases_Bool (p x)) [ inl t ↦ absurd (false≢true (sym e ∙ implies x t)) | inr f ↦ f ]
 
--- where p implies q, what passes p is among what passes q
+-- a filter by q before a search for p, which implies q, does not change whether one is found
 pub list_any_narrowed : {X : Type 0} (p q : X → Bool) → ((x : X) → p x ≡ true → q x ≡ true) → (xs : List X) → list_any p (filter q xs) ≡ list_any p xs
 list_any_narrowed p q implies [] = refl
 list_any_narrowed p q implies (x ∷ xs) =
@@ -17,6 +17,7 @@ list_any_narrowed p q implies (x ∷ xs) =
       | inr e ↦ rw (e, fails_too p q implies x e) (list_any_narrowed p q implies xs)
     ]
 
+-- .. nor the first one found
 pub find_narrowed : {X : Type 0} (p q : X → Bool) → ((x : X) → p x ≡ true → q x ≡ true) → (xs : List X) → find p (filter q xs) ≡ find p xs
 find_narrowed p q implies [] = refl
 find_narrowed p q implies (x ∷ xs) =
@@ -25,6 +26,7 @@ find_narrowed p q implies (x ∷ xs) =
       | inr e ↦ rw (e, fails_too p q implies x e) (find_narrowed p q implies xs)
     ]
 
+-- .. nor the last one
 pub last_such_narrowed : {X : Type 0} (p q : X → Bool) → ((x : X) → p x ≡ true → q x ≡ true) → (xs : List X) → last_such p (filter q xs) ≡ last_such p xs
 last_such_narrowed p q implies [] = refl
 last_such_narrowed p q implies (x ∷ xs) =
@@ -33,6 +35,7 @@ last_such_narrowed p q implies (x ∷ xs) =
       | inr e ↦ rw e (last_such_narrowed p q implies xs ∙ sym (last_such-cons p x xs ∙ rw (fails_too p q implies x e) (option_or-None (last_such p xs))))
     ]
 
+-- .. nor all of them
 pub filter_narrowed : {X : Type 0} (p q : X → Bool) → ((x : X) → p x ≡ true → q x ≡ true) → (xs : List X) → filter p (filter q xs) ≡ filter p xs
 filter_narrowed p q implies [] = refl
 filter_narrowed p q implies (x ∷ xs) =
@@ -41,7 +44,7 @@ filter_narrowed p q implies (x ∷ xs) =
       | inr e ↦ rw (e, fails_too p q implies x e) (filter_narrowed p q implies xs)
     ]
 
--- where what fails q gives nothing, a filter in front changes nothing
+-- a filter before a map changes nothing if what fails the filter has no value
 pub filter_map_narrowed : {X Y : Type 0} (f : X → Option Y) (q : X → Bool) → ((x : X) → q x ≡ false → f x ≡ None) → (xs : List X)
     → filter_map f (filter q xs) ≡ filter_map f xs
 filter_map_narrowed f q implies [] = refl
@@ -51,15 +54,17 @@ filter_map_narrowed f q implies (x ∷ xs) =
       | inr e ↦ rw (e, implies x e) (filter_map_narrowed f q implies xs)
     ]
 
--- two tests that agree on each element find the same
+-- two tests that agree on each element agree on the existence of one
 pub list_any_agree : {X : Type 0} (p q : X → Bool) → ((x : X) → p x ≡ q x) → (xs : List X) → list_any p xs ≡ list_any q xs
 list_any_agree p q same [] = refl
 list_any_agree p q same (x ∷ xs) = rw (same x, list_any_agree p q same xs) refl
 
+-- .. and find the same first one
 pub find_agree : {X : Type 0} (p q : X → Bool) → ((x : X) → p x ≡ q x) → (xs : List X) → find p xs ≡ find q xs
 find_agree p q same [] = refl
 find_agree p q same (x ∷ xs) = rw (same x, find_agree p q same xs) refl
 
+-- .. and select the same elements
 pub filter_agree : {X : Type 0} (p q : X → Bool) → ((x : X) → p x ≡ q x) → (xs : List X) → filter p xs ≡ filter q xs
 filter_agree p q same [] = refl
 filter_agree p q same (x ∷ xs) = rw (same x, filter_agree p q same xs) refl

@@ -1,4 +1,4 @@
-//! Words on plain lists: what stands somewhere, first or last in one, what its elements give, and lists in order.
+//! Words on plain lists: elements seen with their neighbours, sorting, ranges and parts. It has laws only, no program code.
 #![tactic(auto)]
 
 pub mod laws;

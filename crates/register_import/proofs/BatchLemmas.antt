@@ -1,4 +1,4 @@
--- Batches numbered one after the other.
+-- Batches with consecutive numbers.
 use Rattle.std.proofs.Common.{◌≡◌, ℕ, ◌+◌, ◌<◌, min, List, [], ◌∷◌, ◌++◌, length, take, drop, sym, ap, ◌∙◌, inl, inr, arith, append_assoc}
 use Rattle.std.proofs.lemmas.Bool.{cases_lt}
 use Rattle.std.proofs.lemmas.List.{take_all, drop_all}
@@ -8,19 +8,21 @@ use Rattle.fact_kinds.specs.Stated.{Stated}
 use Rattle.register_import.specs.Batches.{batches_of}
 
 module _ {X : Type 0} (n m : ℕ) (xs : List X) (least : m ≡ min (length xs) n) where
+  -- taking at most the length takes as many
   take_least : take m xs ≡ take n xs
   take_least = elim (cases_lt (length xs) n) [
     | inl short ↦ take_all m xs (omega (arith, least, short)) ∙ sym (take_all n xs (omega (arith, short)))
     | inr long ↦ ap (λ k. take k xs) (omega (arith, least, long))
   ]
 
+  -- dropping at most the length leaves as many
   drop_least : drop m xs ≡ drop n xs
   drop_least = elim (cases_lt (length xs) n) [
     | inl short ↦ drop_all m xs (omega (arith, least, short)) ∙ sym (drop_all n xs (omega (arith, short)))
     | inr long ↦ ap (λ k. drop k xs) (omega (arith, least, long))
   ]
 
--- the next batch has the first so many of the facts that are left
+-- the next batch has the first m of the remaining facts
 pub next_batch : (number m : ℕ) (rest part others : List Stated) (batches more : List Batch) → 0 < length rest → m ≡ min (length rest) 512 → part ≡ take m rest
     → others ≡ drop m rest → more ≡ batches ++ record { handheld = 0; number = number; facts = part } ∷ []
     → batches ++ batches_of number rest ≡ more ++ batches_of (number + 1) others

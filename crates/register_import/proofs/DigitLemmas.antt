@@ -7,17 +7,17 @@ use Rattle.std.specs.Char.{is_ascii_digit}
 use Rattle.std.specs.List.{fold, list_all}
 use Rattle.register_import.specs.Fields.{digits}
 
--- a number does not shrink as digits are added
+-- adding digits does not make a number smaller
 pub grows : (n : ℕ) (text : List ℕ) → n ≤ fold (λ m digit. 10 * m + (digit - 48)) n text
 grows n [] = omega arith
 grows n (digit ∷ text) = omega (arith, grows (10 * n + (digit - 48)) text)
 
--- what is above the bound with its first digits is none
+-- a number whose first digits are above the bound is above it
 pub too_great : (all : Bool) (high n value : ℕ) → high < n → n ≤ value → None ≡ cond (all && nat_le value high) (Some value) None
 too_great false high n value above more = refl
 too_great true high n value above more = grind (arith, nat_tests)
 
--- .. where the digits up to an index spell a number above the bound
+-- .. if the digits up to an index spell a number above the bound
 pub too_great_at : (text : List ℕ) (index number high more : ℕ) → index < length text
     → fold (λ n digit. 10 * n + (digit - 48)) number (drop index text) ≡ fold (λ n digit. 10 * n + (digit - 48)) 0 text
     → more ≡ 10 * number + (get_or text index 0 - 48) → high < more → None ≡ digits text high

@@ -1,4 +1,4 @@
--- Keys of a table and elements of an array, as the code has them.
+-- The keys of a table and the elements of an array, as the code holds them.
 use Rattle.std.proofs.Common.{◌≡◌, ℕ, Bool, ◌&&◌, ◌||◌, ◌==◌, not, is_some, List, [], ◌∷◌, length, map, refl, sym, ap, arith, suc, String, string_bytes}
 use Rattle.std.proofs.lemmas.Bool.{ne_eqb}
 use Rattle.std.specs.List.{list_all, list_any}
@@ -9,12 +9,12 @@ use Rattle.toml.specs.declared.value.Value.{Value}
 use Rattle.register_import.specs.Members.{keys_of}
 use Rattle.register_import.specs.Units.{are_tables, has_element}
 
--- the keys of a table are those that its entries have
+-- the keys of a table are those of its entries
 pub keys_of-members_view : (es : List (String Global × Value)) → keys_of (members_view es) ≡ map (λ (e : String Global × Value). string_bytes e.0) es
 keys_of-members_view [] = refl
 keys_of-members_view (e ∷ es) = ap (λ (l : List (List ℕ)). string_bytes e.0 ∷ l) (keys_of-members_view es)
 
--- whether one passes, of what a map made
+-- whether an element of a mapped list passes
 pub list_any-map : {X Y : Type 0} (f : X → Y) (p : Y → Bool) (xs : List X) → list_any p (map f xs) ≡ list_any (λ x. p (f x)) xs
 list_any-map f p [] = refl
 list_any-map f p (x ∷ xs) = ap (λ b. p (f x) || b) (list_any-map f p xs)

@@ -5,12 +5,12 @@ use Rattle.fact_kinds.specs.declared.batch.Batch.{Batch}
 use Rattle.fact_kinds.specs.Stated.{Stated}
 use Rattle.register_import.specs.Rows.{Rows}
 
--- a batch of each part, of handheld 0, the first of them with this number
+-- one batch for each part, of handheld 0, numbered from this number on
 abbrev pub numbered : ℕ → List (List Stated) → List Batch
 numbered number [] = []
 numbered number (part ∷ parts) = record { handheld = 0; number = number; facts = part } ∷ numbered (number + 1) parts
 
--- facts in batches of 512, the last one shorter
+-- the facts in batches of 512, the last one possibly shorter
 abbrev pub batches_of : ℕ → List Stated → List Batch
 batches_of number facts = numbered number (cut 512 facts)
 

@@ -1,4 +1,4 @@
--- How the fields of a record of components are read: each gives a value, or nothing where it has another form.
+-- The fields of a record of components. Each definition is a value, or None if the field has another form.
 use Rattle.std.specs.Prelude.{ℕ, Bool, true, false, ◌&&◌, ◌==◌, nat_le, List, [], ◌∷◌, codes, Option, Some, None, option_and_then, if◌then◌else◌}
 use Rattle.std.specs.List.{list_all}
 use Rattle.std.specs.Char.{is_ascii_digit}
@@ -12,20 +12,20 @@ use Rattle.fact_kinds.specs.declared.class.Service.TheVariants.{Gas, Light, Heav
 use Rattle.fact_kinds.specs.declared.class.Designation.{Designation}
 use Rattle.fact_kinds.specs.declared.class.Designation.TheVariants.{Plain, Nde, Unsafe, Difficult}
 
--- one reading behind another
+-- one reading after another
 infixl 10 ◌>>=◌
 abbrev pub ◌>>=◌ : {A B : Type 0} → Option A → (A → Option B) → Option B
 o >>= f = option_and_then f o
 
 -- ---- numbers
 
--- a zero stands in front of another byte, or there is no byte at all
+-- the bytes are empty, or a zero followed by other bytes
 abbrev pub starts_badly : List ℕ → Bool
 starts_badly [] = true
 starts_badly (first ∷ []) = false
 starts_badly (first ∷ second ∷ rest) = first == 48
 
--- the number that decimal digits spell, if it is not above the bound
+-- the number that decimal digits spell, if it is at most the bound
 abbrev pub digits : List ℕ → ℕ → Option ℕ
 digits text high = if list_all is_ascii_digit text && nat_le (digits_value text) high then Some (digits_value text) else None
 
@@ -33,7 +33,7 @@ digits text high = if list_all is_ascii_digit text && nat_le (digits_value text)
 abbrev pub decimal : List ℕ → ℕ → Option ℕ
 decimal text high = if starts_badly text then None else digits text high
 
--- a number that is not below the one and not above the other
+-- a number from low to high
 unfoldable pub number : ℕ → ℕ → Option (List ℕ) → Option ℕ
 number low high field = do
   text ← field
@@ -42,12 +42,13 @@ number low high field = do
 
 -- ---- words
 
--- 0 is no and 1 is yes
+-- 0 for no and 1 for yes
 unfoldable pub flag : Option (List ℕ) → Option Bool
 flag field = do
   text ← field
   if bytes_eq text (codes "0") then Some false else (if bytes_eq text (codes "1") then Some true else None)
 
+-- the type of a component
 unfoldable pub kind : Option (List ℕ) → Option Kind
 kind field = do
   text ← field
@@ -56,6 +57,7 @@ kind field = do
       if bytes_eq text (codes "compressor") then Some Compressor else (
       if bytes_eq text (codes "relief") then Some Relief else None)))
 
+-- the service of a component
 unfoldable pub service : Option (List ℕ) → Option Service
 service field = do
   text ← field
@@ -65,6 +67,7 @@ service field = do
       if bytes_eq text (codes "vacuum") then Some Vacuum else (
       if bytes_eq text (codes "under300") then Some Under300 else None))))
 
+-- the designation of a component
 unfoldable pub designation : Option (List ℕ) → Option Designation
 designation field = do
   text ← field
@@ -75,13 +78,14 @@ designation field = do
 
 -- ---- the class
 
--- the months of a plan, as the designation allows
+-- the months of a plan, in the range that the designation allows
 abbrev pub plan : Designation → Option (List ℕ) → Option ℕ
 plan Plain field = number 0 0 field
 plan Nde field = number 0 0 field
 plan Unsafe field = number 1 60 field
 plan Difficult field = number 0 0 field
 
+-- the class of four fields
 unfoldable pub class : Option (List ℕ) → Option (List ℕ) → Option (List ℕ) → Option (List ℕ) → Option Class
 class service_field designation_field plan_field month_field = do
   service ← service service_field

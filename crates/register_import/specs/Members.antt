@@ -1,4 +1,4 @@
--- How the members of a process unit's table are read: each gives a value, or nothing where it has another form.
+-- The members of a process unit's table. Each definition is a value, or None if the member has another form.
 use Rattle.std.specs.Prelude.{ℕ, ℤ, pos, negsuc, Bool, ◌&&◌, ◌==◌, not, nat_eq, nat_le, List, [], ◌∷◌, length, Option, Some, None, if◌then◌else◌}
 use Rattle.std.specs.List.{list_all, list_any}
 use Rattle.std.specs.Cmp.Lexicographic.{pointwise}
@@ -9,19 +9,22 @@ use Rattle.register_import.specs.Fields.{◌>>=◌}
 
 -- ---- keys
 
+-- the keys of a table
 abbrev pub keys_of : Members → List (List ℕ)
 keys_of no_members = []
 keys_of (member key d members) = key ∷ keys_of members
 
+-- the key is one of these
 abbrev pub is_among : List (List ℕ) → List ℕ → Bool
 is_among keys key = list_any (λ k. pointwise nat_eq k key) keys
 
--- the table has no other keys than these
+-- the table has only these keys
 abbrev pub has_only : List (List ℕ) → Members → Bool
 has_only keys members = list_all (is_among keys) (keys_of members)
 
 -- ---- values, each of which may be absent
 
+-- the number, if it is that of a process unit
 abbrev pub in_range : ℤ → Option ℕ
 in_range (pos n) = if nat_le 1 n && nat_le n 64 then Some n else None
 in_range (negsuc n) = None
@@ -32,6 +35,7 @@ unit_number d = do
   n ← d >>= as_integer
   in_range n
 
+-- a truth value
 unfoldable pub flag : Option Data → Option Bool
 flag d = d >>= as_bool
 
@@ -45,6 +49,7 @@ day d = do
 abbrev pub is_name : List ℕ → Bool
 is_name bytes = not (length bytes == 0) && (nat_le (length bytes) 12 && list_all is_name_byte bytes)
 
+-- the name of a process unit
 unfoldable pub name : Option Data → Option (List ℕ)
 name d = do
   text ← d >>= as_str

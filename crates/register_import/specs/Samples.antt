@@ -1,4 +1,4 @@
--- Words for the worked examples: a component's record, and a process unit's table.
+-- Values for the worked examples: a component's record, and a process unit's table.
 use Rattle.std.specs.Prelude.{ℕ, ◌+◌, false, pos, List, [], ◌∷◌, ◌++◌, codes, take, drop}
 use Rattle.toml.specs.Data.{Data, string, integer, boolean, table, Members, no_members, member}
 use Rattle.fact_kinds.specs.declared.class.Designation.{Designation}
@@ -18,15 +18,15 @@ abbrev pub valve_row : List (List ℕ)
 valve_row =
     codes "1" ∷ codes "1" ∷ codes "valve" ∷ codes "gas" ∷ codes "none" ∷ codes "0" ∷ codes "1" ∷ codes "0" ∷ codes "0" ∷ codes "2020-01-15" ∷ []
 
--- .. with another field at a place
+-- .. with another field at a place (from 0)
 abbrev pub with_field : ℕ → List ℕ → List (List ℕ)
 with_field place field = take place valve_row ++ field ∷ drop (place + 1) valve_row
 
--- .. of this designation and plan
+-- .. with this designation and plan
 abbrev pub designated : List ℕ → List ℕ → List (List ℕ)
 designated designation plan = take 4 valve_row ++ designation ∷ plan ∷ drop 6 valve_row
 
--- the fact of a valve in gas service, of this number and designation
+-- the fact of a valve in gas service, with this number and designation
 abbrev pub valve : ℕ → Designation → ℕ → Stated
 valve n designation plan =
     record {
@@ -37,7 +37,7 @@ valve n designation plan =
 
 -- ---- process units
 
--- a table of four values, whose keys stand in the order of their bytes
+-- a table of four values, with its keys in byte order
 abbrev pub table_of : Data → Data → Data → Data → Members
 table_of name number older startup =
     member (codes "name") name (member (codes "number") number (member (codes "older") older (member (codes "startup") startup no_members)))
@@ -46,9 +46,10 @@ table_of name number older startup =
 abbrev pub crude_members : Members
 crude_members = table_of (string (codes "CRUDE")) (integer (pos 1)) (boolean false) (string (codes "2020-01-15"))
 
+-- .. as an element
 abbrev pub crude_row : Data
 crude_row = table crude_members
 
--- its fact
+-- .. and its fact
 abbrev pub crude : Stated
 crude = record { day = january_15; minute = 0; body = UnitFact 1 false (codes "CRUDE") }

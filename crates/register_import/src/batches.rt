@@ -4,10 +4,10 @@ ghost use Rattle.register_import.specs.Batches as spec;
 use fact_kinds::{Batch, Fact, Memory};
 use std::alloc::Global;
 
-// The most facts of a batch.
+// Maximum number of facts in a batch.
 const MOST: usize = 512;
 
-/// Batches of these facts, sent by handheld 0 and numbered from `number`: 512 in each, the last one shorter.
+/// Batches of these facts, of handheld 0 and numbered from `number` on: 512 facts in each, the last one possibly fewer.
 pub(crate) fn batches_of(alloc: Global, number: u32, facts: &[Fact]) -> Result<Vec<Batch>, Memory>
     requires in_range { number + length facts.now < 4_294_967_296 }
     ensures value { IfOk result (λ batches. batches.items ≡ spec.batches_of number facts.now) }

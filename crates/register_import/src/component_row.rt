@@ -6,7 +6,7 @@ use crate::fields::{class, day, flag, kind, number};
 use csv::ByteRecord;
 use fact_kinds::{Designation, Fact, FactBody};
 
-/// The fact that a record says.
+/// The fact of a record, or `None` if the record is bad.
 #[tactic(auto, unfolding(crate::specs::ComponentRows::component_of))]
 pub(crate) fn component_of(row: &ByteRecord) -> Option<Fact>
     ensures value { result ≡ spec.component_of (fields_of row.now) }
@@ -35,21 +35,21 @@ pub(crate) fn component_of(row: &ByteRecord) -> Option<Fact>
     })
 }
 
-/// Whether the fact enters a component that is difficult to monitor.
+/// Whether the fact enters a difficult-to-monitor component.
 pub(crate) fn is_difficult(fact: &Fact) -> bool
     ensures value { result ≡ spec.is_difficult fact.now }
 {
     matches!(fact.body, FactBody::Component { class, .. } if class.designation == Designation::Difficult)
 }
 
-/// Whether the record is the first of a file of components, which names the columns.
+/// Whether the record is the header of a file of components, which names the columns.
 pub(crate) fn is_header(row: &ByteRecord) -> bool
     ensures value { result ≡ spec.is_header (fields_of row.now) }
 {
     row.len() == 10 && begins_header(row) && ends_header(row)
 }
 
-// Whether the first five fields name their columns.
+// Whether the first five fields are the names of their columns.
 fn begins_header(row: &ByteRecord) -> bool
     ensures value { result ≡ spec.begins_header (fields_of row.now) }
 {
@@ -60,7 +60,7 @@ fn begins_header(row: &ByteRecord) -> bool
         && holds(row.get(4), "designation")
 }
 
-// Whether the last five fields name their columns.
+// Whether the last five fields are the names of their columns.
 fn ends_header(row: &ByteRecord) -> bool
     ensures value { result ≡ spec.ends_header (fields_of row.now) }
 {

@@ -13,10 +13,10 @@ use csv::{ByteRecord, Reader, ReaderBuilder};
 use fact_kinds::{Batch, Fact, Memory};
 use std::alloc::Global;
 
-/// The batches of a file of components: CSV, with a first record that names the ten columns. They are of handheld 0,
-/// numbered from `number`, with up to 512 facts. Components that are difficult to monitor stand behind all others, so
-/// that their share of a unit's valves (40 CFR 60.482-7a(h)(2)(ii)) is judged when these are known. The first bad row
-/// is told by its place among the records, from 1.
+/// The batches of a file of components: CSV, with a header that names the ten columns. The batches are of handheld 0,
+/// numbered from `number` on, with at most 512 facts each. Difficult-to-monitor components come after all others, so
+/// that their share of a unit's valves (40 CFR 60.482-7a(h)(2)(ii)) is judged when the others are known. A bad row is
+/// reported by its number among the records, from 1 for the header; only the first one is reported.
 pub fn components_of(alloc: Global, text: &[u8], number: u32) -> Result<Vec<Batch>, ImportError>
     requires in_range { number ≤ LAST_NUMBER }
     requires fits { length text.now ≤ LONGEST_TEXT }
@@ -27,7 +27,7 @@ pub fn components_of(alloc: Global, text: &[u8], number: u32) -> Result<Vec<Batc
     Ok(batches_of(alloc, number, &facts)?)
 }
 
-// The facts of a file of components, those that are difficult to monitor last.
+// The facts of a file of components, those of difficult-to-monitor ones last.
 fn component_facts(alloc: Global, text: &[u8]) -> Result<Vec<Fact>, ImportError>
     requires { length text.now ≤ LONGEST_TEXT }
     ensures value { IfOk result (λ facts. files.in_turn (files.component_rows text.now) ≡ Ok facts.items) }
@@ -45,7 +45,7 @@ fn component_facts(alloc: Global, text: &[u8]) -> Result<Vec<Fact>, ImportError>
     facts_behind(alloc, &mut reader, row, text.len())
 }
 
-// A reader of the text. Records may have any length; that of a component is judged with its fields.
+// A reader of the text. Records may have any number of fields; a component's record is judged by its fields.
 fn reader_of(alloc: Global, text: &[u8]) -> Reader<&[u8]>
     ensures reading { IsReading result }
     ensures value { records_of text.now ≡ records_left (suc (length text.now)) result }
@@ -56,7 +56,7 @@ fn reader_of(alloc: Global, text: &[u8]) -> Reader<&[u8]>
         .from_reader(alloc, text)
 }
 
-// Reads the next record, and tells whether there was one.
+// Reads the next record. Returns whether there was one.
 fn next(reader: &mut Reader<&[u8]>, row: &mut ByteRecord) -> Result<bool, Memory>
     requires { IsReading reader.old }
     ensures found { result ≡ Ok true → IsReading reader.new × ((n : ℕ) → records_left (suc n) reader.old ≡ fields_of row.new ∷ records_left n reader.new) }
@@ -68,7 +68,7 @@ fn next(reader: &mut Reader<&[u8]>, row: &mut ByteRecord) -> Result<bool, Memory
     Ok(found)
 }
 
-// The facts of the records behind the first, so many at most, those that are difficult to monitor last.
+// The facts of at most `most` records after the header, those of difficult-to-monitor components last.
 fn facts_behind(
     alloc: Global,
     reader: &mut Reader<&[u8]>,
@@ -89,7 +89,7 @@ fn facts_behind(
     Ok(facts)
 }
 
-// The facts of the rows behind the first record, so many at most.
+// The facts of at most `most` rows after the header.
 fn rows_of(
     alloc: Global,
     reader: &mut Reader<&[u8]>,
@@ -129,7 +129,7 @@ struct Sorted {
 }
 
 impl Sorted {
-    // One more.
+    // Adds a fact.
     fn push(&mut self, fact: Fact) -> Result<(), Memory>
         ensures others { OnOk result (self.new.others.items ≡ self.old.others.items ++ filter (λ f. not (spec.is_difficult f)) (fact ∷ [])) }
         ensures difficult { OnOk result (self.new.difficult.items ≡ self.old.difficult.items ++ filter spec.is_difficult (fact ∷ [])) }
@@ -142,7 +142,7 @@ impl Sorted {
         Ok(())
     }
 
-    // All of them, those that are difficult to monitor last.
+    // All facts, those of difficult-to-monitor components last.
     fn joined(self) -> Result<Vec<Fact>, Memory>
         ensures value { IfOk result (λ facts. facts.items ≡ self.others.items ++ self.difficult.items) }
     {

@@ -1,9 +1,9 @@
 use fact_kinds::Memory;
 
-/// Why a file gave no batches.
+/// The reason why a file has no batches.
 #[derive(Clone, Copy, Debug, PartialEq, Eq)]
 pub enum ImportError {
-    /// The first bad row, counted from 1; 0 for a text that is no document of the form.
+    /// The first bad row, counted from 1, or 0 if the text is not a document of the required form.
     Row { at: u32 },
     Memory,
 }

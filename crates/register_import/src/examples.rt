@@ -1,4 +1,4 @@
-//! Worked examples of the definitions, as contracts of functions with nothing to do: each clause computes.
+//! Worked examples of the definitions, as contracts of empty functions: each clause computes.
 #![tactic(auto, unfolding(csv::specs::Records::field_at, ldar_days::specs::Calendar::first_day, ldar_days::specs::Calendar::month_of, ldar_days::specs::Calendar::month_length, ldar_days::specs::Texts::day_of, crate::specs::Fields::number, crate::specs::Fields::flag, crate::specs::Fields::kind, crate::specs::Fields::service, crate::specs::Fields::designation, crate::specs::Fields::class, crate::specs::Fields::day, crate::specs::ComponentRows::component_of, crate::specs::Members::unit_number, crate::specs::Members::flag, crate::specs::Members::day, crate::specs::Members::name, crate::specs::UnitRows::unit_of, crate::specs::Units::elements_of))]
 
 ghost use Rattle.std.specs.Prelude.{◌≡◌, ◌++◌, ◌∷◌, [], Err, None, Ok, Some, codes, false, length, map, negsuc, pos, replicate, take, true};
@@ -12,7 +12,7 @@ ghost use Rattle.register_import.specs.Samples.{crude, crude_members, crude_row,
 ghost use Rattle.register_import.specs.UnitRows.{unit_of};
 ghost use Rattle.register_import.specs.Units.{elements_of, rows_from, rows_of_elements};
 
-/// A record of ten fields says a component; one of nine or eleven says none.
+/// A record of ten fields is a component; one of nine or eleven is bad.
 pub fn ten_fields()
     ensures ten { component_of valve_row ≡ Some (valve 1 Plain 0) }
     ensures nine { component_of (take 9 valve_row) ≡ None }
@@ -33,7 +33,7 @@ pub fn numbers()
     ensures month_4 { component_of (with_field 6 (codes "4")) ≡ None }
 {}
 
-/// Words have small letters and no others beside them.
+/// Words are in small letters, with nothing before or after them.
 pub fn words()
     ensures kind { component_of (with_field 2 (codes "tank")) ≡ None }
     ensures letters { component_of (with_field 2 (codes "Valve")) ≡ None }
@@ -43,7 +43,7 @@ pub fn words()
     ensures day { component_of (with_field 9 (codes "2020-02-30")) ≡ None }
 {}
 
-/// A plan has months where the component is unsafe to monitor, and else none (40 CFR 60.482-7a(g)).
+/// A plan has months if the component is unsafe to monitor, and otherwise none (40 CFR 60.482-7a(g)).
 pub fn plans()
     ensures unsafe_to_monitor { component_of (designated (codes "unsafe") (codes "60")) ≡ Some (valve 1 Unsafe 60) }
     ensures no_plan { component_of (designated (codes "unsafe") (codes "0")) ≡ None }
@@ -52,19 +52,19 @@ pub fn plans()
     ensures none { component_of (designated (codes "nde") (codes "0")) ≡ Some (valve 1 Nde 0) }
 {}
 
-/// Components that are difficult to monitor stand last, each in the order of the file.
+/// Difficult-to-monitor components are last; each of the two groups is in the order of the file.
 pub fn difficult_ones_stand_last()
     ensures order { difficult_last (valve 1 Difficult 0 ∷ valve 2 Plain 0 ∷ valve 3 Difficult 0 ∷ valve 4 Unsafe 12 ∷ [])
         ≡ valve 2 Plain 0 ∷ valve 4 Unsafe 12 ∷ valve 1 Difficult 0 ∷ valve 3 Difficult 0 ∷ [] }
 {}
 
-/// Batches are of handheld 0 and numbered from the number that was given.
+/// Batches are of handheld 0 and numbered from the requested number on.
 pub fn batches_are_numbered()
     ensures none { batches_of 7 [] ≡ [] }
     ensures one { batches_of 7 (crude ∷ []) ≡ record { handheld = 0; number = 7; facts = crude ∷ [] } ∷ [] }
 {}
 
-/// A table with just the four keys says a process unit.
+/// A table with exactly the four keys is a process unit.
 pub fn four_keys()
     ensures four { unit_of crude_row ≡ Some crude }
     ensures further { unit_of (table (member (codes "a") (boolean true) crude_members)) ≡ None }
@@ -85,7 +85,7 @@ pub fn unit_values()
     ensures no_day { unit_of (table (table_of (string (codes "A")) (integer (pos 1)) (boolean true) (string (codes "2007-12-31")))) ≡ None }
 {}
 
-/// A document is an array of tables `unit` and nothing else, or bad row 0.
+/// A document is an array of tables `unit` and nothing else; any other text is bad row 0.
 pub fn documents()
     ensures one { elements_of (member (codes "unit") (array (item crude_row no_items)) no_members) ≡ Some (item crude_row no_items) }
     ensures empty { elements_of (member (codes "unit") (array no_items) no_members) ≡ None }
@@ -96,7 +96,7 @@ pub fn documents()
     ensures row_0 { rows_of_elements None ≡ Err 0 }
 {}
 
-/// The first bad row is told: elements are counted from 1, and so are the records of a file of components.
+/// The first bad row is reported. Elements count from 1, and so do the records of a file of components.
 pub fn first_bad_row()
     ensures second_unit { rows_from 1 (item crude_row (item (table no_members) (item (table no_members) no_items))) ≡ Err 2 }
     ensures no_record { rows_of_records [] ≡ Err 1 }

@@ -6,7 +6,7 @@ ghost use Rattle.register_import.specs.Fields as spec;
 
 use fact_kinds::{Class, Day, Designation, Kind, Service};
 
-// The number of decimal digits without a leading zero, if it is not above the bound.
+// The number that decimal digits spell, without a leading zero, if it is at most `high`.
 fn decimal(text: &[u8], high: u32) -> Option<u32>
     requires { high ≤ 60_000 }
     ensures value { result ≡ spec.decimal text.now high }
@@ -17,7 +17,7 @@ fn decimal(text: &[u8], high: u32) -> Option<u32>
     digits(text, high)
 }
 
-// The number of decimal digits, if it is not above the bound.
+// The number that decimal digits spell, if it is at most `high`.
 fn digits(text: &[u8], high: u32) -> Option<u32>
     requires { high ≤ 60_000 }
     ensures value { result ≡ spec.digits text.now high }
@@ -35,7 +35,7 @@ fn digits(text: &[u8], high: u32) -> Option<u32>
     Some(number)
 }
 
-/// A number that is not below the one and not above the other.
+/// A number from `low` to `high`.
 #[tactic(auto, unfolding(crate::specs::Fields::number))]
 pub(crate) fn number(field: Option<&[u8]>, low: u32, high: u32) -> Option<u32>
     requires { high ≤ 60_000 }
@@ -46,7 +46,7 @@ pub(crate) fn number(field: Option<&[u8]>, low: u32, high: u32) -> Option<u32>
     if low <= number { Some(number) } else { None }
 }
 
-/// 0 for no and 1 for yes.
+/// A flag: 0 for no, 1 for yes.
 #[tactic(auto, unfolding(crate::specs::Fields::flag))]
 pub(crate) fn flag(field: Option<&[u8]>) -> Option<bool>
     ensures value { result ≡ spec.flag (option_map (λ f. f.now) field.entry) }
@@ -61,7 +61,7 @@ pub(crate) fn flag(field: Option<&[u8]>) -> Option<bool>
     }
 }
 
-/// What a component is.
+/// A component's type.
 #[tactic(auto, unfolding(crate::specs::Fields::kind))]
 pub(crate) fn kind(field: Option<&[u8]>) -> Option<Kind>
     ensures value { result ≡ spec.kind (option_map (λ f. f.now) field.entry) }
@@ -80,7 +80,7 @@ pub(crate) fn kind(field: Option<&[u8]>) -> Option<Kind>
     }
 }
 
-/// What flows through a component.
+/// A component's service.
 #[tactic(auto, unfolding(crate::specs::Fields::service))]
 pub(crate) fn service(field: Option<&[u8]>) -> Option<Service>
     ensures value { result ≡ spec.service (option_map (λ f. f.now) field.entry) }
@@ -101,7 +101,7 @@ pub(crate) fn service(field: Option<&[u8]>) -> Option<Service>
     }
 }
 
-/// How a component is designated.
+/// A component's designation.
 #[tactic(auto, unfolding(crate::specs::Fields::designation))]
 pub(crate) fn designation(field: Option<&[u8]>) -> Option<Designation>
     ensures value { result ≡ spec.designation (option_map (λ f. f.now) field.entry) }
@@ -120,7 +120,7 @@ pub(crate) fn designation(field: Option<&[u8]>) -> Option<Designation>
     }
 }
 
-// The months of a plan, as the designation allows.
+// The months of a plan, in the range that the designation allows.
 fn plan(designation: Designation, field: Option<&[u8]>) -> Option<u32>
     ensures value { result ≡ spec.plan designation (option_map (λ f. f.now) field.entry) }
     ensures among { IfSome result (λ n. IsAmong n (plans designation)) }
@@ -134,7 +134,7 @@ fn plan(designation: Designation, field: Option<&[u8]>) -> Option<u32>
     }
 }
 
-/// The class of a component, from four fields.
+/// A component's class, from four fields.
 #[tactic(auto, unfolding(crate::specs::Fields::class))]
 pub(crate) fn class(
     service_field: Option<&[u8]>,

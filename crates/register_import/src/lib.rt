@@ -1,4 +1,4 @@
-//! The register from files: process units from TOML, components from CSV, as batches that an office is sent.
+//! The register from files: process units from TOML and components from CSV, as batches to send to an office.
 #![tactic(auto)]
 
 mod batches;

@@ -9,14 +9,14 @@ ghost use Rattle.register_import.specs.Members as spec;
 use fact_kinds::{Day, Name};
 use toml::{Table, Value};
 
-/// Whether a table has no other keys than these.
+/// Whether a table has only these keys.
 pub(crate) fn has_only(table: &Table, keys: &[&str]) -> bool
     ensures { result ≡ spec.has_only (map (λ k. k.now) keys.now) (table_view table.now) }
 {
     are_among(table, keys)
 }
 
-// The same, as the members stand.
+// The same, over the table's entries.
 fn are_among(table: &Table, keys: &[&str]) -> bool
     ensures { result ≡ list_all (λ e. list_any (λ k. pointwise nat_eq k.now (string_bytes e.0)) keys.now) table.now.entries }
 {

@@ -7,7 +7,7 @@ use crate::members::{day, flag, has_only, name, unit_number};
 use fact_kinds::{Fact, FactBody};
 use toml::Value;
 
-/// The fact that an element says.
+/// The fact of an element, or `None` if the element is bad.
 #[tactic(auto, unfolding(crate::specs::UnitRows::unit_of))]
 pub(crate) fn unit_of(element: &Value) -> Option<Fact>
     ensures value { result ≡ spec.unit_of (view element.now) }
@@ -26,7 +26,7 @@ pub(crate) fn unit_of(element: &Value) -> Option<Fact>
     })
 }
 
-// Whether an element is a table that has no other keys than these.
+// Whether an element is a table with only these keys.
 fn has_unit_keys(element: &Value) -> bool
     ensures { result ≡ spec.has_unit_keys (as_table (view element.now)) }
 {

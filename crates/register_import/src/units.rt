@@ -14,9 +14,9 @@ use fact_kinds::{Batch, Fact};
 use std::alloc::Global;
 use toml::{Table, Value};
 
-/// The batches of a file of process units: TOML, with an array of tables `unit`. They are of handheld 0, numbered from
-/// `number`, with up to 512 facts in the order of the file. The first bad row is told: the place of an element from 1,
-/// or 0 where the text is not just such an array.
+/// The batches of a file of process units: TOML, with an array of tables `unit`. The batches are of handheld 0, numbered
+/// from `number` on, with at most 512 facts each, in the order of the file. A bad row is reported by the number of its
+/// element, from 1, or as 0 if the text is not such an array; only the first one is reported.
 pub fn units_of(alloc: Global, text: &[u8], number: u32) -> Result<Vec<Batch>, ImportError>
     requires in_range { number ≤ LAST_NUMBER }
     requires fits { length text.now ≤ LONGEST_TEXT }
@@ -42,14 +42,14 @@ fn unit_facts(alloc: Global, text: &[u8]) -> Result<Vec<Fact>, ImportError>
     let Some(elements) = elements_of(&document) else {
         return Err(ImportError::Row { at: 0 });
     };
-    // An element takes more bytes than one, so that this never comes.
+    // This cannot happen, since each element takes more than one byte.
     if elements.len() > text.len() {
         return Err(ImportError::Memory);
     }
     rows_of(alloc, elements)
 }
 
-// The elements of the array that the document is, if it is just such an array.
+// The elements of a document that is exactly one array of tables `unit`.
 #[tactic(auto, unfolding(crate::specs::Units::elements_of))]
 fn elements_of(document: &Table) -> Option<&Vec<Value>>
     ensures value { option_map (λ v. items_view v.now.items) result ≡ files.elements_of (table_view document.now) }
@@ -64,7 +64,7 @@ fn elements_of(document: &Table) -> Option<&Vec<Value>>
     Some(elements)
 }
 
-// Whether there is an element, and each is a table.
+// Whether there is at least one element, and each is a table.
 fn are_some_tables(elements: &Vec<Value>) -> bool
     ensures { result ≡ files.are_some_tables (items_view elements.now.items) }
 {
@@ -88,7 +88,7 @@ fn array_at<'a>(table: &'a Table, key: &str) -> Option<&'a Vec<Value>>
     }
 }
 
-// The facts of elements, if each says one.
+// The facts of elements, if no element is bad.
 fn rows_of(alloc: Global, elements: &Vec<Value>) -> Result<Vec<Fact>, ImportError>
     requires { vec_len elements.now ≤ LONGEST_TEXT }
     ensures value { IfOk result (λ facts. files.rows_from 1 (items_view elements.now.items) ≡ Ok facts.items) }

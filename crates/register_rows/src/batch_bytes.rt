@@ -8,7 +8,7 @@ use std::test::Fail;
 // Handheld 7, batch 12: one calibration on 2024-02-20 at 10:00, instrument 1, 500 ppm.
 const CALIBRATION: [u8; 20] = *b"\x42\0\x07\0\0\0\x0c\0\x01\x07\x4d\x3d\x02\x58\0\x01\0\0\x01\xf4";
 
-// Handheld 0, batch 1: on 2020-01-15 the process unit 1, CRUDE, starts up; it is not older.
+// Handheld 0, batch 1: on 2020-01-15 process unit 1, CRUDE, starts up; it is not older.
 const UNIT: [u8; 28] = *b"\x42\0\0\0\0\0\x01\0\x01\x01\x47\x64\0\0\x01\0CRUDE\0\0\0\0\0\0\0";
 
 // Handheld 258, batch 16,909,060: a fact of each kind, all on 2024-02-20 at 10:00.
@@ -29,10 +29,10 @@ const EVERY_KIND: [u8; 199] = *b"\x42\x01\x02\x01\x02\x03\x04\0\x0f\
     \x0e\x4d\x3d\x02\x58\x01\x03\
     \x0f\x4d\x3d\x02\x58\x01\x03\x02\x01";
 
-/// The component of which the facts of `EVERY_KIND` speak.
+/// The component of the facts in `EVERY_KIND`.
 const COMPONENT: u16 = 259;
 
-/// What the first six of them say, with the day of a notice.
+/// The bodies of the first six of them, with the day of a notice.
 fn entered(name: Name, notified: Day) -> [FactBody; 6] {
     let class = Class {
         service: Service::Light,
@@ -76,7 +76,7 @@ fn entered(name: Name, notified: Day) -> [FactBody; 6] {
     ]
 }
 
-/// What the three of an instrument say.
+/// The bodies of the three on an instrument.
 const TESTED: [FactBody; 3] = [
     FactBody::Calibration {
         instrument: 5,
@@ -94,7 +94,7 @@ const TESTED: [FactBody; 3] = [
     },
 ];
 
-/// What the others say, with the day on which a repair is expected.
+/// The bodies of the others, with the expected day of a repair.
 fn seen(expected: Day) -> [FactBody; 6] {
     [
         FactBody::Reading {
@@ -130,19 +130,19 @@ fn seen(expected: Day) -> [FactBody; 6] {
     ]
 }
 
-/// What stands at the front of some bytes, without the batch itself.
+/// The result of reading some bytes, without the batch itself.
 #[derive(Clone, Copy, Debug, PartialEq, Eq)]
-enum Front {
+enum Outcome {
     Whole { used: usize },
     Short,
     Bad { at: usize },
 }
 
-fn front_of(alloc: Global, bytes: &[u8]) -> Result<Front, AllocError> {
+fn outcome_of(alloc: Global, bytes: &[u8]) -> Result<Outcome, AllocError> {
     match read_batch(alloc, bytes)? {
-        Read::Whole { batch: _, used } => Ok(Front::Whole { used }),
-        Read::Short => Ok(Front::Short),
-        Read::Bad { at } => Ok(Front::Bad { at }),
+        Read::Whole { batch: _, used } => Ok(Outcome::Whole { used }),
+        Read::Short => Ok(Outcome::Short),
+        Read::Bad { at } => Ok(Outcome::Bad { at }),
     }
 }
 
@@ -153,7 +153,7 @@ fn whole(alloc: Global, bytes: &[u8]) -> Result<Batch, Fail> {
     }
 }
 
-/// These bytes, but for others that stand in their places from one on.
+/// These bytes, with others in place of those from a place on.
 fn changed(
     alloc: Global,
     bytes: &[u8],
@@ -179,55 +179,55 @@ fn calibration(day: Day) -> Fact {
 }
 
 #[test]
-fn the_first_wrong_place_is_told(rt: HostRuntime) -> Result<(), Fail> {
-    // What stands in place of the bytes from a place on, and what is read then.
+fn the_first_wrong_place_is_reported(rt: HostRuntime) -> Result<(), Fail> {
+    // A place, the bytes to put there, and the expected result of reading.
     let cases = [
         (
             CALIBRATION.as_slice(),
             0,
             b"".as_slice(),
-            Front::Whole { used: 20 },
+            Outcome::Whole { used: 20 },
         ),
         (
             CALIBRATION.as_slice(),
             0,
             b"\x43".as_slice(),
-            Front::Bad { at: 0 },
+            Outcome::Bad { at: 0 },
         ),
         (
             CALIBRATION.as_slice(),
             7,
             b"\0\0".as_slice(),
-            Front::Bad { at: 8 },
+            Outcome::Bad { at: 8 },
         ),
         (
             CALIBRATION.as_slice(),
             7,
             b"\x02\x01".as_slice(),
-            Front::Bad { at: 8 },
+            Outcome::Bad { at: 8 },
         ),
         (
             CALIBRATION.as_slice(),
             10,
             b"\x36\x36".as_slice(),
-            Front::Bad { at: 11 },
+            Outcome::Bad { at: 11 },
         ),
         (
             UNIT.as_slice(),
             0,
             b"".as_slice(),
-            Front::Whole { used: 28 },
+            Outcome::Whole { used: 28 },
         ),
         (
             UNIT.as_slice(),
             22,
             b"\x44".as_slice(),
-            Front::Bad { at: 22 },
+            Outcome::Bad { at: 22 },
         ),
     ];
     for (bytes, place, others, want) in cases {
         let bytes = changed(rt.alloc(), bytes, place, others)?;
-        assert_eq!(rt; front_of(rt.alloc(), &bytes)?, want);
+        assert_eq!(rt; outcome_of(rt.alloc(), &bytes)?, want);
     }
     Ok(())
 }
@@ -235,7 +235,10 @@ fn the_first_wrong_place_is_told(rt: HostRuntime) -> Result<(), Fail> {
 #[test]
 fn a_proper_front_of_a_batch_is_short(rt: HostRuntime) -> Result<(), Fail> {
     for len in 0..CALIBRATION.len() {
-        assert_eq!(rt; front_of(rt.alloc(), &CALIBRATION[..len])?, Front::Short);
+        assert_eq!(rt;
+            outcome_of(rt.alloc(), &CALIBRATION[..len])?,
+            Outcome::Short
+        );
     }
     Ok(())
 }

@@ -1,6 +1,6 @@
 ghost use Rattle.std.specs.Prelude.{◌≡◌, ◌<◌, ◌≤◌, length, All, OnOk};
 
-use crate::entering::is_seen;
+use crate::entries::is_seen;
 use fact_kinds::{Day, Fact, FactBody, Key, Memory, Purpose};
 use fact_store::{FactStore, Facts, Place, Steps};
 use std::alloc::{AllocError, Global};
@@ -9,7 +9,7 @@ use std::process::Abort;
 use std::sync::ledger::{Blank, Ledger};
 use std::test::Fail;
 
-/// A store of these facts, which come in this order; of two with one key the first.
+/// A store of these facts, added in this order. If two have the same key, only the first is added.
 fn store_of(alloc: Global, entries: &[(Key, Fact)]) -> Result<FactStore, Memory> {
     let mut store = FactStore::new(alloc);
     let mut seen: Vec<(Key, Fact)> = Vec::new(alloc);
@@ -19,7 +19,7 @@ fn store_of(alloc: Global, entries: &[(Key, Fact)]) -> Result<FactStore, Memory>
     Ok(store)
 }
 
-/// Adds a fact, if none with its key is among those seen.
+/// Adds a fact, if its key is not among those seen.
 fn add_new(
     store: &mut FactStore,
     seen: &mut Vec<(Key, Fact)>,
@@ -36,8 +36,8 @@ fn add_new(
     Ok(())
 }
 
-/// These facts, which come in this order and are listed after the first, after so many more and so on, and at the end; of
-/// two with one key the first.
+/// A store of these facts, added in this order. They are listed after the first, then after each further `count`, and at
+/// the end. If two have the same key, only the first is added.
 fn listed_at_each(alloc: Global, entries: &[(Key, Fact)], count: usize) -> Result<FactStore, Memory>
     requires some { 0 < count }
 {
@@ -52,7 +52,7 @@ fn listed_at_each(alloc: Global, entries: &[(Key, Fact)], count: usize) -> Resul
     facts.list()
 }
 
-/// Adds a fact, if none with its key is among those seen.
+/// Adds a fact, if its key is not among those seen.
 fn add_fact(
     facts: &mut Facts,
     seen: &mut Vec<(Key, Fact)>,
@@ -90,7 +90,7 @@ fn keys_at<L: Ledger>(
     Ok(keys)
 }
 
-/// The keys of the facts that name a component.
+/// The keys of the facts of a component.
 fn keys_of(
     alloc: Global,
     blank: Blank,
@@ -126,14 +126,14 @@ fn keys_of_readings(
     keys_at::<Brand>(alloc, blank, store, store.readings_of(instrument))
 }
 
-/// Sees that these keys were found in a case with a number.
+/// Checks that these keys were found, in a case with a number.
 fn same_keys(rt: &impl Abort, case: &str, number: usize, found: &[Key], want: &[Key]) {
     if *found != *want {
         panic!(rt; "{case} {number}: {found:?}, not {want:?}");
     }
 }
 
-/// The nth of the orders in which five things can come.
+/// The nth of the orders of five elements.
 fn nth_order(alloc: Global, n: usize) -> Result<Vec<usize>, AllocError> {
     let mut left = vec![in alloc; 0, 1, 2, 3, 4]?;
     let mut order = Vec::new(alloc);
@@ -185,7 +185,7 @@ fn five_keys(first: Day, second: Day) -> [Key; 5] {
     ]
 }
 
-/// Attempts on a day with these keys, which come in this order.
+/// Attempts on a day with these keys, in this order.
 fn attempts_in(
     alloc: Global,
     day: Day,
@@ -201,14 +201,14 @@ fn attempts_in(
     Ok(entries)
 }
 
-/// A store of attempts on a day with these keys, which come in the nth order.
+/// A store of attempts on a day with these keys, added in the nth order.
 fn store_in_order(alloc: Global, day: Day, keys: &[Key], n: usize) -> Result<FactStore, Memory> {
     let order = nth_order(alloc, n)?;
     let entries = attempts_in(alloc, day, keys, &order)?;
     store_of(alloc, &entries)
 }
 
-/// Sees that a store has attempts at component 7 alone, whose keys are these.
+/// Checks that a store has only attempts at component 7, with these keys.
 fn has_attempts(
     rt: &impl Abort,
     alloc: Global,
@@ -298,7 +298,7 @@ fn an_instruments_tests_and_readings_stand_apart(rt: HostRuntime) -> Result<(), 
     Ok(())
 }
 
-/// A hundred facts of five components: long lists in reverse, and one list that comes as it likes.
+/// A hundred facts of five components: four long lists in reverse order, and one in mixed order.
 fn a_hundred(alloc: Global, day: Day) -> Result<Vec<(Key, Fact)>, AllocError> {
     let mut entries = Vec::new(alloc);
     for n in 0..100 {
@@ -308,7 +308,7 @@ fn a_hundred(alloc: Global, day: Day) -> Result<Vec<(Key, Fact)>, AllocError> {
     Ok(entries)
 }
 
-/// Sees that two stores give the same facts of a component.
+/// Checks that two stores have the same facts of a component.
 fn same_facts(
     rt: &impl Abort,
     alloc: Global,
@@ -322,7 +322,7 @@ fn same_facts(
     Ok(())
 }
 
-/// Sees that two stores give the same facts of each component.
+/// Checks that two stores have the same facts of each component.
 fn same_lists(
     rt: &impl Abort,
     alloc: Global,
@@ -347,7 +347,7 @@ fn late_facts_are_listed_at_once_as_one_by_one(rt: HostRuntime) -> Result<(), Fa
     Ok(())
 }
 
-/// A long list, and so many facts that come late.
+/// A long list, then this many late facts.
 fn long_and_late(alloc: Global, day: Day, late: u16) -> Result<Vec<(Key, Fact)>, AllocError> {
     let mut entries = Vec::new(alloc);
     for n in 0..201 {
@@ -370,13 +370,13 @@ fn sorted_keys(alloc: Global, entries: &[(Key, Fact)]) -> Result<Vec<Key>, Alloc
     Ok(keys)
 }
 
-/// The keys of facts of component 7, which are listed at the end and after the first, the 201st and so on.
+/// The keys of the facts of component 7, listed after the first, the 201st and so on, and at the end.
 fn listed_keys(alloc: Global, entries: &[(Key, Fact)]) -> Result<Vec<Key>, Memory> {
     let listed = listed_at_each(alloc, entries, 200)?;
     keys_of(alloc, Blank::new(1), &listed, 7)
 }
 
-/// Sees that so many late facts stand where they belong in a long list.
+/// Checks that this many late facts are at their places in a long list.
 fn go_into_a_long_list(rt: &impl Abort, alloc: Global, day: Day, late: u16) -> Result<(), Fail> {
     let entries = long_and_late(alloc, day, late)?;
     let found = listed_keys(alloc, &entries)?;
@@ -388,14 +388,14 @@ fn go_into_a_long_list(rt: &impl Abort, alloc: Global, day: Day, late: u16) -> R
 #[test]
 fn late_facts_go_into_a_long_list(rt: HostRuntime) -> Result<(), Fail> {
     let day = Day::of_number(20_000).ok_or("day")?;
-    // One late fact and twenty are merged into the list, and a hundred are sorted with it.
+    // One late fact and twenty are merged into the list; a hundred are sorted with it.
     for late in [1, 20, 100] {
         go_into_a_long_list(&rt, rt.alloc(), day, late)?;
     }
     Ok(())
 }
 
-/// A store where a fact with room comes after its list was made.
+/// A store in which a fact with reserved room is added after its list was made.
 fn store_of_late(rt: &impl Abort, alloc: Global, day: Day) -> Result<FactStore, Memory> {
     let late = attempt(day);
     let mut facts = Facts::new(alloc);

@@ -1,4 +1,4 @@
-//! Days, batch bytes, stores of facts, the register and denials, on rows that were worked out by hand.
+//! Tests of days, batch bytes, stores of facts, the register and denials, on cases that were worked out by hand.
 #![tactic(auto)]
 
 #[cfg(test)]
@@ -8,14 +8,14 @@ mod days;
 #[cfg(test)]
 mod denials;
 #[cfg(test)]
-mod entering;
+mod entries;
 #[cfg(test)]
 mod fact_stores;
 #[cfg(test)]
 mod registers;
 #[cfg(test)]
+mod short_facts;
+#[cfg(test)]
 mod small_offices;
 #[cfg(test)]
 mod tallies_and_lines;
-#[cfg(test)]
-mod told;

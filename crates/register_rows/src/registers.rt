@@ -1,6 +1,6 @@
 ghost use Rattle.std.specs.Prelude.{◌≤◌};
 
-use crate::entering::{add_new, is_first, is_seen};
+use crate::entries::{add_new, is_first, is_seen};
 use component_register::Register;
 use fact_kinds::{Class, Designation, Fact, FactBody, Key, Kind, Memory, Name, Service};
 use ldar_days::Day;
@@ -8,7 +8,7 @@ use ldar_law::{Equipment, UnitEntry, is_registered};
 use std::alloc::Global;
 use std::test::Fail;
 
-/// A register of these entries, which come in this order; of two with one key the first.
+/// A register of these entries, added in this order. If two have the same key, only the first is added.
 fn register_of(alloc: Global, entries: &[(Key, Fact)]) -> Result<Register, Memory> {
     let mut register = Register::new(alloc);
     let mut seen: Vec<(Key, Fact)> = Vec::new(alloc);
@@ -18,7 +18,7 @@ fn register_of(alloc: Global, entries: &[(Key, Fact)]) -> Result<Register, Memor
     Ok(register)
 }
 
-/// A register with room for three entries, of which the first two come; none where these are no entries of their own.
+/// A register with room for three entries, of which the first two are added; `None` if they are not separate entries.
 fn two_of_three(alloc: Global, entries: &[(Key, Fact); 3]) -> Result<Option<Register>, Memory> {
     let [first, second, third] = *entries;
     let mut register = Register::new(alloc);
@@ -38,7 +38,7 @@ fn two_of_three(alloc: Global, entries: &[(Key, Fact); 3]) -> Result<Option<Regi
     Ok(Some(register))
 }
 
-/// The entry with its key, at a minute of its day, in the office's batch of this number.
+/// The entry with its key, at a minute of its day, in the office's batch with this number.
 fn at(minute: u16, number: u32, fact: Fact) -> (Key, Fact) {
     let key = Key {
         day: fact.day,
@@ -50,7 +50,7 @@ fn at(minute: u16, number: u32, fact: Fact) -> (Key, Fact) {
     (key, fact)
 }
 
-/// A class with no designation.
+/// A class without a designation.
 fn plain(service: Service) -> Class {
     Class {
         service,
@@ -60,7 +60,7 @@ fn plain(service: Service) -> Class {
     }
 }
 
-/// A valve in gas service, entered in a process unit.
+/// A valve in gas service in a process unit.
 fn valve(day: Day, component: u16, unit: u8) -> Fact
     requires component { (1 ≤ component) × (component ≤ 60_000) }
     requires unit { (1 ≤ unit) × (unit ≤ 64) }
@@ -147,7 +147,7 @@ fn a_class_is_in_force_from_its_day_on(rt: HostRuntime) -> Result<(), Fail> {
     let begin = Day::of_number(18_293).ok_or("day")?;
     let heavy = Day::of_number(18_300).ok_or("day")?;
     let light = Day::of_number(18_400).ok_or("day")?;
-    // On the last day two classes are entered, of which the later one comes first.
+    // On the last day two classes are entered; the later one is added first.
     let entries = [
         at(30, 4, made_heavy(light)),
         at(0, 3, made_heavy(heavy)),
@@ -229,7 +229,7 @@ fn nothing_is_known_of_numbers_that_were_not_entered(rt: HostRuntime) -> Result<
             name,
         },
     };
-    // A class of component 7 comes before component 7.
+    // A class of component 7 is added before component 7.
     let entries = [at(0, 1, unit), at(0, 2, made_heavy(day))];
     let register = register_of(alloc, &entries)?;
     let entry = UnitEntry {

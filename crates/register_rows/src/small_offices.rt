@@ -1,16 +1,16 @@
-//! Registers that denials are judged by: a unit with nine components, and one with so many valves.
+//! Registers for judging denials: a unit with nine components, and one with any number of valves.
 
 ghost use Rattle.std.specs.Prelude.{◌≡◌, ◌≤◌, OnOk};
 
-use crate::entering::add_new;
-use crate::told::{component, on, unit};
+use crate::entries::add_new;
+use crate::short_facts::{component, on, unit};
 use component_register::Register;
 use fact_kinds::{Fact, FactBody, Key, Kind, Memory, Name, Service};
 use ldar_days::Day;
 use std::alloc::Global;
 use std::test::Fail;
 
-/// Enters facts of the office's own batch of this number, if each is the first of its number.
+/// Enters facts of the office's own batch with this number, if each is the first of its number.
 fn enter(
     register: &mut Register,
     seen: &mut Vec<(Key, Fact)>,
@@ -33,7 +33,7 @@ fn enter(
     Ok(())
 }
 
-/// The unit with its nine components, as the office enters them.
+/// The unit with its nine components.
 fn small_office(alloc: Global) -> Result<Vec<Fact>, Fail> {
     let begin = Day::of_number(18_276).ok_or("day")?;
     let name = Name::new(b"CRUDE").ok_or("name")?;
@@ -57,7 +57,7 @@ fn small_office(alloc: Global) -> Result<Vec<Fact>, Fail> {
     Ok(facts.to_vec(alloc)?)
 }
 
-/// The register into which these facts were entered.
+/// The register with these facts.
 pub fn register_of(alloc: Global, facts: &[Fact]) -> Result<Register, Memory> {
     let mut register = Register::new(alloc);
     let mut seen: Vec<(Key, Fact)> = Vec::new(alloc);
@@ -71,7 +71,7 @@ pub fn small_register(alloc: Global) -> Result<Register, Fail> {
     Ok(register_of(alloc, &facts)?)
 }
 
-/// The unit with so many valves.
+/// The unit with this many valves.
 pub fn unit_of_valves(alloc: Global, count: u16) -> Result<Vec<Fact>, Fail>
     requires few { count ≤ 400 }
 {

@@ -1,4 +1,4 @@
--- Of visits to one component the most urgent one is all that counts.
+-- Only the most urgent of a component's visits affects the stops.
 use Rattle.std.proofs.Common.{◌≡◌, ◌⊎◌, ℕ, zero, suc, ◌+◌, ◌-◌, ◌<◌, ◌≤◌, Bool, true, false, ◌||◌, ◌&&◌, nat_eq, nat_lt, Option, Some, None, List, [], ◌∷◌}
 use Rattle.std.proofs.Common.{◌++◌, map, fold, get_or, refl, sym, ap, subst, ◌∙◌, inl, inr, arith, append_assoc}
 use Rattle.std.specs.List.{AllByRecursion, list_any}
@@ -11,7 +11,7 @@ use Rattle.list_words.specs.Order.{put_in_order, in_order, AllApart}
 use Rattle.list_words.proofs.Ascending.{among_in_order, in_order_permutes, apart_permutation}
 use Rattle.list_words.proofs.Members.{Among, among_from_Contains, among_right, all_at, all_weaker, all_from_among}
 use Rattle.ldar_law.proofs.WeakOrder.{InOrder, before_all, each_in_order}
-use Rattle.route_planner.specs.Visits.{Visit, goes_first, with_visit, visits_from, IsBy, TellsLeast}
+use Rattle.route_planner.specs.Visits.{Visit, goes_first, with_visit, visits_from, IsBy, AreEarliestDays}
 use Rattle.route_planner.proofs.Sorted.{weak, permuted_in_order}
 use Rattle.route_planner.proofs.VisitLemmas.{goes_first_order, goes_first_is, visit_same, visit_on, known_stop, new_stop}
 
@@ -19,13 +19,13 @@ use Rattle.route_planner.proofs.VisitLemmas.{goes_first_order, goes_first_is, vi
 abbrev is_stop : List ℕ → ℕ → Bool
 is_stop stops component = list_any (λ stop. nat_eq stop component) stops
 
--- it is one behind others too
+-- an appended component is a stop
 stop_at_end : (stops : List ℕ) (component : ℕ) → is_stop (stops ++ component ∷ []) component ≡ true
 stop_at_end stops component =
     list_any-append (λ stop. nat_eq stop component) stops (component ∷ [])
     ∙ or_right (is_stop stops component) (nat_eq component component || false) (or_left (nat_eq component component) false (eq-eqb component component refl))
 
--- what is a stop stays one
+-- a stop stays a stop
 still_stop : (stops : List ℕ) (visit : Visit) (component : ℕ) → is_stop stops component ≡ true → is_stop (with_visit stops visit) component ≡ true
 still_stop stops visit component known = elim (cases_Bool (is_stop stops visit.component)) [
   | inl t ↦ rw t known
@@ -33,21 +33,21 @@ still_stop stops visit component known = elim (cases_Bool (is_stop stops visit.c
       ∙ or_left (is_stop stops component) (nat_eq visit.component component || false) known)
 ]
 
--- what is visited is one
+-- the component of a visit is a stop after it
 visited_stop : (stops : List ℕ) (visit : Visit) → is_stop (with_visit stops visit) visit.component ≡ true
 visited_stop stops visit = elim (cases_Bool (is_stop stops visit.component)) [
   | inl t ↦ rw t t
   | inr f ↦ rw f (stop_at_end stops visit.component)
 ]
 
--- a visit to the same component that doesn't come later
+-- a visit to the same component that is not later
 pub record IsCovered (visits : List Visit) (visit : Visit) : Type 0 where
   pub other : Visit
   pub among : Among visits other
   pub same : other.component ≡ visit.component
   pub not_later : goes_first visit other ≡ false
 
--- a visit whose component is a stop already, or is one by another visit, has no effect
+-- a visit has no effect if its component is a stop already, or becomes one by another visit
 fold_put : (visits : List Visit) (stops : List ℕ) (visit : Visit) → InOrder goes_first visits →
     ((is_stop stops visit.component ≡ true) ⊎ IsCovered visits visit) →
     fold with_visit stops (put_in_order goes_first visit visits) ≡ fold with_visit stops visits
@@ -91,7 +91,7 @@ covered_front (v ∷ front) visits covered =
     }))
     ∙ covered_front front visits covered.1
 
--- visits that cover each other have the same stops
+-- two lists of visits that cover each other have the same stops
 pub covering : (some others : List Visit) → AllByRecursion (IsCovered others) some → AllByRecursion (IsCovered some) others →
     fold with_visit [] (in_order goes_first some) ≡ fold with_visit [] (in_order goes_first others)
 covering some others covered covers =
@@ -102,7 +102,7 @@ covering some others covered covers =
 
 -- ---- visits to distinct components
 
--- the component of one goes before that of the other
+-- the first visit's component has the lower number
 abbrev lower : Visit → Visit → Bool
 lower a b = nat_lt a.component b.component
 
@@ -110,7 +110,7 @@ lower a b = nat_lt a.component b.component
 not_less : (n : ℕ) → nat_lt n n ≡ false
 not_less n = le-ltb n n (omega arith)
 
--- visits to components that aren't stops, and differ, add them all
+-- visits to different components that are not stops append them all
 fold_apart : (visits : List Visit) (stops : List ℕ) → AllApart lower visits → AllByRecursion (λ v. is_stop stops v.component ≡ false) visits →
     fold with_visit stops visits ≡ stops ++ map (λ v. v.component) visits
 fold_apart [] stops apart new = sym (append-nil stops)
@@ -128,7 +128,7 @@ fold_apart (v ∷ visits) stops apart new =
     (ap (λ n. nat_lt n v.component) (sym same) ∙ not_less v.component)) ∙ either))) refl)))
     ∙ append_assoc stops (v.component ∷ []) (map (λ x. x.component) visits)
 
--- the components of visits to distinct ones are their stops
+-- the stops of visits to different components are these components
 pub stops_apart : (visits : List Visit) → AllApart lower visits →
     fold with_visit [] (in_order goes_first visits) ≡ map (λ v. v.component) (in_order goes_first visits)
 stops_apart visits apart =
@@ -137,17 +137,19 @@ stops_apart visits apart =
 
 -- ---- visits by number
 
--- nothing added, and nothing taken away
+-- adding to 0 changes nothing
 no_more : (n : ℕ) → 0 + n ≡ n
 no_more n = omega arith
 
+-- taking away 0 changes nothing
 no_less : (n : ℕ) → n - 0 ≡ n
 no_less n = omega arith
 
+-- taking a number from itself leaves 0
 none_left : (n : ℕ) → n - n ≡ 0
 none_left n = omega arith
 
--- the day of a place behind others
+-- the day at a place after the first
 day_of_rest : (day : Option ℕ) (days : List (Option ℕ)) (number from : ℕ) → from < number →
     get_or (day ∷ days) (number - from) None ≡ get_or days (number - (from + 1)) None
 day_of_rest day days number from less =
@@ -170,7 +172,7 @@ visits_known from (Some due ∷ days) = (
       (visits_from (from + 1) days) (visits_known (from + 1) days),
 )
 
--- .. and to no other component
+-- no two visits are to the same component
 visits_distinct : (from : ℕ) (days : List (Option ℕ)) → AllApart lower (visits_from from days)
 visits_distinct from [] = tt
 visits_distinct from (None ∷ days) = visits_distinct (from + 1) days
@@ -200,7 +202,7 @@ visit_there from (Some day ∷ days) (suc place) due is =
 
 -- ---- the least due days
 
--- a visit on another day to the same component that isn't later
+-- a visit is covered by one on another day if that day is not later
 covered_by : (days : List (Option ℕ)) (v : Visit) (day : Option ℕ) → get_or days v.component None ≡ day → IsBy day v.due → IsCovered (visits_from 0 days) v
 covered_by days v None is by = absurd by
 covered_by days v (Some due) is by = record {
@@ -219,8 +221,8 @@ not_itself v =
     ∙ or_from (nat_lt v.due v.due) (nat_eq v.due v.due && nat_lt v.component v.component) (not_less v.due)
     (and_right (nat_eq v.due v.due) (nat_lt v.component v.component) (not_less v.component))
 
--- the components of the visits on the least due days are the stops
-pub least_stops : (days : List (Option ℕ)) (visits : List Visit) → TellsLeast days visits →
+-- the components of the visits on the earliest due days are the stops
+pub least_stops : (days : List (Option ℕ)) (visits : List Visit) → AreEarliestDays days visits →
     map (λ v. v.component) (in_order goes_first (visits_from 0 days)) ≡ fold with_visit [] (in_order goes_first visits)
 least_stops days visits tells =
     sym (stops_apart (visits_from 0 days) (visits_distinct 0 days))

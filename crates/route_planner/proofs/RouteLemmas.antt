@@ -7,19 +7,21 @@ use Rattle.ldar_law.specs.declared.route.Route.{Route}
 use Rattle.route_planner.specs.Visits.{route_through}
 
 module _ {X : Type 0} (n m : ℕ) (xs : List X) (least : m ≡ min (length xs) n) where
+  -- taking at most the length takes as many
   take_least : take m xs ≡ take n xs
   take_least = elim (cases_lt (length xs) n) [
     | inl short ↦ take_all m xs (omega (arith, least, short)) ∙ sym (take_all n xs (omega (arith, short)))
     | inr long ↦ ap (λ k. take k xs) (omega (arith, least, long))
   ]
 
+  -- dropping at most the length leaves as many
   drop_least : drop m xs ≡ drop n xs
   drop_least = elim (cases_lt (length xs) n) [
     | inl short ↦ drop_all m xs (omega (arith, least, short)) ∙ sym (drop_all n xs (omega (arith, short)))
     | inr long ↦ ap (λ k. drop k xs) (omega (arith, least, long))
   ]
 
--- the next route goes through the first so many of the components that are left
+-- the next route has the first n of the remaining components
 pub next_route : (n m : ℕ) (rest part others : List ℕ) (routes more : List Route) → 0 < n → 0 < length rest → m ≡ min (length rest) n → part ≡ take m rest →
     others ≡ drop m rest → more ≡ routes ++ route_through part ∷ [] → routes ++ map route_through (cut n rest) ≡ more ++ map route_through (cut n others)
 next_route n m rest part others routes more some left least front back pushed =

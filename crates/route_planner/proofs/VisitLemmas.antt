@@ -14,24 +14,26 @@ use Rattle.ldar_law.specs.Routes.{is_more_urgent, with_stop, stops_in_order}
 use Rattle.route_planner.specs.Visits.{Visit, visit_of, visits_asked, visit_cmp, goes_first, with_visit}
 use Rattle.route_planner.proofs.Sorted.{sorted_is_in_order}
 
+-- the comparison of visits is a total order
 visit_cmp_total : IsTotalOrder visit_cmp
 visit_cmp_total = then_total (on_total (λ v. v.due) nat_cmp_total) (on_total (λ v. v.component) nat_cmp_total)
 
--- visits stand in a weak order
+-- the order of visits is a strict weak order
 pub goes_first_order : IsStrictWeakOrder goes_first
 goes_first_order = ranks_by visit_cmp_total (λ v. v)
 
--- of two pairs of numbers the first is less, or the first is the same and the second is less
+-- the first of two pairs is less, by its first part and then by its second
 abbrev pair_less : ℕ → ℕ → ℕ → ℕ → Bool
 pair_less a b c d = nat_lt a b || (nat_eq a b && nat_lt c d)
 
+-- `nat_cmp` is Less exactly for lesser numbers
 less_is : (a b : ℕ) → is_lt (nat_cmp a b) ≡ nat_lt a b
 less_is a b = elim (cases_Bool (nat_lt a b)) [
   | inl t ↦ rw t refl
   | inr f ↦ elim (cases_Bool (nat_eq a b)) [ inl e ↦ rw (f, e) refl | inr n ↦ rw (f, n) refl ]
 ]
 
--- .. by their days and then by their components
+-- visits are ordered by due day and then by component
 pub goes_first_is : (a b : Visit) → goes_first a b ≡ pair_less a.due b.due a.component b.component
 goes_first_is a b = elim (cases_Bool (nat_lt a.due b.due)) [
   | inl t ↦ rw t refl
@@ -41,7 +43,7 @@ goes_first_is a b = elim (cases_Bool (nat_lt a.due b.due)) [
   ]
 ]
 
--- a number that is not less than another, nor the other way round, is that other
+-- two numbers neither of which is less are equal
 not_less : (a b : ℕ) → nat_lt a b ≡ false → nat_lt b a ≡ false → a ≡ b
 not_less a b one two = elim (cases_lt a b) [
   | inl less ↦ absurd (false≢true (sym one ∙ lt-ltb a b less))
@@ -51,11 +53,12 @@ not_less a b one two = elim (cases_lt a b) [
   ]
 ]
 
--- nor is a pair
+-- both parts of a false disjunction are false
 either_false : (x y : Bool) → (x || y) ≡ false → (x ≡ false) × (y ≡ false)
 either_false true y e = absurd (false≢true (sym e))
 either_false false y e = (refl, e)
 
+-- two pairs neither of which is less are equal
 pair_same : (a b c d : ℕ) → pair_less a b c d ≡ false → pair_less b a d c ≡ false → (a ≡ b) × (c ≡ d)
 pair_same a b c d one two =
     let first = either_false (nat_lt a b) (nat_eq a b && nat_lt c d) one in
@@ -65,21 +68,21 @@ pair_same a b c d one two =
     let down : nat_lt d c ≡ false = subst (λ t. (t && nat_lt d c) ≡ false) (eq-eqb b a (sym same)) second.1 in
     (same, not_less c d up down)
 
--- the visit of a day to a component
+-- the visit to a component on a day
 abbrev pub visit_on : ℕ → ℕ → Visit
 visit_on due component = record { due = due; component = component }
 
--- two visits of which neither goes first are the same
+-- two visits neither of which goes first are equal
 pub visit_same : (a b : Visit) → goes_first a b ≡ false → goes_first b a ≡ false → a ≡ b
 visit_same a b one two =
     let fields = pair_same a.due b.due a.component b.component (sym (goes_first_is a b) ∙ one) (sym (goes_first_is b a) ∙ two) in
     ap (λ due. visit_on due a.component) fields.0 ∙ ap (visit_on b.due) fields.1
 
--- what a sort gives is the visits in order
+-- a sorted permutation of the visits is the visits in order
 pub sorted_visits : (asked sorted : List Visit) → IsPermutation asked sorted → IsSortedBy goes_first sorted → sorted ≡ in_order goes_first asked
 sorted_visits asked sorted moved up = sorted_is_in_order goes_first goes_first_order visit_same asked sorted moved up
 
--- visits go in the order of their duties
+-- inserting a visit follows the order of its duty
 put_visit : (duty : Duty) (duties : List Duty) →
     map visit_of (put_in_order is_more_urgent duty duties) ≡ put_in_order goes_first (visit_of duty) (map visit_of duties)
 put_visit duty [] = refl
@@ -90,6 +93,7 @@ put_visit duty (d ∷ ds) =
       | inr f ↦ rw (alike, f) (ap (λ vs. visit_of d ∷ vs) (put_visit duty ds))
     ]
 
+-- sorting the duties sorts their visits
 visits_in_order : (duties : List Duty) → map visit_of (in_order is_more_urgent duties) ≡ in_order goes_first (map visit_of duties)
 visits_in_order [] = refl
 visits_in_order (d ∷ ds) = put_visit d (in_order is_more_urgent ds) ∙ ap (put_in_order goes_first (visit_of d)) (visits_in_order ds)

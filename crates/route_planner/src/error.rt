@@ -1,9 +1,9 @@
 use fact_kinds::Memory;
 
-/// Why no routes were made.
+/// The reason why no routes were made.
 #[derive(Clone, Copy, Debug, PartialEq, Eq)]
 pub enum RouteError {
-    /// A route of no stops was asked for.
+    /// The request was for routes with 0 stops.
     NoStops,
     Memory,
 }

@@ -1,4 +1,4 @@
-//! Routes through a process unit, to the components at which something has to be done.
+//! Routes through a process unit, to the components with unmet duties.
 #![tactic(auto)]
 
 mod chains;

@@ -10,7 +10,7 @@ use fact_kinds::Memory;
 use ldar_law::{Duty, Items, Route};
 use std::alloc::Global;
 
-/// Routes of so many stops through components in this order, the last one shorter.
+/// Routes of `stops` stops each through components in this order; the last one may be shorter.
 fn routes_through(alloc: Global, components: &[u16], stops: usize) -> Result<Vec<Route>, Memory>
     requires { 0 < stops }
     ensures value { IfOk result (λ routes. routes.items ≡ map route_through (cut stops components.now)) }
@@ -27,8 +27,8 @@ fn routes_through(alloc: Global, components: &[u16], stops: usize) -> Result<Vec
     Ok(routes)
 }
 
-/// Routes to the components that have a duty which isn't done, each component once, by the least due day of its
-/// duties and then by number. Each route has so many stops, and the last one what is left.
+/// Routes to the components with an unmet duty, each component once, ordered by the earliest due day of its unmet duties
+/// and then by number. Each route has `stops` stops; the last one may have fewer. The errors are `stops` = 0 and out of memory.
 #[tactic(auto, unfolding(ldar_law::specs::Routes::routes_of))]
 pub fn routes(alloc: Global, duties: &[Duty], stops: u16) -> Result<Vec<Route>, RouteError>
     ensures value { IfOk result (λ routes. routes.items ≡ law.routes_of duties.now stops) }

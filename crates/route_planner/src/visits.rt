@@ -1,8 +1,8 @@
-//! Visits: of each component that a duty asks for, the most urgent one.
+//! Visits: the most urgent one for each component with unmet duties.
 
 ghost use Rattle.std.specs.Prelude.{◌≡◌, IfOk, is_some};
 ghost use Rattle.ldar_law.specs.Routes as law;
-ghost use Rattle.route_planner.specs.Visits.{visits_asked, earlier_of, TellsLeast};
+ghost use Rattle.route_planner.specs.Visits.{visits_asked, earlier_of, AreEarliestDays};
 
 use crate::chains::{chained, stops_along};
 use fact_kinds::Memory;
@@ -10,10 +10,10 @@ use ldar_days::Day;
 use ldar_law::Duty;
 use std::alloc::Global;
 
-/// So many numbers a component may have.
+/// The number of possible component numbers.
 pub const NUMBERS: usize = 65_536;
 
-/// The earlier of a day that may be known and another.
+/// The earlier of an optional day and another.
 fn earlier(known: Option<Day>, due: Day) -> Day
     ensures value { result ≡ earlier_of known due }
 {
@@ -28,16 +28,16 @@ fn earlier(known: Option<Day>, due: Day) -> Day
     }
 }
 
-/// Whether the duty is done.
+/// Whether the duty is met.
 fn is_done(duty: &Duty) -> bool
     ensures value { result ≡ is_some duty.now.met }
 {
     duty.met.is_some()
 }
 
-/// The least due days of the duties that aren't done, by the number of their component.
+/// The earliest due days of the unmet duties; place n is for component n.
 fn least_days(alloc: Global, duties: &[Duty]) -> Result<Vec<Option<Day>>, Memory>
-    ensures value { IfOk result (λ days. TellsLeast days.items (visits_asked duties.now)) }
+    ensures value { IfOk result (λ days. AreEarliestDays days.items (visits_asked duties.now)) }
 {
     let mut days = vec![in alloc; None; NUMBERS]?;
     for duty in duties {
@@ -50,7 +50,7 @@ fn least_days(alloc: Global, duties: &[Duty]) -> Result<Vec<Option<Day>>, Memory
     Ok(days)
 }
 
-/// The components with a duty that isn't done, each once, by the least due day and then by number.
+/// The components with an unmet duty, each once, by the earliest due day and then by number.
 pub fn stops_in_order(alloc: Global, duties: &[Duty]) -> Result<Vec<u16>, Memory>
     ensures value { IfOk result (λ stops. stops.items ≡ law.stops_in_order duties.now) }
 {

@@ -1,4 +1,4 @@
--- A month has begun on a day where it is that of the day or an earlier one.
+-- A month has begun by a day if it is that of the day or an earlier one.
 use Rattle.std.proofs.Common.{◌≡◌, ℕ, ◌≤◌, ◌<◌, nat_le, arith, inl, inr}
 use Rattle.std.proofs.lemmas.Bool.{cases_lt}
 use Rattle.std.proofs.lemmas.Bool.Decides.{nat_tests}
@@ -12,7 +12,7 @@ begun_by month day low is_day by =
     let inside = month_of-is day is_day in
     omega (arith, earlier.0, inside.0)
 
--- a later month begins behind it
+-- a later month begins after the day
 begins_behind : (month day : ℕ) → IsDay day → month_of day < month → day < first_day month
 begins_behind month day is_day behind =
     let in_calendar = month_of-month day is_day in
@@ -20,7 +20,7 @@ begins_behind month day is_day behind =
     let inside = month_of-is day is_day in
     omega (arith, later, inside.1)
 
--- months go by their first days
+-- a month is not after the day's exactly if its first day is not after the day
 pub begun_is : (month day : ℕ) → 24_096 ≤ month → IsDay day → nat_le month (month_of day) ≡ nat_le (first_day month) day
 begun_is month day low is_day =
     elim (cases_lt (month_of day) month) [
@@ -28,15 +28,16 @@ begun_is month day low is_day =
       | inr by ↦ let early = begun_by month day low is_day by in grind (arith, nat_tests)
     ]
 
--- a month past the calendar begins and ends on its last day
+-- the first day of a month past the calendar is cut to 2099-12-31
 pub first_day-cut : (month : ℕ) → 25_199 < month → end_by (first_day month) ≡ 47_481
 first_day-cut month past = omega (arith, first_day-past month (omega arith))
 
+-- so is its last day
 pub last_day-cut : (month : ℕ) → 25_199 < month → end_by (last_day month) ≡ 47_481
 last_day-cut month past = omega (arith, first_day-past month (omega arith), month_length_bounds month)
 
--- what a day's month says of a month
+-- for the body of `has_month_begun`
 pub ruleset begun = (begun_is, month_of-month)
 
--- months past the calendar
+-- for months past the calendar
 pub ruleset past = (first_day-cut, last_day-cut)

@@ -10,12 +10,12 @@ use Rattle.ldar_law.specs.Reports.{leaking_in, late_in}
 use Rattle.semiannual_report.specs.Columns.{is_counted_as}
 use Rattle.semiannual_report.specs.declared.cells.Columns.{Columns}
 
--- in the columns of a kind these components are counted
+-- the counts in a type's columns are those of these components
 pub record AreCounted (columns : Kind) (day month : ℕ) (sheets : List Sheet) (counted : Columns) : Type 0 where
   pub leaking : counted.leaking ≡ leaking_in (is_counted_as columns) sheets month
   pub late : counted.late ≡ late_in (is_counted_as columns) day sheets month
 
--- an element more is counted by itself
+-- one more element adds its own count
 one_more : {X : Type 0} (p : X → Bool) (xs : List X) (i : ℕ) (d : X) → i < length xs
     → count_by p (take (i + 1) xs) ≡ count_by p (take i xs) + count_by p (get_or xs i d ∷ [])
 one_more p xs i d within =
@@ -24,7 +24,7 @@ one_more p xs i d within =
       | inr not ↦ rw (count_by_more_no p xs i d within not, not) (omega arith)
     ]
 
--- a count that goes on from that of the elements before
+-- a count continues that of the elements before
 goes_on : {X : Type 0} (p : X → Bool) (xs : List X) (i : ℕ) (d : X) (old new : ℕ) → i < length xs → length xs < 2 ^ 32
     → old ≡ count_by p (take i xs)
     → (old + count_by p (get_or xs i d ∷ []) < 2 ^ 32 → new ≡ old + count_by p (get_or xs i d ∷ []))

@@ -1,4 +1,4 @@
--- The kinds of component that have columns in a report.
+-- The types of components that have columns in a report.
 use Rattle.std.specs.Prelude.{◌≤◌, Bool, false, nat_lt, List}
 use Rattle.std.specs.List.{AllByRecursion}
 use Rattle.list_words.specs.Order.{Ascends}
@@ -8,7 +8,7 @@ use Rattle.ldar_law.specs.declared.numbers.TheConstants.{MOST_COMPONENTS}
 use Rattle.ldar_law.specs.declared.sheet.Sheet.{Sheet}
 use Rattle.ldar_law.specs.Kinds.{is_valve, is_pump, is_compressor}
 
--- a component of this kind is counted in the columns of that kind; relief devices have none (our own rule)
+-- a component of this type is counted in the columns of that type; relief devices have none (our own rule)
 abbrev pub is_counted_as : Kind → Kind → Bool
 is_counted_as Valve kind = is_valve kind
 is_counted_as Pump kind = is_pump kind

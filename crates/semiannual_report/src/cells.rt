@@ -9,7 +9,7 @@ use fact_kinds::Kind;
 use ldar_days::Day;
 use ldar_law::{MonthCells, Sheet, is_compressor, is_pump, is_valve};
 
-/// Whether a component of this kind is counted in the columns of that kind.
+/// Whether a component of this type is counted in the columns of that type.
 fn is_counted_as(columns: Kind, kind: Kind) -> bool
     ensures value { result ≡ is_counted_as columns kind }
 {
@@ -32,7 +32,7 @@ fn has_leak_in(sheet: &Sheet, month: u32) -> bool
         .any(|leak| leak.number() == month)
 }
 
-/// Whether a component has a tag that is late on the day, and was due in the month.
+/// Whether a component has a tag that was due in the month and is late on the day.
 fn has_late_tag_in(sheet: &Sheet, day: Day, month: u32) -> bool
     ensures value { result ≡ list_any (λ tag. is_late day tag && law.is_date_in month tag.repair_due) sheet.now.tags }
 {
@@ -43,7 +43,7 @@ fn has_late_tag_in(sheet: &Sheet, day: Day, month: u32) -> bool
         .any(|tag| tag.is_late(day) && tag.repair_due.is_date_in(month))
 }
 
-/// How many components in the columns of a kind had a leak in a month, and how many have a late tag that was due in it.
+/// The number of components in a type's columns with a leak in a month, and of those with a late tag due in it.
 #[derive(Drop)]
 struct Columns {
     leaking: u32,
@@ -51,7 +51,7 @@ struct Columns {
 }
 
 impl Columns {
-    /// No component is counted yet.
+    /// Counts of 0.
     fn new() -> Columns
         ensures leaking { result.leaking ≡ 0 }
         ensures late { result.late ≡ 0 }
@@ -62,7 +62,7 @@ impl Columns {
         }
     }
 
-    /// Counts a component, if it stands in the columns of that kind.
+    /// Counts a component, if it is in the columns of that type.
     fn add(&mut self, columns: Kind, sheet: &Sheet, day: Day, month: u32)
         ensures leaking { self.old.leaking + law.leaking_in (is_counted_as columns) (sheet.now ∷ []) month < 2 ^ 32
             → self.new.leaking ≡ self.old.leaking + law.leaking_in (is_counted_as columns) (sheet.now ∷ []) month }
@@ -101,7 +101,7 @@ fn month_cells(day: Day, sheets: &[Sheet], month: u32) -> [u32; 6]
     ]
 }
 
-/// The numbers of the six months from one on.
+/// The numbers of six months, from the month `first` on.
 pub fn half_cells(day: Day, sheets: &[Sheet], first: u32) -> MonthCells
     requires in_range { first ≤ 25_199 }
     ensures value { length sheets.now < 2 ^ 32 → result ≡ flat_map (law.month_cells day sheets.now) (until first (first + 6)) }
@@ -114,7 +114,7 @@ pub fn half_cells(day: Day, sheets: &[Sheet], first: u32) -> MonthCells
     MonthCells::new(cells)
 }
 
-/// Puts six numbers at a place.
+/// Writes six numbers, from a place on.
 fn put_six(cells: &mut [u32], at: usize, six: &[u32; 6])
     requires within { at + 6 ≤ length cells.old }
     ensures value { cells.new ≡ take at cells.old ++ six.now ++ drop (at + 6) cells.old }

@@ -1,10 +1,10 @@
 use fact_kinds::Memory;
 use ldar_days::Day;
 
-/// Why no report was made.
+/// The reason why no report was made.
 #[derive(Clone, Copy, Debug, PartialEq, Eq)]
 pub enum ReportError {
-    /// There is no such half, or it begins after the day of the view. Its first day; for half 0, that of half 1.
+    /// The half does not exist, or begins after the day of the view. `first` is its first day; for half 0, that of half 1.
     NoHalf { first: Day },
     Memory,
 }

@@ -2,17 +2,17 @@ ghost use Rattle.std.specs.Prelude.{◌≡◌, ◌≤◌, nat_le, IsTrue};
 ghost use Rattle.ldar_days.specs.Calendar.{first_day, last_day, end_by};
 ghost use Rattle.ldar_law.specs.Reports as law;
 ghost use Rattle.ldar_law.specs.declared.numbers.TheConstants.{LAST_FACT_DAY};
-ghost use Rattle.semiannual_report.specs.Halves.{first_told};
+ghost use Rattle.semiannual_report.specs.Halves.{first_reported};
 
 use ldar_days::{Day, Month, first_quarter};
 
-/// The calendar's last month, December 2099, and its last day.
+/// The number of the calendar's last month, December 2099.
 const LAST_MONTH: u32 = 25_199;
 
 const LAST_DAY: u32 = 47_481;
 
-/// Whether a half has begun on a day. Halves count from 1, and half h is quarters 2h - 1 and 2h (our own rule); one that
-/// would begin after the calendar's end begins after every day.
+/// Whether a half has begun by a day. Halves count from 1, and half h is quarters 2h - 1 and 2h (our own rule). A half
+/// that would begin after 2099-12-31 has begun by no day.
 pub fn has_half_begun(startup: Day, half: u16, day: Day) -> bool
     requires startup { startup ≤ LAST_FACT_DAY }
     ensures value { result ≡ law.has_half_begun startup half day }
@@ -21,7 +21,7 @@ pub fn has_half_begun(startup: Day, half: u16, day: Day) -> bool
     1 <= half && has_month_begun(half_month(startup, half), day)
 }
 
-/// Whether a month's first day is the day or before it. Months are numbers, since one may be past the calendar's end.
+/// Whether a month's first day is not after the day. The month is a number, since it may be past the calendar's end.
 #[tactic(auto, using(crate::proofs::Begun::begun))]
 fn has_month_begun(month: u32, day: Day) -> bool
     requires in_range { 24_096 ≤ month }
@@ -31,7 +31,7 @@ fn has_month_begun(month: u32, day: Day) -> bool
     month <= day.month().number()
 }
 
-/// The first month of a half, which may be past the calendar's end.
+/// The number of a half's first month, which may be past the calendar's end.
 pub fn half_month(startup: Day, half: u16) -> u32
     requires startup { startup ≤ LAST_FACT_DAY }
     requires half { 1 ≤ half }
@@ -41,7 +41,7 @@ pub fn half_month(startup: Day, half: u16) -> u32
     first_quarter(startup).number() + 6 * (u32::from(half) - 1)
 }
 
-/// The first day of a half, or 2099-12-31 where it would begin after that day.
+/// The first day of a half, at most 2099-12-31.
 pub fn half_first(startup: Day, half: u16) -> Day
     requires startup { startup ≤ LAST_FACT_DAY }
     requires half { 1 ≤ half }
@@ -50,7 +50,7 @@ pub fn half_first(startup: Day, half: u16) -> Day
     month_start(half_month(startup, half))
 }
 
-/// The last day of a half, or 2099-12-31 where it would end after that day.
+/// The last day of a half, at most 2099-12-31.
 pub fn half_last(startup: Day, half: u16) -> Day
     requires startup { startup ≤ LAST_FACT_DAY }
     requires half { 1 ≤ half }
@@ -59,15 +59,15 @@ pub fn half_last(startup: Day, half: u16) -> Day
     month_end(half_month(startup, half) + 5)
 }
 
-/// The first day that is told of a half which has not begun: of half 0 it is that of half 1.
-pub fn first_day_told(startup: Day, half: u16) -> Day
+/// The first day to report for a half that has not begun. For half 0 it is the first day of half 1.
+pub fn first_day_reported(startup: Day, half: u16) -> Day
     requires startup { startup ≤ LAST_FACT_DAY }
-    ensures value { result ≡ first_told startup half }
+    ensures value { result ≡ first_reported startup half }
 {
     half_first(startup, half.max(1))
 }
 
-/// The first day of a month, or the calendar's last day where it would come after that.
+/// The first day of a month, at most 2099-12-31.
 #[tactic(auto, using(crate::proofs::Begun::past))]
 fn month_start(month: u32) -> Day
     requires in_range { 24_096 ≤ month }
@@ -79,7 +79,7 @@ fn month_start(month: u32) -> Day
     Month::at(month).first_day()
 }
 
-/// The last day of a month, or the calendar's last day where it would come after that.
+/// The last day of a month, at most 2099-12-31.
 #[tactic(auto, using(crate::proofs::Begun::past))]
 fn month_end(month: u32) -> Day
     requires in_range { 24_096 ≤ month }

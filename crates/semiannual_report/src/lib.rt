@@ -5,8 +5,8 @@ mod cells;
 mod error;
 mod half;
 mod lines;
-mod reporting;
+mod report;
 
 pub use error::ReportError;
 pub use half::has_half_begun;
-pub use reporting::report_of;
+pub use report::report_of;

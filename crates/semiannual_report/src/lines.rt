@@ -7,8 +7,8 @@ use ldar_days::Day;
 use ldar_law::{DelayLine, Sheet, Stop, Tag};
 use std::alloc::Global;
 
-/// The line of a tag with a delay that was not ignored, if it was detected by the half's last day and not closed before
-/// its first.
+/// The line of a tag that has a delay which is not ignored. The tag must be detected by the half's last day and not be
+/// closed before its first; otherwise `None`.
 #[tactic(auto, unfolding(ldar_law::specs::Reports::delay_of))]
 fn delay_of(first: Day, last: Day, tag: &Tag) -> Option<DelayLine>
     ensures value { result ≡ law.delay_of first last tag.now }
@@ -29,7 +29,7 @@ fn is_closed_before(day: Day, tag: &Tag) -> bool
     }
 }
 
-/// Adds an item, if there is one.
+/// Appends an item, if there is one.
 fn put<T: Drop>(items: &mut Vec<T>, item: Option<T>) -> Result<(), Memory>
     ensures value { OnOk result (items.new.items ≡ items.old.items ++ option_to_list item) }
 {
@@ -39,7 +39,7 @@ fn put<T: Drop>(items: &mut Vec<T>, item: Option<T>) -> Result<(), Memory>
     Ok(())
 }
 
-/// Adds the lines of a component.
+/// Appends the lines of a component's tags.
 #[tactic(auto, using(crate::proofs::PushedLemmas::given_pushed))]
 fn put_delays(lines: &mut Vec<DelayLine>, first: Day, last: Day, tags: &[Tag]) -> Result<(), Memory>
     ensures value { OnOk result (lines.new.items ≡ lines.old.items ++ filter_map (law.delay_of first last) tags.now) }
@@ -50,7 +50,7 @@ fn put_delays(lines: &mut Vec<DelayLine>, first: Day, last: Day, tags: &[Tag]) -
     Ok(())
 }
 
-/// The lines on delays of a half (40 CFR 60.487a(c)(2)(xi)).
+/// The lines on delays in a half (40 CFR 60.487a(c)(2)(xi)).
 pub fn delay_lines(
     alloc: Global,
     first: Day,
@@ -66,7 +66,7 @@ pub fn delay_lines(
     Ok(lines)
 }
 
-/// The process unit shutdowns with a day in a half (40 CFR 60.487a(c)(3)).
+/// The process unit shutdowns with at least one day in a half (40 CFR 60.487a(c)(3)).
 pub fn stops_in(alloc: Global, first: Day, last: Day, stops: &[Stop]) -> Result<Vec<Stop>, Memory>
     ensures value { IfOk result (λ found. found.items ≡ filter (law.is_stop_in first last) stops.now) }
 {

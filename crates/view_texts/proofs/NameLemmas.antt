@@ -12,6 +12,6 @@ letters_are_ascii : (bytes : List ℕ) → list_all is_name_byte bytes ≡ true 
 letters_are_ascii [] all = IsAscii-nil
 letters_are_ascii (b ∷ bytes) all = IsAscii-cons b bytes (grind (arith, nat_tests)) (letters_are_ascii bytes (grind (arith, nat_tests)))
 
--- so a name is text
+-- a name is UTF-8 text
 pub name_is_text : (name : List ℕ) → IsName name → IsUtf8 name
 name_is_text name is = IsUtf8-from_ascii name (letters_are_ascii name is.letters)

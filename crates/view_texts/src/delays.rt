@@ -9,7 +9,7 @@ use ldar_days::Day;
 use ldar_law::{DelayLine, Text};
 use std::alloc::Global;
 
-/// Appends what a line says of a delay (40 CFR 60.486a(c)), in a view and in a report, without the line's end.
+/// Appends the words of a delay (40 CFR 60.486a(c)), which a view and a report share, without the end of the line.
 pub fn put_delay_words(text: &mut String, line: &DelayLine) -> Result<(), Memory>
     ensures value { OnOk result (string_bytes text.new ≡ string_bytes text.old
         ++ law.delay_words line.now.component line.now.detected line.now.delay line.now.until) }
@@ -41,7 +41,7 @@ fn put_each(text: &mut String, lines: &[DelayLine]) -> Result<(), Memory>
     Ok(())
 }
 
-/// The text of the delays view: the repairs of a process unit that are delayed (40 CFR 60.486a(c)), as known on a day.
+/// The text of the delays view: the delayed repairs of a process unit (40 CFR 60.486a(c)), as known on a day.
 pub fn delays_text(alloc: Global, unit: u16, day: Day, lines: &[DelayLine]) -> Result<Text, Memory>
     ensures value { IfOk result (λ text. text ≡ law.delays_text unit day lines.now) }
 {
@@ -51,7 +51,7 @@ pub fn delays_text(alloc: Global, unit: u16, day: Day, lines: &[DelayLine]) -> R
     Ok(shown(text))
 }
 
-/// Appends the text of the delays view, or nothing where memory is wanting.
+/// Appends the text of the delays view. When out of memory, `text` is unchanged.
 pub fn put_delays(
     alloc: Global,
     unit: u16,

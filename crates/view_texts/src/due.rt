@@ -10,7 +10,7 @@ use ldar_law::{Duty, Text};
 use std::alloc::Global;
 use std::fmt;
 
-/// What became of a duty, as seen on a day.
+/// The state of a duty on a day.
 #[derive(Clone, Copy)]
 struct State {
     day: Day,
@@ -57,7 +57,7 @@ fn put_each(text: &mut String, day: Day, duties: &[Duty]) -> Result<(), Memory>
     Ok(())
 }
 
-/// The text of the due view: what has to be done at the components of a process unit, as known on a day.
+/// The text of the due view: the duties at the components of a process unit, as known on a day.
 pub fn due_text(alloc: Global, unit: u16, day: Day, duties: &[Duty]) -> Result<Text, Memory>
     ensures value { IfOk result (λ text. text ≡ law.due_text unit day duties.now) }
 {
@@ -67,7 +67,7 @@ pub fn due_text(alloc: Global, unit: u16, day: Day, duties: &[Duty]) -> Result<T
     Ok(shown(text))
 }
 
-/// Appends the text of the due view, or nothing where memory is wanting.
+/// Appends the text of the due view. When out of memory, `text` is unchanged.
 pub fn put_due(
     alloc: Global,
     unit: u16,

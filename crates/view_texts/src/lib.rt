@@ -1,4 +1,4 @@
-//! The text of each view, line by line, as the definitions of `ldar_law` give it.
+//! The text of each view, line by line, as defined in `ldar_law`.
 #![tactic(auto)]
 
 mod delays;

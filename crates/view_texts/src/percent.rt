@@ -7,7 +7,7 @@ use ldar_law::{Tally, Text};
 use std::alloc::Global;
 use std::fmt;
 
-/// A word, with `not` before it where it does not hold.
+/// A word, with `not` before it if it does not hold.
 #[derive(Clone, Copy)]
 struct OrNot {
     holds: bool,
@@ -55,8 +55,8 @@ fn line(
     )
 }
 
-/// The text of the percent view, one line: the valves of a process unit that leaked in a quarter and those that were
-/// monitored (40 CFR 60.485a(h)), and whether the quarter is good and skipped.
+/// The text of the percent view, one line. It has the numbers of the unit's valves that leaked in a quarter and that were
+/// monitored (40 CFR 60.485a(h)), whether the quarter is good, and whether it is skipped.
 pub fn percent_text(
     alloc: Global,
     unit: u16,
@@ -70,7 +70,7 @@ pub fn percent_text(
     Ok(shown(line(alloc, unit, quarter, tally, good, skipped)?))
 }
 
-/// Appends the line of the percent view, or nothing where memory is wanting.
+/// Appends the line of the percent view. When out of memory, `text` is unchanged.
 pub fn put_percent(
     alloc: Global,
     unit: u16,

@@ -13,10 +13,10 @@ use ldar_days::{Month, MonthText};
 use ldar_law::{DelayLine, Report, Stop, Text};
 use std::alloc::Global;
 
-/// How many months a half has.
+/// The number of months in a half.
 const MONTHS: usize = 6;
 
-/// How many numbers a month has.
+/// The number of columns of a month.
 const COLUMNS: usize = 6;
 
 /// A text with the first line of a report.
@@ -29,8 +29,8 @@ fn begun(alloc: Global, name: &str, report: &Report) -> Result<String, Memory>
     format!(in alloc; "report {name} unit {unit} half {half} as of {day}\n")
 }
 
-/// Appends the line of a month, at a place of the half from 0: of valves, pumps and compressors the components with leaks
-/// and those with late tags (40 CFR 60.487a(c)(2)).
+/// Appends the line of a month, `place` months (from 0) after the first: for valves, pumps and compressors the number of
+/// components with leaks and of those with late tags (40 CFR 60.487a(c)(2)).
 fn put_month(text: &mut String, first: Month, cells: &[u32], place: usize) -> Result<(), Memory>
     requires within { place < 6 }
     requires whole { length cells.now ≡ 36 }
@@ -99,8 +99,8 @@ fn put_stops(text: &mut String, stops: &[Stop]) -> Result<(), Memory>
     Ok(())
 }
 
-/// The text of a semiannual report (40 CFR 60.487a(c)), of whose half `first` is the first month. Of a half that has begun
-/// this is a month of the calendar; those behind it are written with their own year where the calendar ends.
+/// The text of a semiannual report (40 CFR 60.487a(c)); `first` is the first month of its half. Months past the calendar's
+/// end are written with their own year.
 pub fn report_text(alloc: Global, first: Month, report: &Report) -> Result<Text, Memory>
     ensures value { IfOk result (λ text. text ≡ law.report_text first report.now) }
 {
@@ -116,7 +116,7 @@ pub fn report_text(alloc: Global, first: Month, report: &Report) -> Result<Text,
     Ok(shown(text))
 }
 
-/// Appends the text of a report, or nothing where memory is wanting.
+/// Appends the text of a report. When out of memory, `text` is unchanged.
 pub fn put_report(
     alloc: Global,
     first: Month,

@@ -47,7 +47,7 @@ fn put_each(text: &mut String, routes: &[Route]) -> Result<(), Memory>
     Ok(())
 }
 
-/// The text of the route view: routes of so many stops at most through a process unit, as known on a day.
+/// The text of the route view: routes of at most `stops` stops through a process unit, as known on a day.
 pub fn routes_text(
     alloc: Global,
     unit: u16,
@@ -63,7 +63,7 @@ pub fn routes_text(
     Ok(shown(text))
 }
 
-/// Appends the text of the route view, or nothing where memory is wanting.
+/// Appends the text of the route view. When out of memory, `text` is unchanged.
 pub fn put_routes(
     alloc: Global,
     unit: u16,

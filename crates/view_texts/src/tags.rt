@@ -10,7 +10,7 @@ use ldar_law::{Tag, Text};
 use std::alloc::Global;
 use std::fmt;
 
-/// Whether the identification may come off (40 CFR 60.482-1a).
+/// Whether the identification of a leak may be removed (40 CFR 60.482-1a).
 #[derive(Clone, Copy)]
 struct Mark(bool);
 
@@ -51,7 +51,7 @@ fn put_each(text: &mut String, tags: &[Tag]) -> Result<(), Memory>
     Ok(())
 }
 
-/// The text of the tags view: the leaks of a process unit that are identified (40 CFR 60.486a(b)), as known on a day.
+/// The text of the tags view: the identified leaks of a process unit (40 CFR 60.486a(b)), as known on a day.
 pub fn tags_text(alloc: Global, unit: u16, day: Day, tags: &[Tag]) -> Result<Text, Memory>
     ensures value { IfOk result (λ text. text ≡ law.tags_text unit day tags.now) }
 {
@@ -61,7 +61,7 @@ pub fn tags_text(alloc: Global, unit: u16, day: Day, tags: &[Tag]) -> Result<Tex
     Ok(shown(text))
 }
 
-/// Appends the text of the tags view, or nothing where memory is wanting.
+/// Appends the text of the tags view. When out of memory, `text` is unchanged.
 pub fn put_tags(
     alloc: Global,
     unit: u16,

@@ -1,4 +1,4 @@
-//! The words of lines: a day or none, until when, a cause, a ground, a name.
+//! The words of lines: an optional day, the end of a repair period, a cause, a ground and a name.
 
 ghost use Rattle.std.specs.Prelude.{◌≡◌};
 ghost use Rattle.ldar_law.specs.Texts as law;
@@ -8,7 +8,7 @@ use ldar_days::Day;
 use ldar_law::{DelayEntry, Until};
 use std::fmt;
 
-/// A day, or a hyphen where there is none.
+/// A day, or a hyphen if there is none.
 #[derive(Clone, Copy)]
 pub struct DayOrHyphen(pub Option<Day>);
 
@@ -26,7 +26,7 @@ impl fmt::Display for DayOrHyphen {
     }
 }
 
-/// Until when a leak must be repaired (40 CFR 60.482-9a).
+/// The day by which a leak must be repaired (40 CFR 60.482-9a).
 #[derive(Clone, Copy)]
 pub struct UntilWhen(pub Until);
 
@@ -62,7 +62,7 @@ impl fmt::Display for Cause {
     }
 }
 
-/// The word of a cause; a number past the last has none, and 0, which none has, reads as 1.
+/// The word of a cause. Numbers past the last cause have no word; 0, which is no cause, has that of 1.
 fn cause_word(cause: u8) -> &'static str
     ensures value { result.now ≡ law.cause_text cause }
 {
@@ -96,7 +96,7 @@ impl fmt::Display for Ground {
     }
 }
 
-/// The paragraph of 40 CFR 60.482-9a by which a repair is delayed. A number that is no ground has no word.
+/// The paragraph of 40 CFR 60.482-9a that allows the delay. A number that is no ground has no word.
 fn ground_word(delay: &DelayEntry) -> &'static str
     ensures value { result.now ≡ law.ground_text delay.now }
 {
@@ -111,14 +111,14 @@ fn ground_word(delay: &DelayEntry) -> &'static str
     }
 }
 
-/// The name of a process unit, as text.
+/// The name of a process unit as text.
 #[tactic(auto, using(crate::proofs::NameLemmas::name_is_text))]
 pub fn name_word(name: &Name) -> &str
     ensures value { result.now ≡ name.now }
 {
     match std::str::from_utf8(name.as_bytes()) {
         Ok(word) => word,
-        // No name comes here: its bytes are capital letters, digits and hyphens.
+        // This cannot happen: a name is capital letters, digits and hyphens.
         Err(_) => "",
     }
 }

@@ -1,6 +1,6 @@
 use Rattle.std.proofs.Common.{◌≡◌, Some, sym, ap, ◌∙◌}
 use Rattle.ldar_law.specs.Denials as law
-use Rattle.batch_rules.specs.Standings.{is_so}
+use Rattle.batch_rules.specs.KindsAndClasses.{is_so}
 use Rattle.batch_rules.proofs.CaseLemmas.{so_asked, looked_is_asked}
 use Rattle.batch_rules.proofs.components.looked_under_300_hours.Goals as goal
 

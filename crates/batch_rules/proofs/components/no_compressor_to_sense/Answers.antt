@@ -2,7 +2,7 @@ use Rattle.std.proofs.Common.{◌≡◌, sym, ap, ◌∙◌}
 use Rattle.fact_kinds.specs.declared.body.FactBody.TheVariants.{Indication}
 use Rattle.ldar_law.specs.Denials as law
 use Rattle.ldar_law.specs.Standing as standing
-use Rattle.batch_rules.specs.Standings.{is_so}
+use Rattle.batch_rules.specs.KindsAndClasses.{is_so}
 use Rattle.batch_rules.proofs.CaseLemmas.{indication_is}
 use Rattle.batch_rules.proofs.components.no_compressor_to_sense.Goals as goal
 

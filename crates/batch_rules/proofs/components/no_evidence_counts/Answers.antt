@@ -3,7 +3,7 @@ use Rattle.fact_kinds.specs.declared.body.FactBody.TheVariants.{Indication}
 use Rattle.fact_kinds.specs.declared.body.Sort.{Sort}
 use Rattle.ldar_law.specs.Denials as law
 use Rattle.ldar_law.specs.Standing as standing
-use Rattle.batch_rules.specs.Standings.{is_so}
+use Rattle.batch_rules.specs.KindsAndClasses.{is_so}
 use Rattle.batch_rules.proofs.CaseLemmas.{indication_is}
 use Rattle.batch_rules.proofs.components.no_evidence_counts.Goals as goal
 

@@ -1,7 +1,7 @@
 use Rattle.std.proofs.Common.{◌≡◌, not, sym, ap, ◌∙◌}
 use Rattle.fact_kinds.specs.declared.body.FactBody.TheVariants.{Delay}
 use Rattle.ldar_law.specs.Kinds as kinds
-use Rattle.batch_rules.specs.Standings.{is_so}
+use Rattle.batch_rules.specs.KindsAndClasses.{is_so}
 use Rattle.batch_rules.proofs.CaseLemmas.{delay_is}
 use Rattle.batch_rules.proofs.delays.stocks_no_valve.Goals as goal
 

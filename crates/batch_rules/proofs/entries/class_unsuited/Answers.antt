@@ -1,7 +1,7 @@
 use Rattle.std.proofs.Common.{◌≡◌, not, sym, ap, ◌∙◌}
 use Rattle.fact_kinds.specs.declared.body.FactBody.TheVariants.{Class as ClassFact}
 use Rattle.ldar_law.specs.Denials as law
-use Rattle.batch_rules.specs.Standings.{is_so}
+use Rattle.batch_rules.specs.KindsAndClasses.{is_so}
 use Rattle.batch_rules.proofs.CaseLemmas.{class_is}
 use Rattle.batch_rules.proofs.entries.class_unsuited.Goals as goal
 

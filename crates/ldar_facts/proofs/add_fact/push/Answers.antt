@@ -6,7 +6,7 @@ use Rattle.fact_kinds.specs.Stated.{Stated}
 use Rattle.ldar_facts.proofs.FactTies as tie
 use Rattle.ldar_facts.proofs.add_fact.push.Goals as goal
 
--- what was read is a fact in its range
+-- the fact that was read has its fields in their ranges
 pub invariant_of-push_reserved : goal.invariant_of-push_reserved
 invariant_of-push_reserved c =
     let head = c.args.head in

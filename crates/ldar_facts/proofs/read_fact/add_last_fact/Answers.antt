@@ -5,11 +5,11 @@ use Rattle.ldar_facts.specs.FactForms as forms
 use Rattle.ldar_facts.proofs.Padded.{IsBytes-zeros, within, past, stops}
 use Rattle.ldar_facts.proofs.read_fact.add_last_fact.Goals as goal
 
--- as many bytes as the longest fact has
+-- the bytes with the zero bytes are as long as the longest fact
 lengths : (bytes : List ℕ) → length bytes < 23 → length (bytes ++ replicate (23 - length bytes) 0) ≡ 23
 lengths bytes few = omega (arith, length-append bytes (replicate (23 - length bytes) 0), length-replicate {A = ℕ} (23 - length bytes) 0)
 
--- no more are left than were there
+-- at most as many bytes are unread as there were
 pub overflow_sub-result : goal.overflow_sub-result
 overflow_sub-result c =
     let bytes : List ℕ = c.args.bytes.now in

@@ -1,11 +1,11 @@
 use Rattle.std.proofs.Common.{◌≡◌, ℕ, suc, ◌+◌, ◌*◌, ◌-◌, ◌^◌, ◌<◌, ◌≤◌, true, false, List, length, get_or, drop, sym, ap, ◌∙◌, add-one, arith}
 use Rattle.std.proofs.lemmas.List.{drop_more, drop_all, length-drop}
 use Rattle.std.proofs.Math.Nat.{pow-suc, pow-le-pow_right}
-use Rattle.ldar_facts.specs.declared.stop.Stop.TheVariants.{Short, Wrong}
+use Rattle.ldar_facts.specs.declared.read_end.ReadEnd.TheVariants.{Short, Wrong}
 use Rattle.ldar_facts.specs.Number.{number_from, may_be, stop_of}
 use Rattle.ldar_facts.proofs.read_number.first_wrong.Goals as goal
 
--- the bytes end
+-- the bytes end here
 ends : (more i : ℕ) (ranges : List (ℕ × ℕ)) (n : ℕ) (bytes : List ℕ) → i < more → length bytes ≤ i
     → stop_of (number_from (more - i) ranges n (drop i bytes)) ≡ Short
 unfolding number_from
@@ -23,7 +23,7 @@ is_wrong more i ranges n bytes lt within h =
     let left : suc (length (drop (i + 1) bytes)) ≡ length bytes - i = omega (arith, length-drop (i + 1) bytes) in
     rw (is, drop_more bytes i 0 within, h) (ap Wrong left)
 
--- the next byte passes
+-- the next byte is allowed
 passes : (more i : ℕ) (ranges : List (ℕ × ℕ)) (n : ℕ) (bytes : List ℕ) → i < more → i < length bytes
     → may_be (more - 1 - i) ranges (n * 256 + get_or bytes i 0) ≡ true
     → number_from (more - i) ranges n (drop i bytes) ≡ number_from (more - (i + 1)) ranges (n * 256 + get_or bytes i 0) (drop (i + 1) bytes)
@@ -33,7 +33,7 @@ passes more i ranges n bytes lt within h =
     let rest : more - (i + 1) ≡ more - 1 - i = omega arith in
     rw (is, rest, drop_more bytes i 0 within, h)
 
--- so many digits make so much at most
+-- a bound of a number of fewer than four bytes
 small : (i n : ℕ) → i < 4 → n < 256 ^ i → n < 256 ^ 3
 small i n few fits = let most : 256 ^ i ≤ 256 ^ 3 = pow-le-pow_right (omega arith) {j = 3} (omega arith) in omega arith
 

@@ -3,11 +3,11 @@ use Rattle.std.proofs.lemmas.Nat.{mul-lt}
 use Rattle.std.proofs.Math.Nat.{one-le-pow, pow-le-pow_right}
 use Rattle.ldar_facts.proofs.read_number.may_begin.Goals as goal
 
--- what so few further bytes can hold is small
+-- bounds of a power of 256 with fewer than four bytes to come
 small : (more : ℕ) → more < 4 → (1 ≤ 256 ^ more) × (256 ^ more ≤ 256 ^ 3)
 small more few = (one-le-pow more 256 (omega arith), pow-le-pow_right (omega arith) {j = 3} (omega arith))
 
--- and a number of four bytes times that still fits
+-- a number of four bytes times that power does not overflow
 product : (n p : ℕ) → n < 2 ^ 32 → p ≤ 256 ^ 3 → n * p < 2 ^ 57
 product n p fits le = omega (arith, mul-lt n p (2 ^ 32) (256 ^ 3 + 1) fits (omega arith))
 

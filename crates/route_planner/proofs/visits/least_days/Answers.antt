@@ -1,7 +1,7 @@
 use Rattle.std.proofs.Common.{rules, ◌≡◌, ◌+◌, ◌<◌, Some, None, true, not, [], ◌∷◌, ◌++◌, length, get_or, set, take, sym, ap, subst, ◌∙◌, arith}
 use Rattle.std.specs.Prelude.{is_none}
 use Rattle.std.proofs.lemmas.List.{take_more}
-use Rattle.route_planner.specs.Visits.{visit_of, visits_asked, earlier_of, TellsLeast}
+use Rattle.route_planner.specs.Visits.{visit_of, visits_asked, earlier_of, AreEarliestDays}
 use Rattle.route_planner.proofs.LeastLemmas.{asked_more, least_none, least_more, only_none, same_there}
 use Rattle.route_planner.proofs.visits.least_days.Goals as goal
 
@@ -30,6 +30,6 @@ loop-duty-preserved c =
     (c.index.ensures ∙ same_there days number c.index.result.now None at ∙ ap (λ n. get_or days n None) c.from-number.ensures) in
     let then_days : set days number (Some c.earlier.result) ≡ set days e.component (Some (earlier_of (get_or days e.component None) e.due)) =
     ap (λ n. set days n (Some c.earlier.result)) c.from-number.ensures ∙ ap (λ day. set days e.component (Some day)) known in
-    subst (λ l. TellsLeast l (visits_asked (take (i + 1) duties))) (sym then_days)
-    (subst (TellsLeast (set days e.component (Some (earlier_of (get_or days e.component None) e.due)))) (sym asked)
+    subst (λ l. AreEarliestDays l (visits_asked (take (i + 1) duties))) (sym then_days)
+    (subst (AreEarliestDays (set days e.component (Some (earlier_of (get_or days e.component None) e.due)))) (sym asked)
     (least_more days (visits_asked (take i duties)) told (visit_of e) within))

@@ -4,7 +4,7 @@ use Rattle.list_words.specs.Ranges.{until}
 use Rattle.ldar_law.specs.Reports as law
 use Rattle.semiannual_report.proofs.cells.half_cells.Given as goal
 
--- the months so far stand in their places; what is left decides
+-- the months so far are at their places, and the remaining ones are still to be written
 abbrev pub invariant-loop-month : goal.invariant-loop-month
 invariant-loop-month l =
     (length l.cells ≡ 36) × (length l.sheets < 2 ^ 32

@@ -3,7 +3,7 @@ use Rattle.fact_kinds.specs.declared.class.Kind.TheVariants.{Valve, Pump, Compre
 use Rattle.semiannual_report.proofs.CountLemmas.{AreCounted}
 use Rattle.semiannual_report.proofs.cells.month_cells.Given as goal
 
--- the components so far are counted in the columns of each kind
+-- the components so far are counted in the columns of each type
 abbrev pub invariant-loop-sheet : goal.invariant-loop-sheet
 invariant-loop-sheet l =
     length l.sheets < 2 ^ 32

@@ -5,7 +5,7 @@ use Rattle.list_words.specs.Ranges.{until}
 use Rattle.ldar_law.specs.Texts.{month_line}
 use Rattle.view_texts.proofs.report.put_months.Given as goal
 
--- with the lines of the months that are left it would be whole
+-- with the lines of the remaining months the text would be complete
 abbrev pub invariant-loop-place : goal.invariant-loop-place
 invariant-loop-place l =
     string_bytes l.text ++ flat_map (month_line l.first l.cells) (until l.place 6)

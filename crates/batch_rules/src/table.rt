@@ -1,2 +1,0 @@
-/// The paragraph that a denial by a rule names.
-pub use ldar_law::paragraph;
