@@ -1,15 +1,13 @@
-ghost use Rattle.std.specs.Prelude.{◌≡◌, ℕ, ◌<◌, ◌≤◌, IsTrue, IfOk, length, insert, option_map, unwrap_or};
+ghost use Rattle.std.specs.Prelude.{◌≡◌, ℕ, ◌<◌, ◌≤◌, IsTrue, IfOk, length, insert};
 ghost use Rattle.std.specs.List.{filter_map};
 ghost use Rattle.list_words.specs.Order.{put_in_order, Ascends};
 ghost use Rattle.fact_kinds.specs.Named.{is_numbered};
 ghost use Rattle.fact_store.specs.Lists.{items_in, room_in};
-ghost use Rattle.ldar_law.specs.Force as force;
 ghost use Rattle.ldar_law.specs.RegisterLaws.{class_first};
 ghost use Rattle.component_register.specs.Classes.{class_named, TakesClass};
 
 use fact_kinds::{Class, Fact, FactBody, Key, precedes};
 use fact_store::lists::{Lists, list_of, put_in};
-use ldar_days::Day;
 use std::alloc::{AllocError, Global};
 
 /// The component of which a fact enters a class.
@@ -52,26 +50,4 @@ pub fn put_class(classes: &mut Lists<(Key, Class)>, key: &Key, body: &FactBody)
         let index = index_for(list_of(classes, component), key);
         put_in(classes, component, index, (*key, class));
     }
-}
-
-/// The class that was entered, or another where none was.
-pub fn class_or(entered: &Option<(Key, Class)>, class: Class) -> Class
-    ensures value { result ≡ unwrap_or (option_map (λ entered. entered.1) entered.now) class }
-{
-    match *entered {
-        Some((_, entered)) => entered,
-        None => class,
-    }
-}
-
-/// The last class that was entered by a day.
-pub fn class_by(classes: &[(Key, Class)], day: Day) -> Option<(Key, Class)>
-    requires { Ascends class_first classes.now }
-    ensures value { result ≡ force.class_by day classes.now }
-{
-    let count = classes.partition_point(|entered| entered.0.day <= day);
-    if count == 0 {
-        return None;
-    }
-    Some(classes[count - 1])
 }

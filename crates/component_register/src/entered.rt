@@ -1,34 +1,10 @@
 ghost use Rattle.std.specs.Prelude.{◌≡◌};
 ghost use Rattle.ldar_law.specs.Equipment as law;
-ghost use Rattle.ldar_law.specs.Slices as slices;
 ghost use Rattle.component_register.specs.Members.{joined};
 
 use fact_kinds::FactBody;
 use ldar_days::Day;
 use ldar_law::{Equipment, UnitEntry};
-
-/// Whether a fact is an entry of the register.
-pub fn is_registered(body: &FactBody) -> bool
-    ensures value { result ≡ slices.is_registered body.now }
-{
-    match *body {
-        FactBody::Unit { .. }
-        | FactBody::Component { .. }
-        | FactBody::Class { .. }
-        | FactBody::Retire { .. }
-        | FactBody::Election { .. }
-        | FactBody::Shutdown { .. } => true,
-        FactBody::Calibration { .. }
-        | FactBody::Precision { .. }
-        | FactBody::Drift { .. }
-        | FactBody::Reading { .. }
-        | FactBody::Visual { .. }
-        | FactBody::Attempt { .. }
-        | FactBody::Delay { .. }
-        | FactBody::Release { .. }
-        | FactBody::Indication { .. } => false,
-    }
-}
 
 /// Whether a fact takes the component out of service.
 pub fn retires(number: u16, body: &FactBody) -> bool

@@ -8,5 +8,5 @@ mod register;
 mod slots;
 mod units;
 
-pub use entered::{component_entered, is_registered, retires, unit_entered};
+pub use entered::{component_entered, retires, unit_entered};
 pub use register::Register;

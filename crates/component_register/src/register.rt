@@ -1,13 +1,14 @@
-ghost use Rattle.std.specs.Prelude.{◌≡◌, ℕ, ◌<◌, ◌≤◌, Some, false, [], ◌∷◌, ◌++◌, length, drop, filter, slice_get, option_map, OnOk, OnErr, IfOk};
+ghost use Rattle.std.specs.Prelude.{◌≡◌, ℕ, ◌<◌, ◌≤◌, nat_le, Some, false, [], ◌∷◌, ◌++◌, length, drop, filter, slice_get, option_map, OnOk, OnErr, IfOk};
 ghost use Rattle.fact_kinds.specs.declared.limits.TheConstants.{MOST_FACTS};
+ghost use Rattle.list_words.specs.Order.{Ascends};
+ghost use Rattle.fact_kinds.specs.Facts.{is_earlier};
 ghost use Rattle.fact_store.specs.Kept.{Kept, facts_in, is_held};
 ghost use Rattle.ldar_law.specs.Equipment as law;
 ghost use Rattle.ldar_law.specs.Force as force;
 ghost use Rattle.ldar_law.specs.Slices as slices;
 ghost use Rattle.component_register.specs.Once.{IsFirstOfNumber, AreEnteredOnce};
 
-use crate::classes::{class_by, class_or, put_class, reclassed_among};
-use crate::entered::is_registered;
+use crate::classes::{put_class, reclassed_among};
 use crate::members::{joined_among, put_member};
 use crate::slots::{EMPTY, Slot, enter, make_slots, row_of};
 use crate::units::{Units, enter_unit, make_units};
@@ -15,7 +16,7 @@ use fact_kinds::{Class, Fact, Key, Memory};
 use fact_store::Arrivals;
 use fact_store::lists::{Lists, list_of, make_rooms};
 use ldar_days::Day;
-use ldar_law::{Equipment, UnitEntry};
+use ldar_law::{Equipment, UnitEntry, entered_to, is_registered, last_entered};
 use std::alloc::Global;
 use std::marker::Model;
 
@@ -91,7 +92,7 @@ impl Register {
         self.store.insert(key, fact);
     }
 
-    /// The component, as it was entered; `None` where it was not.
+    /// The component as it was entered; `None` if it was not.
     pub fn component(&self, component: u16) -> Option<Equipment>
         ensures value { result ≡ law.equipment_of component (facts_in self.now) }
     {
@@ -101,13 +102,12 @@ impl Register {
         Some(item)
     }
 
-    /// The class of the component in force on a day; `None` where the component was not entered.
+    /// The class of the component in force on a day; `None` if the component was not entered.
     pub fn class_on(&self, component: u16, day: Day) -> Option<Class>
         ensures value { result ≡ force.class_in_force component (facts_in self.now) day }
     {
         let item = row_of(&self.slots, EMPTY, component).entered?;
-        let entered = class_by(list_of(&self.classes, component), day);
-        Some(class_or(&entered, item.class))
+        Some(item.class_on(list_of(&self.classes, component), day))
     }
 
     /// The last class that was entered for the component by a day, with the key of its fact; `None` where there is no
@@ -115,7 +115,16 @@ impl Register {
     pub fn class_entry(&self, component: u16, day: Day) -> Option<(Key, Class)>
         ensures value { result ≡ force.class_by day (law.classes_of component (facts_in self.now)) }
     {
-        class_by(list_of(&self.classes, component), day)
+        last_entered(list_of(&self.classes, component), day)
+    }
+
+    /// The classes that were entered for the component by a day, in key order. Whether the component was entered is not
+    /// asked.
+    pub fn classes_to(&self, component: u16, day: Day) -> &[(Key, Class)]
+        ensures value { result.now ≡ filter (λ entered. nat_le entered.0.day day) (law.classes_of component (facts_in self.now)) }
+        ensures ordered { Ascends (λ a b. is_earlier a.0 b.0) result.now }
+    {
+        entered_to(list_of(&self.classes, component), day)
     }
 
     /// The key of the last class that was entered for the component by a day; `None` where there is no such one.
@@ -133,7 +142,7 @@ impl Register {
         row_of(&self.slots, EMPTY, component).retired
     }
 
-    /// The process unit, as it was entered; `None` where it was not.
+    /// The process unit as it was entered; `None` if it was not.
     pub fn unit(&self, unit: u8) -> Option<UnitEntry>
         ensures value { result ≡ law.unit_entry_of unit (facts_in self.now) }
     {

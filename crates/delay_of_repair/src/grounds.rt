@@ -5,7 +5,9 @@ ghost use Rattle.delay_of_repair.specs.Ends.{AreEnds};
 
 use crate::shutdowns::Ends;
 use ldar_days::Day;
-use ldar_law::Until;
+use ldar_law::{
+    GROUND_DUAL_SEAL, GROUND_ISOLATED, GROUND_PURGING, GROUND_SHUTDOWN, GROUND_WITHDRAWN, Until,
+};
 
 /// The due day that a delay of this ground gives, entered on this day.
 pub fn due_by(ends: &Ends, why: u8, day: Day) -> Until
@@ -13,11 +15,11 @@ pub fn due_by(ends: &Ends, why: u8, day: Day) -> Until
         → result ≡ law.due_by detected attempts stops why day }
 {
     match why {
-        0 => Until::Date(ends.repair_by.max(day)),
-        1 => ends.first,
-        2 => Until::WhileIsolated,
-        3 => Until::NoDate,
-        4 => Until::Date(ends.half_year),
+        GROUND_WITHDRAWN => Until::Date(ends.repair_by.max(day)),
+        GROUND_SHUTDOWN => ends.first,
+        GROUND_ISOLATED => Until::WhileIsolated,
+        GROUND_PURGING => Until::NoDate,
+        GROUND_DUAL_SEAL => Until::Date(ends.half_year),
         _ => ends.second,
     }
 }

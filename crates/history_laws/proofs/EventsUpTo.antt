@@ -20,18 +20,18 @@ use Rattle.ldar_law.specs.declared.equipment.Equipment.{Equipment}
 use Rattle.ldar_law.specs.declared.event.Event.{Event}
 use Rattle.ldar_law.specs.declared.event.Happening.{Happening}
 use Rattle.ldar_law.specs.declared.fitness.Fitness.{Fitness}
-use Rattle.ldar_law.specs.Equipment.{classes_of}
-use Rattle.ldar_law.specs.Equipment.{stop_entered, stops_of}
+use Rattle.ldar_law.specs.Equipment.{classes_of, of_unit, stop_entered, stops_of}
 use Rattle.ldar_law.specs.Events.{happening, event_of, events_in, fitness_at, fitness_among}
 use Rattle.ldar_law.specs.Fitness.{is_calibrated, is_calibrated_within, is_tested, is_calibrated_before, is_voided_by, fitness_of}
+use Rattle.ldar_law.specs.Force.{limit_on}
 use Rattle.ldar_law.specs.Limits.{limit_of}
 use Rattle.ldar_law.specs.Slices.{facts_of_component}
 use Rattle.ldar_law.proofs.EventLemmas.{events_ascend}
 use Rattle.ldar_law.proofs.TestLemmas.{both}
-use Rattle.history_laws.specs.DayLaws.{up_to, item_on}
-use Rattle.history_laws.specs.DayLaws.{FitnessForgetsLaterDays}
-use Rattle.history_laws.specs.DayLaws.{events_to, EventsUpToADay, EventsByOwnRegister, IsCutAt, EventsAreCut}
-use Rattle.history_laws.specs.KnownLaws.{known_with, KnownUpToADay}
+use Rattle.ldar_law.specs.Units.{known_with}
+use Rattle.history_laws.specs.DayLaws.{up_to, item_on, events_to, of_unit_to}
+use Rattle.history_laws.specs.DayLaws.{AgreeUpTo, FitnessForgetsLaterDays, EventsUpToADay, EventsByOwnRegister, LimitsAgree, IsCutAt, EventsAreCut}
+use Rattle.history_laws.specs.KnownLaws.{KnownUpToADay}
 use Rattle.history_laws.proofs.UpTo.{filter_swap, given_alike_where, past_day, given_up_to}
 use Rattle.history_laws.proofs.RegisterUpTo.{classes_up_to, stop_is, day_within, standing_forgets_later_days}
 
@@ -97,38 +97,38 @@ event_keyed : (key : Key) (o : Option Happening) (x : Event) → option_map (λ 
 event_keyed key None x e = absurd cc
 event_keyed key (Some what) x e = let is : Some (record { key = key; what = what }) ≡ Some x = e in cc
 
-module _ (t : ℕ) (item : Equipment) (classes : List (Key × Class)) (facts : List Entry) where
+module _ (t : ℕ) (item : Equipment) (classes : List (Key × Class)) (limit : ℕ → ℕ) (facts : List Entry) where
   -- a reading of the days is judged alike
-  fitness_same : (key : Key) (body : FactBody) → key.day ≤ t → fitness_at item classes (up_to t facts) key body ≡ fitness_at item classes facts key body
+  fitness_same : (key : Key) (body : FactBody) → key.day ≤ t → fitness_at limit (up_to t facts) key body ≡ fitness_at limit facts key body
   fitness_same key (Reading c instrument operator purpose ppm background) within = fitness_forgets_later_days t facts _ key instrument ppm within
   fitness_same key _ within = refl
 
   -- the events by the facts up to a day
-  pub events_up_to : events_in item classes (up_to t facts) ≡ events_to t (events_in item classes facts)
+  pub events_up_to : events_in item classes limit (up_to t facts) ≡ events_to t (events_in item classes limit facts)
   unfolding events_in
   events_up_to =
       let own = facts_of_component item.component facts in
-      ap (filter_map (λ e. event_of item classes e (fitness_among item classes (up_to t facts) e)))
+      ap (filter_map (λ e. event_of item classes limit e (fitness_among limit (up_to t facts) e)))
       (filter_swap (λ e. is_numbered (component_of e.1.body) item.component) (λ e. nat_le e.0.day t) facts)
-      ∙ given_alike_where _ (λ e. event_of item classes e (fitness_among item classes facts e)) (λ e. nat_le e.0.day t)
-      (λ e within. ap (event_of item classes e) (fitness_same e.0 e.1.body (leb-true e.0.day t within))) own
-      ∙ given_up_to (λ e. event_of item classes e (fitness_among item classes facts e)) (λ x. x.key.day)
-      (λ e x is. ap (λ key. key.day) (event_keyed e.0 (happening item classes e.0.day (fitness_among item classes facts e) e.1.body) x is)) t own
+      ∙ given_alike_where _ (λ e. event_of item classes limit e (fitness_among limit facts e)) (λ e. nat_le e.0.day t)
+      (λ e within. ap (event_of item classes limit e) (fitness_same e.0 e.1.body (leb-true e.0.day t within))) own
+      ∙ given_up_to (λ e. event_of item classes limit e (fitness_among limit facts e)) (λ x. x.key.day)
+      (λ e x is. ap (λ key. key.day) (event_keyed e.0 (happening item classes limit e.0.day (fitness_among limit facts e) e.1.body) x is)) t own
 
 pub events_up_to_a_day : EventsUpToADay
-events_up_to_a_day t item classes facts = events_up_to t item classes facts
+events_up_to_a_day t item classes limit facts = events_up_to t item classes limit facts
 
 -- the classes entered up to a day
 abbrev pub early : ℕ → List (Key × Class) → List (Key × Class)
 early t classes = filter (λ entered. nat_le entered.0.day t) classes
 
--- what happens on a day, by the register up to the view day
-module _ (t : ℕ) (item : Equipment) (classes : List (Key × Class)) where
+-- what happens on a day, by the register up to the view day and a leak definition that agrees up to it
+module _ (t : ℕ) (item : Equipment) (classes : List (Key × Class)) (limit other : ℕ → ℕ) (agree : AgreeUpTo t other limit) where
   -- a fact of the days is judged alike by both registers
   happening_same : (day : ℕ) (fitness : Fitness) (body : FactBody) → day ≤ t
-      → happening (item_on t item) (early t classes) day fitness body ≡ happening item classes day fitness body
+      → happening (item_on t item) (early t classes) other day fitness body ≡ happening item classes limit day fitness body
   happening_same day fitness (Reading c instrument operator purpose ppm background) within =
-      let stands = standing_forgets_later_days t day item classes within in rw (stands.class, stands.service) refl
+      let stands = standing_forgets_later_days t day item classes within in rw (stands.class, stands.service, agree day within) refl
   happening_same day fitness (Visual c state) within =
       let stands = standing_forgets_later_days t day item classes within in rw (stands.class, stands.service) refl
   happening_same day fitness (Indication c SensorSort present) within =
@@ -137,46 +137,53 @@ module _ (t : ℕ) (item : Equipment) (classes : List (Key × Class)) where
   happening_same day fitness _ within = refl
 
   -- .. and the fitness of a reading
-  judged_same : (facts : List Entry) (key : Key) (body : FactBody) → key.day ≤ t
-      → fitness_at (item_on t item) (early t classes) facts key body ≡ fitness_at item classes facts key body
+  judged_same : (facts : List Entry) (key : Key) (body : FactBody) → key.day ≤ t → fitness_at other facts key body ≡ fitness_at limit facts key body
   judged_same facts key (Reading c instrument operator purpose ppm background) within =
-      ap (λ class. fitness_of facts (limit_of item.kind item.monomer class) key instrument ppm)
-      ((standing_forgets_later_days t key.day item classes within).class)
+      ap (λ l. fitness_of facts l key instrument ppm) (agree key.day within)
   judged_same facts key _ within = refl
 
   -- .. and so is the event
   event_same : (facts : List Entry) (e : Entry) → e.0.day ≤ t
-      → event_of (item_on t item) (early t classes) e (fitness_among (item_on t item) (early t classes) facts e)
-      ≡ event_of item classes e (fitness_among item classes facts e)
+      → event_of (item_on t item) (early t classes) other e (fitness_among other facts e) ≡ event_of item classes limit e (fitness_among limit facts e)
   event_same facts e within =
       ap (λ what. option_map (λ w. record { key = e.0; what = w }) what)
-      (ap (λ fitness. happening (item_on t item) (early t classes) e.0.day fitness e.1.body) (judged_same facts e.0 e.1.body within)
-      ∙ happening_same e.0.day (fitness_among item classes facts e) e.1.body within)
+      (ap (λ fitness. happening (item_on t item) (early t classes) other e.0.day fitness e.1.body) (judged_same facts e.0 e.1.body within)
+      ∙ happening_same e.0.day (fitness_among limit facts e) e.1.body within)
 
   -- the events up to a day, by the register up to it as by the register of all facts
-  events_same : (facts : List Entry) → events_in (item_on t item) (early t classes) (up_to t facts) ≡ events_in item classes (up_to t facts)
+  events_same : (facts : List Entry) → events_in (item_on t item) (early t classes) other (up_to t facts) ≡ events_in item classes limit (up_to t facts)
   unfolding events_in
   events_same facts =
       let q : Entry → Bool = λ e. nat_le e.0.day t in
       let own : Entry → Bool = λ e. is_numbered (component_of e.1.body) item.component in
       let swapped = filter_swap own q facts in
       rw swapped
-      (given_alike_where _ (λ e. event_of item classes e (fitness_among item classes (up_to t facts) e)) q
+      (given_alike_where _ (λ e. event_of item classes limit e (fitness_among limit (up_to t facts) e)) q
       (λ e within. event_same (up_to t facts) e (leb-true e.0.day t within)) (filter own facts))
 
 pub events_by_own_register : EventsByOwnRegister
-events_by_own_register t item facts =
-    ap (λ classes. events_in (item_on t item) classes (up_to t facts)) (classes_up_to t item.component facts)
-    ∙ events_same t item (classes_of item.component facts) facts
-    ∙ events_up_to t item (classes_of item.component facts) facts
+events_by_own_register t item limit other facts agree =
+    ap (λ classes. events_in (item_on t item) classes other (up_to t facts)) (classes_up_to t item.component facts)
+    ∙ events_same t item (classes_of item.component facts) limit other agree facts
+    ∙ events_up_to t item (classes_of item.component facts) limit facts
+
+pub limits_agree : LimitsAgree
+limits_agree t item facts day within =
+    ap (λ classes. limit_on (item_on t item) classes day) (classes_up_to t item.component facts)
+    ∙ ap (limit_of item.kind item.monomer) (standing_forgets_later_days t day item (classes_of item.component facts) within).class
 
 pub known_up_to_a_day : KnownUpToADay
 known_up_to_a_day t item facts =
     let stops : stops_of item.unit (up_to t facts) ≡ filter (λ stop. nat_le stop.first t) (stops_of item.unit facts) =
     given_up_to (λ e. stop_entered item.unit e.0.day e.1.body) (λ x. x.first) (λ e x is. stop_is item.unit e.0.day e.1.body x is) t facts in
-    ap (λ events. known_with (item_on t item) (classes_of item.component (up_to t facts)) events (stops_of item.unit (up_to t facts)))
-    (events_by_own_register t item facts)
-    ∙ rw (classes_up_to t item.component facts, stops) refl
+    let unit : of_unit item.unit (up_to t facts) ≡ of_unit_to t (of_unit item.unit facts) = ap (λ ss. record { stops = ss }) stops in
+    let classes = classes_of item.component facts in
+    ap (λ events. known_with (item_on t item) (classes_of item.component (up_to t facts)) events (of_unit item.unit (up_to t facts)))
+    (events_by_own_register t item (limit_on item classes) (limit_on (item_on t item) (classes_of item.component (up_to t facts))) facts
+    (limits_agree t item facts))
+    ∙ ap (λ cs. known_with (item_on t item) cs (events_to t (events_in item classes (limit_on item classes) facts)) (of_unit item.unit (up_to t facts)))
+    (classes_up_to t item.component facts)
+    ∙ ap (known_with (item_on t item) (early t classes) (events_to t (events_in item classes (limit_on item classes) facts))) unit
 
 -- ---- the cut
 
@@ -214,4 +221,4 @@ module _ (t : ℕ) where
   }
 
 pub events_are_cut : EventsAreCut
-events_are_cut t item classes facts up = cut_of t (events_in item classes facts) (events_ascend item classes facts up)
+events_are_cut t item classes limit facts up = cut_of t (events_in item classes limit facts) (events_ascend item classes limit facts up)

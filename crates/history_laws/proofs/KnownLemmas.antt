@@ -9,20 +9,21 @@ use Rattle.fact_kinds.specs.declared.key.Key.{Key}
 use Rattle.fact_kinds.specs.Facts.{Entry}
 use Rattle.fact_kinds.specs.Named.{reading_instrument}
 use Rattle.ldar_law.specs.declared.equipment.Equipment.{Equipment}
-use Rattle.ldar_law.specs.Equipment.{equipment_of, classes_of, members_of}
+use Rattle.ldar_law.specs.Equipment.{equipment_of, classes_of, members_of, of_unit}
 use Rattle.ldar_law.specs.Events.{event_of, events_in, fitness_at}
 use Rattle.ldar_law.specs.Fitness.{fitness_of}
 use Rattle.ldar_law.specs.Force.{limit_on}
 use Rattle.ldar_law.specs.Shown.{sheet_of}
 use Rattle.ldar_law.specs.Slices.{facts_of_component, facts_of_instrument}
-use Rattle.ldar_law.specs.Units.{Known, known_of, mark_in, due_list}
+use Rattle.ldar_law.specs.Units.{Known, known_of, known_with, mark_in, due_list}
 use Rattle.std.specs.Option.{option_map}
 use Rattle.list_words.proofs.Members.{all_from_among, Contains-from_among}
 use Rattle.history_laws.proofs.MemberLemmas.{members_stand_in_unit}
 use Rattle.ldar_law.proofs.FitnessLemmas.{fitness_is_of_instrument}
 use Rattle.ldar_law.proofs.SliceLemmas.{own_facts_suffice, unit_facts_suffice}
-use Rattle.history_laws.specs.KnownLaws.{matters, known_in_unit, ComponentsByTheirLists, fitness_by}
-use Rattle.history_laws.specs.KnownLaws.{events_by, KnownByItsLists, HasSameLists, SameListsKnowAlike}
+use Rattle.ldar_law.specs.Stirred.{matters}
+use Rattle.history_laws.specs.KnownLaws.{known_in_unit, ComponentsByTheirLists, fitness_by}
+use Rattle.history_laws.specs.KnownLaws.{events_by, KnownByItsLists, HasSameFacts, SameFactsJudgeAlike, SameListsKnowAlike}
 
 -- what agrees on each element gives the same
 pub given_alike : {X Y : Type 0} (f g : X → Option Y) (xs : List X) → AllByRecursion (λ x. f x ≡ g x) xs → filter_map f xs ≡ filter_map g xs
@@ -34,41 +35,54 @@ pub all_of_each : {X : Type 0} (P : X → Type 0) → ((x : X) → P x) → (xs 
 all_of_each P each [] = tt
 all_of_each P each (x ∷ xs) = (each x, all_of_each P each xs)
 
-module _ (item : Equipment) (classes : List (Key × Class)) where
+module _ (limit : ℕ → ℕ) where
   -- the tests of its instrument judge a reading as all facts do
   fitness_by_tests : (facts : List Entry) (key : Key) (body : FactBody)
-      → fitness_by item classes (λ instrument. facts_of_instrument instrument facts) key body ≡ fitness_at item classes facts key body
+      → fitness_by limit (λ instrument. facts_of_instrument instrument facts) key body ≡ fitness_at limit facts key body
   fitness_by_tests facts key (Reading c instrument operator purpose ppm background) =
-      fitness_is_of_instrument facts (limit_on item classes key.day) key instrument ppm
+      fitness_is_of_instrument facts (limit key.day) key instrument ppm
   fitness_by_tests facts key _ = refl
 
   -- two lists of facts in which the same matter to a reading judge it alike
   fitness_alike : (facts other : List Entry) (key : Key) (body : FactBody)
       → ((instrument : ℕ) → reading_instrument body ≡ Some instrument
       → filter (matters instrument key.day) other ≡ filter (matters instrument key.day) facts)
-      → fitness_at item classes other key body ≡ fitness_at item classes facts key body
+      → fitness_at limit other key body ≡ fitness_at limit facts key body
   fitness_alike facts other key (Reading c instrument operator purpose ppm background) same =
-      sym (fitness_is_of_what_matters other (limit_on item classes key.day) key instrument ppm)
-      ∙ ap (λ tests. fitness_of tests (limit_on item classes key.day) key instrument ppm) (same instrument refl)
-      ∙ fitness_is_of_what_matters facts (limit_on item classes key.day) key instrument ppm
+      sym (fitness_is_of_what_matters other (limit key.day) key instrument ppm)
+      ∙ ap (λ tests. fitness_of tests (limit key.day) key instrument ppm) (same instrument refl)
+      ∙ fitness_is_of_what_matters facts (limit key.day) key instrument ppm
   fitness_alike facts other key _ same = refl
 
+module _ (item : Equipment) (classes : List (Key × Class)) (limit : ℕ → ℕ) where
   -- the events by the tests of each instrument
   events_by_tests : (facts : List Entry)
-      → events_by item classes (facts_of_component item.component facts) (λ instrument. facts_of_instrument instrument facts) ≡ events_in item classes facts
+      → events_by item classes limit (facts_of_component item.component facts) (λ instrument. facts_of_instrument instrument facts)
+      ≡ events_in item classes limit facts
   unfolding events_in
   events_by_tests facts =
       given_alike _ _ (facts_of_component item.component facts)
-      (all_of_each _ (λ e. ap (event_of item classes e) (fitness_by_tests facts e.0 e.1.body)) (facts_of_component item.component facts))
+      (all_of_each _ (λ e. ap (event_of item classes limit e) (fitness_by_tests limit facts e.0 e.1.body)) (facts_of_component item.component facts))
 
   -- .. and of two lists of facts
-  events_alike : (facts other : List Entry) → HasSameLists item.component item.unit facts other → events_in item classes other ≡ events_in item classes facts
+  events_alike : (facts other : List Entry) → HasSameFacts item.component facts other
+      → events_in item classes limit other ≡ events_in item classes limit facts
   unfolding events_in
   events_alike facts other same =
-      ap (filter_map (λ e. event_of item classes e (fitness_at item classes other e.0 e.1.body))) same.own
+      ap (filter_map (λ e. event_of item classes limit e (fitness_at limit other e.0 e.1.body))) same.own
       ∙ given_alike _ _ (facts_of_component item.component facts)
-      (all_weaker _ _ (λ e tests. ap (event_of item classes e) (fitness_alike facts other e.0 e.1.body tests))
+      (all_weaker _ _ (λ e tests. ap (event_of item classes limit e) (fitness_alike limit facts other e.0 e.1.body tests))
       (facts_of_component item.component facts) same.tests)
+
+pub same_facts_judge_alike : SameFactsJudgeAlike
+same_facts_judge_alike item facts other same =
+    let here = own_facts_suffice item.component facts in
+    let there = own_facts_suffice item.component other in
+    record {
+      equipment = sym there.equipment ∙ ap (equipment_of item.component) same.own ∙ here.equipment;
+      classes = sym there.classes ∙ ap (classes_of item.component) same.own ∙ here.classes;
+      events = λ classes limit. events_alike item classes limit facts other same;
+    }
 
 pub known_by_its_lists : KnownByItsLists
 known_by_its_lists item facts =
@@ -77,7 +91,7 @@ known_by_its_lists item facts =
     let classes = classes_of item.component facts in
     record {
       equipment = own.equipment;
-      known = rw (own.classes, stops, events_by_tests item classes facts) refl;
+      known = rw (own.classes, stops, events_by_tests item classes (limit_on item classes) facts) refl;
     }
 
 -- what is known of a member of a process unit, by the lists
@@ -101,14 +115,14 @@ components_by_their_lists unit facts once =
 
 pub same_lists_know_alike : SameListsKnowAlike
 same_lists_know_alike item facts other same =
-    let here = own_facts_suffice item.component facts in
-    let there = own_facts_suffice item.component other in
-    let classes : classes_of item.component other ≡ classes_of item.component facts =
-    sym there.classes ∙ ap (classes_of item.component) same.own ∙ here.classes in
-    let events = events_alike item (classes_of item.component facts) facts other same in
-    let known : known_of other item ≡ known_of facts item = rw (classes, same.stops, events) refl in
+    let alike = same_facts_judge_alike item facts other same.same in
+    let classes = classes_of item.component facts in
+    let known : known_of other item ≡ known_of facts item =
+    ap (λ cs. known_with item cs (events_in item cs (limit_on item cs) other) (of_unit item.unit other)) alike.classes
+    ∙ ap (λ events. known_with item classes events (of_unit item.unit other)) (alike.events classes (limit_on item classes))
+    ∙ ap (known_with item classes (events_in item classes (limit_on item classes) facts)) same.of_unit in
     record {
-      equipment = sym there.equipment ∙ ap (equipment_of item.component) same.own ∙ here.equipment;
+      equipment = alike.equipment;
       known = known;
       sheet = ap sheet_of known;
       mark = λ startup t quarter. ap (mark_in startup t quarter) known;

@@ -13,4 +13,5 @@ pub mod RangeLemmas
 pub mod RegisterOfRuly
 pub mod RegisterUpTo
 pub mod SpanLemmas
+pub mod TouchLemmas
 pub mod UpTo

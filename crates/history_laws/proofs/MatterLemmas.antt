@@ -14,7 +14,8 @@ use Rattle.ldar_law.specs.Fitness.{is_calibration, is_calibration_within, is_pas
 use Rattle.ldar_law.specs.Fitness.{is_calibrated, is_calibrated_within, is_tested, is_calibrated_before, is_voided_by}
 use Rattle.ldar_law.specs.Slices.{facts_of_instrument}
 use Rattle.ldar_law.proofs.TestLemmas.{both}
-use Rattle.history_laws.specs.KnownLaws.{is_of_matter, matters, FitnessIsOfWhatMatters, SameTestsMatter}
+use Rattle.ldar_law.specs.Stirred.{is_of_matter, matters}
+use Rattle.history_laws.specs.KnownLaws.{FitnessIsOfWhatMatters, SameTestsMatter}
 use Rattle.history_laws.proofs.EventsUpTo.{last_asked}
 
 -- ---- what each test asks for matters

@@ -25,7 +25,8 @@ use Rattle.ldar_law.specs.Slices.{facts_of_component, is_registered}
 use Rattle.ldar_law.proofs.ForceLemmas.{class_keyed}
 use Rattle.ldar_law.proofs.Gifts.{among_given, given_among}
 use Rattle.ldar_law.proofs.WeakOrder.{InOrder, each_in_order, put_keeps, put_filter, put_front, weak_earlier, weak_goes_first, before_all}
-use Rattle.history_laws.specs.KnownLaws.{matters, HasSameLists}
+use Rattle.ldar_law.specs.Stirred.{matters}
+use Rattle.history_laws.specs.KnownLaws.{HasSameLists}
 use Rattle.history_laws.specs.MoreLaws.{with_batch, PartOfMoreFacts, PartStays, ListsGrow, RegisterGrows, MembersGrow, is_shutdown}
 use Rattle.history_laws.specs.MoreLaws.{LeavesAlone, LeftAloneIsKnownAlike}
 use Rattle.history_laws.proofs.Counting.{strict_lt, count_cons}
@@ -271,14 +272,17 @@ module _ (t : ℕ) (history : List Batch) (batch : Batch) (differ : IsTrue (iden
       subst (AllByRecursion untested) (sym (filter_swap (λ e. is_numbered (component_of e.1.body) number) q (facts_of history)))
       (all_of_part untested q (facts_of_component number (facts_of history)) alone.tests) in
       record {
-        own = part_stays_to (λ e. is_numbered (component_of e.1.body) number) alone.component;
-        tests = all_weaker untested (λ e. (instrument : ℕ) → reading_instrument e.1.body ≡ Some instrument
-            → filter (matters instrument e.0.day) (facts_to t (with_batch history batch)) ≡ filter (matters instrument e.0.day) (facts_to t history))
-            (λ e none instrument read. part_stays_to (matters instrument e.0.day) (none instrument read))
-            (facts_of_component number (facts_to t history)) own;
-        stops = sym (stops_by_shutdowns unit (facts_to t (with_batch history batch)))
+        same = record {
+          own = part_stays_to (λ e. is_numbered (component_of e.1.body) number) alone.component;
+          tests = all_weaker untested (λ e. (instrument : ℕ) → reading_instrument e.1.body ≡ Some instrument
+              → filter (matters instrument e.0.day) (facts_to t (with_batch history batch)) ≡ filter (matters instrument e.0.day) (facts_to t history))
+              (λ e none instrument read. part_stays_to (matters instrument e.0.day) (none instrument read))
+              (facts_of_component number (facts_to t history)) own;
+        };
+        of_unit = ap (λ stops. record { stops = stops })
+            (sym (stops_by_shutdowns unit (facts_to t (with_batch history batch)))
             ∙ ap (stops_of unit) (part_stays_to (λ e. is_shutdown unit e.1.body) alone.shutdowns)
-            ∙ stops_by_shutdowns unit (facts_to t history);
+            ∙ stops_by_shutdowns unit (facts_to t history));
       }
 
 pub left_alone_is_known_alike : LeftAloneIsKnownAlike

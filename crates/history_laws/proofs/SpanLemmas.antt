@@ -150,7 +150,7 @@ spans_up_to_a_day t kind events up =
     ∙ ap (λ all. map (span_on t kind front) (detected_by t (each_from (span_at kind events) [] all))) whole
 
 pub spans_by_facts_up_to_a_day : SpansByFactsUpToADay
-spans_by_facts_up_to_a_day t item facts up =
-    ap (spans_of item.kind) (events_by_own_register t item facts)
-    ∙ spans_up_to_a_day t item.kind (events_in item (classes_of item.component facts) facts)
-    (events_ascend item (classes_of item.component facts) facts up)
+spans_by_facts_up_to_a_day t item limit other facts agree up =
+    ap (spans_of item.kind) (events_by_own_register t item limit other facts agree)
+    ∙ spans_up_to_a_day t item.kind (events_in item (classes_of item.component facts) limit facts)
+    (events_ascend item (classes_of item.component facts) limit facts up)

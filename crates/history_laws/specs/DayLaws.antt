@@ -10,11 +10,12 @@ use Rattle.fact_kinds.specs.declared.key.Key.{Key}
 use Rattle.fact_kinds.specs.Facts.{Entry, goes_first, facts_of}
 use Rattle.ldar_law.specs.declared.equipment.Equipment.{Equipment}
 use Rattle.ldar_law.specs.declared.event.Event.{Event}
+use Rattle.ldar_law.specs.declared.of_unit.OfUnit.{OfUnit}
 use Rattle.ldar_law.specs.declared.unit_entry.UnitEntry.{UnitEntry}
 use Rattle.ldar_law.specs.Equipment.{retired_on, equipment_of, classes_of, unit_entry_of, members_of, elections_of, stops_of}
 use Rattle.ldar_law.specs.Events.{events_in}
 use Rattle.ldar_law.specs.Fitness.{fitness_of}
-use Rattle.ldar_law.specs.Force.{class_on, is_in_service}
+use Rattle.ldar_law.specs.Force.{class_on, is_in_service, limit_on}
 use Rattle.ldar_law.specs.Units.{known_of, components_of}
 use Rattle.history_laws.specs.RulyLaws.{IsEachOnce}
 
@@ -87,6 +88,10 @@ pub record UnitUpTo (t number : ℕ) (facts : List Entry) : Type 0 where
   pub elections : elections_of number (up_to t facts) ≡ filter (λ election. nat_le election.key.day t) (elections_of number facts)
   pub stops : stops_of number (up_to t facts) ≡ filter (λ stop. nat_le stop.first t) (stops_of number facts)
 
+-- what is entered for a process unit up to a day
+abbrev pub of_unit_to : ℕ → OfUnit → OfUnit
+of_unit_to t unit = record { stops = filter (λ stop. nat_le stop.first t) unit.stops }
+
 abbrev pub UnitsUpToADay : Type 0
 UnitsUpToADay = (t number : ℕ) (facts : List Entry) → AreInOrder facts → UnitUpTo t number facts
 
@@ -130,15 +135,25 @@ events_to t events = filter (λ e. nat_le e.key.day t) events
 -- the events by the facts up to a day are those of days up to it by all facts, by one register
 abbrev pub EventsUpToADay : Type 0
 EventsUpToADay =
-    (t : ℕ) (item : Equipment) (classes : List (Key × Class)) (facts : List Entry)
-    → events_in item classes (up_to t facts) ≡ events_to t (events_in item classes facts)
+    (t : ℕ) (item : Equipment) (classes : List (Key × Class)) (limit : ℕ → ℕ) (facts : List Entry)
+    → events_in item classes limit (up_to t facts) ≡ events_to t (events_in item classes limit facts)
 
--- .. and by the register of each, though the class changes or the component retires later
+-- two leak definitions agree on the days up to one
+abbrev pub AgreeUpTo : ℕ → (ℕ → ℕ) → (ℕ → ℕ) → Type 0
+AgreeUpTo t other limit = (day : ℕ) → day ≤ t → other day ≡ limit day
+
+-- .. and by the register of each, though the class changes or the component retires later; the leak definitions agree up to the day
 abbrev pub EventsByOwnRegister : Type 0
 EventsByOwnRegister =
+    (t : ℕ) (item : Equipment) (limit other : ℕ → ℕ) (facts : List Entry) → AgreeUpTo t other limit
+    → events_in (item_on t item) (classes_of item.component (up_to t facts)) other (up_to t facts)
+    ≡ events_to t (events_in item (classes_of item.component facts) limit facts)
+
+-- those of the rule do, by the register of each
+abbrev pub LimitsAgree : Type 0
+LimitsAgree =
     (t : ℕ) (item : Equipment) (facts : List Entry)
-    → events_in (item_on t item) (classes_of item.component (up_to t facts)) (up_to t facts)
-    ≡ events_to t (events_in item (classes_of item.component facts) facts)
+    → AgreeUpTo t (limit_on (item_on t item) (classes_of item.component (up_to t facts))) (limit_on item (classes_of item.component facts))
 
 -- events in key order are those of days up to one, and then those of later days
 pub record IsCutAt (t : ℕ) (events : List Event) : Type 0 where
@@ -147,5 +162,5 @@ pub record IsCutAt (t : ℕ) (events : List Event) : Type 0 where
 
 abbrev pub EventsAreCut : Type 0
 EventsAreCut =
-    (t : ℕ) (item : Equipment) (classes : List (Key × Class)) (facts : List Entry) → Ascends goes_first facts
-    → IsCutAt t (events_in item classes facts)
+    (t : ℕ) (item : Equipment) (classes : List (Key × Class)) (limit : ℕ → ℕ) (facts : List Entry) → Ascends goes_first facts
+    → IsCutAt t (events_in item classes limit facts)

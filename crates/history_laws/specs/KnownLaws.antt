@@ -1,55 +1,50 @@
--- A component is known by its own facts, its instruments' tests and its process unit's shutdowns: the statements of `known`.
-use Rattle.std.specs.Prelude.{◌≡◌, ℕ, Bool, false, ◌&&◌, nat_eq, Some, List, [], ◌∷◌, filter, filter_map, nat_le, option_map}
-use Rattle.ldar_days.specs.Calendar.{later_by}
+-- A component is known by its own facts, its instruments' tests and what is entered for its process unit: the statements of `known`.
+use Rattle.std.specs.Prelude.{◌≡◌, ℕ, Bool, Some, List, [], ◌∷◌, filter, filter_map, nat_le, option_map}
 use Rattle.std.specs.List.{AllByRecursion}
 use Rattle.fact_kinds.specs.declared.body.FactBody.{FactBody}
-use Rattle.fact_kinds.specs.declared.body.FactBody.TheVariants.{Calibration, Precision, Drift, Reading}
+use Rattle.fact_kinds.specs.declared.body.FactBody.TheVariants.{Reading}
 use Rattle.fact_kinds.specs.declared.class.Class.{Class}
 use Rattle.fact_kinds.specs.declared.key.Key.{Key}
 use Rattle.fact_kinds.specs.Facts.{Entry}
 use Rattle.fact_kinds.specs.Named.{reading_instrument}
-use Rattle.ldar_law.specs.declared.delay.Stop.{Stop}
 use Rattle.ldar_law.specs.declared.equipment.Equipment.{Equipment}
 use Rattle.ldar_law.specs.declared.event.Event.{Event}
 use Rattle.ldar_law.specs.declared.fitness.Fitness.{Fitness}
 use Rattle.ldar_law.specs.declared.fitness.Fitness.TheVariants.{NoCalibration}
-use Rattle.ldar_law.specs.Equipment.{equipment_of, classes_of, members_of, stops_of}
+use Rattle.ldar_law.specs.declared.of_unit.OfUnit.{OfUnit}
+use Rattle.ldar_law.specs.Equipment.{equipment_of, classes_of, members_of, of_unit}
 use Rattle.ldar_law.specs.Events.{event_of, events_in}
 use Rattle.ldar_law.specs.Fitness.{fitness_of}
 use Rattle.ldar_law.specs.Force.{limit_on}
 use Rattle.ldar_law.specs.Shown.{sheet_of}
 use Rattle.ldar_law.specs.Slices.{facts_of_component, facts_of_unit, facts_of_instrument}
-use Rattle.ldar_law.specs.Tags.{tags_of}
-use Rattle.ldar_law.specs.Units.{Known, known_of, components_of, mark_in, due_list}
+use Rattle.ldar_law.specs.Stirred.{matters}
+use Rattle.ldar_law.specs.Units.{Known, known_of, known_with, components_of, mark_in, due_list}
 use Rattle.history_laws.specs.RulyLaws.{IsEachOnce}
-use Rattle.history_laws.specs.DayLaws.{up_to, item_on, events_to}
+use Rattle.history_laws.specs.DayLaws.{up_to, item_on, events_to, of_unit_to}
 
 -- ---- of lists of its own
 
--- the fitness of a reading with this key, by the tests of each instrument
-abbrev pub fitness_by : Equipment → List (Key × Class) → (ℕ → List Entry) → Key → FactBody → Fitness
-fitness_by item classes tests key (Reading _ instrument _ _ ppm _) = fitness_of (tests instrument) (limit_on item classes key.day) key instrument ppm
-fitness_by item classes tests key _ = NoCalibration
+-- the fitness of a reading with this key, by the leak definition of each day and the tests of each instrument
+abbrev pub fitness_by : (ℕ → ℕ) → (ℕ → List Entry) → Key → FactBody → Fitness
+fitness_by limit tests key (Reading _ instrument _ _ ppm _) = fitness_of (tests instrument) (limit key.day) key instrument ppm
+fitness_by limit tests key _ = NoCalibration
 
 -- the events of a component, by its own facts and the tests of each instrument
-abbrev pub events_by : Equipment → List (Key × Class) → List Entry → (ℕ → List Entry) → List Event
-events_by item classes own tests = filter_map (λ e. event_of item classes e (fitness_by item classes tests e.0 e.1.body)) own
+abbrev pub events_by : Equipment → List (Key × Class) → (ℕ → ℕ) → List Entry → (ℕ → List Entry) → List Event
+events_by item classes limit own tests = filter_map (λ e. event_of item classes limit e (fitness_by limit tests e.0 e.1.body)) own
 
--- what is known of a component, by these events and the shutdowns of its process unit
-abbrev pub known_with : Equipment → List (Key × Class) → List Event → List Stop → Known
-known_with item classes events stops =
-    record { item = item; classes = classes; events = events; tags = tags_of item.component item.kind events stops }
-
--- .. by its own facts, the tests of each instrument and the shutdowns
-abbrev pub known_from : Equipment → List Entry → (ℕ → List Entry) → List Stop → Known
-known_from item own tests stops =
-    known_with item (classes_of item.component own) (events_by item (classes_of item.component own) own tests) stops
+-- what is known of a component, by its own facts, the tests of each instrument and what is entered for its process unit
+abbrev pub known_from : Equipment → List Entry → (ℕ → List Entry) → OfUnit → Known
+known_from item own tests unit =
+    let classes = classes_of item.component own in
+    known_with item classes (events_by item classes (limit_on item classes) own tests) unit
 
 -- a component is known by the facts that name it, the tests of each instrument, and the facts that name its process unit
 pub record IsKnownByItsLists (item : Equipment) (facts : List Entry) : Type 0 where
   pub equipment : equipment_of item.component (facts_of_component item.component facts) ≡ equipment_of item.component facts
   pub known : known_from item (facts_of_component item.component facts) (λ instrument. facts_of_instrument instrument facts)
-      (stops_of item.unit (facts_of_unit item.unit facts))
+      (of_unit item.unit (facts_of_unit item.unit facts))
       ≡ known_of facts item
 
 abbrev pub KnownByItsLists : Type 0
@@ -58,7 +53,7 @@ KnownByItsLists = (item : Equipment) (facts : List Entry) → IsKnownByItsLists 
 -- .. in its process unit
 abbrev pub known_in_unit : ℕ → ℕ → List Entry → Equipment → Known
 known_in_unit unit number facts item =
-    known_from item (facts_of_component number facts) (λ instrument. facts_of_instrument instrument facts) (stops_of unit (facts_of_unit unit facts))
+    known_from item (facts_of_component number facts) (λ instrument. facts_of_instrument instrument facts) (of_unit unit (facts_of_unit unit facts))
 
 -- where each component is entered once, the components of a process unit are known by these lists, and they are found by the facts that
 -- name the unit
@@ -70,18 +65,6 @@ ComponentsByTheirLists =
     (members_of unit (facts_of_unit unit facts))
 
 -- ---- of two lists of facts
-
--- a fact of a day matters to the readings of a day with an instrument: a calibration or a drift assessment of it on that day, or a
--- precision test of it on that day or at most three months before (40 CFR 60.485a(b); EPA Method 21, section 8.1.2)
-abbrev pub is_of_matter : ℕ → ℕ → ℕ → FactBody → Bool
-is_of_matter instrument day tested (Calibration of gas) = nat_eq of instrument && nat_eq tested day
-is_of_matter instrument day tested (Drift of value readings) = nat_eq of instrument && nat_eq tested day
-is_of_matter instrument day tested (Precision of value readings) = nat_eq of instrument && nat_le tested day && nat_le day (later_by 3 tested)
-is_of_matter instrument day tested _ = false
-
--- .. with its key
-abbrev pub matters : ℕ → ℕ → Entry → Bool
-matters instrument day e = is_of_matter instrument day e.0.day e.1.body
 
 -- a reading is judged by what matters to it as by all facts
 abbrev pub FitnessIsOfWhatMatters : Type 0
@@ -95,12 +78,26 @@ SameTestsMatter =
     (facts other : List Entry) (instrument day : ℕ) → facts_of_instrument instrument other ≡ facts_of_instrument instrument facts
     → filter (matters instrument day) other ≡ filter (matters instrument day) facts
 
--- in both lists of facts the same ones name the component, the same matter to its readings, and its process unit has the same shutdowns
-pub record HasSameLists (number unit : ℕ) (facts other : List Entry) : Type 0 where
+-- in both lists of facts the same ones name the component, and the same matter to its readings
+pub record HasSameFacts (number : ℕ) (facts other : List Entry) : Type 0 where
   pub own : facts_of_component number other ≡ facts_of_component number facts
   pub tests : AllByRecursion (λ e. (instrument : ℕ) → reading_instrument e.1.body ≡ Some instrument
       → filter (matters instrument e.0.day) other ≡ filter (matters instrument e.0.day) facts) (facts_of_component number facts)
-  pub stops : stops_of unit other ≡ stops_of unit facts
+
+-- the component then has the same classes, and the same events by any classes and any leak definition of each day
+pub record IsJudgedAlike (item : Equipment) (facts other : List Entry) : Type 0 where
+  pub equipment : equipment_of item.component other ≡ equipment_of item.component facts
+  pub classes : classes_of item.component other ≡ classes_of item.component facts
+  pub events : (classes : List (Key × Class)) (limit : ℕ → ℕ) → events_in item classes limit other ≡ events_in item classes limit facts
+
+abbrev pub SameFactsJudgeAlike : Type 0
+SameFactsJudgeAlike =
+    (item : Equipment) (facts other : List Entry) → HasSameFacts item.component facts other → IsJudgedAlike item facts other
+
+-- .. and in both the same is entered for its process unit
+pub record HasSameLists (number unit : ℕ) (facts other : List Entry) : Type 0 where
+  pub same : HasSameFacts number facts other
+  pub of_unit : of_unit unit other ≡ of_unit unit facts
 
 -- two lists of facts say the same of a component: what the register has, its events and tags, what it adds to a quarter and to a report,
 -- and, by the startup of its process unit and the quarters that are skipped, its duties
@@ -118,11 +115,12 @@ SameListsKnowAlike =
 
 -- ---- on a day
 
--- what is known of a component on a day, by the facts up to it and the register up to it: its classes, events and shutdowns are those of all
--- facts that are of days up to the day
+-- what is known of a component on a day, by the facts up to it and the register up to it: its classes, its events and its process unit's
+-- shutdowns are those of all facts that are of days up to the day
 abbrev pub KnownUpToADay : Type 0
 KnownUpToADay =
     (t : ℕ) (item : Equipment) (facts : List Entry)
     → known_of (up_to t facts) (item_on t item)
     ≡ known_with (item_on t item) (filter (λ entered. nat_le entered.0.day t) (classes_of item.component facts))
-    (events_to t (events_in item (classes_of item.component facts) facts)) (filter (λ stop. nat_le stop.first t) (stops_of item.unit facts))
+    (events_to t (events_in item (classes_of item.component facts) (limit_on item (classes_of item.component facts)) facts))
+    (of_unit_to t (of_unit item.unit facts))

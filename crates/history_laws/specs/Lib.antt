@@ -5,4 +5,5 @@ pub mod MoreLaws
 pub mod RangeLaws
 pub mod RulyLaws
 pub mod SpanLaws
+pub mod TouchLaws
 pub mod Witnesses

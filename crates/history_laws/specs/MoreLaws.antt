@@ -13,7 +13,8 @@ use Rattle.ldar_law.specs.declared.equipment.Equipment.{Equipment}
 use Rattle.ldar_law.specs.Equipment.{classes_of, elections_of, members_of}
 use Rattle.ldar_law.specs.RegisterLaws.{class_first}
 use Rattle.ldar_law.specs.Slices.{facts_of_component, facts_of_unit, facts_of_instrument, readings_of_instrument, register_facts}
-use Rattle.history_laws.specs.KnownLaws.{matters, IsKnownAlike}
+use Rattle.ldar_law.specs.Stirred.{matters}
+use Rattle.history_laws.specs.KnownLaws.{IsKnownAlike}
 use Rattle.history_laws.specs.RulyLaws.{IsEachOnce}
 
 -- the history with one batch more

@@ -10,7 +10,7 @@ use Rattle.ldar_law.specs.declared.span.Span.{Span}
 use Rattle.ldar_law.specs.Equipment.{classes_of}
 use Rattle.ldar_law.specs.Events.{events_in}
 use Rattle.ldar_law.specs.Spans.{is_removable, spans_of}
-use Rattle.history_laws.specs.DayLaws.{up_to, if_come, item_on, events_to}
+use Rattle.history_laws.specs.DayLaws.{up_to, if_come, item_on, events_to, AgreeUpTo}
 
 -- the key, if its day has come by another
 abbrev pub if_closed : ℕ → Option Key → Option Key
@@ -36,10 +36,10 @@ SpansUpToADay =
     (t : ℕ) (kind : Kind) (events : List Event) → Ascends (λ a b. is_earlier a.key b.key) events
     → spans_of kind (events_to t events) ≡ map (span_on t kind (events_to t events)) (detected_by t (spans_of kind events))
 
--- .. and so the tags of a component by the facts up to a day, by the register up to it
+-- .. and so the tags of a component by the facts up to a day, by the register up to it; the leak definitions agree up to the day
 abbrev pub SpansByFactsUpToADay : Type 0
 SpansByFactsUpToADay =
-    (t : ℕ) (item : Equipment) (facts : List Entry) → Ascends goes_first facts
-    → spans_of item.kind (events_in (item_on t item) (classes_of item.component (up_to t facts)) (up_to t facts))
-    ≡ map (span_on t item.kind (events_to t (events_in item (classes_of item.component facts) facts)))
-    (detected_by t (spans_of item.kind (events_in item (classes_of item.component facts) facts)))
+    (t : ℕ) (item : Equipment) (limit other : ℕ → ℕ) (facts : List Entry) → AgreeUpTo t other limit → Ascends goes_first facts
+    → spans_of item.kind (events_in (item_on t item) (classes_of item.component (up_to t facts)) other (up_to t facts))
+    ≡ map (span_on t item.kind (events_to t (events_in item (classes_of item.component facts) limit facts)))
+    (detected_by t (spans_of item.kind (events_in item (classes_of item.component facts) limit facts)))

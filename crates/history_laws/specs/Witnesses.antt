@@ -11,6 +11,7 @@ use Rattle.ldar_law.specs.declared.equipment.Equipment.{Equipment}
 use Rattle.ldar_law.specs.declared.event.Event.{Event}
 use Rattle.ldar_law.specs.Equipment.{equipment_of, classes_of}
 use Rattle.ldar_law.specs.Events.{events_in}
+use Rattle.ldar_law.specs.Force.{limit_on}
 use Rattle.ldar_law.specs.Happenings.{is_leak}
 use Rattle.fact_kinds.specs.declared.class.Class.{Class}
 use Rattle.fact_kinds.specs.declared.key.Key.{Key}
@@ -101,7 +102,7 @@ leaks_in events = map (λ e. is_leak e.what) events
 
 -- .. of valve 1 by some facts
 abbrev pub leaks_of_1 : List Entry → List Bool
-leaks_of_1 facts = leaks_in (events_in valve_1 (classes_of 1 facts) facts)
+leaks_of_1 facts = leaks_in (events_in valve_1 (classes_of 1 facts) (limit_on valve_1 (classes_of 1 facts)) facts)
 
 -- the due days of its tags
 abbrev pub due_days_of_1 : List Entry → List Until

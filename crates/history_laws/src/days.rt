@@ -2,7 +2,7 @@
 
 ghost use Rattle.history_laws.specs.DayLaws.{HistoryIsInOrder, AscendingAreInOrder, PartIsInOrder, PartUpToADay, FactsAreCut, ComponentsUpToADay};
 ghost use Rattle.history_laws.specs.DayLaws.{UnitsUpToADay, StandingForgetsLaterDays, MembersUpToADay, ComponentsAreOfAllMembers};
-ghost use Rattle.history_laws.specs.DayLaws.{FitnessForgetsLaterDays, EventsUpToADay, EventsByOwnRegister, EventsAreCut};
+ghost use Rattle.history_laws.specs.DayLaws.{FitnessForgetsLaterDays, EventsUpToADay, EventsByOwnRegister, LimitsAgree, EventsAreCut};
 
 /// The facts of a history are in order, and so are facts that ascend, and a part of facts in order.
 pub fn facts_in_order()
@@ -40,10 +40,11 @@ pub fn fitness_forgets_later_days()
 {}
 
 /// The events by the facts up to a day are those of days up to it by all facts, though the class changes or the component
-/// retires later.
+/// retires later: for every leak definition, and for two that agree up to the day, as those of the rule do.
 pub fn events_up_to_a_day()
     ensures register { EventsUpToADay }
     ensures own { EventsByOwnRegister }
+    ensures limits { LimitsAgree }
 {}
 
 /// The events of days up to one are the front of all events.

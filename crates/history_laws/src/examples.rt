@@ -10,6 +10,7 @@ ghost use Rattle.ldar_law.specs.declared.delay.Until.TheVariants.{Date, Shutdown
 ghost use Rattle.ldar_law.specs.declared.fitness.Fitness.TheVariants.{Fit, NoCalibration};
 ghost use Rattle.ldar_law.specs.Equipment.{classes_of, members_of, stops_of, unit_entry_of};
 ghost use Rattle.ldar_law.specs.Events.{events_in};
+ghost use Rattle.ldar_law.specs.Force.{limit_on};
 ghost use Rattle.ldar_law.specs.Fitness.{fitness_of};
 ghost use Rattle.ldar_law.specs.Short.{date, key, valve};
 ghost use Rattle.ldar_law.specs.ShortEvents.{span, stop};
@@ -23,7 +24,7 @@ ghost use Rattle.ldar_law.specs.ShortLists.{duties_on, duties_with, owes};
 ghost use Rattle.fact_kinds.specs.declared.class.Service.TheVariants.{Gas, Heavy};
 ghost use Rattle.history_laws.specs.DayLaws.{events_to, has_begun, item_on, up_to};
 ghost use Rattle.fact_kinds.specs.declared.body.FactBody.TheVariants.{Calibration, Drift, Precision};
-ghost use Rattle.history_laws.specs.KnownLaws.{is_of_matter};
+ghost use Rattle.ldar_law.specs.Stirred.{is_of_matter};
 ghost use Rattle.history_laws.specs.SpanLaws.{detected_by, span_on};
 ghost use Rattle.history_laws.specs.Witnesses.{before_its_unit, beginning_of_1, changing_valve, delayed_leak, due_days_of_1, entered_again};
 ghost use Rattle.history_laws.specs.Witnesses.{entered_twice, first_of_identity, heavy_from, in_two_units, leak_without_shutdown};
@@ -84,9 +85,9 @@ pub fn a_reading_after_the_day()
 
 /// The events up to a day are the front of all events, though the class changes and the valve retires later.
 pub fn events_before_a_change()
-    ensures by_all { leaks_in (events_in valve_1 (classes_of 1 changing_valve) changing_valve) ≡ true ∷ false ∷ false ∷ [] }
+    ensures by_all { leaks_in (events_in valve_1 (classes_of 1 changing_valve) (limit_on valve_1 (classes_of 1 changing_valve)) changing_valve) ≡ true ∷ false ∷ false ∷ [] }
     ensures up_to_april { leaks_of_1 (up_to (date 2024 4 1) changing_valve) ≡ true ∷ [] }
-    ensures front { leaks_in (events_to (date 2024 4 1) (events_in valve_1 (classes_of 1 changing_valve) changing_valve)) ≡ true ∷ [] }
+    ensures front { leaks_in (events_to (date 2024 4 1) (events_in valve_1 (classes_of 1 changing_valve) (limit_on valve_1 (classes_of 1 changing_valve)) changing_valve)) ≡ true ∷ [] }
 {}
 
 /// A tag that is removable by the events up to a day, and not by all: a leak takes its second clean month away.

@@ -1,7 +1,7 @@
-//! A component is known by its own facts, its instruments' tests and its process unit's shutdowns.
+//! A component is known by its own facts, its instruments' tests and what is entered for its process unit.
 
 ghost use Rattle.history_laws.specs.KnownLaws.{KnownByItsLists, ComponentsByTheirLists, FitnessIsOfWhatMatters};
-ghost use Rattle.history_laws.specs.KnownLaws.{SameTestsMatter, SameListsKnowAlike, KnownUpToADay};
+ghost use Rattle.history_laws.specs.KnownLaws.{SameTestsMatter, SameFactsJudgeAlike, SameListsKnowAlike, KnownUpToADay};
 
 /// What all facts say of a component, the lists say that a store keeps: the facts that name it, the tests of each
 /// instrument, and the facts that name its process unit; and so of all components of a process unit.
@@ -17,8 +17,13 @@ pub fn fitness_is_of_what_matters()
     ensures same_tests { SameTestsMatter }
 {}
 
-/// Where the facts that name a component, those that matter to its readings and its unit's shutdowns are the same in two
-/// lists of facts, the two say the same of the component.
+/// If the facts that name a component and those that matter to its readings are the same in two lists of facts, it has the
+/// same entry, classes and events by both, whatever is entered for its process unit.
+pub fn same_facts_judge_alike()
+    ensures law { SameFactsJudgeAlike }
+{}
+
+/// If what is entered for its unit is the same too, the two lists say the same of the component.
 pub fn same_lists_know_alike()
     ensures law { SameListsKnowAlike }
 {}

@@ -9,3 +9,4 @@ pub mod known;
 pub mod ranges;
 pub mod ruly;
 pub mod spans;
+pub mod touches;

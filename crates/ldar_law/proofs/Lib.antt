@@ -9,6 +9,7 @@ pub mod EventLemmas
 pub mod FitnessLemmas
 pub mod ForceLemmas
 pub mod Gifts
+pub mod KeyFronts
 pub mod KindLemmas
 pub mod MonthLemmas
 pub mod QuarterLemmas

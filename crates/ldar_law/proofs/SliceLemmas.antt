@@ -11,7 +11,7 @@ use Rattle.fact_kinds.specs.Named.{component_of, unit_of, is_numbered}
 use Rattle.ldar_law.specs.Equipment.{retires, retired_on, component_entered, class_entered, class_at, unit_entered, member_entered, election_entered}
 use Rattle.ldar_law.specs.Equipment.{stop_entered}
 use Rattle.ldar_law.specs.Slices.{is_registered}
-use Rattle.ldar_law.specs.RegisterLaws.{HasComponent, HasUnit, OwnFactsSuffice, UnitFactsSuffice, RegisterFactsSuffice}
+use Rattle.ldar_law.specs.RegisterLaws.{HasComponent, HasUnit, OwnFactsSuffice, UnitFactsSuffice, UnitFactsJudge, RegisterFactsSuffice}
 
 -- a fact that enters nothing for a component
 pub record IsSilentOnComponent (number : ℕ) (body : FactBody) : Type 0 where
@@ -100,6 +100,9 @@ own_facts_suffice number facts = has_component number (λ e. is_numbered (compon
 
 pub unit_facts_suffice : UnitFactsSuffice
 unit_facts_suffice number facts = has_unit number (λ e. is_numbered (unit_of e.1.body) number) (λ e. unnamed_unit number e.1.body) facts
+
+pub unit_facts_judge : UnitFactsJudge
+unit_facts_judge number facts = rw (unit_facts_suffice number facts).stops refl
 
 pub register_facts_suffice : RegisterFactsSuffice
 register_facts_suffice number facts = (

@@ -8,6 +8,7 @@ use Rattle.ldar_law.specs.declared.delay.DelayEntry.{DelayEntry}
 use Rattle.ldar_law.specs.declared.delay.Stop.{Stop}
 use Rattle.ldar_law.specs.declared.delay.Until.{Until}
 use Rattle.ldar_law.specs.declared.delay.Until.TheVariants.{Date, Shutdown, WhileIsolated, NoDate}
+use Rattle.ldar_law.specs.declared.grounds.TheConstants.{GROUND_WITHDRAWN, GROUND_SHUTDOWN, GROUND_ISOLATED, GROUND_PURGING, GROUND_DUAL_SEAL}
 use Rattle.ldar_law.specs.declared.numbers.TheConstants.{ATTEMPT_DAYS, REPAIR_DAYS, VERIFICATION_DAYS}
 
 -- a delay of repair, as it is entered
@@ -58,15 +59,15 @@ module _ (detected : ℕ) (attempts : List ℕ) (stops : List Stop) where
   abbrev pub due_by : ℕ → ℕ → Until
   due_by why day =
       -- withdrawn: as without a delay, and at least the day of withdrawal (our own rule)
-      if nat_eq why 0 then Date (max (repair_by detected) day)
+      if nat_eq why GROUND_WITHDRAWN then Date (max (repair_by detected) day)
       -- 40 CFR 60.482-9a(a): infeasible without a shutdown
-      else if nat_eq why 1 then end_of_first attempts (stops_after detected stops)
+      else if nat_eq why GROUND_SHUTDOWN then end_of_first attempts (stops_after detected stops)
       -- 40 CFR 60.482-9a(b): isolated, and not in VOC service
-      else if nat_eq why 2 then WhileIsolated
+      else if nat_eq why GROUND_ISOLATED then WhileIsolated
       -- 40 CFR 60.482-9a(c): purging emits more than the leak
-      else if nat_eq why 3 then NoDate
+      else if nat_eq why GROUND_PURGING then NoDate
       -- 40 CFR 60.482-9a(d): a dual mechanical seal is needed
-      else if nat_eq why 4 then Date (later_by 6 detected)
+      else if nat_eq why GROUND_DUAL_SEAL then Date (later_by 6 detected)
       -- 40 CFR 60.482-9a(e): the stock of valve assemblies is depleted
       else end_of_second attempts (stops_after detected stops)
 

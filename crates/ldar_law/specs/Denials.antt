@@ -18,6 +18,7 @@ use Rattle.fact_kinds.specs.declared.body.FactBody.TheVariants.{Unit as UnitFact
 use Rattle.fact_kinds.specs.declared.body.FactBody.TheVariants.{Calibration, Precision, Drift, Reading, Visual, Attempt, Delay, Release, Indication}
 use Rattle.fact_kinds.specs.Facts.{Entry}
 use Rattle.ldar_law.specs.declared.equipment.Equipment.{Equipment}
+use Rattle.ldar_law.specs.declared.grounds.TheConstants.{GROUND_SHUTDOWN, GROUND_PURGING, GROUND_DUAL_SEAL, GROUND_STOCK}
 use Rattle.ldar_law.specs.declared.numbers.TheConstants.{LAST_FACT_DAY, NOTICE_DAYS}
 use Rattle.ldar_law.specs.declared.regime.Regime.{Regime}
 use Rattle.ldar_law.specs.declared.regime.Regime.TheVariants.{ValveRules, PumpRules, CompressorRules}
@@ -145,19 +146,19 @@ is_ground_for_another wanted test case = elim case.entry.1.body [
 
 -- rule 9 (40 CFR 60.482-9a(c)): the purge would emit more, at what is no valve
 abbrev pub purges_no_valve : Case → Bool
-purges_no_valve case = is_ground_for_another 3 is_valve case
+purges_no_valve case = is_ground_for_another GROUND_PURGING is_valve case
 
 -- rule 10 (40 CFR 60.482-9a(d)): a dual seal for what is no pump
 abbrev pub seals_no_pump : Case → Bool
-seals_no_pump case = is_ground_for_another 4 is_pump case
+seals_no_pump case = is_ground_for_another GROUND_DUAL_SEAL is_pump case
 
 -- rule 11 (40 CFR 60.482-9a(e)): valves out of stock for what is no valve
 abbrev pub stocks_no_valve : Case → Bool
-stocks_no_valve case = is_ground_for_another 5 is_valve case
+stocks_no_valve case = is_ground_for_another GROUND_STOCK is_valve case
 
 -- rule 12 (40 CFR 60.486a(c)(6)): a delay for want of a shutdown has no signature of whose decision it was
 abbrev pub delay_unsigned : Case → Bool
-delay_unsigned case = elim case.entry.1.body [ Delay c why signer expected ↦ nat_eq why 1 && nat_eq signer 0 | _ ↦ false ]
+delay_unsigned case = elim case.entry.1.body [ Delay c why signer expected ↦ nat_eq why GROUND_SHUTDOWN && nat_eq signer 0 | _ ↦ false ]
 
 -- rule 13 (40 CFR 60.486a(c)(7)): a delay that is not withdrawn names no expected day of repair
 abbrev pub repair_not_expected : Case → Bool

@@ -9,6 +9,8 @@ use Rattle.ldar_days.specs.Calendar.{first_day, last_day, month_of, end_by, week
 use Rattle.ldar_days.specs.Quarters.{quarter_of}
 use Rattle.fact_kinds.specs.declared.class.Class.{Class}
 use Rattle.fact_kinds.specs.declared.key.Key.{Key}
+use Rattle.ldar_law.specs.declared.causes.TheConstants.{CAUSE_FIRST, CAUSE_MONTHLY, CAUSE_QUARTERLY, CAUSE_YEARLY, CAUSE_PLAN, CAUSE_WEEKLY}
+use Rattle.ldar_law.specs.declared.causes.TheConstants.{CAUSE_DRIP, CAUSE_RELEASE, CAUSE_EVIDENCE}
 use Rattle.ldar_law.specs.declared.duty.Duty.{Duty}
 use Rattle.ldar_law.specs.declared.equipment.Equipment.{Equipment}
 use Rattle.ldar_law.specs.declared.event.Event.{Event}
@@ -66,7 +68,7 @@ module _ (item : Equipment) (classes : List (Key × Class)) (startup : ℕ) (eve
 
   -- 1 first: within thirty days of the beginning
   unfoldable pub first_monitoring : Option Duty
-  first_monitoring = duty 1 item.begin (first_due item)
+  first_monitoring = duty CAUSE_FIRST item.begin (first_due item)
       (is_first_owed item classes startup (min (first_due item) day))
       (routine_in events item.begin (first_due item))
 
@@ -78,7 +80,7 @@ module _ (item : Equipment) (classes : List (Key × Class)) (startup : ℕ) (eve
 
   -- 2 monthly (40 CFR 60.482-2a(a)(1), 60.482-7a(a)(1))
   unfoldable pub monthly : ℕ → Option Duty
-  monthly month = duty 2 (first_day month) (last_day month) (is_monthly month (min (last_day month) day))
+  monthly month = duty CAUSE_MONTHLY (first_day month) (last_day month) (is_monthly month (min (last_day month) day))
       (routine_in events (first_day month) (last_day month))
 
   -- the quarter of the month is skipped
@@ -93,7 +95,7 @@ module _ (item : Equipment) (classes : List (Key × Class)) (startup : ℕ) (eve
 
   -- 3 quarterly (40 CFR 60.482-7a(c)(1)(i))
   unfoldable pub quarterly : ℕ → Option Duty
-  quarterly month = duty 3 (first_day month) (last_day month) (is_quarter_month month (min (last_day month) day))
+  quarterly month = duty CAUSE_QUARTERLY (first_day month) (last_day month) (is_quarter_month month (min (last_day month) day))
       (routine_in events (first_day month) (last_day month))
 
   -- on this day a valve that is difficult to monitor, or a valve, pump or compressor with no detectable emissions
@@ -111,7 +113,7 @@ module _ (item : Equipment) (classes : List (Key × Class)) (startup : ℕ) (eve
 
   -- 4 yearly (40 CFR 60.482-2a(e), 60.482-3a(i), 60.482-7a(f), (h)), in a calendar year
   unfoldable pub yearly : ℕ → Option Duty
-  yearly year = duty 4 (first_day (12 * year)) (last_day (12 * year + 11)) (is_yearly (min (last_day (12 * year + 11)) day))
+  yearly year = duty CAUSE_YEARLY (first_day (12 * year)) (last_day (12 * year + 11)) (is_yearly (min (last_day (12 * year + 11)) day))
       (yearly_reading (min (last_day (12 * year + 11)) day) (first_day (12 * year)) (last_day (12 * year + 11)))
 
   -- on this day a valve or pump that is unsafe to monitor, with a plan of so many months of which the month ends a window
@@ -123,7 +125,7 @@ module _ (item : Equipment) (classes : List (Key × Class)) (startup : ℕ) (eve
   -- 5 plan (40 CFR 60.482-2a(g)(2), 60.482-7a(g)(2)): in the window of a plan's months that ends with the month; the windows run
   -- from the month after the beginning
   abbrev pub planned_by : ℕ → ℕ → Option Duty
-  planned_by month plan = duty 5 (first_day (month + 1 - plan)) (end_by (last_day month))
+  planned_by month plan = duty CAUSE_PLAN (first_day (month + 1 - plan)) (end_by (last_day month))
       (is_planned month plan (min (end_by (last_day month)) day))
       (routine_in events (first_day (month + 1 - plan)) (end_by (last_day month)))
 
@@ -137,7 +139,7 @@ module _ (item : Equipment) (classes : List (Key × Class)) (startup : ℕ) (eve
 
   -- 6 weekly (40 CFR 60.482-2a(a)(2))
   unfoldable pub weekly : ℕ → Option Duty
-  weekly week = duty 6 (week_first week) (week_last week) (is_weekly (min (week_last week) day)) (look_in events (week_first week) (week_last week))
+  weekly week = duty CAUSE_WEEKLY (week_first week) (week_last week) (is_weekly (min (week_last week) day)) (look_in events (week_first week) (week_last week))
 
   -- five days after an event
   abbrev pub five_days : Event → ℕ
@@ -145,19 +147,19 @@ module _ (item : Equipment) (classes : List (Key × Class)) (startup : ℕ) (eve
 
   -- 7 drip (40 CFR 60.482-2a(b)(2)): a pump's drips that aren't designated and repeat none
   unfoldable pub drip : List Event → Event → List Event → Option Duty
-  drip before e later = duty 7 e.key.day (five_days e)
+  drip before e later = duty CAUSE_DRIP e.key.day (five_days e)
       (has_undesignated_drips e.what && is_weekly e.key.day && not (is_repeated before))
       (find (λ x. (is_counting x.what || is_designating x.what) && nat_le x.key.day (five_days e)) later)
 
   -- 8 release (40 CFR 60.482-4a(b)(2)): a relief device's pressure release
   unfoldable pub release : List Event → Event → List Event → Option Duty
-  release before e later = duty 8 e.key.day (five_days e)
+  release before e later = duty CAUSE_RELEASE e.key.day (five_days e)
       (is_release e.what && is_in_service item e.key.day && is_under_relief_rules item classes e.key.day)
       (find (λ x. is_near_background x.what && nat_le x.key.day (five_days e)) later)
 
   -- 9 evidence (40 CFR 60.482-8a(a)): evidence of a potential leak at a component with the limit of 10,000
   unfoldable pub evidence : List Event → Event → List Event → Option Duty
-  evidence before e later = duty 9 e.key.day (five_days e)
+  evidence before e later = duty CAUSE_EVIDENCE e.key.day (five_days e)
       (has_evidence e.what && is_in_service item e.key.day && is_under_heavy_liquid_rules item classes e.key.day)
       (find (λ x. (is_counting x.what || is_evidence_gone x.what) && nat_le x.key.day (five_days e)) later)
 

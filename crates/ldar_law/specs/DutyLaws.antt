@@ -6,6 +6,7 @@ use Rattle.ldar_days.specs.Calendar.{IsDay}
 use Rattle.fact_kinds.specs.declared.class.Class.{Class}
 use Rattle.fact_kinds.specs.declared.key.Key.{Key}
 use Rattle.fact_kinds.specs.Facts.{is_earlier}
+use Rattle.ldar_law.specs.declared.causes.TheConstants.{CAUSE_DRIP, CAUSE_RELEASE, CAUSE_EVIDENCE}
 use Rattle.ldar_law.specs.declared.duty.Duty.{Duty}
 use Rattle.ldar_law.specs.declared.equipment.Equipment.{Equipment}
 use Rattle.ldar_law.specs.declared.event.Event.{Event}
@@ -26,9 +27,9 @@ DutiesStandInOrder =
 abbrev pub EventDutiesFollowEvents : Type 0
 EventDutiesFollowEvents =
     (item : Equipment) (classes : List (Key × Class)) (startup : ℕ) (events : List Event) (skipped : List Bool) (day : ℕ)
-    → (filter (λ d. nat_eq d.cause 7) (duties_of item classes startup events skipped day)
+    → (filter (λ d. nat_eq d.cause CAUSE_DRIP) (duties_of item classes startup events skipped day)
     ≡ each_where (drip item classes startup events skipped day) events)
-    × (filter (λ d. nat_eq d.cause 8) (duties_of item classes startup events skipped day)
+    × (filter (λ d. nat_eq d.cause CAUSE_RELEASE) (duties_of item classes startup events skipped day)
     ≡ each_where (release item classes startup events skipped day) events)
-    × (filter (λ d. nat_eq d.cause 9) (duties_of item classes startup events skipped day)
+    × (filter (λ d. nat_eq d.cause CAUSE_EVIDENCE) (duties_of item classes startup events skipped day)
     ≡ each_where (evidence item classes startup events skipped day) events)

@@ -10,6 +10,7 @@ use Rattle.fact_kinds.specs.Facts.{Entry}
 use Rattle.ldar_law.specs.declared.delay.Stop.{Stop}
 use Rattle.ldar_law.specs.declared.election.ElectionEntry.{ElectionEntry}
 use Rattle.ldar_law.specs.declared.equipment.Equipment.{Equipment}
+use Rattle.ldar_law.specs.declared.of_unit.OfUnit.{OfUnit}
 use Rattle.ldar_law.specs.declared.unit_entry.UnitEntry.{UnitEntry}
 
 -- the fact takes the component out of service
@@ -84,3 +85,7 @@ stop_entered number day _ = None
 -- the shutdowns of the process unit, in key order, and so by their first days
 abbrev pub stops_of : ℕ → List Entry → List Stop
 stops_of number facts = filter_map (λ e. stop_entered number e.0.day e.1.body) facts
+
+-- what the facts enter for the process unit that each of its components is judged by
+abbrev pub of_unit : ℕ → List Entry → OfUnit
+of_unit number facts = record { stops = stops_of number facts }

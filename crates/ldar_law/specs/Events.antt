@@ -22,7 +22,7 @@ use Rattle.ldar_law.specs.declared.event.Happening.TheVariants.{Read, Look, Atte
 use Rattle.ldar_law.specs.declared.fitness.Fitness.{Fitness}
 use Rattle.ldar_law.specs.declared.fitness.Fitness.TheVariants.{NoCalibration}
 use Rattle.ldar_law.specs.Fitness.{fitness_of, is_fit}
-use Rattle.ldar_law.specs.Force.{is_in_service, limit_on}
+use Rattle.ldar_law.specs.Force.{is_in_service}
 use Rattle.ldar_law.specs.Slices.{facts_of_component}
 use Rattle.ldar_law.specs.Standing.{is_under_valve_rules, is_under_pump_rules, is_under_compressor_rules, is_under_heavy_liquid_rules, is_left_out, is_nde}
 
@@ -48,12 +48,6 @@ module _ (item : Equipment) (classes : List (Key × Class)) where
   abbrev pub counts_on : ℕ → Bool → Bool
   counts_on day fit = is_in_service item day && not (is_left_out item classes day) && fit
 
-  -- a counting reading of at least the leak definition is a leak (40 CFR 60.482-2a(b)(1), 60.482-7a(b), 60.482-8a(b))
-  abbrev pub is_reading_leak : ℕ → Bool → ℕ → Bool
-  is_reading_leak day fit ppm =
-      counts_on day fit && nat_le (limit_on item classes day) ppm && not (is_nde item classes day)
-      && (is_under_valve_rules item classes day || is_under_pump_rules item classes day || is_under_heavy_liquid_rules item classes day)
-
   -- drips of a pump that are designated as a leak (40 CFR 60.482-2a(b)(2)(ii))
   abbrev pub is_drip_leak : ℕ → VisualState → Bool
   is_drip_leak day state =
@@ -63,25 +57,33 @@ module _ (item : Equipment) (classes : List (Key × Class)) where
   abbrev pub is_sensor_leak : ℕ → Bool → Bool
   is_sensor_leak day present = present && is_in_service item day && is_under_compressor_rules item classes day && not (is_nde item classes day)
 
-  -- a reading of the day, judged
-  abbrev pub reading_on : ℕ → Bool → Purpose → ℕ → ℕ → Happening
-  reading_on day fit purpose ppm background =
-      Read ppm background (is_routine_purpose purpose) (counts_on day fit)
-      (counts_on day fit && nat_lt ppm (limit_on item classes day)) (is_reading_leak day fit ppm)
-
   -- an indication of the day, judged
   abbrev pub indication_on : ℕ → Sort → Bool → Happening
   indication_on day SensorSort present = Sensor present (is_sensor_leak day present)
   indication_on day EvidenceSort present = Evidence present
 
+-- .. and the leak definition of each day, in parts per million
+module _ (item : Equipment) (classes : List (Key × Class)) (limit : ℕ → ℕ) where
+  -- a counting reading of at least the leak definition is a leak (40 CFR 60.482-2a(b)(1), 60.482-7a(b), 60.482-8a(b))
+  abbrev pub is_reading_leak : ℕ → Bool → ℕ → Bool
+  is_reading_leak day fit ppm =
+      counts_on item classes day fit && nat_le (limit day) ppm && not (is_nde item classes day)
+      && (is_under_valve_rules item classes day || is_under_pump_rules item classes day || is_under_heavy_liquid_rules item classes day)
+
+  -- a reading of the day, judged
+  abbrev pub reading_on : ℕ → Bool → Purpose → ℕ → ℕ → Happening
+  reading_on day fit purpose ppm background =
+      Read ppm background (is_routine_purpose purpose) (counts_on item classes day fit)
+      (counts_on item classes day fit && nat_lt ppm (limit day)) (is_reading_leak day fit ppm)
+
   -- a fact of the component on a day, judged; a reading by its fitness. What the register says of it is no event.
   abbrev pub happening : ℕ → Fitness → FactBody → Option Happening
   happening day fitness (Reading _ _ _ purpose ppm background) = Some (reading_on day (is_fit fitness) purpose ppm background)
-  happening day fitness (Visual _ state) = Some (Look (drips_in state) (designated_in state) (is_drip_leak day state))
+  happening day fitness (Visual _ state) = Some (Look (drips_in state) (designated_in state) (is_drip_leak item classes day state))
   happening day fitness (AttemptFact _ complete) = Some (Attempt complete)
   happening day fitness (DelayFact _ why signer expected) = Some (Delay why signer expected)
   happening day fitness (ReleaseFact _) = Some Release
-  happening day fitness (Indication _ sort present) = Some (indication_on day sort present)
+  happening day fitness (Indication _ sort present) = Some (indication_on item classes day sort present)
   happening day fitness (RetireFact _) = Some Retire
   happening day fitness (UnitFact _ _ _) = None
   happening day fitness (ComponentFact _ _ _ _ _ _) = None
@@ -111,25 +113,25 @@ abbrev pub fitness_left : FactBody → List Fitness → List Fitness
 fitness_left body fitness = if is_reading body then drop 1 fitness else fitness
 
 -- the events of a component: its facts in key order, each judged; the readings by the fitness in this list, one after the other
-abbrev pub events_with : Equipment → List (Key × Class) → List Entry → List Fitness → List Event
-events_with item classes [] fitness = []
-events_with item classes (e ∷ facts) fitness =
-    cons_option (event_of item classes e (next_fitness fitness)) (events_with item classes facts (fitness_left e.1.body fitness))
+abbrev pub events_with : Equipment → List (Key × Class) → (ℕ → ℕ) → List Entry → List Fitness → List Event
+events_with item classes limit [] fitness = []
+events_with item classes limit (e ∷ facts) fitness =
+    cons_option (event_of item classes limit e (next_fitness fitness)) (events_with item classes limit facts (fitness_left e.1.body fitness))
 
--- the fitness of a reading with this key, among facts in key order
-abbrev pub fitness_at : Equipment → List (Key × Class) → List Entry → Key → FactBody → Fitness
-fitness_at item classes facts key (Reading _ instrument _ _ ppm _) = fitness_of facts (limit_on item classes key.day) key instrument ppm
-fitness_at item classes facts key _ = NoCalibration
+-- the fitness of a reading with this key, among facts in key order, by the leak definition of each day
+abbrev pub fitness_at : (ℕ → ℕ) → List Entry → Key → FactBody → Fitness
+fitness_at limit facts key (Reading _ instrument _ _ ppm _) = fitness_of facts (limit key.day) key instrument ppm
+fitness_at limit facts key _ = NoCalibration
 
 -- .. of a fact of the component
-abbrev pub fitness_among : Equipment → List (Key × Class) → List Entry → Entry → Fitness
-fitness_among item classes facts e = fitness_at item classes facts e.0 e.1.body
+abbrev pub fitness_among : (ℕ → ℕ) → List Entry → Entry → Fitness
+fitness_among limit facts e = fitness_at limit facts e.0 e.1.body
 
 -- .. if it is a reading
-abbrev pub fitness_in : Equipment → List (Key × Class) → List Entry → Entry → Option Fitness
-fitness_in item classes facts e = if is_reading e.1.body then Some (fitness_among item classes facts e) else None
+abbrev pub fitness_in : (ℕ → ℕ) → List Entry → Entry → Option Fitness
+fitness_in limit facts e = if is_reading e.1.body then Some (fitness_among limit facts e) else None
 
 -- the events of a component among facts in key order
-unfoldable pub events_in : Equipment → List (Key × Class) → List Entry → List Event
-events_in item classes facts =
-    filter_map (λ e. event_of item classes e (fitness_among item classes facts e)) (facts_of_component item.component facts)
+unfoldable pub events_in : Equipment → List (Key × Class) → (ℕ → ℕ) → List Entry → List Event
+events_in item classes limit facts =
+    filter_map (λ e. event_of item classes limit e (fitness_among limit facts e)) (facts_of_component item.component facts)

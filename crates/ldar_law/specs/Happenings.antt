@@ -3,6 +3,7 @@ use Rattle.std.specs.Prelude.{ℕ, ◌-◌, Bool, true, false, not, ◌&&◌, �
 use Rattle.ldar_days.specs.Calendar.{month_of}
 use Rattle.ldar_law.specs.declared.event.Event.{Event}
 use Rattle.ldar_law.specs.declared.event.Happening.{Happening}
+use Rattle.ldar_law.specs.declared.grounds.TheConstants.{GROUND_SHUTDOWN, GROUND_PURGING, GROUND_DUAL_SEAL, GROUND_STOCK}
 use Rattle.ldar_law.specs.declared.event.Happening.TheVariants.{Read, Look, Attempt, Delay, Release, Sensor, Evidence, Retire}
 
 -- ---- leaks
@@ -111,7 +112,7 @@ is_complete _ = false
 
 -- a delay of ground (a), (c), (d) or (e)
 abbrev pub delays_with_reading : Happening → Bool
-delays_with_reading (Delay why _ _) = nat_eq why 1 || nat_eq why 3 || nat_eq why 4 || nat_eq why 5
+delays_with_reading (Delay why _ _) = nat_eq why GROUND_SHUTDOWN || nat_eq why GROUND_PURGING || nat_eq why GROUND_DUAL_SEAL || nat_eq why GROUND_STOCK
 delays_with_reading _ = false
 
 -- the component goes out of service

@@ -1,4 +1,5 @@
 pub mod BatchLaws
+pub mod ClassInForce
 pub mod Delays
 pub mod DenialLaws
 pub mod Denials
@@ -30,6 +31,7 @@ pub mod ShareLaws
 pub mod Short
 pub mod ShortEvents
 pub mod ShortLists
+pub mod ShortStirred
 pub mod Shown
 pub mod Skips
 pub mod Slices
@@ -38,6 +40,7 @@ pub mod SmallRegister
 pub mod SmallReport
 pub mod Spans
 pub mod Standing
+pub mod Stirred
 pub mod Tags
 pub mod Tallies
 pub mod Texts

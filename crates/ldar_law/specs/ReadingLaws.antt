@@ -1,4 +1,4 @@
--- What is true of readings and events: the statements of `laws::readings`.
+-- What is true of readings and events, whatever the leak definition of each day: the statements of `laws::readings`.
 use Rattle.std.specs.Prelude.{◌≡◌, ℕ, Some, List, filter_map}
 use Rattle.list_words.specs.Order.{Ascends}
 use Rattle.fact_kinds.specs.declared.class.Class.{Class}
@@ -19,19 +19,20 @@ FitnessIsOfInstrument =
 -- judging each reading where it stands, or by a list with the fitness of each: it is the same
 abbrev pub EventsAreJudgedInOrder : Type 0
 EventsAreJudgedInOrder =
-    (item : Equipment) (classes : List (Key × Class)) (facts : List Entry)
-    → events_with item classes (facts_of_component item.component facts) (filter_map (fitness_in item classes facts) (facts_of_component item.component facts))
-    ≡ events_in item classes facts
+    (item : Equipment) (classes : List (Key × Class)) (limit : ℕ → ℕ) (facts : List Entry)
+    → events_with item classes limit (facts_of_component item.component facts)
+    (filter_map (fitness_in limit facts) (facts_of_component item.component facts))
+    ≡ events_in item classes limit facts
 
 -- a reading is judged by the facts of its instrument as by all facts
 abbrev pub ReadingsAreOfInstrument : Type 0
 ReadingsAreOfInstrument =
-    (item : Equipment) (classes : List (Key × Class)) (facts : List Entry) (e : Entry) (instrument : ℕ)
+    (limit : ℕ → ℕ) (facts : List Entry) (e : Entry) (instrument : ℕ)
     → reading_instrument e.1.body ≡ Some instrument
-    → fitness_among item classes (facts_of_instrument instrument facts) e ≡ fitness_among item classes facts e
+    → fitness_among limit (facts_of_instrument instrument facts) e ≡ fitness_among limit facts e
 
 -- the events of a component are in key order, as the facts are
 abbrev pub EventsAscend : Type 0
 EventsAscend =
-    (item : Equipment) (classes : List (Key × Class)) (facts : List Entry)
-    → Ascends goes_first facts → Ascends (λ a b. is_earlier a.key b.key) (events_in item classes facts)
+    (item : Equipment) (classes : List (Key × Class)) (limit : ℕ → ℕ) (facts : List Entry)
+    → Ascends goes_first facts → Ascends (λ a b. is_earlier a.key b.key) (events_in item classes limit facts)

@@ -8,6 +8,7 @@ use Rattle.fact_kinds.specs.declared.class.Class.{Class}
 use Rattle.fact_kinds.specs.declared.key.Key.{Key}
 use Rattle.fact_kinds.specs.Facts.{Entry, is_earlier, goes_first}
 use Rattle.ldar_law.specs.Equipment.{retires, retired_on, equipment_of, class_at, classes_of, unit_entry_of, member_entered, members_of, elections_of, stops_of}
+use Rattle.ldar_law.specs.Equipment.{of_unit}
 use Rattle.ldar_law.specs.Force.{class_by, class_in_force, has_come}
 use Rattle.ldar_law.specs.Slices.{facts_of_component, facts_of_unit, register_facts}
 
@@ -30,6 +31,10 @@ OwnFactsSuffice = (number : ℕ) (facts : List Entry) → HasComponent number (f
 -- the facts that name a process unit have all that the register holds of it
 abbrev pub UnitFactsSuffice : Type 0
 UnitFactsSuffice = (number : ℕ) (facts : List Entry) → HasUnit number (facts_of_unit number facts) facts
+
+-- .. and all that its components are judged by
+abbrev pub UnitFactsJudge : Type 0
+UnitFactsJudge = (number : ℕ) (facts : List Entry) → of_unit number (facts_of_unit number facts) ≡ of_unit number facts
 
 -- the entries in the register have all that it holds
 abbrev pub RegisterFactsSuffice : Type 0

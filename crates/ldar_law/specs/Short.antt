@@ -1,5 +1,5 @@
 -- Words for the worked examples: days, facts and components in short.
-use Rattle.std.specs.Prelude.{ℕ, ◌+◌, ◌-◌, ◌*◌, Bool, true, false, Some, None, List, [], ◌∷◌, map}
+use Rattle.std.specs.Prelude.{ℕ, ◌+◌, ◌-◌, ◌*◌, Bool, true, false, nat_lt, if◌then◌else◌, Some, None, List, [], ◌∷◌, map}
 use Rattle.ldar_days.specs.Calendar.{first_day}
 use Rattle.fact_kinds.specs.declared.body.FactBody.{FactBody}
 use Rattle.fact_kinds.specs.declared.body.FactBody.TheVariants.{Attempt as AttemptFact, Calibration, Precision, Drift, Reading, Visual, Indication}
@@ -19,6 +19,7 @@ use Rattle.ldar_law.specs.declared.equipment.Equipment.{Equipment}
 use Rattle.ldar_law.specs.declared.event.Happening.{Happening}
 use Rattle.ldar_law.specs.declared.fitness.Fitness.{Fitness}
 use Rattle.ldar_law.specs.Events.{events_in}
+use Rattle.ldar_law.specs.Force.{limit_on}
 use Rattle.ldar_law.specs.Fitness.{fitness_of}
 use Rattle.ldar_law.specs.Happenings.{is_leak}
 
@@ -182,7 +183,8 @@ relief component begin = gear component Relief (class Gas Plain) begin
 
 -- whether facts of 2024-02-20 at a component are leaks, with the instrument calibrated
 abbrev pub leaks_of : Equipment → Entry → List Bool
-leaks_of item e = map (λ event. is_leak event.what) (events_in item [] (precise (date 2024 1 2) ∷ calibrated (date 2024 2 20) 300 500 ∷ e ∷ []))
+leaks_of item e = map (λ event. is_leak event.what)
+    (events_in item [] (limit_on item []) (precise (date 2024 1 2) ∷ calibrated (date 2024 2 20) 300 500 ∷ e ∷ []))
 
 -- whether a reading is one
 abbrev pub found_at : Equipment → ℕ → List Bool
@@ -199,8 +201,19 @@ designated_at item = leaks_of item (fact (date 2024 2 20) 600 (Visual item.compo
 -- what a fact of 2024-02-20 at a component is, with the instrument calibrated with a gas
 abbrev pub events_with_gas : ℕ → Equipment → List (Key × Class) → FactBody → List Happening
 events_with_gas gas item classes body = map (λ event. event.what)
-    (events_in item classes (precise (date 2024 1 2) ∷ calibrated (date 2024 2 20) 300 gas ∷ fact (date 2024 2 20) 600 body ∷ []))
+    (events_in item classes (limit_on item classes) (precise (date 2024 1 2) ∷ calibrated (date 2024 2 20) 300 gas ∷ fact (date 2024 2 20) 600 body ∷ []))
 
--- .. with one of 500
+-- a leak definition of 500 up to 2024-02-29, and of 200 from the next day on
+abbrev pub lowered : ℕ → ℕ
+lowered day = if nat_lt day (date 2024 3 1) then 500 else 200
+
+-- readings of a valve on these two days, judged by it, with the instrument calibrated with a gas
+abbrev pub read_while_lowered : ℕ → ℕ → List Happening
+read_while_lowered gas ppm = map (λ event. event.what)
+    (events_in (valve 1 (date 2020 1 15)) [] lowered
+    (precise (date 2024 1 2) ∷ calibrated (date 2024 2 29) 300 gas ∷ measured (date 2024 2 29) 1 ppm ∷ calibrated (date 2024 3 1) 300 gas
+    ∷ measured (date 2024 3 1) 1 ppm ∷ []))
+
+-- what a fact of 2024-02-20 is with a gas of 500
 abbrev pub events_on : Equipment → List (Key × Class) → FactBody → List Happening
 events_on item classes body = events_with_gas 500 item classes body

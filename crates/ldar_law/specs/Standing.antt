@@ -63,10 +63,6 @@ is_difficult_designated _ = false
 
 -- ---- of a component, with its classes in key order, on a day
 
--- the component with the class that is in force on the day
-abbrev pub standing_on : Equipment → List (Key × Class) → ℕ → Equipment
-standing_on item classes day = record item { class = class_on item classes day }
-
 module _ (item : Equipment) (classes : List (Key × Class)) (day : ℕ) where
   -- a valve in gas/vapor or light liquid service (40 CFR 60.482-7a)
   abbrev pub is_under_valve_rules : Bool

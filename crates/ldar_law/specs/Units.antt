@@ -11,14 +11,16 @@ use Rattle.ldar_law.specs.declared.duty.Duty.{Duty}
 use Rattle.ldar_law.specs.declared.election.ElectionEntry.{ElectionEntry}
 use Rattle.ldar_law.specs.declared.equipment.Equipment.{Equipment}
 use Rattle.ldar_law.specs.declared.event.Event.{Event}
+use Rattle.ldar_law.specs.declared.of_unit.OfUnit.{OfUnit}
 use Rattle.ldar_law.specs.declared.route.Route.{Route}
 use Rattle.ldar_law.specs.declared.tag.Tag.{Tag}
 use Rattle.ldar_law.specs.declared.tally.Mark.{Mark}
 use Rattle.ldar_law.specs.declared.tally.Tally.{Tally}
 use Rattle.ldar_law.specs.declared.unit_entry.UnitEntry.{UnitEntry}
 use Rattle.ldar_law.specs.Duties.{duties_of}
-use Rattle.ldar_law.specs.Equipment.{equipment_of, classes_of, members_of, elections_of, stops_of}
+use Rattle.ldar_law.specs.Equipment.{equipment_of, classes_of, members_of, elections_of, of_unit}
 use Rattle.ldar_law.specs.Events.{events_in}
+use Rattle.ldar_law.specs.Force.{limit_on}
 use Rattle.ldar_law.specs.Percent.{mark_of, tally_of, has_delay_on, judging_day}
 use Rattle.ldar_law.specs.Routes.{routes_of}
 use Rattle.ldar_law.specs.Skips.{is_skipped, skipped_to}
@@ -31,18 +33,16 @@ pub record Known : Type 0 where
   pub events : List Event
   pub tags : List Tag
 
--- .. with these events of it
-abbrev pub known_by : List Entry → Equipment → List Event → Known
-known_by facts item events = record {
-  item = item;
-  classes = classes_of item.component facts;
-  events = events;
-  tags = tags_of item.component item.kind events (stops_of item.unit facts);
-}
+-- .. with these classes and events of it, and what the facts enter for its process unit
+abbrev pub known_with : Equipment → List (Key × Class) → List Event → OfUnit → Known
+known_with item classes events unit =
+    record { item = item; classes = classes; events = events; tags = tags_of item.component item.kind events unit.stops }
 
--- .. from the facts in key order
+-- .. from the facts in key order; its events are judged by its leak definition of each day
 abbrev pub known_of : List Entry → Equipment → Known
-known_of facts item = known_by facts item (events_in item (classes_of item.component facts) facts)
+known_of facts item =
+    let classes = classes_of item.component facts in
+    known_with item classes (events_in item classes (limit_on item classes) facts) (of_unit item.unit facts)
 
 -- the components of a unit, ascending by number, with what is known of each
 abbrev pub components_of : ℕ → List Entry → List Known

@@ -10,7 +10,7 @@ use ldar_days::Day;
 #[derive(Clone, Copy, Debug, PartialEq, Eq)]
 pub struct DelayEntry {
     pub key: Key,
-    /// From 1 to 5 for (a) to (e); 0 where the delay is withdrawn.
+    /// One of `GROUND_WITHDRAWN` to `GROUND_STOCK`: from 1 to 5 for (a) to (e), and 0 if the delay is withdrawn.
     pub ground: u8,
     /// Who decided it; 0 is none.
     pub signer: u16,
@@ -56,7 +56,7 @@ pub fn attempt_by(detected: Day) -> Day
     detected.plus_days(ATTEMPT_DAYS)
 }
 
-/// The day by which the repair is due where it is not delayed (40 CFR 60.482-2a(c)(1), 60.482-7a(d)(1)).
+/// The day by which the repair is due if it is not delayed (40 CFR 60.482-2a(c)(1), 60.482-7a(d)(1)).
 pub fn repair_by(detected: Day) -> Day
     ensures value { result ≡ law.repair_by detected }
 {

@@ -9,8 +9,7 @@ use ldar_days::Day;
 #[derive(Clone, Copy, Debug, PartialEq, Eq)]
 pub struct Duty {
     pub component: u16,
-    /// 1 first, 2 monthly, 3 quarterly, 4 yearly, 5 by the written plan, 6 weekly, 7 after a drip, 8 after a
-    /// release, 9 after evidence.
+    /// One of `CAUSE_FIRST` to `CAUSE_EVIDENCE`.
     pub cause: u8,
     pub due: Day,
     /// The fact that met it.

@@ -16,5 +16,6 @@ pub mod repairs;
 pub mod reports;
 pub mod settling;
 pub mod sorts;
+pub mod stirred;
 pub mod texts;
 pub mod views;

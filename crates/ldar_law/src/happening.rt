@@ -7,6 +7,7 @@ ghost use Rattle.ldar_law.specs.Tags.{delay_entry as delay_entered_at};
 
 use crate::delay::DelayEntry;
 use crate::event::{Event, Happening};
+use crate::grounds::{GROUND_DUAL_SEAL, GROUND_PURGING, GROUND_SHUTDOWN, GROUND_STOCK};
 use ldar_days::Day;
 
 /// Whether some event is a leak.
@@ -218,10 +219,10 @@ impl Happening {
         ensures value { result ≡ law.delays_with_reading self.now }
     {
         match *self {
-            Happening::Delay { ground, .. } => ground == 1
-                || ground == 3
-                || ground == 4
-                || ground == 5,
+            Happening::Delay { ground, .. } => ground == GROUND_SHUTDOWN
+                || ground == GROUND_PURGING
+                || ground == GROUND_DUAL_SEAL
+                || ground == GROUND_STOCK,
             _ => false,
         }
     }

@@ -2,6 +2,8 @@
 #![tactic(auto)]
 
 mod asked;
+mod causes;
+mod class_in_force;
 mod delay;
 mod duty;
 mod election;
@@ -9,6 +11,7 @@ mod equipment;
 mod event;
 pub mod examples;
 mod fitness;
+mod grounds;
 mod happening;
 mod items;
 mod key_order;
@@ -16,6 +19,7 @@ pub mod laws;
 mod leak_definition;
 mod months;
 mod numbers;
+mod of_unit;
 mod paragraphs;
 mod quarter;
 mod regime;
@@ -23,10 +27,10 @@ mod reply;
 mod report;
 mod request;
 mod route;
+mod service;
 mod sheet;
 mod sorts;
 mod span;
-mod standing;
 mod suiting;
 mod tag;
 mod tally;
@@ -35,21 +39,31 @@ mod unit_entry;
 mod verdict;
 
 pub use asked::{component_asked, is_registered, unit_asked};
+pub use causes::{
+    CAUSE_DRIP, CAUSE_EVIDENCE, CAUSE_FIRST, CAUSE_MONTHLY, CAUSE_PLAN, CAUSE_QUARTERLY,
+    CAUSE_RELEASE, CAUSE_WEEKLY, CAUSE_YEARLY,
+};
+pub use class_in_force::{ClassInForce, entered_from, entered_to, last_entered};
 pub use delay::{DelayEntry, DelayLine, Stop, Until, attempt_by, repair_by};
 pub use duty::{Duty, is_listed};
 pub use election::ElectionEntry;
 pub use equipment::Equipment;
 pub use event::{Event, Happening};
 pub use fitness::Fitness;
+pub use grounds::{
+    GROUND_DUAL_SEAL, GROUND_ISOLATED, GROUND_PURGING, GROUND_SHUTDOWN, GROUND_STOCK,
+    GROUND_WITHDRAWN,
+};
 pub use happening::has_leak;
 pub use items::Items;
 pub use key_order::are_in_key_order;
 pub use leak_definition::limit;
-pub use months::{has_leak_in, is_clean, is_clean_twice, is_clean_twice_from, is_quarterly};
+pub use months::is_clean_twice_from;
 pub use numbers::{
     ATTEMPT_DAYS, EVENT_DAYS, FIRST_DAYS, GAS_MARGIN, LAST_FACT_DAY, LISTED_DAYS, MOST_COMPONENTS,
     NOTICE_DAYS, REPAIR_DAYS, VERIFICATION_DAYS,
 };
+pub use of_unit::OfUnit;
 pub use paragraphs::paragraph;
 pub use quarter::{is_in_quarter, judging_day, month_in_quarter, quarter_start};
 pub use regime::Regime;
@@ -63,7 +77,7 @@ pub use sorts::{
     is_under_300, is_unsafe_designated, is_vacuum, is_valve, is_valve_or_pump,
 };
 pub use span::Span;
-pub use suiting::{suits, suits_designation, suits_service};
+pub use suiting::suits;
 pub use tag::Tag;
 pub use tally::{Mark, Tally};
 pub use text::Text;

@@ -4,4 +4,5 @@ pub mod Fronts
 pub mod SettlingLemmas
 pub mod TellsLemmas
 pub mod ToldLemmas
+pub mod UntilLemmas
 pub mod WalkLemmas

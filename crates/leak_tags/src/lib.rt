@@ -10,7 +10,9 @@ mod rising;
 mod search;
 mod settling;
 mod spans;
+mod until;
 mod walk;
 
 pub use search::spans_by_search;
 pub use spans::spans_of;
+pub use until::spans_until;

@@ -62,7 +62,7 @@ fn attempt_after(after: &[Event]) -> Option<Day>
 }
 
 /// Whether the identification may come off a tag that is closed or not (40 CFR 60.486a(b)(2), (3)).
-fn is_removable(kind: Kind, events: &[Event], closed: &Option<Key>) -> bool
+pub fn is_removable(kind: Kind, events: &[Event], closed: &Option<Key>) -> bool
     ensures value { result ≡ law.is_removable kind events.now closed.now }
 {
     match closed {

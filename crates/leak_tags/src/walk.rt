@@ -48,7 +48,7 @@ fn pair_for(kind: Kind, events: &[Event]) -> u32
 
 /// Whether the identification may come off a tag that is closed (40 CFR 60.486a(b)(2), (3)). A valve's may where two
 /// months in a row are clean, the first of them the month of closing or a later one; this is the last such pair.
-fn is_removable(kind: Kind, events: &[Event], pair: u32, closed: &Key) -> bool
+pub fn is_removable(kind: Kind, events: &[Event], pair: u32, closed: &Key) -> bool
     requires pair { IsPairFor kind pair events.now }
     ensures value { result ≡ law.is_removable kind events.now (Some closed.now) }
 {

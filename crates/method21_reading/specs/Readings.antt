@@ -53,12 +53,12 @@ is_voided_until next key instrument limit ppm e =
 
 -- where the facts are those of the component among all, and the fitness that of each reading among all, the events are the
 -- component's among all
-abbrev pub AreEventsAmongAll : Equipment → List (Key × Class) → List Entry → List Fitness → List Event → Type 0
-AreEventsAmongAll item classes facts fitness events =
+abbrev pub AreEventsAmongAll : Equipment → List (Key × Class) → (ℕ → ℕ) → List Entry → List Fitness → List Event → Type 0
+AreEventsAmongAll item classes limit facts fitness events =
     (all : List Entry)
     → facts ≡ facts_of_component item.component all
-    → fitness ≡ filter_map (fitness_in item classes all) facts
-    → events ≡ events_in item classes all
+    → fitness ≡ filter_map (fitness_in limit all) facts
+    → events ≡ events_in item classes limit all
 
 -- a visual inspection of the day, judged
 abbrev pub look_on : Equipment → List (Key × Class) → ℕ → VisualState → Happening

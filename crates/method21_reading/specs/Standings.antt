@@ -1,20 +1,21 @@
 -- What the rule makes of a component over days between which no class is entered for it.
-use Rattle.std.specs.Prelude.{◌≡◌, ℕ, not, ◌&&◌, ◌||◌, List}
+use Rattle.std.specs.Prelude.{◌≡◌, ℕ, Bool, not, ◌&&◌, ◌||◌, List}
 use Rattle.fact_kinds.specs.declared.class.Class.{Class}
 use Rattle.fact_kinds.specs.declared.key.Key.{Key}
 use Rattle.ldar_law.specs.declared.equipment.Equipment.{Equipment}
+use Rattle.ldar_law.specs.ClassInForce.{IsInForce}
 use Rattle.ldar_law.specs.Force.{class_on}
 use Rattle.ldar_law.specs.Limits.{regime_of, limit_of}
+use Rattle.ldar_law.specs.Standing.{is_under_pump_rules, is_under_compressor_rules, is_nde}
 use Rattle.ldar_law.specs.Standing.{are_valve_rules, are_pump_rules, are_compressor_rules, are_heavy_liquid_rules, leave_out, is_nde_designated}
-use Rattle.class_standing.specs.Standings.{IsInForce}
 use Rattle.method21_reading.specs.declared.rules.Rules.{Rules}
 use Rattle.method21_reading.specs.declared.standing.Standing.{Standing}
 
--- what the rule makes of a component of a class
-abbrev pub rules_of : Equipment → Class → Rules
-rules_of item class = record {
+-- what the rule makes of a component of a class, with a leak definition
+abbrev pub rules_of : Equipment → Class → ℕ → Rules
+rules_of item class limit = record {
   left_out = leave_out (regime_of item.kind class.service);
-  limit = limit_of item.kind item.monomer class;
+  limit = limit;
   readings_leak = not (is_nde_designated class.designation)
       && (are_valve_rules (regime_of item.kind class.service) || are_pump_rules (regime_of item.kind class.service)
       || are_heavy_liquid_rules (regime_of item.kind class.service));
@@ -22,10 +23,19 @@ rules_of item class = record {
   sensors_leak = are_compressor_rules (regime_of item.kind class.service) && not (is_nde_designated class.designation);
 }
 
--- what the rule makes of it on a day, by the classes entered for it
-abbrev pub rules_on : Equipment → List (Key × Class) → ℕ → Rules
-rules_on item classes day = rules_of item (class_on item classes day)
+-- its designated drips are leaks on a day, by the classes entered for it (40 CFR 60.482-2a(b)(2)(ii))
+abbrev pub drips_leak_on : Equipment → List (Key × Class) → ℕ → Bool
+drips_leak_on item classes day = is_under_pump_rules item classes day && not (is_nde item classes day)
+
+-- .. and what its sensor indicates (40 CFR 60.482-3a(f))
+abbrev pub sensors_leak_on : Equipment → List (Key × Class) → ℕ → Bool
+sensors_leak_on item classes day = is_under_compressor_rules item classes day && not (is_nde item classes day)
+
+-- what the rule makes of it on a day, by the classes entered for it and the leak definition of each day
+abbrev pub rules_on : Equipment → List (Key × Class) → (ℕ → ℕ) → ℕ → Rules
+rules_on item classes limit day = rules_of item (class_on item classes day) (limit day)
 
 -- the rule makes this of it, by a class that is in force on each of its days
 abbrev pub StandsSo : Equipment → List (Key × Class) → Standing → Type 0
-StandsSo item classes standing = (standing.rules ≡ rules_of item standing.under.class) × IsInForce item classes standing.under
+StandsSo item classes standing =
+    (standing.rules ≡ rules_of item standing.under.class (limit_of item.kind item.monomer standing.under.class)) × IsInForce item classes standing.under

@@ -1,9 +1,10 @@
-ghost use Rattle.std.specs.Prelude.{◌≡◌, List};
+ghost use Rattle.std.specs.Prelude.{◌≡◌, ℕ, List};
 ghost use Rattle.fact_kinds.specs.declared.class.Class.{Class as SomeClass};
 ghost use Rattle.fact_kinds.specs.declared.key.Key.{Key as SomeKey};
 ghost use Rattle.ldar_law.specs.Events as law;
+ghost use Rattle.ldar_law.specs.Standing.{is_left_out};
 ghost use Rattle.method21_reading.specs.Readings.{look_on};
-ghost use Rattle.method21_reading.specs.Standings.{rules_on};
+ghost use Rattle.method21_reading.specs.Standings.{drips_leak_on, rules_on, sensors_leak_on};
 
 use crate::rules::Rules;
 use fact_kinds::{FactBody, Purpose, Sort, VisualState};
@@ -13,7 +14,7 @@ use ldar_law::{Equipment, Fitness, Happening};
 /// Whether a reading of the day counts: it is fit, and the component is in service and in no service that is left
 /// out.
 fn counts(item: &Equipment, rules: &Rules, day: Day, fit: bool) -> bool
-    ensures value { (classes : List (SomeKey × SomeClass)) → rules.now ≡ rules_on item.now classes day
+    ensures value { (classes : List (SomeKey × SomeClass)) → rules.now.left_out ≡ is_left_out item.now classes day
         → result ≡ law.counts_on item.now classes day fit }
 {
     item.is_in_service(day) && !rules.left_out && fit
@@ -32,7 +33,7 @@ fn has_drips(state: VisualState) -> bool
 
 /// Whether drips of the day that are designated as a leak are one (40 CFR 60.482-2a(b)(2)(ii)).
 fn is_drip_leak(item: &Equipment, rules: &Rules, day: Day, state: VisualState) -> bool
-    ensures value { (classes : List (SomeKey × SomeClass)) → rules.now ≡ rules_on item.now classes day
+    ensures value { (classes : List (SomeKey × SomeClass)) → rules.now.drips_leak ≡ drips_leak_on item.now classes day
         → result ≡ law.is_drip_leak item.now classes day state }
 {
     is_designated(state) && item.is_in_service(day) && rules.drips_leak
@@ -47,7 +48,7 @@ fn is_designated(state: VisualState) -> bool
 
 /// Whether an indication of a sensor is a leak (40 CFR 60.482-3a(f)).
 fn is_sensor_leak(item: &Equipment, rules: &Rules, day: Day, present: bool) -> bool
-    ensures value { (classes : List (SomeKey × SomeClass)) → rules.now ≡ rules_on item.now classes day
+    ensures value { (classes : List (SomeKey × SomeClass)) → rules.now.sensors_leak ≡ sensors_leak_on item.now classes day
         → result ≡ law.is_sensor_leak item.now classes day present }
 {
     present && item.is_in_service(day) && rules.sensors_leak
@@ -63,8 +64,8 @@ fn reading(
     ppm: u32,
     background: u32,
 ) -> Happening
-    ensures value { (classes : List (SomeKey × SomeClass)) → rules.now ≡ rules_on item.now classes day
-        → result ≡ law.reading_on item.now classes day fit purpose ppm background }
+    ensures value { (classes : List (SomeKey × SomeClass)) (limit : ℕ → ℕ) → rules.now ≡ rules_on item.now classes limit day
+        → result ≡ law.reading_on item.now classes limit day fit purpose ppm background }
 {
     let counts = counts(item, rules, day, fit);
     let is_below = ppm < rules.limit;
@@ -80,7 +81,7 @@ fn reading(
 
 /// A visual inspection of the day, judged.
 fn look(item: &Equipment, rules: &Rules, day: Day, state: VisualState) -> Happening
-    ensures value { (classes : List (SomeKey × SomeClass)) → rules.now ≡ rules_on item.now classes day
+    ensures value { (classes : List (SomeKey × SomeClass)) → rules.now.drips_leak ≡ drips_leak_on item.now classes day
         → result ≡ look_on item.now classes day state }
 {
     Happening::Look {
@@ -92,7 +93,7 @@ fn look(item: &Equipment, rules: &Rules, day: Day, state: VisualState) -> Happen
 
 /// An indication of the day, judged.
 fn indication(item: &Equipment, rules: &Rules, day: Day, sort: Sort, present: bool) -> Happening
-    ensures value { (classes : List (SomeKey × SomeClass)) → rules.now ≡ rules_on item.now classes day
+    ensures value { (classes : List (SomeKey × SomeClass)) → rules.now.sensors_leak ≡ sensors_leak_on item.now classes day
         → result ≡ law.indication_on item.now classes day sort present }
 {
     match sort {
@@ -113,8 +114,8 @@ pub fn happening(
     fitness: &Fitness,
     body: &FactBody,
 ) -> Option<Happening>
-    ensures value { (classes : List (SomeKey × SomeClass)) → rules.now ≡ rules_on item.now classes day
-        → result ≡ law.happening item.now classes day fitness.now body.now }
+    ensures value { (classes : List (SomeKey × SomeClass)) (limit : ℕ → ℕ) → rules.now ≡ rules_on item.now classes limit day
+        → result ≡ law.happening item.now classes limit day fitness.now body.now }
 {
     match *body {
         FactBody::Reading {

@@ -14,7 +14,9 @@ mod precision;
 mod rules;
 mod standing;
 
-pub use events::{event_of, events_of};
+pub use events::{events_of, push_event};
 pub use fitness::fit;
 pub use instrument::Instrument;
 pub use ldar_law::limit;
+pub use rules::Rules;
+pub use standing::Standing;

@@ -1,6 +1,7 @@
 //! What the rule makes of a component of a class: which of its facts count, and which of them are leaks.
 
 ghost use Rattle.std.specs.Prelude.{◌≡◌};
+ghost use Rattle.ldar_law.specs.Limits.{limit_of};
 ghost use Rattle.method21_reading.specs.Standings.{rules_of};
 
 use fact_kinds::Class;
@@ -22,11 +23,11 @@ pub struct Rules {
 }
 
 impl Rules {
-    /// Those of a component of a class. As a call it would write them part by part, and its caller read them at once before they
-    /// stand in memory.
+    /// Those of a component of a class. A call would write them part by part, and its caller would read them before they
+    /// are in memory.
     #[inline(always)]
     pub fn of(item: &Equipment, class: Class) -> Rules
-        ensures value { result ≡ rules_of item.now class }
+        ensures value { result ≡ rules_of item.now class (limit_of item.now.kind item.now.monomer class) }
     {
         let regime = Regime::of(item.kind, class.service);
         let is_nde = is_nde_designated(class.designation);

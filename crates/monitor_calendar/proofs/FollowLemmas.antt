@@ -13,6 +13,7 @@ use Rattle.list_words.proofs.WordLemmas.{each_more, each_pushed}
 use Rattle.ldar_days.specs.Calendar.{end_by}
 use Rattle.fact_kinds.specs.Facts.{is_earlier}
 use Rattle.fact_kinds.proofs.Cuts.{earlier_day}
+use Rattle.ldar_law.specs.declared.causes.TheConstants.{CAUSE_RELEASE, CAUSE_EVIDENCE}
 use Rattle.ldar_law.specs.declared.duty.Duty.{Duty}
 use Rattle.ldar_law.specs.declared.event.Event.{Event}
 use Rattle.ldar_law.specs.declared.event.Happening.TheVariants.{Retire}
@@ -124,11 +125,11 @@ module _ (asked : Asked) where
   unfolding drip release evidence
   in_one_form Drips before e later = refl
   in_one_form Release before e later =
-      ap (λ owed. causes.duty asked 8 e.key.day (end_by (e.key.day + 5)) owed (find (λ x. meets Release x.what && nat_le x.key.day (end_by
+      ap (λ owed. causes.duty asked CAUSE_RELEASE e.key.day (end_by (e.key.day + 5)) owed (find (λ x. meets Release x.what && nat_le x.key.day (end_by
       (e.key.day + 5))) later))
       (and_assoc (is_release e.what) (is_in_service asked.item.now e.key.day) (is_under_relief_rules asked.item.now asked.classes.now e.key.day))
   in_one_form Evidence before e later =
-      ap (λ owed. causes.duty asked 9 e.key.day (end_by (e.key.day + 5)) owed (find (λ x. meets Evidence x.what && nat_le x.key.day (end_by
+      ap (λ owed. causes.duty asked CAUSE_EVIDENCE e.key.day (end_by (e.key.day + 5)) owed (find (λ x. meets Evidence x.what && nat_le x.key.day (end_by
       (e.key.day + 5))) later))
       (and_assoc (has_evidence e.what) (is_in_service asked.item.now e.key.day) (is_under_heavy_liquid_rules asked.item.now asked.classes.now e.key.day))
 

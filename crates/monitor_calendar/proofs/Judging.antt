@@ -6,6 +6,7 @@ use Rattle.std.proofs.lemmas.Bool.{cases_Bool, and_parts, eqb-true, cases_lt}
 use Rattle.ldar_days.specs.Calendar.{first_day, last_day, end_by, month_of, week_first, week_last}
 use Rattle.fact_kinds.specs.declared.class.Class.{Class}
 use Rattle.fact_kinds.specs.declared.key.Key.{Key}
+use Rattle.ldar_law.specs.declared.causes.TheConstants.{CAUSE_MONTHLY, CAUSE_QUARTERLY, CAUSE_YEARLY, CAUSE_PLAN, CAUSE_WEEKLY}
 use Rattle.ldar_law.specs.declared.event.Event.{Event}
 use Rattle.ldar_law.specs.Duties as law
 use Rattle.ldar_law.specs.Force.{class_on, is_in_service}
@@ -82,7 +83,7 @@ module _ (asked : Asked) where
   -- the monthly duty, by what is judged
   monthly_exact : (judged : Judged) (month first due : ℕ) → first ≡ first_day month → due ≡ last_day month → IsOf asked judged (min due asked.day) →
       causes.monthly asked month
-      ≡ causes.duty asked 2 first due (causes.is_monthly_judged judged (is_quarterly asked.startup asked.events.now month))
+      ≡ causes.duty asked CAUSE_MONTHLY first due (causes.is_monthly_judged judged (is_quarterly asked.startup asked.events.now month))
       (law.routine_in asked.events.now first due)
   unfolding law.monthly
   monthly_exact judged month first due from to is = rw (is.serves, is.regime, is.class, from, to) refl
@@ -102,10 +103,10 @@ module _ (asked : Asked) where
   pub monthly_by : (judged : Judged) (month first due : ℕ) (quarterly : Bool) → first ≡ first_day month → due ≡ last_day month →
       (is_valve asked.item.now.kind ≡ true → quarterly ≡ is_quarterly asked.startup asked.events.now month) →
       IsOf asked judged (min due asked.day) →
-      causes.monthly asked month ≡ causes.duty asked 2 first due (causes.is_monthly_judged judged quarterly) (law.routine_in asked.events.now first due)
+      causes.monthly asked month ≡ causes.duty asked CAUSE_MONTHLY first due (causes.is_monthly_judged judged quarterly) (law.routine_in asked.events.now first due)
   monthly_by judged month first due quarterly from to says is =
       monthly_exact judged month first due from to is
-      ∙ ap (λ owed. causes.duty asked 2 first due owed (law.routine_in asked.events.now first due)) (monthly_alike judged month due quarterly is says)
+      ∙ ap (λ owed. causes.duty asked CAUSE_MONTHLY first due owed (law.routine_in asked.events.now first due)) (monthly_alike judged month due quarterly is says)
 
   -- .. of a month of which none is owed
   pub monthly_unowed : (judged : Judged) (month first due : ℕ) → first ≡ first_day month → due ≡ last_day month →
@@ -129,7 +130,7 @@ module _ (asked : Asked) where
   pub quarterly_by : (judged : Judged) (month first due : ℕ) (quarterly : Bool) → first ≡ first_day month → due ≡ last_day month → quarterly
       ≡ is_quarterly asked.startup asked.events.now month →
       IsOf asked judged (min due asked.day) →
-      causes.quarterly asked month ≡ causes.duty asked 3 first due (causes.is_quarter_month_judged asked judged month quarterly)
+      causes.quarterly asked month ≡ causes.duty asked CAUSE_QUARTERLY first due (causes.is_quarter_month_judged asked judged month quarterly)
       (law.routine_in asked.events.now first due)
   unfolding law.quarterly
   quarterly_by judged month first due quarterly from to same is = rw (is.serves, is.regime, is.class, same, from, to) refl
@@ -155,19 +156,19 @@ module _ (asked : Asked) where
   -- the yearly one
   pub yearly_by : (judged : Judged) (year first due : ℕ) → first ≡ first_day (12 * year) → due ≡ last_day (12 * year + 11) →
       IsOf asked judged (min due asked.day) →
-      causes.yearly asked year ≡ causes.duty asked 4 first due (causes.is_yearly_judged judged) (causes.yearly_reading_judged asked judged first due)
+      causes.yearly asked year ≡ causes.duty asked CAUSE_YEARLY first due (causes.is_yearly_judged judged) (causes.yearly_reading_judged asked judged first due)
   unfolding law.yearly
   yearly_by judged year first due from to is = rw (is.serves, is.regime, is.class, from, to) refl
 
   -- the one by a plan
   pub planned_by : (judged : Judged) (month due : ℕ) → due ≡ end_by (last_day month) → IsOf asked judged (min due asked.day) →
-      causes.planned asked month ≡ causes.duty asked 5 (first_day (month + 1 - judged.class.plan)) due (causes.is_planned_judged asked judged month)
+      causes.planned asked month ≡ causes.duty asked CAUSE_PLAN (first_day (month + 1 - judged.class.plan)) due (causes.is_planned_judged asked judged month)
       (law.routine_in asked.events.now (first_day (month + 1 - judged.class.plan)) due)
   unfolding law.planned
   planned_by judged month due to is = rw (is.serves, is.regime, is.class, to) refl
 
   -- the weekly one
   pub weekly_by : (judged : Judged) (week first due : ℕ) → first ≡ week_first week → due ≡ week_last week → IsOf asked judged (min due asked.day) →
-      causes.weekly asked week ≡ causes.duty asked 6 first due (causes.is_plain_pump judged) (law.look_in asked.events.now first due)
+      causes.weekly asked week ≡ causes.duty asked CAUSE_WEEKLY first due (causes.is_plain_pump judged) (law.look_in asked.events.now first due)
   unfolding law.weekly
   weekly_by judged week first due from to is = rw (is.serves, is.regime, is.class, from, to) refl

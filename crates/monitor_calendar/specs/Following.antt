@@ -3,6 +3,7 @@ use Rattle.std.specs.Prelude.{◌≡◌, ℕ, ◌+◌, ◌<◌, ◌≤◌, Bool,
 use Rattle.std.specs.Prelude.{if◌then◌else◌, Option, Some, None, List, length, slice_get, slice_index_or}
 use Rattle.ldar_days.specs.Calendar.{end_by}
 use Rattle.fact_kinds.specs.declared.key.Key.{Key}
+use Rattle.ldar_law.specs.declared.causes.TheConstants.{CAUSE_DRIP, CAUSE_RELEASE, CAUSE_EVIDENCE}
 use Rattle.ldar_law.specs.declared.duty.Duty.{Duty}
 use Rattle.ldar_law.specs.declared.event.Event.{Event}
 use Rattle.ldar_law.specs.declared.event.Happening.{Happening}
@@ -19,9 +20,9 @@ use Rattle.monitor_calendar.specs.declared.drips.PastDrips.{PastDrips}
 
 -- the cause of the duty
 abbrev pub cause_of : After → ℕ
-cause_of Drips = 7
-cause_of Release = 8
-cause_of Evidence = 9
+cause_of Drips = CAUSE_DRIP
+cause_of Release = CAUSE_RELEASE
+cause_of Evidence = CAUSE_EVIDENCE
 
 -- a later event meets it, if it comes in time
 abbrev pub meets : After → Happening → Bool

@@ -17,7 +17,10 @@ use crate::duty::put;
 use crate::weekly::is_plain_pump;
 use fact_kinds::{Class, Key, Kind, Memory};
 use ldar_days::Day;
-use ldar_law::{Duty, EVENT_DAYS, Event, Happening, LISTED_DAYS, Regime, is_pump};
+use ldar_law::{
+    CAUSE_DRIP, CAUSE_EVIDENCE, CAUSE_RELEASE, Duty, EVENT_DAYS, Event, Happening, LISTED_DAYS,
+    Regime, is_pump,
+};
 
 /// What a duty follows.
 #[derive(Clone, Copy)]
@@ -33,9 +36,9 @@ impl After {
         ensures value { result ≡ following.cause_of self }
     {
         match self {
-            After::Drips => 7,
-            After::Release => 8,
-            After::Evidence => 9,
+            After::Drips => CAUSE_DRIP,
+            After::Release => CAUSE_RELEASE,
+            After::Evidence => CAUSE_EVIDENCE,
         }
     }
 

@@ -45,7 +45,7 @@ impl Asked<'_> {
         ensures regime { result.regime ≡ force.regime_on self.now.item.now self.now.classes.now day }
         ensures class { result.class ≡ force.class_on self.now.item.now self.now.classes.now day }
     {
-        self.judged_by(self.item.ordered_class_on(self.classes, day), day)
+        self.judged_by(self.item.class_on(self.classes, day), day)
     }
 
     /// What the component is on a day, by the class that it has then.

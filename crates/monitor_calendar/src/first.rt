@@ -3,7 +3,7 @@ ghost use Rattle.monitor_calendar.specs.Causes as causes;
 
 use crate::asked::Asked;
 use crate::period::routine_in;
-use ldar_law::Duty;
+use ldar_law::{CAUSE_FIRST, Duty};
 
 impl Asked<'_> {
     /// The first monitoring (40 CFR 60.482-2a(a)(1), 60.482-7a(a)(2)).
@@ -18,6 +18,6 @@ impl Asked<'_> {
             return None;
         }
         let met = routine_in(self.events, begin, due);
-        self.duty(1, begin, due, &met)
+        self.duty(CAUSE_FIRST, begin, due, &met)
     }
 }

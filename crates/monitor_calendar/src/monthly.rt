@@ -1,7 +1,7 @@
 //! Monthly and quarterly monitoring (40 CFR 60.482-2a(a)(1), 60.482-7a(a)(1), (c)(1)).
 
 ghost use Rattle.std.specs.Prelude.{◌≡◌, ◌++◌, ◌&&◌, true, false, OnOk, filter_map, min, option_map};
-ghost use Rattle.class_standing.specs.Standings.{IsInForce};
+ghost use Rattle.ldar_law.specs.ClassInForce.{IsInForce};
 ghost use Rattle.ldar_law.specs.Force.{class_on};
 ghost use Rattle.ldar_law.specs.Kinds.{is_valve as says_valve};
 ghost use Rattle.monitor_calendar.specs.Causes as causes;
@@ -14,13 +14,15 @@ use crate::listed_months::ListedMonths;
 use crate::month_days::MonthDays;
 use crate::period::{routine_behind, routine_in};
 use crate::walked_months::{WalkedMonth, begun, walked_to};
-use class_standing::ClassStanding;
 use fact_kinds::{Class, Key, Memory};
 use ldar_days::{Day, Month, quarter_of};
-use ldar_law::{Duty, is_none_designated, is_valve, month_in_quarter};
+use ldar_law::{
+    CAUSE_MONTHLY, CAUSE_QUARTERLY, ClassInForce, Duty, is_none_designated, is_valve,
+    month_in_quarter,
+};
 use std::alloc::Global;
 
-/// Whether what is so judged is monitored in each month that is no quarterly one.
+/// Whether a component so judged is monitored in each month that is not quarterly.
 fn is_monthly(judged: Judged) -> bool
     ensures value { result ≡ causes.is_monthly_judged judged false }
 {
@@ -31,15 +33,15 @@ fn is_monthly(judged: Judged) -> bool
 
 impl Asked<'_> {
     /// The class on the day on which a month is judged.
-    fn standing_in(&self, days: &MonthDays) -> ClassStanding
+    fn standing_in(&self, days: &MonthDays) -> ClassInForce
         ensures value { IsInForce self.now.item.now self.now.classes.now result }
     {
-        ClassStanding::on(self.item, self.classes, self.judging_day(days.last))
+        ClassInForce::on(self.item, self.classes, self.judging_day(days.last))
     }
 
-    /// That of another day, moved on to it. As a call it would copy a class that most months keep.
+    /// The class on another month's judging day. A call would copy a class that most months keep.
     #[inline(always)]
-    fn standing_moved_to(&self, under: ClassStanding, days: &MonthDays) -> ClassStanding
+    fn standing_moved_to(&self, under: ClassInForce, days: &MonthDays) -> ClassInForce
         requires value { IsInForce self.now.item.now self.now.classes.now under }
         ensures today { result.class ≡ class_on self.now.item.now self.now.classes.now (min days.now.last self.now.day) }
         ensures value { IsInForce self.now.item.now self.now.classes.now result }
@@ -60,8 +62,8 @@ impl Asked<'_> {
         }
     }
 
-    /// Whether what is so judged is monitored in a month that is a quarterly one or not, since it is its month of a
-    /// quarter that is not skipped.
+    /// Whether a component so judged is monitored in a month, quarterly or not, since it is the component's month of a quarter
+    /// that is not skipped.
     fn is_quarter_month(&self, judged: Judged, month: Month, is_quarterly: bool) -> bool
         ensures value { result ≡ causes.is_quarter_month_judged self.now judged month is_quarterly }
     {
@@ -81,7 +83,7 @@ impl Asked<'_> {
         self.judged_by(class, self.judging_day(days.last))
     }
 
-    /// The monthly monitoring of what is no valve, by the class of the day on which the month is judged.
+    /// The monthly monitoring of a component other than a valve, by the class of the day on which the month is judged.
     fn monthly_of_other(&self, class: Class, days: &MonthDays) -> Option<Duty>
         requires other { says_valve self.now.item.now.kind ≡ false }
         requires class { class ≡ class_on self.now.item.now self.now.classes.now (min days.now.last self.now.day) }
@@ -93,7 +95,7 @@ impl Asked<'_> {
             return None;
         }
         let met = routine_in(self.events, first, due);
-        self.duty(2, first, due, &met)
+        self.duty(CAUSE_MONTHLY, first, due, &met)
     }
 
     /// That of a valve, for which the month's events are known.
@@ -112,7 +114,7 @@ impl Asked<'_> {
             return None;
         }
         let met = routine_behind(self.events, walked.place, due);
-        self.duty(2, first, due, &met)
+        self.duty(CAUSE_MONTHLY, first, due, &met)
     }
 
     /// Its quarterly monitoring.
@@ -130,10 +132,10 @@ impl Asked<'_> {
             return None;
         }
         let met = routine_behind(self.events, walked.place, due);
-        self.duty(3, first, due, &met)
+        self.duty(CAUSE_QUARTERLY, first, due, &met)
     }
 
-    /// Adds the monthly monitorings of what is no valve.
+    /// Adds the monthly monitorings of a component other than a valve.
     #[tactic(auto, using(list_words::proofs::RangeLemmas::ranges))]
     fn put_monthly(&self, months: &ListedMonths, duties: &mut Vec<Duty>) -> Result<(), Memory>
         requires covered { Covers self.now months.now }
@@ -153,7 +155,7 @@ impl Asked<'_> {
         Ok(())
     }
 
-    /// Adds the monthly monitorings of a valve, and apart from them the quarterly ones, by one walk over its events.
+    /// Adds the monthly monitorings of a valve to one list and the quarterly ones to another, by one walk over its events.
     #[tactic(auto, using(list_words::proofs::RangeLemmas::ranges))]
     fn put_walked(
         &self,
@@ -184,7 +186,7 @@ impl Asked<'_> {
         Ok(())
     }
 
-    /// Adds the monthly monitorings, and behind them the quarterly ones, which a valve alone can have.
+    /// Adds the monthly monitorings and after them the quarterly ones, which only a valve can have.
     pub fn put_months(&self, alloc: Global, duties: &mut Vec<Duty>) -> Result<(), Memory>
         ensures put { OnOk result (duties.new.items ≡ (duties.old.items ++ filter_map (causes.monthly self.now) (causes.months_after self.now))
             ++ filter_map (causes.quarterly self.now) (causes.months_after self.now)) }

@@ -12,7 +12,7 @@ use crate::month_days::LAST_MONTH;
 use crate::period::routine_in;
 use fact_kinds::{Class, Key, Memory};
 use ldar_days::{Day, Month};
-use ldar_law::{Duty, is_unsafe_designated};
+use ldar_law::{CAUSE_PLAN, Duty, is_unsafe_designated};
 
 /// A window that has begun ends at most so many months after the month of the list: a plan has at most sixty months.
 const PLAN_MONTHS: u32 = 60;
@@ -72,7 +72,7 @@ impl Asked<'_> {
         }
         let first = Month::at(from).first_day();
         let met = routine_in(self.events, first, due);
-        self.duty(5, first, due, &met)
+        self.duty(CAUSE_PLAN, first, due, &met)
     }
 
     /// Whether it has a class of what is unsafe to monitor: that with which it was entered, or a later one.

@@ -10,9 +10,9 @@ use crate::duty::put;
 use crate::period::look_in;
 use fact_kinds::Memory;
 use ldar_days::Day;
-use ldar_law::{Duty, is_none_designated, is_pump};
+use ldar_law::{CAUSE_WEEKLY, Duty, is_none_designated, is_pump};
 
-/// Whether what is so judged is a pump that is no designated one.
+/// Whether a component so judged is a pump without a designation.
 pub fn is_plain_pump(judged: Judged) -> bool
     ensures value { result ≡ causes.is_plain_pump judged }
 {
@@ -40,7 +40,7 @@ impl Asked<'_> {
             return None;
         }
         let met = look_in(self.events, first, due);
-        self.duty(6, first, due, &met)
+        self.duty(CAUSE_WEEKLY, first, due, &met)
     }
 
     /// The first of the weeks that the list can hold.
@@ -58,7 +58,7 @@ impl Asked<'_> {
         }
     }
 
-    /// Adds the weekly inspections. Of what is no pump no week is looked at.
+    /// Adds the weekly inspections. For a component other than a pump no week is looked at.
     pub fn put_weekly(&self, duties: &mut Vec<Duty>) -> Result<(), Memory>
         ensures put { OnOk result (duties.new.items ≡ duties.old.items ++ filter_map (causes.weekly self.now) (causes.weeks_after self.now)) }
     {

@@ -11,7 +11,7 @@ use crate::duty::put;
 use crate::period::{routine_in, routine_near_background};
 use fact_kinds::{Class, Designation, Key, Memory};
 use ldar_days::{Day, Month};
-use ldar_law::{Duty, is_difficult_designated, is_nde_designated};
+use ldar_law::{CAUSE_YEARLY, Duty, is_difficult_designated, is_nde_designated};
 
 /// Whether a designation is one of what is monitored each year.
 fn is_yearly_designated(designation: Designation) -> bool
@@ -67,7 +67,7 @@ impl Asked<'_> {
             return None;
         }
         let met = self.yearly_reading(judged, first, due);
-        self.duty(4, first, due, &met)
+        self.duty(CAUSE_YEARLY, first, due, &met)
     }
 
     /// The first of the years that the list can hold.

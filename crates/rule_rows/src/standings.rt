@@ -1,14 +1,13 @@
 //! The class of a component, moved on from day to day.
 
 use crate::words::{key, plain};
-use class_standing::{ClassStanding, entered_by};
 use fact_kinds::{Kind, Service};
 use ldar_days::Day;
-use ldar_law::Equipment;
+use ldar_law::{ClassInForce, Equipment, entered_from};
 use std::test::Fail;
 
 #[test]
-fn a_class_stands_until_the_next_one_is_entered(rt: HostRuntime) -> Result<(), Fail> {
+fn a_class_is_in_force_until_the_next_one_is_entered(rt: HostRuntime) -> Result<(), Fail> {
     let item = Equipment {
         component: 1,
         unit: 1,
@@ -23,7 +22,7 @@ fn a_class_stands_until_the_next_one_is_entered(rt: HostRuntime) -> Result<(), F
         (key(Day::at(19_000), 0), plain(Service::Light)),
         (key(Day::at(19_100), 0), plain(Service::Heavy)),
     ];
-    let gas = ClassStanding::on(&item, &classes, Day::at(18_999));
+    let gas = ClassInForce::on(&item, &classes, Day::at(18_999));
     let light = gas.moved_to(&item, &classes, Day::at(19_000));
     let still = light.moved_to(&item, &classes, Day::at(19_099));
     let heavy = still.moved_to(&item, &classes, Day::at(19_100));
@@ -35,11 +34,11 @@ fn a_class_stands_until_the_next_one_is_entered(rt: HostRuntime) -> Result<(), F
     assert_eq!(rt; back.class.service, Service::Gas);
     assert!(rt; light.holds_on(Day::at(19_099)));
     assert!(rt; !light.holds_on(Day::at(19_100)));
-    assert_eq!(rt; entered_by(&classes, 0, Day::at(18_999)), 0);
-    assert_eq!(rt; entered_by(&classes, 0, Day::at(19_099)), 1);
-    assert_eq!(rt; entered_by(&classes, 0, Day::at(19_100)), 2);
-    let behind = ClassStanding::behind(&item, &classes, 1);
-    assert_eq!(rt; behind.class.service, Service::Light);
-    assert!(rt; behind.holds_on(Day::at(19_000)));
+    assert_eq!(rt; entered_from(&classes, 0, Day::at(18_999)), 0);
+    assert_eq!(rt; entered_from(&classes, 0, Day::at(19_099)), 1);
+    assert_eq!(rt; entered_from(&classes, 0, Day::at(19_100)), 2);
+    let after = ClassInForce::after(&item, &classes, 1);
+    assert_eq!(rt; after.class.service, Service::Light);
+    assert!(rt; after.holds_on(Day::at(19_000)));
     Ok(())
 }

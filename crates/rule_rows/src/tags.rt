@@ -3,7 +3,8 @@
 use fact_kinds::{Key, Kind};
 use ldar_days::Day;
 use ldar_law::{Event, Happening, Span};
-use leak_tags::{spans_by_search, spans_of};
+use leak_tags::{spans_by_search, spans_of, spans_until};
+use monitor_calendar::are_events_ordered;
 use std::alloc::Global;
 use std::test::Fail;
 
@@ -113,12 +114,30 @@ fn tags_of(alloc: Global, kind: Kind, from: u32, told: &[(u32, u8)]) -> Result<S
     if spans.as_slice() != searched.as_slice() {
         return Err(Fail::from("the search"));
     }
+    text_of_all(alloc, from, &spans)
+}
+
+/// The days of some tags after a day.
+fn text_of_all(alloc: Global, from: u32, spans: &[Span]) -> Result<String, Fail> {
     let mut text = String::new(alloc);
-    for span in &spans {
+    for span in spans {
         let tag = text_of(alloc, from, span)?;
         text = format!(in alloc; "{text}{tag}; ")?;
     }
     Ok(text)
+}
+
+/// The tags of a valve as they are known so many days after a day.
+fn tags_known(alloc: Global, from: u32, told: &[(u32, u8)], days: u32) -> Result<String, Fail> {
+    let events = events_of(alloc, from, told)?;
+    if !are_events_ordered(&events) {
+        return Err(Fail::from("the order"));
+    }
+    let spans = spans_of(alloc, Kind::Valve, &events)?;
+    let day = Day::of_number(from).ok_or("day")?.plus_days(days);
+    let mut known = Vec::new(alloc);
+    spans_until(&spans, &events, Kind::Valve, day, &mut known)?;
+    text_of_all(alloc, from, &known)
 }
 
 /// Events of a kind of equipment, by their days after the first leak's, and the tags that they give: what closes one, and what
@@ -432,5 +451,30 @@ fn an_event_that_is_both_is_searched_for(rt: HostRuntime) -> Result<(), Fail> {
     // A leak is no first reading for itself.
     let spans = spans_of(alloc, Kind::Valve, &events)?;
     assert!(rt; spans.len() == 1 && spans[0].closed.is_none());
+    Ok(())
+}
+
+/// A valve leaks on 2024-02-20. March and April are clean up to the leak of 2024-04-20, before which the identification may
+/// come off.
+const KNOWN: [(u32, &str); 9] = [
+    (71, ""),
+    (72, "72; "),
+    (73, "72; "),
+    (74, "72 attempted 74; "),
+    (86, "72 attempted 74; "),
+    (87, "72 attempted 74 closed 87; "),
+    (114, "72 attempted 74 closed 87 removable; "),
+    (131, "72 attempted 74 closed 87 removable; "),
+    (132, "72 attempted 74 closed 87; 132; "),
+];
+
+/// A tag is known on a day by the events up to it.
+#[test]
+fn tags_are_known_by_the_events_up_to_the_day(rt: HostRuntime) -> Result<(), Fail> {
+    let alloc = rt.alloc();
+    let told = [(72, b'L'), (74, b'A'), (87, b'b'), (114, b'b'), (132, b'L')];
+    for (days, tags) in KNOWN {
+        assert_eq!(rt; tags_known(alloc, DECEMBER, &told, days)?.as_str(), tags);
+    }
     Ok(())
 }

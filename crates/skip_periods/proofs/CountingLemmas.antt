@@ -27,7 +27,7 @@ judged_later startup day quarter later is_day by on =
 pub counts_on : (item : Equipment) (classes : List (Key × Class)) (startup day quarter : ℕ) (counting : Counting) → IsDay startup → startup ≤ LAST_FACT_DAY →
     CountsFrom item classes startup day quarter counting → CountsFrom item classes startup day (quarter + 1) counting
 counts_on item classes startup day quarter counting is_day by from = record {
-  behind = from.behind;
+  after = from.after;
   front = λ k e entered. omega (arith, from.front k e entered, judged_later startup day quarter (quarter + 1) is_day by (omega arith));
 }
 
@@ -38,8 +38,8 @@ told_where_not false told number is = (refl, cc)
 
 module _ (startup day number : ℕ) (is_day : IsDay startup) (by : startup ≤ LAST_FACT_DAY) (is_number : IsDay number) where
   -- a day is judged by with each quarter that ends no earlier than its month
-  pub judged_behind : (quarter : ℕ) → number ≤ day → month_of number < first_quarter startup + 3 * quarter → number ≤ judging_day startup quarter day
-  judged_behind quarter seen on =
+  pub judged_on : (quarter : ℕ) → number ≤ day → month_of number < first_quarter startup + 3 * quarter → number ≤ judging_day startup quarter day
+  judged_on quarter seen on =
       let month = month_of-month number is_number in
       let ends = (first_day-le (month_of number) (first_quarter startup + 3 * quarter - 1) (omega (arith, month)) (omega (arith, on))).1 in
       omega (arith, (month_of-is number is_number).1, ends, is_number)

@@ -1,18 +1,19 @@
--- Whether a component is a valve that is counted, over quarters by whose judging no class is entered for it.
+-- Whether a component is a valve that is counted, over quarters by whose judging day no class is entered for it.
 use Rattle.std.specs.Prelude.{◌≡◌, ℕ, ◌<◌, ◌≤◌, List, length, slice_index_or}
 use Rattle.fact_kinds.specs.declared.class.Class.{Class}
 use Rattle.fact_kinds.specs.declared.key.Key.{Key}
-use Rattle.class_standing.specs.Standings.{IsBehind}
 use Rattle.ldar_law.specs.declared.equipment.Equipment.{Equipment}
+use Rattle.ldar_law.specs.ClassInForce.{HasEntered}
 use Rattle.ldar_law.specs.Force.{class_on}
 use Rattle.ldar_law.specs.Percent.{judging_day}
 use Rattle.skip_periods.specs.Seen.{counts_class}
 use Rattle.skip_periods.specs.declared.counting.Counting.{Counting}
 
--- it is counted or not by the class behind those that were entered, up to the quarter by whose judging the next one is, as a view of the day has it
-pub record CountsBehind (item : Equipment) (classes : List (Key × Class)) (startup day : ℕ) (counting : Counting) : Type 0 where
+-- it is counted or not by the last of the classes that were entered, up to the quarter by whose judging day the next one is, on the list
+-- of the day
+pub record CountsAfter (item : Equipment) (classes : List (Key × Class)) (startup day : ℕ) (counting : Counting) : Type 0 where
   pub within : counting.entered ≤ length classes
-  pub counts : (judged : ℕ) → judged < 65_536 → IsBehind judged classes counting.entered →
+  pub counts : (judged : ℕ) → judged < 65_536 → HasEntered judged classes counting.entered →
       counting.is_counted ≡ counts_class item (class_on item classes judged)
   pub before : (quarter : ℕ) (e : Key × Class) → quarter < counting.end → counting.entered < length classes →
       judging_day startup quarter day < (slice_index_or classes counting.entered e).0.day
@@ -21,5 +22,5 @@ pub record CountsBehind (item : Equipment) (classes : List (Key × Class)) (star
 
 -- .. and those that were entered were so by the day on which the quarter is judged
 pub record CountsFrom (item : Equipment) (classes : List (Key × Class)) (startup day quarter : ℕ) (counting : Counting) : Type 0 where
-  pub behind : CountsBehind item classes startup day counting
+  pub after : CountsAfter item classes startup day counting
   pub front : (k : ℕ) (e : Key × Class) → k < counting.entered → (slice_index_or classes k e).0.day ≤ judging_day startup quarter day

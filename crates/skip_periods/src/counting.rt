@@ -1,41 +1,39 @@
-//! Whether a component is a valve that is counted, over quarters that follow one another: it stays so up to the quarter by whose
-//! judging the next of its classes is entered, so that most quarters ask for no class and for no day, and each class for its
-//! quarter once.
+//! Whether a component is a valve that is counted, from one quarter to the next. It stays the same up to the quarter by whose
+//! judging day the next class is entered, so that most quarters need no search, and each class is asked once for its quarter.
 
 ghost use Rattle.std.specs.Prelude.{◌≡◌, ◌<◌, ◌≤◌, ℕ, false, [], length, slice_index_or};
 ghost use Rattle.list_words.specs.Order.{Ascends};
 ghost use Rattle.fact_kinds.specs.Facts.{is_earlier};
 ghost use Rattle.ldar_law.specs.Percent as law;
 ghost use Rattle.ldar_law.specs.declared.numbers.TheConstants.{LAST_FACT_DAY};
-ghost use Rattle.skip_periods.specs.Counting.{CountsBehind, CountsFrom};
+ghost use Rattle.skip_periods.specs.Counting.{CountsAfter, CountsFrom};
 
 use crate::percent::is_counted_of;
-use class_standing::ClassStanding;
 use fact_kinds::{Class, Key};
 use ldar_days::{Day, quarter_of};
-use ldar_law::Equipment;
+use ldar_law::{ClassInForce, Equipment};
 
-/// Behind all quarters, whose numbers have two bytes.
-const BEHIND_ALL: u32 = 65_536;
+/// One past the largest quarter number (`u16`).
+const AFTER_ALL_QUARTERS: u32 = 65_536;
 
-/// Whether a component is a valve that is counted, in a quarter and in those behind it up to another.
+/// Whether a component is a valve that is counted, from one quarter up to another.
 #[derive(Clone, Copy)]
 pub struct Counting {
     pub is_counted: bool,
-    /// So many of its classes were entered by the day on which the quarter is judged.
+    /// How many of its classes were entered by the day on which the quarter is judged.
     pub entered: usize,
-    /// The quarter behind the last of them: by its judging one class more is entered.
+    /// The quarter after the last of them: by its judging day one more class is entered.
     pub end: u32,
 }
 
-/// The first quarter that is judged on a day or behind it, as a view of another day has it.
+/// The first quarter that is judged on a day or later, on the list of another day.
 fn judged_from(startup: Day, entered: Day, day: Day) -> u32
     requires startup { startup ≤ LAST_FACT_DAY }
     ensures before { (quarter : ℕ) → quarter < result → law.judging_day startup quarter day < entered }
     ensures value { (quarter : ℕ) → quarter < 65_536 → result ≤ quarter → entered ≤ law.judging_day startup quarter day }
 {
     if day.number() < entered.number() {
-        return BEHIND_ALL;
+        return AFTER_ALL_QUARTERS;
     }
     match quarter_of(startup, entered.month()) {
         Some(quarter) => u32::from(quarter),
@@ -43,7 +41,7 @@ fn judged_from(startup: Day, entered: Day, day: Day) -> u32
     }
 }
 
-/// The first quarter by whose judging the class at a place is entered, or one behind all quarters where none stands there.
+/// The first quarter by whose judging day the class at a place is entered; if there is none, one past all quarters.
 fn quarter_at(classes: &[(Key, Class)], place: usize, startup: Day, day: Day) -> u32
     requires startup { startup ≤ LAST_FACT_DAY }
     ensures before { (quarter : ℕ) (e : Key × Class) → quarter < result → place < length classes.now
@@ -52,14 +50,14 @@ fn quarter_at(classes: &[(Key, Class)], place: usize, startup: Day, day: Day) ->
         × ((e : Key × Class) → (slice_index_or classes.now place e).0.day ≤ law.judging_day startup quarter day) }
 {
     if place >= classes.len() {
-        return BEHIND_ALL;
+        return AFTER_ALL_QUARTERS;
     }
     judged_from(startup, classes[place].0.day, day)
 }
 
 impl Counting {
-    /// Behind so many of the classes of a component.
-    fn behind(
+    /// After this many of the classes of a component.
+    fn after(
         equipment: &Equipment,
         classes: &[(Key, Class)],
         place: usize,
@@ -70,9 +68,9 @@ impl Counting {
         requires startup { startup ≤ LAST_FACT_DAY }
         requires ordered { Ascends (λ a b. is_earlier a.0 b.0) classes.now }
         ensures entered { result.entered ≡ place }
-        ensures value { CountsBehind equipment.now classes.now startup day result }
+        ensures value { CountsAfter equipment.now classes.now startup day result }
     {
-        let under = ClassStanding::behind(equipment, classes, place);
+        let under = ClassInForce::after(equipment, classes, place);
         Counting {
             is_counted: is_counted_of(equipment, under.class),
             entered: place,
@@ -80,7 +78,7 @@ impl Counting {
         }
     }
 
-    /// In the quarters before that of the first class, by the classes of a component in key order.
+    /// In the quarters before the first class is entered, by the classes of a component in key order.
     pub fn at_first(
         equipment: &Equipment,
         classes: &[(Key, Class)],
@@ -91,11 +89,11 @@ impl Counting {
         requires ordered { Ascends (λ a b. is_earlier a.0 b.0) classes.now }
         ensures value { (quarter : ℕ) → CountsFrom equipment.now classes.now startup day quarter result }
     {
-        Counting::behind(equipment, classes, 0, startup, day)
+        Counting::after(equipment, classes, 0, startup, day)
     }
 
-    /// Moves on to a later quarter, as a view of the day has it, by the classes of the component in key order: it stays the same,
-    /// where the quarter is one of those up to the other.
+    /// Moves on to a later quarter, on the list of the day, by the classes of the component in key order. It stays the same if
+    /// the quarter is before the end.
     pub fn move_to(
         &mut self,
         equipment: &Equipment,
@@ -111,7 +109,7 @@ impl Counting {
         ensures value { CountsFrom equipment.now classes.now startup day quarter self.new }
     {
         while self.end <= u32::from(quarter) {
-            *self = Counting::behind(equipment, classes, self.entered + 1, startup, day);
+            *self = Counting::after(equipment, classes, self.entered + 1, startup, day);
         }
     }
 }

@@ -19,7 +19,7 @@ pub fn is_counted_of(item: &Equipment, class: Class) -> bool
     Regime::of(item.kind, class.service).are_valve_rules() && !is_nde_designated(class.designation)
 }
 
-/// Whether the component is a valve that is counted in the quarter, as a view of the day has it.
+/// Whether the component is a valve that is counted in the quarter, on the list of the day.
 fn is_counted(
     item: &Equipment,
     classes: &[(Key, Class)],
@@ -32,7 +32,7 @@ fn is_counted(
     requires ordered { Ascends (λ a b. is_earlier a.0 b.0) classes.now }
     ensures value { result ≡ law.is_counted item.now classes.now startup [] false quarter day }
 {
-    let class = item.ordered_class_on(classes, judging_day(startup, quarter, day));
+    let class = item.class_on(classes, judging_day(startup, quarter, day));
     is_counted_of(item, class)
 }
 
@@ -44,6 +44,7 @@ fn is_overdue(
     events: &[Event],
     day: Day,
 ) -> bool
+    requires ordered { Ascends (λ a b. is_earlier a.0 b.0) classes.now }
     ensures value { result ≡ (duties.is_first_owed item.now classes.now startup (min (duties.first_due item.now) day)
         && nat_lt (duties.first_due item.now) day && is_none (duties.routine_in events.now item.now.begin (duties.first_due item.now))) }
 {
@@ -63,12 +64,13 @@ fn is_first_missed(
     day: Day,
 ) -> bool
     requires startup { startup ≤ LAST_FACT_DAY }
+    requires ordered { Ascends (λ a b. is_earlier a.0 b.0) classes.now }
     ensures value { result ≡ law.is_first_missed item.now classes.now startup events.now false quarter day }
 {
     is_in_quarter(startup, quarter, item.begin) && is_overdue(item, classes, startup, events, day)
 }
 
-/// The quarter in which the component begins, where its first monitoring was missed by the day (our own rule).
+/// The quarter in which the component begins, if its first monitoring was missed by the day (our own rule).
 pub fn missed_quarter(
     item: &Equipment,
     classes: &[(Key, Class)],
@@ -77,6 +79,7 @@ pub fn missed_quarter(
     day: Day,
 ) -> Option<u16>
     requires startup { startup ≤ LAST_FACT_DAY }
+    requires ordered { Ascends (λ a b. is_earlier a.0 b.0) classes.now }
     ensures value { (quarter : ℕ) → says_numbered result quarter ≡ law.is_first_missed item.now classes.now startup events.now false quarter day }
 {
     if is_overdue(item, classes, startup, events, day) {
@@ -86,7 +89,7 @@ pub fn missed_quarter(
     }
 }
 
-/// What is seen of a component in a quarter, where a first monitoring that it missed is a leak that is seen (our own rule).
+/// What is seen of a component in a quarter; a first monitoring that it missed counts as a leak that is seen (our own rule).
 pub fn with_missed(seen: Mark, missed: bool) -> Mark
     ensures value { result ≡ seen_or_missed seen missed }
 {

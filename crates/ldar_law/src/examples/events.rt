@@ -15,7 +15,7 @@ ghost use Rattle.ldar_law.specs.declared.event.Happening.TheVariants.{Attempt, D
 ghost use Rattle.ldar_law.specs.declared.fitness.Fitness.TheVariants.{Fit, NoCalibration, NoPrecision};
 ghost use Rattle.ldar_law.specs.Events.{events_with, fitness_in};
 ghost use Rattle.ldar_law.specs.Short.{calibrated_twice, class, compressor, date, entered_on, events_on};
-ghost use Rattle.ldar_law.specs.Short.{events_with_gas, gear, pump, relief, three_readings, valve};
+ghost use Rattle.ldar_law.specs.Short.{events_with_gas, gear, lowered, pump, read_while_lowered, relief, three_readings, valve};
 
 /// A reading has its numbers, its purpose, whether it counts, and on which side of the leak definition it is.
 pub fn a_reading_as_an_event()
@@ -88,9 +88,16 @@ pub fn a_gas_by_the_leak_definition_of_the_day()
         ≡ Read 20 0 true true true false ∷ [] }
 {}
 
+/// A reading is judged by the leak definition of its own day, and so is the gas that its instrument was calibrated with.
+pub fn readings_by_the_leak_definition_of_each_day()
+    ensures leak { read_while_lowered 500 200 ≡ Read 200 0 true true true false ∷ Read 200 0 true true false true ∷ [] }
+    ensures below { read_while_lowered 500 199 ≡ Read 199 0 true true true false ∷ Read 199 0 true true true false ∷ [] }
+    ensures gas { read_while_lowered 2201 199 ≡ Read 199 0 true true true false ∷ Read 199 0 true false false false ∷ [] }
+{}
+
 /// The readings take the fitness of a list one after the other; other facts take none, and a reading for which none is left is not fit.
 pub fn events_by_a_list_of_fitness()
-    ensures events { map (λ e. e.what) (events_with (valve 1 (date 2020 1 15)) [] three_readings (NoCalibration ∷ Fit ∷ []))
+    ensures events { map (λ e. e.what) (events_with (valve 1 (date 2020 1 15)) [] lowered three_readings (NoCalibration ∷ Fit ∷ []))
         ≡ Read 20 0 true false false false ∷ Attempt false ∷ Read 30 0 true true true false ∷ Read 40 0 true false false false ∷ [] }
-    ensures fitness { filter_map (fitness_in (valve 1 (date 2020 1 15)) [] calibrated_twice) three_readings ≡ NoCalibration ∷ Fit ∷ NoPrecision ∷ [] }
+    ensures fitness { filter_map (fitness_in lowered calibrated_twice) three_readings ≡ NoCalibration ∷ Fit ∷ NoPrecision ∷ [] }
 {}

@@ -1,6 +1,6 @@
 //! Laws of what the register holds.
 
-ghost use Rattle.ldar_law.specs.RegisterLaws.{OwnFactsSuffice, UnitFactsSuffice, RegisterFactsSuffice, ComponentWhereEntered};
+ghost use Rattle.ldar_law.specs.RegisterLaws.{OwnFactsSuffice, UnitFactsSuffice, UnitFactsJudge, RegisterFactsSuffice, ComponentWhereEntered};
 ghost use Rattle.ldar_law.specs.RegisterLaws.{UnitWhereEntered, ClassWhereEntered, MembersAreEntered, RetiredBySome, OneMoreFactInForce};
 
 /// The facts that name a component have all that the register holds of it.
@@ -8,9 +8,10 @@ pub fn own_facts_suffice()
     ensures law { OwnFactsSuffice }
 {}
 
-/// The facts that name a process unit have all that the register holds of it.
+/// The facts that name a process unit have all that the register holds of it, and all that its components are judged by.
 pub fn unit_facts_suffice()
     ensures law { UnitFactsSuffice }
+    ensures judges { UnitFactsJudge }
 {}
 
 /// The entries in the register have all that it holds.

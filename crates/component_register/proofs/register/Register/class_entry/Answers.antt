@@ -4,8 +4,10 @@ use Rattle.ldar_law.specs.RegisterLaws.{class_first}
 use Rattle.component_register.proofs.HoldLemmas.{classes_ascend}
 use Rattle.component_register.proofs.register.Register.class_entry.Goals as goal
 
-pub class_by-requires : goal.class_by-requires
-class_by-requires c =
+pub last_entered-requires : goal.last_entered-requires
+last_entered-requires c =
     let inside = c.self.inside in
-    subst (Ascends class_first) (sym c.list_of.ensures.value)
-    (classes_ascend inside.store inside.slots.items inside.units.items inside.classes.items inside.rosters.items c.self.invariant c.args.component)
+    record {
+      ordered = subst (Ascends class_first) (sym c.list_of.ensures.value)
+          (classes_ascend inside.store inside.slots.items inside.units.items inside.classes.items inside.rosters.items c.self.invariant c.args.component);
+    }

@@ -1,5 +1,4 @@
 use Rattle.std.proofs.Common.{◌≡◌, None, Some, sym, ap, ◌∙◌, subst}
-use Rattle.std.specs.Option.{option_map, unwrap_or}
 use Rattle.list_words.specs.Order.{Ascends}
 use Rattle.fact_store.specs.Kept.{facts_in}
 use Rattle.ldar_law.specs.RegisterLaws.{class_first}
@@ -7,11 +6,13 @@ use Rattle.ldar_law.specs.Force as force
 use Rattle.component_register.proofs.HoldLemmas.{classes_ascend, class_held_on, no_class_held}
 use Rattle.component_register.proofs.register.Register.class_on.Goals as goal
 
-pub class_by-entered-requires : goal.class_by-entered-requires
-class_by-entered-requires c =
+pub class_on-requires : goal.class_on-requires
+class_on-requires c =
     let inside = c.self.inside in
-    subst (Ascends class_first) (sym c.list_of.ensures.value)
-    (classes_ascend inside.store inside.slots.items inside.units.items inside.classes.items inside.rosters.items c.self.invariant c.args.component)
+    record {
+      ordered = subst (Ascends class_first) (sym c.list_of.ensures.value)
+          (classes_ascend inside.store inside.slots.items inside.units.items inside.classes.items inside.rosters.items c.self.invariant c.args.component);
+    }
 
 pub returns-in_err-item : goal.returns-in_err-item
 returns-in_err-item c =
@@ -29,10 +30,9 @@ returns c =
     let inside = c.self.inside in
     let is = rw c.deref.ensures.value at c.row_of.ensures.value in
     let some : c.row_of.result.entered ≡ Some c.in_ok-item.item = c.in_ok-item.was in
-    let entered = rw c.list_of.ensures.value at c.class_by-entered.ensures.value in
     let held = class_held_on inside.store inside.slots.items inside.units.items inside.classes.items inside.rosters.items c.self.invariant c.args.component
     c.args.day c.row_of.result is c.in_ok-item.item some in
     record {
-      value = subst (λ kept. Some c.class_or.result ≡ force.class_in_force c.args.component (facts_in kept) c.args.day) c.self.view_is
-          (ap Some (c.class_or.ensures.value ∙ ap (λ o. unwrap_or (option_map (λ e. e.1) o) c.in_ok-item.item.class) entered) ∙ sym held);
+      value = subst (λ kept. Some c.class_on.result ≡ force.class_in_force c.args.component (facts_in kept) c.args.day) c.self.view_is
+          (ap Some (c.class_on.ensures.value ∙ ap (λ classes. force.class_on c.in_ok-item.item classes c.args.day) c.list_of.ensures.value) ∙ sym held);
     }

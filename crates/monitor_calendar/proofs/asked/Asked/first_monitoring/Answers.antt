@@ -1,4 +1,5 @@
 use Rattle.std.proofs.Common.{◌≡◌, min, sym, ap, ◌∙◌}
+use Rattle.ldar_law.specs.declared.causes.TheConstants.{CAUSE_FIRST}
 use Rattle.ldar_law.specs.Duties as law
 use Rattle.monitor_calendar.specs.Causes as causes
 use Rattle.monitor_calendar.proofs.Judging.{met_by_key}
@@ -17,7 +18,7 @@ returns c =
       value = c.duty.ensures.value
           ∙ met_by_key asked 1 item.begin due (law.is_first_owed item asked.classes.now asked.startup c.judging_day-judged.result) c.routine_in-met.result met
           c.routine_in-met.ensures.value (sym c.is_first_owed.ensures.value ∙ c.if-not-is_first_owed.false)
-          ∙ ap (λ j. causes.duty asked 1 item.begin due (law.is_first_owed item asked.classes.now asked.startup j) met) day
-          ∙ ap (λ d. causes.duty asked 1 item.begin d (law.is_first_owed item asked.classes.now asked.startup (min d asked.day))
+          ∙ ap (λ j. causes.duty asked CAUSE_FIRST item.begin due (law.is_first_owed item asked.classes.now asked.startup j) met) day
+          ∙ ap (λ d. causes.duty asked CAUSE_FIRST item.begin d (law.is_first_owed item asked.classes.now asked.startup (min d asked.day))
           (law.routine_in asked.events.now item.begin d)) by;
     }

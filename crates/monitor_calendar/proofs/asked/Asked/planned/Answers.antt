@@ -1,5 +1,6 @@
 use Rattle.std.proofs.Common.{◌≡◌, ◌+◌, ◌-◌, ◌<◌, true, rules, min, refl, sym, ap, subst, ◌∙◌, arith}
 use Rattle.ldar_days.specs.Calendar.{first_day}
+use Rattle.ldar_law.specs.declared.causes.TheConstants.{CAUSE_PLAN}
 use Rattle.ldar_law.specs.Duties.{routine_in}
 use Rattle.monitor_calendar.specs.Causes as causes
 use Rattle.monitor_calendar.specs.Causes.{IsOf}
@@ -24,7 +25,7 @@ returns-then-not-is_planned c =
     let owed = causes.is_planned_judged asked judged month in
     let first = first_day (month + 1 - judged.class.plan) in
     let met = routine_in asked.events.now first due in
-    let form : causes.planned asked month ≡ causes.duty asked 5 first due owed met = planned_by asked judged month due c.last_day_by-due.ensures.value is in
+    let form : causes.planned asked month ≡ causes.duty asked CAUSE_PLAN first due owed met = planned_by asked judged month due c.last_day_by-due.ensures.value is in
     record {
       value = sym (form ∙ unowed asked.item.now asked.classes.now asked.startup asked.events.now asked.skipped.now asked.day 5 first due owed met
           (sym c.is_planned.ensures.value ∙ c.if-not-is_planned.true));
@@ -54,7 +55,7 @@ returns-then-number-from c =
     let owed = causes.is_planned_judged asked judged month in
     let first = first_day (month + 1 - judged.class.plan) in
     let met = routine_in asked.events.now first due in
-    let form : causes.planned asked month ≡ causes.duty asked 5 first due owed met = planned_by asked judged month due c.last_day_by-due.ensures.value is in
+    let form : causes.planned asked month ≡ causes.duty asked CAUSE_PLAN first due owed met = planned_by asked judged month due c.last_day_by-due.ensures.value is in
     let plan : c.from.result ≡ judged.class.plan = search rules in
     let late : c.month.result < month + 1 - judged.class.plan = omega (arith, plan) in
     record {
@@ -85,7 +86,7 @@ returns c =
     let owed = causes.is_planned_judged asked judged month in
     let first = first_day (month + 1 - judged.class.plan) in
     let met = routine_in asked.events.now first due in
-    let form : causes.planned asked month ≡ causes.duty asked 5 first due owed met = planned_by asked judged month due c.last_day_by-due.ensures.value is in
+    let form : causes.planned asked month ≡ causes.duty asked CAUSE_PLAN first due owed met = planned_by asked judged month due c.last_day_by-due.ensures.value is in
     let plan : c.from.result ≡ judged.class.plan = search rules in
     let from : c.first_day-first.result ≡ first = c.first_day-first.ensures.value ∙ ap first_day c.at.ensures.value
     ∙ ap (λ p. first_day (month + 1 - p)) plan in
@@ -93,7 +94,7 @@ returns c =
       value = c.duty.ensures.value
           ∙ met_by_key asked 5 c.first_day-first.result due true c.routine_in-met.result (routine_in asked.events.now c.first_day-first.result due)
           c.routine_in-met.ensures.value refl
-          ∙ ap (λ f. causes.duty asked 5 f due true (routine_in asked.events.now f due)) from
-          ∙ ap (λ o. causes.duty asked 5 first due o met) (sym c.if-not-is_planned.false ∙ c.is_planned.ensures.value)
+          ∙ ap (λ f. causes.duty asked CAUSE_PLAN f due true (routine_in asked.events.now f due)) from
+          ∙ ap (λ o. causes.duty asked CAUSE_PLAN first due o met) (sym c.if-not-is_planned.false ∙ c.is_planned.ensures.value)
           ∙ sym form;
     }

@@ -1,7 +1,7 @@
 use Rattle.std.proofs.Common.{◌≡◌, ◌+◌, ◌≤◌, ◌++◌}
 use Rattle.std.specs.List.{filter_map}
 use Rattle.list_words.specs.Ranges.{until}
-use Rattle.class_standing.specs.Standings.{IsInForce}
+use Rattle.ldar_law.specs.ClassInForce.{IsInForce}
 use Rattle.monitor_calendar.specs.Causes as causes
 use Rattle.monitor_calendar.proofs.asked.Asked.put_monthly.Given as goal
 

@@ -1,5 +1,6 @@
 use Rattle.std.proofs.Common.{◌≡◌, min, sym, subst, ◌∙◌, arith}
 use Rattle.ldar_days.specs.Calendar.{week_first, week_last}
+use Rattle.ldar_law.specs.declared.causes.TheConstants.{CAUSE_WEEKLY}
 use Rattle.ldar_law.specs.Duties.{look_in}
 use Rattle.monitor_calendar.specs.Causes as causes
 use Rattle.monitor_calendar.specs.Causes.{IsOf}
@@ -24,7 +25,7 @@ returns-then-not-is_plain_pump c =
     let owed = causes.is_plain_pump judged in
     let met = look_in asked.events.now c.at-first.result c.plus_days-due.result in
     let form : causes.weekly asked c.args.week
-    ≡ causes.duty asked 6 c.at-first.result c.plus_days-due.result owed met =
+    ≡ causes.duty asked CAUSE_WEEKLY c.at-first.result c.plus_days-due.result owed met =
     weekly_by asked judged c.args.week c.at-first.result c.plus_days-due.result from to is in
     record {
       value = sym (form ∙ unowed asked.item.now asked.classes.now asked.startup asked.events.now asked.skipped.now asked.day 6 c.at-first.result
@@ -49,7 +50,7 @@ returns c =
     let owed = causes.is_plain_pump judged in
     let met = look_in asked.events.now c.at-first.result c.plus_days-due.result in
     let form : causes.weekly asked c.args.week
-    ≡ causes.duty asked 6 c.at-first.result c.plus_days-due.result owed met =
+    ≡ causes.duty asked CAUSE_WEEKLY c.at-first.result c.plus_days-due.result owed met =
     weekly_by asked judged c.args.week c.at-first.result c.plus_days-due.result from to is in
     record {
       value = c.duty.ensures.value

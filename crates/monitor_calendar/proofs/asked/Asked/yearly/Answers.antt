@@ -1,5 +1,6 @@
 use Rattle.std.proofs.Common.{◌≡◌, ◌+◌, ◌*◌, min, sym, subst, ◌∙◌}
 use Rattle.ldar_days.specs.Calendar.{first_day, last_day}
+use Rattle.ldar_law.specs.declared.causes.TheConstants.{CAUSE_YEARLY}
 use Rattle.monitor_calendar.specs.Causes as causes
 use Rattle.monitor_calendar.specs.Causes.{IsOf}
 use Rattle.monitor_calendar.proofs.Judging.{met_by_key, yearly_by}
@@ -23,7 +24,7 @@ returns-then-not-is_yearly c =
     let owed = causes.is_yearly_judged judged in
     let met = causes.yearly_reading_judged asked judged c.first_day-first.result c.last_day-due.result in
     let form : causes.yearly asked c.args.year
-    ≡ causes.duty asked 4 c.first_day-first.result c.last_day-due.result owed met =
+    ≡ causes.duty asked CAUSE_YEARLY c.first_day-first.result c.last_day-due.result owed met =
     yearly_by asked judged c.args.year c.first_day-first.result c.last_day-due.result from to is in
     record {
       value = sym (form ∙ unowed asked.item.now asked.classes.now asked.startup asked.events.now asked.skipped.now asked.day 4 c.first_day-first.result
@@ -48,7 +49,7 @@ returns c =
     let owed = causes.is_yearly_judged judged in
     let met = causes.yearly_reading_judged asked judged c.first_day-first.result c.last_day-due.result in
     let form : causes.yearly asked c.args.year
-    ≡ causes.duty asked 4 c.first_day-first.result c.last_day-due.result owed met =
+    ≡ causes.duty asked CAUSE_YEARLY c.first_day-first.result c.last_day-due.result owed met =
     yearly_by asked judged c.args.year c.first_day-first.result c.last_day-due.result from to is in
     record {
       value = c.duty.ensures.value
