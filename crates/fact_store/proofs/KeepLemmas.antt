@@ -26,7 +26,7 @@ use Rattle.fact_store.specs.Naming.{named_by}
 use Rattle.fact_store.proofs.CountLemmas.{room_for_first, room_for_others}
 use Rattle.fact_store.proofs.ListingLemmas.{hold_none}
 
--- a fact that has room can come
+-- a fact with reserved room can be added
 pub can_take : {Z : Type 0} (naming : FactBody → Option ℕ) (arrived : List Entry) (fact : Stated) (spare : List Stated) (lists : List (Vec Place Z))
     → AllApart goes_first arrived → KeepsLists naming arrived (fact ∷ spare) lists → CanTake arrived (naming fact.body) lists
 can_take naming arrived fact spare lists apart keeps =
@@ -37,12 +37,12 @@ can_take naming arrived fact spare lists apart keeps =
           (ascends_in_order goes_first strict_goes_first arrived apart));
     }
 
--- the facts in key order, after one more
+-- the facts in key order, with one more
 pub in_order_more : (arrived : List Entry) (e : Entry) → AllApart goes_first (arrived ++ e ∷ [])
     → in_order goes_first (arrived ++ e ∷ []) ≡ put_in_order goes_first e (in_order goes_first arrived)
 in_order_more arrived e apart = sym (put_each_in_order goes_first strict_goes_first (e ∷ []) arrived apart)
 
--- when it has come, the lists hold its place as well
+-- after a fact was added, the lists have its place too
 pub keeps_taken : {Z : Type 0} (naming : FactBody → Option ℕ) (arrived : List Entry) (key : Key) (fact : Stated) (spare : List Stated)
     (old new : List (Vec Place Z))
     → AllApart goes_first arrived → AllApart goes_first (arrived ++ (key, fact) ∷ []) → KeepsLists naming arrived (fact ∷ spare) old
@@ -58,7 +58,7 @@ keeps_taken naming arrived key fact spare old new apart after keeps takes =
       room = room_for_others naming fact spare old new keeps.room takes.room;
     }
 
--- a key that no fact has ties with none
+-- a new key ties with no fact's
 not_tied : (key : Key) (arrived : List Entry) (fact : Stated) → is_held key arrived ≡ false
     → AllByRecursion (λ e. AllByRecursion (λ x. (goes_first e x || goes_first x e) ≡ true) ((key, fact) ∷ [])) arrived
 not_tied key [] fact new = tt
@@ -66,22 +66,24 @@ not_tied key (e ∷ es) fact new =
     let parts = or_parts (is_eq (key_cmp e.0 key)) (is_held key es) new in
     ((apart_keys e.0 key (λ tie. false≢true (sym parts.0 ∙ ap is_eq tie)), tt), not_tied key es fact parts.1)
 
+-- facts without ties have none after a fact with a new key
 pub apart_more : (arrived : List Entry) (key : Key) (fact : Stated) → AllApart goes_first arrived → is_held key arrived ≡ false
     → AllApart goes_first (arrived ++ (key, fact) ∷ [])
 apart_more arrived key fact apart new = apart_append goes_first arrived ((key, fact) ∷ []) apart (tt, tt) (not_tied key arrived fact new)
 
+-- a list is its first element and the rest
 pub first_of : (facts : List Stated) (fact : Stated) → slice_get facts 0 ≡ Some fact → facts ≡ fact ∷ drop 1 facts
 first_of [] fact first = cc
 first_of (x ∷ xs) fact first = let same : x ≡ fact = cc in ap (λ f. f ∷ xs) same
 
--- the first of the facts that have room, and the others
+-- the reserved facts are the next one and the rest
 pub spare_first : (reserved : List Stated) (used : ℕ) (fact : Stated) → slice_get (drop used reserved) 0 ≡ Some fact
     → drop used reserved ≡ fact ∷ drop (used + 1) reserved
 spare_first reserved used fact first = first_of (drop used reserved) fact first ∙ ap (λ rest. fact ∷ rest) (drop-drop 1 used reserved)
 
 -- ---- an index
 
--- an index that keeps all facts that came keeps the first ones, which are all of them
+-- an index of all facts is one of the first facts, which are all of them
 pub keeps_first : (naming : Naming) (arrived : List Entry) (spare : List Stated) (index : Index) → KeepsIndex naming arrived spare index
     → KeepsFirst naming arrived index
 keeps_first naming arrived spare index keeps =
@@ -92,7 +94,7 @@ keeps_first naming arrived spare index keeps =
       lists = rw all (record { held = keeps.lists.held; listed = keeps.lists.listed });
     }
 
--- .. and so it does after one more came
+-- an index of the first facts stays one after another fact arrives
 first_stay : (naming : Naming) (arrived : List Entry) (e : Entry) (index : Index) → KeepsFirst naming arrived index
     → KeepsFirst naming (arrived ++ e ∷ []) index
 first_stay naming arrived e index keeps =
@@ -102,7 +104,7 @@ first_stay naming arrived e index keeps =
       lists = rw (take-append-le index.listed arrived (e ∷ []) keeps.within) keeps.lists;
     }
 
--- an index that lists nothing keeps the lists of no facts, which are the first of any
+-- an empty index is one of the first facts of any
 empty_first : (naming : Naming) (arrived : List Entry) (index : Index) → IsEmpty naming index → KeepsFirst naming arrived index
 empty_first naming arrived index is =
     record {
@@ -111,6 +113,7 @@ empty_first naming arrived index is =
       lists = rw is.none (hold_none (named_by naming) arrived index.lists.items (λ n. rw is.empty refl));
     }
 
+-- an empty index lists all of no facts
 empty_all : (naming : Naming) (index : Index) → IsEmpty naming index → KeepsIndex naming [] [] index
 empty_all naming index is =
     record {
@@ -120,6 +123,7 @@ empty_all naming index is =
     }
 
 module _ (indexes : Indexes) where
+  -- empty indexes list the first facts of any
   pub are_first : (arrived : List Entry) → AreEmpty indexes → KeepFirst arrived indexes
   are_first arrived are =
       record {
@@ -129,6 +133,7 @@ module _ (indexes : Indexes) where
         by_reading = empty_first Reading arrived indexes.readings are.by_reading;
       }
 
+  -- empty indexes list all of no facts
   pub are_all : AreEmpty indexes → KeepAll [] [] indexes
   are_all are =
       record {
@@ -138,7 +143,7 @@ module _ (indexes : Indexes) where
         by_reading = empty_all Reading indexes.readings are.by_reading;
       }
 
-  -- indexes of all facts that came are those of the first ones
+  -- indexes of all facts are indexes of the first ones
   pub all_first : (arrived : List Entry) (spare : List Stated) → KeepAll arrived spare indexes → KeepFirst arrived indexes
   all_first arrived spare keep =
       record {
@@ -148,7 +153,7 @@ module _ (indexes : Indexes) where
         by_reading = keeps_first Reading arrived spare indexes.readings keep.by_reading;
       }
 
-  -- .. and so they are after one more came
+  -- indexes of the first facts stay so after another fact arrives
   pub still_first : (arrived : List Entry) (e : Entry) → KeepFirst arrived indexes → KeepFirst (arrived ++ e ∷ []) indexes
   still_first arrived e keep =
       record {
@@ -160,17 +165,18 @@ module _ (indexes : Indexes) where
 
 module _ (naming : Naming) (arrived : List Entry) (spare : List Stated) (fact : Stated) (body : FactBody) (stated : body ≡ fact.body)
     (first : slice_get spare 0 ≡ Some fact) (apart : AllApart goes_first arrived) where
+  -- the index's number of a fact is that of its body
   named_so : (index : Index) → KeepsIndex naming arrived spare index → named_by index.naming body ≡ named_by naming fact.body
   named_so index keeps = rw (keeps.by, stated) refl
 
-  -- the fact that has room next can come
+  -- the next reserved fact can be added
   pub can_come : (index : Index) → KeepsIndex naming arrived spare index → CanTake arrived (named_by index.naming body) index.lists.items
   can_come index keeps =
       rw (named_so index keeps)
       (can_take (named_by naming) arrived fact (drop 1 spare) index.lists.items apart
       (subst (λ facts. KeepsLists (named_by naming) arrived facts index.lists.items) (first_of spare fact first) keeps.lists))
 
-  -- .. and when it has, the index holds its place as well
+  -- after it was added, the index has its place too
   pub has_come : (key : Key) (old new : Index) → is_held key arrived ≡ false → KeepsIndex naming arrived spare old
       → new.naming ≡ old.naming → new.listed ≡ length arrived + 1 → Takes arrived (named_by old.naming body) key old.lists.items new.lists.items
       → KeepsIndex naming (arrived ++ (key, fact) ∷ []) (drop 1 spare) new
@@ -184,7 +190,7 @@ module _ (naming : Naming) (arrived : List Entry) (spare : List Stated) (fact : 
             (subst (λ n. Takes arrived n key old.lists.items new.lists.items) (named_so old keeps) takes);
       }
 
--- of facts of which no two tie, none of those before one has its key
+-- among facts without ties, none before a fact has its key
 pub not_held : (arrived : List Entry) (e : Entry) (rest : List Entry) → AllApart goes_first (arrived ++ e ∷ rest) → is_held e.0 arrived ≡ false
 not_held [] e rest apart = refl
 not_held (x ∷ xs) e rest apart =

@@ -3,13 +3,13 @@ use Rattle.std.specs.List.{AllByRecursion}
 use Rattle.std.specs.List.Sorted.{IsPartitionedBy}
 use Rattle.list_words.specs.Order.{Ascends}
 
--- what holds of all holds at each place
+-- what holds of each element holds at each place
 at_place : {X : Type 0} (P : X → Type 0) (xs : List X) (j : ℕ) (d : X) → AllByRecursion P xs → j < length xs → P (get_or xs j d)
 at_place P [] j d all within = absurd (omega arith)
 at_place P (x ∷ xs) zero d all within = all.0
 at_place P (x ∷ xs) (suc j) d all within = at_place P xs j d all.1 (omega arith)
 
--- what passes of an ascending list is in front, where all that is before what passes does
+-- a test that passes every element before one that passes selects a prefix of an ascending list
 pub front_passes : {X : Type 0} (before : X → X → Bool) (p : X → Bool) → ((x y : X) → before x y ≡ true → p y ≡ true → p x ≡ true)
     → (xs : List X) → Ascends before xs → IsPartitionedBy p xs
 front_passes before p down [] up i j d le within t = absurd (omega arith)

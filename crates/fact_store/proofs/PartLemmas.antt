@@ -1,4 +1,4 @@
--- Facts that are counted and listed part by part.
+-- Counting and listing facts part by part.
 use Rattle.std.proofs.Common.{◌≡◌, ℕ, ◌+◌, ◌<◌, ◌≤◌, List, Option, [], ◌++◌, length, take, drop, min, max, cond, count_by}
 use Rattle.std.proofs.Common.{refl, sym, ap, ◌∙◌, subst, inl, inr, arith}
 use Rattle.std.proofs.lemmas.Bool.{cases_lt}
@@ -18,11 +18,11 @@ use Rattle.fact_store.specs.Naming.{HasRoomFor, named_by}
 use Rattle.fact_store.specs.Parts.{KeepsTurn}
 use Rattle.fact_store.proofs.ListingLemmas.{front_behind, hold_grown}
 
--- how often two runs of facts name a number
+-- the count of a number over two runs of facts is the sum
 named_both : (naming : FactBody → Option ℕ) (xs ys : List Entry) (n : ℕ) → named_in naming (xs ++ ys) [] n ≡ named_in naming xs [] n + named_in naming ys [] n
 named_both naming xs ys n = omega (arith, sum_by-append (λ e. cond (names naming n e) 1 0) xs ys)
 
--- what is new among the first so many facts: what was so before a part, and what is in it
+-- the new facts up to the end of a part are those before it and those in it
 part_new : (listed from to : ℕ) (arrived : List Entry) → from ≤ to → to ≤ length arrived
     → drop listed (take to arrived) ≡ drop listed (take from arrived) ++ drop (min (max listed from) to) (take to arrived)
 part_new listed from to arrived le within =
@@ -46,7 +46,7 @@ part_new listed from to arrived le within =
           rw at (subst (λ es. drop listed came ≡ drop listed es ++ drop from came) (take-take from to arrived le) (front_behind listed from came behind))
     ]
 
--- what is counted up to the end of a part
+-- the counts up to the end of a part
 pub counted_part : (naming : FactBody → Option ℕ) (listed from to : ℕ) (arrived : List Entry) (old new : List ℕ) → from ≤ to → to ≤ length arrived
     → AreCounts naming (drop listed (take from arrived)) [] old
     → ((n : ℕ) → value_at (λ c. c) 0 new n ≡ value_at (λ c. c) 0 old n + named_in naming (drop (min (max listed from) to) (take to arrived)) [] n)
@@ -56,7 +56,7 @@ counted_part naming listed from to arrived old new le within counted more n =
     more n ∙ ap (λ count. count + named_in naming part [] n) (counted n)
     ∙ sym (ap (λ es. named_in naming es [] n) (part_new listed from to arrived le within) ∙ named_both naming (drop listed (take from arrived)) part n)
 
--- an index that makes room still lists the first facts
+-- an index that made room lists the same first facts
 pub grown_first : (naming : Naming) (arrived : List Entry) (old new : Index) → new.naming ≡ old.naming → new.listed ≡ old.listed
     → OnlyGrow old.lists.items new.lists.items → KeepsFirst naming arrived old → KeepsFirst naming arrived new
 grown_first naming arrived old new same listed grows keeps =
@@ -67,7 +67,7 @@ grown_first naming arrived old new same listed grows keeps =
     }
 
 module _ (naming : Naming) (arrived : List Entry) (spare : List Stated) where
-  -- an index that has room for all that is counted has listed nothing beside the first facts
+  -- an index with room for all counts begins without new facts
   pub turn_begins : (old new : Index) (counts : List ℕ) → new.naming ≡ old.naming → new.listed ≡ old.listed
       → OnlyGrow old.lists.items new.lists.items → ((n : ℕ) → value_at (λ c. c) 0 counts n ≤ room_in new.lists.items n)
       → KeepsFirst naming arrived old → AreCounts (named_by old.naming) (drop old.listed arrived) spare counts → KeepsTurn naming arrived spare 0 new
@@ -85,7 +85,7 @@ module _ (naming : Naming) (arrived : List Entry) (spare : List Stated) where
         room = λ n. rw at (omega (arith, roomy n, (rw keeps.by at counted) n));
       }
 
-  -- the facts behind an end: those of a part, and the others
+  -- the facts from an index on are those of a part and the others
   split_part : (from to : ℕ) (index : Index) (n : ℕ) → max index.listed from < to
       → count_by (names (named_by naming) n) (drop (max index.listed from) arrived) ≡ count_by (names (named_by naming) n)
       (drop (max index.listed from) (take to arrived)) + count_by (names (named_by naming) n) (drop to arrived)
@@ -99,7 +99,7 @@ module _ (naming : Naming) (arrived : List Entry) (spare : List Stated) where
       → count_by (names (named_by naming) n) (drop (max index.listed from) (take to arrived)) ≤ room_in index.lists.items n
   room_part from to index before keeps n = omega (arith, keeps.room n, split_part from to index n before)
 
-  -- with the places of the new facts of a part
+  -- the index after the places of a part's new facts were appended
   pub turn_pushed : (from to : ℕ) (old new : Index) → max old.listed from < to → to ≤ length arrived → new.naming ≡ old.naming → new.listed ≡ old.listed
       → HoldInTurn (named_by old.naming) (take to arrived) (in_turn old.listed (take to arrived)) new.lists.items
       → TakeRoom (named_by old.naming) (drop (max old.listed from) (take to arrived)) old.lists.items new.lists.items
@@ -113,14 +113,14 @@ module _ (naming : Naming) (arrived : List Entry) (spare : List Stated) where
         room = λ n. rw at (omega (arith, keeps.room n, (rw keeps.by at takes) n, split_part from to old n before));
       }
 
-  -- a part of which all is listed changes nothing
+  -- a part that is wholly listed changes nothing
   pub turn_past : (from to : ℕ) (index : Index) → from ≤ to → to ≤ max index.listed from → KeepsTurn naming arrived spare from index
       → KeepsTurn naming arrived spare to index
   turn_past from to index le past keeps =
       let at : max index.listed to ≡ max index.listed from = omega (arith, le, past) in
       record { by = keeps.by; within = keeps.within; turned = rw at keeps.turned; room = rw at keeps.room }
 
-  -- an index by its own number, with no room for others
+  -- the same state, stated by the index's own number and without reserved facts
   pub turn_own : (from : ℕ) (index : Index) → KeepsTurn naming arrived spare from index → KeepsTurn index.naming arrived [] from index
   turn_own from index keeps =
       record {
@@ -131,11 +131,12 @@ module _ (naming : Naming) (arrived : List Entry) (spare : List Stated) where
       }
 
   module _ (index : Index) (turn : KeepsTurn naming arrived spare (length arrived) index) where
-    -- when all parts are gone over, the lists hold the places of all facts
+    -- after all parts, the lists have the places of all facts
     pub all_turned : HoldInTurn (named_by naming) arrived (in_turn index.listed arrived) index.lists.items
     all_turned =
         subst (λ es. HoldInTurn (named_by naming) es (in_turn index.listed es) index.lists.items)
         (take_all (max index.listed (length arrived)) arrived (omega arith)) turn.turned
 
+    -- there is room for the reserved facts
     pub all_roomy : HasRoomFor (named_by naming) spare index.lists.items
     all_roomy n = omega (arith, turn.room n)

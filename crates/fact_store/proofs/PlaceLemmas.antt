@@ -12,13 +12,13 @@ use Rattle.fact_store.specs.declared.place.Place.{Place}
 use Rattle.fact_store.specs.Kept.{entries_at}
 use Rattle.fact_store.specs.Takes.{AreHeld, is_up_to}
 
--- a fact stands at each place within the list
+-- there is a fact at each place within the list
 pub stands : (arrived : List Entry) (i : ℕ) → i < length arrived → (e : Entry) × (slice_get arrived i ≡ Some e)
 stands [] i within = absurd (omega arith)
 stands (x ∷ xs) zero within = (x, refl)
 stands (x ∷ xs) (suc i) within = stands xs i (omega arith)
 
--- the fact at the first of some places, and the others
+-- the fact at the first of some places, then the others
 pub entries_at-cons : (arrived : List Entry) (place : Place) (places : List Place) (e : Entry) → slice_get arrived place.at ≡ Some e
     → entries_at arrived (place ∷ places) ≡ e ∷ entries_at arrived places
 entries_at-cons arrived place places e here = rw here refl
@@ -42,7 +42,7 @@ not_later key a b e no_earlier =
       | inr f ↦ f
     ]
 
--- the facts that do not come after a key are in front
+-- the facts that are not later than a key are a prefix
 pub up_to_in_front : (arrived : List Entry) (key : Key) (places : List Place) → AreHeld (length arrived) places
     → Ascends goes_first (entries_at arrived places) → IsPartitionedBy (is_up_to arrived key) places
 up_to_in_front arrived key [] held up i j d le within t = absurd (omega arith)
@@ -59,7 +59,7 @@ up_to_in_front arrived key (p ∷ ps) held up (suc i) (suc j) d le within t =
     let rises : Ascends goes_first (here.0 ∷ entries_at arrived ps) = rw here.1 at up in
     up_to_in_front arrived key ps held.1 rises.1 i j d (omega arith) (omega arith) t
 
--- the place of a fact is behind those that do not come after its key
+-- an insertion by key goes after the facts that are not later
 pub put_behind : (arrived : List Entry) (key : Key) (fact : Stated) (places : List Place) (n : ℕ) → AreHeld (length arrived) places → n ≤ length places
     → AllWithin (λ p. is_up_to arrived key p ≡ true) places 0 n → AllWithin (λ p. is_up_to arrived key p ≡ false) places n (length places)
     → put_in_order goes_first (key, fact) (entries_at arrived places) ≡ insert (entries_at arrived places) n (key, fact)

@@ -12,23 +12,24 @@ use Rattle.fact_store.specs.Lists.{items_in, PutsIn}
 use Rattle.fact_store.specs.Takes.{AreHeld, CanTake, Takes}
 use Rattle.fact_store.proofs.PlaceLemmas.{stands}
 
--- one more fact at the end: those before it stay where they are, and it stands behind them
+-- an appended fact leaves the others at their places
 get_kept : (arrived : List Entry) (e : Entry) (i : ℕ) → i < length arrived → slice_get (arrived ++ e ∷ []) i ≡ slice_get arrived i
 get_kept [] e i within = absurd (omega arith)
 get_kept (x ∷ xs) e zero within = refl
 get_kept (x ∷ xs) e (suc i) within = get_kept xs e i (omega arith)
 
+-- .. and is at the last place
 get_last : (arrived : List Entry) (e : Entry) → slice_get (arrived ++ e ∷ []) (length arrived) ≡ Some e
 get_last [] e = refl
 get_last (x ∷ xs) e = get_last xs e
 
--- the facts at some places stay
+-- an appended fact does not change the facts at some places
 pub entries_at-kept : (arrived : List Entry) (e : Entry) (places : List Place) → AreHeld (length arrived) places
     → entries_at (arrived ++ e ∷ []) places ≡ entries_at arrived places
 entries_at-kept arrived e [] held = refl
 entries_at-kept arrived e (p ∷ ps) held = rw (get_kept arrived e p.at held.0, entries_at-kept arrived e ps held.1) refl
 
--- its place at the end of some places is it at the end of their facts
+-- appending its place appends the fact
 pub entries_at-push : (arrived : List Entry) (e : Entry) (place : Place) (places : List Place) → place.at ≡ length arrived
     → AreHeld (length arrived) places → entries_at (arrived ++ e ∷ []) (places ++ place ∷ []) ≡ entries_at arrived places ++ e ∷ []
 entries_at-push arrived e place [] new held = rw (new, get_last arrived e) refl
@@ -37,7 +38,7 @@ entries_at-push arrived e place (p ∷ ps) new held =
     let same = get_kept arrived e p.at held.0 ∙ here.1 in
     rw (same, here.1) (ap (λ es. here.0 ∷ es) (entries_at-push arrived e place ps new held.1))
 
--- its place put among some places is it put among their facts
+-- inserting its place inserts the fact
 pub entries_at-insert : (arrived : List Entry) (e : Entry) (place : Place) (places : List Place) (n : ℕ) → place.at ≡ length arrived
     → AreHeld (length arrived) places → n ≤ length places
     → entries_at (arrived ++ e ∷ []) (insert places n place) ≡ insert (entries_at arrived places) n e
@@ -49,9 +50,11 @@ entries_at-insert arrived e place (p ∷ ps) (suc n) new held within =
     let same = get_kept arrived e p.at held.0 ∙ here.1 in
     rw (same, here.1) (ap (λ es. here.0 ∷ es) (entries_at-insert arrived e place ps n new held.1 (omega arith)))
 
+-- places of `count` facts are places of one more
 pub held_more : (count : ℕ) (places : List Place) → AreHeld count places → AreHeld (count + 1) places
 held_more count places held = all_weaker (λ p. p.at < count) (λ p. p.at < count + 1) (λ p within. omega arith) places held
 
+-- inserted places are places of one more fact
 pub held_insert : (count : ℕ) (place : Place) (places : List Place) (n : ℕ) → place.at ≡ count → AreHeld count places → n ≤ length places
     → AreHeld (count + 1) (insert places n place)
 held_insert count place [] zero new held within = (omega arith, tt)
@@ -59,7 +62,7 @@ held_insert count place [] (suc n) new held within = absurd (omega arith)
 held_insert count place (p ∷ ps) zero new held within = (omega arith, held_more count (p ∷ ps) held)
 held_insert count place (p ∷ ps) (suc n) new held within = (omega (arith, held.0), held_insert count place ps n new held.1 (omega arith))
 
--- no list takes the place of a fact that names no number
+-- a fact without a number changes no list
 pub takes_none : {Z : Type 0} (arrived : List Entry) (key : Key) (lists : List (Vec Place Z)) → CanTake arrived None lists → Takes arrived None key lists lists
 takes_none arrived key lists can =
     record {
@@ -68,7 +71,7 @@ takes_none arrived key lists can =
       room = λ n. omega arith;
     }
 
--- the list of the number takes the place where the fact belongs
+-- the list of the number receives the place in key order
 pub takes_put : {Z : Type 0} (arrived : List Entry) (number : ℕ) (key : Key) (old new : List (Vec Place Z)) (index : ℕ) (place : Place)
     → CanTake arrived (Some number) old → place.at ≡ length arrived → index ≤ length (items_in old number)
     → ((fact : Stated) → put_in_order goes_first (key, fact) (entries_at arrived (items_in old number)) ≡ insert

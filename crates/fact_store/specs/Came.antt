@@ -1,4 +1,4 @@
--- What is true of facts that came and are not listed.
+-- The invariant of facts that arrived and are not listed.
 use Rattle.std.specs.Prelude.{ℕ, ◌+◌, ◌≤◌, Vec, length, drop}
 use Rattle.std.specs.Vec.{vec_len, vec_capacity}
 use Rattle.fact_kinds.specs.declared.limits.TheConstants.{MOST_FACTS}
@@ -6,7 +6,7 @@ use Rattle.list_words.specs.Order.{AllApart}
 use Rattle.fact_kinds.specs.Facts.{Entry, goes_first}
 use Rattle.fact_kinds.specs.Stated.{Stated}
 
--- no two of the facts have one key, they are not too many, and there is room for those reserved ones that have not come
+-- no two facts have the same key, there are at most `MOST_FACTS`, and there is room for the reserved ones still to come
 pub record HaveRoom {Z : Type 0} (arrived : Vec Entry Z) (reserved : Vec Stated Z) (used : ℕ) : Type 0 where
   pub apart : AllApart goes_first arrived.items
   pub few : vec_len arrived ≤ MOST_FACTS

@@ -11,7 +11,7 @@ ghost use Rattle.fact_store.specs.Naming.{HasRoomFor, named_by};
 ghost use Rattle.fact_store.specs.Parts.{AreCountsOf, KeepsTurn};
 ghost use Rattle.fact_store.specs.Takes.{CanTake, Takes};
 
-use crate::counting::add_counts;
+use crate::counts::add_counts;
 use crate::listing::{push_places, settle_lists};
 use crate::lists::{Lists, list_of, make_rooms, make_rooms_for};
 use crate::naming::Naming;
@@ -20,7 +20,7 @@ use crate::put::put_place;
 use fact_kinds::{Fact, FactBody, Key};
 use std::alloc::{AllocError, Global};
 
-/// The places of facts by a number that they name, in key order: of the first so many facts that came.
+/// The places of facts by one of their numbers, in key order. It lists the first `listed` facts to arrive.
 #[derive(Drop)]
 pub struct Index {
     pub naming: Naming,
@@ -42,7 +42,7 @@ impl Index {
         }
     }
 
-    /// Counts the facts of a part that are not listed. Those before the part are counted.
+    /// Counts the facts of a part that are not listed. The facts before the part are counted already.
     pub fn count_part(
         &self,
         counts: &mut Vec<usize>,
@@ -61,7 +61,7 @@ impl Index {
         add_counts(counts, self.naming, &came[first..])
     }
 
-    /// Makes room for as many more places of each number as these counts say. After an error no fact more is listed.
+    /// Makes room for as many more places of each number as its count. When out of memory, the listed facts are the same.
     pub fn make_room(&mut self, alloc: Global, counts: &[usize]) -> Result<(), AllocError>
         ensures ok { OnOk result ((naming : Naming) (arrived : List Entry) (spare : List Stated) → KeepsFirst naming arrived self.old
             → AreCountsOf self.old arrived spare counts.now → KeepsTurn naming arrived spare 0 self.new) }
@@ -72,7 +72,7 @@ impl Index {
         make_rooms_for(alloc, &mut self.lists, counts)
     }
 
-    /// Adds the places of the facts of a part that are not listed to the lists, as they came. Those before the part stand there.
+    /// Appends the places of a part's facts that are not listed, in order of arrival. Those before the part are appended already.
     pub fn push_part(&mut self, arrived: &[(Key, Fact)], from: usize, to: usize)
         requires part { from ≤ to }
         requires within { to ≤ length arrived.now }
@@ -90,7 +90,7 @@ impl Index {
         }
     }
 
-    /// Puts each list into key order, where the places of all facts stand in the lists, and the counts say how many of each are new.
+    /// Sorts each list by key. The lists have the places of all facts, and the counts are the number of new ones in each.
     pub fn settle(&mut self, arrived: &[(Key, Fact)], counts: &[usize])
         requires apart { AllApart goes_first arrived.now }
         requires turned { KeepsTurn self.old.naming arrived.now [] (length arrived.now) self.old }
@@ -113,7 +113,7 @@ impl Index {
         make_rooms(alloc, &mut self.lists, &numbers)
     }
 
-    /// Puts the place of one more fact, with this key, into the list of the number that it names, if it names one.
+    /// Inserts the place of one more fact, with this key, into the list of the fact's number, if it has one.
     pub fn put(&mut self, arrived: &[(Key, Fact)], key: &Key, body: &FactBody)
         requires takes { CanTake arrived.now (named_by self.old.naming body.now) self.old.lists.items }
         requires few { length arrived.now < 2 ^ 32 }
@@ -126,7 +126,7 @@ impl Index {
         self.listed = arrived.len() + 1;
     }
 
-    /// The places of the facts that name a number.
+    /// The places of the facts of a number, in key order.
     pub fn places_of(&self, number: u16) -> &[Place]
         ensures value { result.now ≡ items_in self.now.lists.items number }
     {

@@ -1,3 +1,8 @@
+//! The indexes of a store.
+//!
+//! `catch_up` lists facts in parts of 4,096. All indexes go over a part before the next one: first each counts its numbers, to
+//! make room once, and then each appends the places. So the facts are read from memory twice, and not twice for each index.
+
 ghost use Rattle.std.specs.Prelude.{◌≡◌, ◌+◌, ◌≤◌, List, [], length, take, min, IfOk, OnOk, OnErr};
 ghost use Rattle.list_words.specs.Order.{AllApart};
 ghost use Rattle.fact_kinds.specs.declared.limits.TheConstants.{MOST_FACTS};
@@ -8,23 +13,23 @@ ghost use Rattle.fact_store.specs.declared.indexes.Counts.{Counts};
 ghost use Rattle.fact_store.specs.Inside.{AreEmpty, KeepAll, KeepFirst};
 ghost use Rattle.fact_store.specs.Parts.{CountAll, KeepTurn};
 
-use crate::counting::add_spare;
+use crate::counts::add_spare;
 use crate::index::Index;
 use crate::naming::Naming;
 use fact_kinds::{Fact, Key};
 use std::alloc::{AllocError, Global};
 
-/// So many facts are in a part. They stay in the near memory while each index goes over them.
+/// The number of facts in a part, few enough to stay in the cache while each index goes over them.
 const NEAR_FACTS: usize = 4_096;
 
-/// Where a part of so many facts ends, by where it begins.
+/// The end of the part that begins at `from`, among `count` facts.
 fn end_of_part(from: usize, count: usize) -> usize
     ensures value { result ≡ min (from + NEAR_FACTS) count }
 {
     from.saturating_add(NEAR_FACTS).min(count)
 }
 
-/// How often facts name each number, for each index.
+/// The counts of the facts of each number, one list of counts for each index.
 #[derive(Drop)]
 struct Counts {
     components: Vec<usize>,
@@ -50,7 +55,7 @@ impl Counts {
     }
 }
 
-/// The indexes of facts by each number that they name.
+/// The indexes of facts: by component, process unit and instrument.
 #[derive(Drop)]
 pub struct Indexes {
     pub components: Index,
@@ -72,7 +77,7 @@ impl Indexes {
         }
     }
 
-    /// Counts for each index the facts of a part that it does not list. Those before the part are counted.
+    /// Counts for each index the facts of a part that it does not list. The facts before the part are counted already.
     fn count_part(
         &self,
         counts: &mut Counts,
@@ -95,7 +100,7 @@ impl Indexes {
             .count_part(&mut counts.readings, arrived, from, to)
     }
 
-    /// Counts for each index the facts that are to come. Those that came are counted.
+    /// Counts for each index the facts with reserved room. The facts that arrived are counted already.
     fn count_spare(
         &self,
         counts: &mut Counts,
@@ -112,7 +117,7 @@ impl Indexes {
         add_spare(&mut counts.readings, self.readings.naming, spare)
     }
 
-    /// How often the facts that are not listed and those to come name each number.
+    /// Counts for each index the facts that it does not list and those with reserved room.
     fn count(
         &self,
         alloc: Global,
@@ -133,7 +138,7 @@ impl Indexes {
         Ok(counts)
     }
 
-    /// Makes room for as many more places as these counts say. After an error no fact more is listed.
+    /// Makes room for as many more places as these counts. When out of memory, the listed facts are the same.
     fn make_room(&mut self, alloc: Global, counts: &Counts) -> Result<(), AllocError>
         ensures ok { OnOk result ((arrived : List Entry) (spare : List Stated) → KeepFirst arrived self.old
             → CountAll self.old arrived spare counts.now → KeepTurn arrived spare 0 self.new) }
@@ -147,7 +152,7 @@ impl Indexes {
         self.readings.make_room(alloc, &counts.readings)
     }
 
-    /// Adds to each index the places of the facts of a part that it does not list. Those before the part stand there.
+    /// Appends to each index the places of a part's facts that it does not list. Those before the part are appended already.
     fn push_part(&mut self, arrived: &[(Key, Fact)], from: usize, to: usize)
         requires part { from ≤ to }
         requires within { to ≤ length arrived.now }
@@ -162,7 +167,8 @@ impl Indexes {
         self.readings.push_part(arrived, from, to);
     }
 
-    /// Lists the facts that came since, with room for the places of others. After an error each index lists some of them.
+    /// Lists the facts that arrived since the last listing, with room for the places of the reserved ones.
+    /// When out of memory, each index lists some of the first facts.
     pub fn catch_up(
         &mut self,
         alloc: Global,

@@ -1,13 +1,13 @@
-//! Accepted facts, kept by component, process unit and instrument in key order. Reading one is counted.
+//! Accepted facts, listed by component, process unit and instrument in key order. Each read of a fact is counted.
 #![tactic(auto)]
 
 mod arrivals;
-mod counting;
+mod counts;
 mod index;
 mod indexes;
 mod listing;
 pub mod lists;
-mod merging;
+mod merge;
 mod naming;
 mod place;
 mod put;

@@ -1,4 +1,7 @@
-//! Lists by number. Room is made for elements first, so that putting one in takes no memory.
+//! Lists by number. Room for elements is made first, so that adding one allocates nothing.
+//!
+//! The places of a store by component, unit and instrument are such lists, and so are the classes and members of a register:
+//! growing, making room and adding are proved once.
 
 ghost use Rattle.std.specs.Prelude.{◌≡◌, ℕ, ◌+◌, ◌<◌, ◌≤◌, Some, nat_eq, unwrap_or, if◌then◌else◌, IfOk, OnOk, vec_len, count_by, length};
 ghost use Rattle.std.specs.HashMap.{get};
@@ -7,7 +10,7 @@ ghost use Rattle.fact_store.specs.Lists.{value_at, items_in, room_in, OnlyGrow, 
 use std::alloc::{AllocError, Global};
 use std::collections::HashMap;
 
-/// Lists by number. One that isn't there is empty.
+/// Lists by number. A missing one is empty.
 pub type Lists<T> = Vec<Vec<T>>;
 
 /// The list of a number.
@@ -22,7 +25,7 @@ pub fn list_of<T>(lists: &Lists<T>, number: u16) -> &[T]
     }
 }
 
-/// Adds empty lists until there are so many.
+/// Appends empty lists until there are `count`.
 fn grow<T: Drop>(alloc: Global, lists: &mut Lists<T>, count: usize) -> Result<(), AllocError>
     ensures grows { OnlyGrow lists.old.items lists.new.items }
     ensures long { OnOk result (count ≤ vec_len lists.new) }
@@ -33,7 +36,7 @@ fn grow<T: Drop>(alloc: Global, lists: &mut Lists<T>, count: usize) -> Result<()
     Ok(())
 }
 
-/// Makes room for so many more elements in the list at a place.
+/// Makes room for this many more elements in the list at a place.
 fn make_room<T: Drop>(
     alloc: Global,
     lists: &mut Lists<T>,
@@ -48,7 +51,7 @@ fn make_room<T: Drop>(
     lists[at].reserve(count)
 }
 
-/// Counts a number once more. The result is how often it was counted.
+/// Adds one to the count of a number, and returns the new count.
 fn count_up(counts: &mut HashMap<u16, usize>, number: u16) -> Result<usize, AllocError>
     requires { unwrap_or (get nat_eq counts.old number) 0 < usize.MAX }
     ensures value { IfOk result (λ count. count ≡ unwrap_or (get nat_eq counts.old number) 0 + 1) }
@@ -60,8 +63,8 @@ fn count_up(counts: &mut HashMap<u16, usize>, number: u16) -> Result<usize, Allo
     Ok(*count)
 }
 
-/// Makes room for one more element in the list of each of these numbers, as often as it stands among them. After an
-/// error the lists hold what they held.
+/// Makes room for one more element in the list of each of these numbers, once for each time it occurs. When out of
+/// memory, the lists have the same elements.
 pub fn make_rooms<T: Drop>(
     alloc: Global,
     lists: &mut Lists<T>,
@@ -78,18 +81,18 @@ pub fn make_rooms<T: Drop>(
     Ok(())
 }
 
-/// Puts an element into the list of a number, at an index. It takes no memory, since there is room.
+/// Inserts an element into the list of a number, at an index. It allocates nothing, since there is room.
 pub fn put_in<T: Drop>(lists: &mut Lists<T>, number: u16, index: usize, element: T)
     requires roomy { 0 < room_in lists.old.items number }
     requires within { index ≤ length (items_in lists.old.items number) }
     ensures value { PutsIn number index element lists.old.items lists.new.items }
 {
-    // There is room, so this can't fail.
+    // There is room, so this cannot fail.
     let _ = lists[usize::from(number)].insert(index, element);
 }
 
-/// Makes room in the list of each number for as many more elements as these counts say. After an error the lists hold what
-/// they held.
+/// Makes room in the list of each number for as many more elements as its count. When out of memory, the lists have
+/// the same elements.
 pub fn make_rooms_for<T: Drop>(
     alloc: Global,
     lists: &mut Lists<T>,
@@ -104,7 +107,7 @@ pub fn make_rooms_for<T: Drop>(
     Ok(())
 }
 
-/// Adds an element at the end of the list of a number. It takes no memory, since there is room.
+/// Appends an element to the list of a number. It allocates nothing, since there is room.
 pub fn push_in<T: Drop>(lists: &mut Lists<T>, number: u16, element: T)
     requires roomy { 0 < room_in lists.old.items number }
     ensures value { Pushes (Some number) element lists.old.items lists.new.items }

@@ -1,3 +1,5 @@
+//! The four indexes of a store are one type, which differs only in the number by which it lists facts.
+
 ghost use Rattle.std.specs.Prelude.{◌≡◌, IfOk};
 ghost use Rattle.std.specs.List.{filter_map};
 ghost use Rattle.fact_store.specs.Naming.{named_by};
@@ -5,7 +7,7 @@ ghost use Rattle.fact_store.specs.Naming.{named_by};
 use fact_kinds::{Fact, FactBody, component_of, reading_instrument, tested_instrument, unit_of};
 use std::alloc::{AllocError, Global};
 
-/// By which of the numbers that facts name an index lists them.
+/// The number of a fact by which an index lists it.
 #[derive(Clone, Copy)]
 pub enum Naming {
     Component,
@@ -17,7 +19,7 @@ pub enum Naming {
 }
 
 impl Naming {
-    /// The number that a fact names, if its kind names one.
+    /// The number of a fact, or `None` if its kind has none.
     pub fn number_of(self, body: &FactBody) -> Option<u16>
         ensures value { result ≡ named_by self body.now }
     {
@@ -29,7 +31,7 @@ impl Naming {
         }
     }
 
-    /// The numbers that some facts name, as often as they do.
+    /// The numbers of some facts, each as often as it occurs.
     pub fn numbers_of(self, alloc: Global, facts: &[Fact]) -> Result<Vec<u16>, AllocError>
         ensures value { IfOk result (λ numbers. numbers.items ≡ filter_map (λ fact. named_by self fact.body) facts.now) }
     {

@@ -1,4 +1,4 @@
-/// Where a fact is kept: it counts the facts that came before it.
+/// The place of a fact in a store: the number of facts that arrived before it.
 #[derive(Clone, Copy, Debug, PartialEq, Eq)]
 pub struct Place {
     pub at: u32,

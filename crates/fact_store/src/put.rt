@@ -9,7 +9,7 @@ use crate::lists::{Lists, list_of, put_in};
 use crate::place::Place;
 use fact_kinds::{Fact, Key, precedes};
 
-/// Whether the fact at a place does not come after a key.
+/// Whether the fact at a place is not later than a key.
 fn stands_up_to(arrived: &[(Key, Fact)], key: &Key, place: Place) -> bool
     ensures { result ≡ is_up_to arrived.now key.now place }
 {
@@ -18,7 +18,7 @@ fn stands_up_to(arrived: &[(Key, Fact)], key: &Key, place: Place) -> bool
         .is_some_and(|entry| !precedes(key, &entry.0))
 }
 
-/// Where a fact with this key belongs among facts that stand in key order: behind those that do not come after it.
+/// The index for a fact with this key among facts in key order: after those that are not later.
 fn index_for(arrived: &[(Key, Fact)], places: &[Place], key: &Key) -> usize
     requires held { AreHeld (length arrived.now) places.now }
     requires ordered { Ascends goes_first (entries_at arrived.now places.now) }
@@ -29,7 +29,7 @@ fn index_for(arrived: &[(Key, Fact)], places: &[Place], key: &Key) -> usize
     places.partition_point(|place| stands_up_to(arrived, key, *place))
 }
 
-/// Puts the place of one more fact, with this key, into the list of the number that it names, if it names one.
+/// Inserts the place of one more fact, with this key, into the list of a number, if there is a number.
 pub fn put_place(lists: &mut Lists<Place>, arrived: &[(Key, Fact)], number: Option<u16>, key: &Key)
     requires takes { CanTake arrived.now number lists.old.items }
     requires few { length arrived.now < 2 ^ 32 }
@@ -40,7 +40,7 @@ pub fn put_place(lists: &mut Lists<Place>, arrived: &[(Key, Fact)], number: Opti
     }
 }
 
-/// Puts the place of one more fact, with this key, into the list of this number.
+/// Inserts the place of one more fact, with this key, into the list of this number.
 fn put_at(lists: &mut Lists<Place>, arrived: &[(Key, Fact)], number: u16, key: &Key)
     requires takes { CanTake arrived.now (Some number) lists.old.items }
     requires few { length arrived.now < 2 ^ 32 }

@@ -1,4 +1,4 @@
-ghost use Rattle.std.specs.Prelude.{◌≡◌, ℕ, ◌+◌, ◌<◌, Some, false, [], ◌∷◌, ◌++◌, length, drop, slice_get, IfOk, OnOk, OnErr};
+ghost use Rattle.std.specs.Prelude.{◌≡◌, ℕ, ◌+◌, ◌<◌, ◌≤◌, Some, false, [], ◌∷◌, ◌++◌, length, take, drop, slice_get, IfOk, OnOk, OnErr};
 ghost use Rattle.fact_kinds.specs.declared.limits.TheConstants.{MOST_FACTS};
 ghost use Rattle.fact_kinds.specs.Named as named;
 ghost use Rattle.fact_store.specs.Kept.{Kept, ArePlacesOf, is_held};
@@ -13,7 +13,7 @@ use std::marker::Model;
 use std::mem;
 use std::sync::ledger::Ledger;
 
-/// Accepted facts. Contracts see them in the order in which they came, beside the facts that have room.
+/// Accepted facts. In contracts it is the facts in order of arrival, and the facts for which room is reserved.
 #[derive(Drop)]
 pub struct FactStore {
     alloc: Global,
@@ -32,7 +32,7 @@ impl Model for FactStore {
     ghost invariant = { λ s. KeepAll s.arrivals.arrived s.arrivals.spare s.indexes };
 }
 
-/// Accepted facts as they come, of which the first ones are listed. Contracts see them as they see a store.
+/// Accepted facts as they arrive; the first ones are listed. In contracts they are like a store.
 #[derive(Drop)]
 pub struct Facts {
     alloc: Global,
@@ -74,7 +74,7 @@ impl Facts {
         }
     }
 
-    /// Makes room for just these facts. After `Memory` all is as it was.
+    /// Reserves room for exactly these facts. When out of memory, nothing changes.
     pub fn reserve(&mut self, facts: &[Fact]) -> Result<(), Memory>
         ensures ok { OnOk result (self.new ≡ record self.old { spare = facts.now }) }
         ensures unchanged { OnErr result (self.new ≡ self.old) }
@@ -82,7 +82,30 @@ impl Facts {
         self.arrivals.reserve(facts)
     }
 
-    /// Adds a fact with its key. It takes no memory, since room was made for the fact.
+    /// How many facts have room.
+    pub fn room(&self) -> usize
+        ensures value { result ≡ length self.now.spare }
+    {
+        self.arrivals.room()
+    }
+
+    /// Makes room for these facts after those that have room already. After `Memory` all is as it was.
+    pub fn reserve_more(&mut self, facts: &[Fact]) -> Result<(), Memory>
+        ensures ok { OnOk result (self.new ≡ record self.old { spare = self.old.spare ++ facts.now }) }
+        ensures unchanged { OnErr result (self.new ≡ self.old) }
+    {
+        self.arrivals.reserve_more(facts)
+    }
+
+    /// Of the facts that have room only `count` keep it, those after the first `passed`.
+    pub fn keep_room(&mut self, passed: usize, count: usize)
+        requires within { passed + count ≤ length self.old.spare }
+        ensures value { self.new ≡ record self.old { spare = take count (drop passed self.old.spare) } }
+    {
+        self.arrivals.keep_room(passed, count);
+    }
+
+    /// Adds a fact with its key. It allocates nothing, since room for the fact is reserved.
     pub fn insert(&mut self, key: Key, fact: Fact)
         requires roomy { slice_get self.old.spare 0 ≡ Some fact }
         requires new_key { is_held key self.old.arrived ≡ false }
@@ -92,7 +115,7 @@ impl Facts {
         self.arrivals.insert(key, fact);
     }
 
-    /// The fact at a place, with its key, by one counted read.
+    /// The fact at a place, with its key. The read is counted.
     pub fn fact<L: Ledger>(&self, place: Place, steps: &mut Steps<L>) -> (&Key, &Fact)
         requires in_range { place.at < length self.now.arrived }
         ensures value { slice_get self.now.arrived place.at ≡ Some (result.0.now, result.1.now) }
@@ -101,8 +124,8 @@ impl Facts {
         self.arrivals.fact(place, steps)
     }
 
-    /// A store of these facts, with room for those that have room here, where nothing stays: those that came since are put
-    /// into each list at once. After `Memory` all is as it was.
+    /// Moves the facts and the reserved room into a store. The facts that are not listed yet are added to each list at once.
+    /// When out of memory, nothing changes.
     pub fn list(&mut self) -> Result<FactStore, Memory>
         ensures ok { IfOk result (λ store. store ≡ self.old) }
         ensures empty { OnOk result (self.new ≡ record { arrived = []; spare = [] }) }
@@ -132,7 +155,7 @@ impl FactStore {
         }
     }
 
-    /// Makes room for just these facts. After `Memory` the store is as it was.
+    /// Reserves room for exactly these facts. When out of memory, the store is unchanged.
     pub fn reserve(&mut self, facts: &[Fact]) -> Result<(), Memory>
         ensures ok { OnOk result (self.new ≡ record self.old { spare = facts.now }) }
         ensures unchanged { OnErr result (self.new ≡ self.old) }
@@ -145,7 +168,7 @@ impl FactStore {
         Ok(())
     }
 
-    /// Adds a fact with its key. It takes no memory, since room was made for the fact.
+    /// Adds a fact with its key. It allocates nothing, since room for the fact is reserved.
     pub fn insert(&mut self, key: Key, fact: Fact)
         requires roomy { slice_get self.old.spare 0 ≡ Some fact }
         requires new_key { is_held key self.old.arrived ≡ false }
@@ -160,35 +183,35 @@ impl FactStore {
         self.arrivals.insert(key, fact);
     }
 
-    /// The places of the facts that name a component.
+    /// The places of the facts of a component, in key order.
     pub fn of_component(&self, component: u16) -> &[Place]
         ensures value { ArePlacesOf named.component_of component self.now result.now }
     {
         self.indexes.components.places_of(component)
     }
 
-    /// The places of the facts that name a process unit.
+    /// The places of the facts of a process unit, in key order.
     pub fn of_unit(&self, unit: u8) -> &[Place]
         ensures value { ArePlacesOf named.unit_of unit self.now result.now }
     {
         self.indexes.units.places_of(u16::from(unit))
     }
 
-    /// The places of the calibrations, precision tests and drift assessments of an instrument.
+    /// The places of the calibrations, precision tests and drift assessments of an instrument, in key order.
     pub fn of_instrument(&self, instrument: u16) -> &[Place]
         ensures value { ArePlacesOf named.tested_instrument instrument self.now result.now }
     {
         self.indexes.instruments.places_of(instrument)
     }
 
-    /// The places of the readings of an instrument.
+    /// The places of the readings of an instrument, in key order.
     pub fn readings_of(&self, instrument: u16) -> &[Place]
         ensures value { ArePlacesOf named.reading_instrument instrument self.now result.now }
     {
         self.indexes.readings.places_of(instrument)
     }
 
-    /// The fact at a place, with its key. This is the only way to read one, and it counts.
+    /// The fact at a place, with its key. This is the only way to read a fact, and each read is counted.
     pub fn fact<L: Ledger>(&self, place: Place, steps: &mut Steps<L>) -> (&Key, &Fact)
         requires in_range { place.at < length self.now.arrived }
         ensures value { slice_get self.now.arrived place.at ≡ Some (result.0.now, result.1.now) }

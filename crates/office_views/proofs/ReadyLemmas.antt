@@ -1,7 +1,7 @@
 -- Instruments that are ready, and what is known of a component.
 use Rattle.std.proofs.Common.{◌≡◌, ℕ, zero, suc, ◌<◌, false, cond, nat_eq, nat_le, Option, Some, None, List, [], ◌∷◌, ◌++◌}
 use Rattle.std.proofs.Common.{length, set, refl, sym, ap, ◌∙◌, subst, inl, inr, arith}
-use Rattle.std.specs.Option.{option_to_list}
+use Rattle.std.specs.List.{filter_map}
 use Rattle.std.proofs.lemmas.Bool.{cases_Bool, eqb-true}
 use Rattle.std.proofs.lemmas.Bool.Decides.{nat_tests}
 use Rattle.list_words.specs.Order.{Ascends}
@@ -14,18 +14,16 @@ use Rattle.fact_kinds.specs.Facts.{Entry, goes_first}
 use Rattle.fact_kinds.specs.Named.{reading_instrument}
 use Rattle.fact_kinds.proofs.KeyOrder.{strict_goes_first}
 use Rattle.history_laws.specs.DayLaws.{up_to}
-use Rattle.ldar_law.specs.declared.delay.Stop.{Stop}
 use Rattle.ldar_law.specs.declared.equipment.Equipment.{Equipment}
 use Rattle.ldar_law.specs.declared.event.Event.{Event}
 use Rattle.ldar_law.specs.declared.fitness.Fitness.{Fitness}
-use Rattle.ldar_law.specs.declared.tag.Tag.{Tag}
-use Rattle.ldar_law.specs.Equipment.{classes_of, stops_of}
-use Rattle.ldar_law.specs.Events.{events_in, fitness_at, fitness_in, is_reading}
+use Rattle.ldar_law.specs.declared.fitness.Fitness.TheVariants.{NoCalibration}
+use Rattle.ldar_law.specs.Equipment.{classes_of, of_unit}
+use Rattle.ldar_law.specs.Events.{event_of, events_in, fitness_among, fitness_at}
 use Rattle.ldar_law.specs.Fitness.{fitness_of}
 use Rattle.ldar_law.specs.Force.{limit_on}
-use Rattle.ldar_law.specs.Slices.{facts_of_instrument}
-use Rattle.ldar_law.specs.Tags.{tags_of}
-use Rattle.ldar_law.specs.Units.{known_of}
+use Rattle.ldar_law.specs.Slices.{facts_of_component, facts_of_instrument}
+use Rattle.ldar_law.specs.Units.{known_of, known_with}
 use Rattle.method21_reading.specs.Instruments.{Apart, AreThoseOf}
 use Rattle.method21_reading.specs.Readings.{fitness_by}
 use Rattle.office_views.specs.Lists.{AreReady, ready_in}
@@ -67,25 +65,37 @@ ready_with old new facts number instrument ready those updates n other is =
     ]
 
 -- what is known of a component, from what the calls below give
-pub known_is : (facts : List Entry) (item : Equipment) (classes : List (Key × Class)) (events : List Event) (tags : List Tag) (stops : List Stop)
-    → classes ≡ classes_of item.component facts → events ≡ events_in item classes facts
-    → tags ≡ tags_of item.component item.kind events stops → stops ≡ stops_of item.unit facts
-    → record { item = item; classes = classes; events = events; tags = tags } ≡ known_of facts item
-known_is facts item classes events tags stops classes_are events_are tags_are stops_are =
-    rw (tags_are, events_are, classes_are, stops_are) refl
+pub known_is : (facts : List Entry) (item : Equipment) (classes : List (Key × Class)) (events : List Event)
+    → classes ≡ classes_of item.component facts → events ≡ events_in item classes (limit_on item classes) facts
+    → known_with item classes events (of_unit item.unit facts) ≡ known_of facts item
+known_is facts item classes events classes_are events_are =
+    ap (λ es. known_with item classes es (of_unit item.unit facts)) events_are
+    ∙ ap (λ cs. known_with item cs (events_in item cs (limit_on item cs) facts) (of_unit item.unit facts)) classes_are
 
--- the fitness of a reading, as it is listed
-module _ (item : Equipment) (classes : List (Key × Class)) (facts : List Entry) (number limit : ℕ) (fitness : Fitness) where
-  listed_by : (key : Key) (body : FactBody) → reading_instrument body ≡ Some number → limit ≡ limit_on item classes key.day
-      → fitness ≡ fitness_by limit facts key body
-      → option_to_list (cond (is_reading body) (Some (fitness_at item classes facts key body)) None) ≡ fitness ∷ []
-  listed_by key (Reading component instrument operator purpose ppm background) named limit_is is =
-      ap (λ f. f ∷ []) (sym (is ∙ ap (λ l. fitness_of facts l key instrument ppm) limit_is))
-  listed_by key _ named limit_is is = absurd cc
+-- the events of a component are its own facts, each judged where it stands
+pub events_are : (item : Equipment) (classes : List (Key × Class)) (limit : ℕ → ℕ) (facts : List Entry)
+    → filter_map (λ e. event_of item classes limit e (fitness_among limit facts e)) (facts_of_component item.component facts)
+    ≡ events_in item classes limit facts
+unfolding events_in
+events_are item classes limit facts = refl
 
-  pub fitness_listed : (e : Entry) → reading_instrument e.1.body ≡ Some number → limit ≡ limit_on item classes e.0.day
-      → fitness ≡ fitness_by limit facts e.0 e.1.body → option_to_list (fitness_in item classes facts e) ≡ fitness ∷ []
-  fitness_listed e = listed_by e.0 e.1.body
+-- the fitness of a reading, by the leak definition of each day
+module _ (limits : ℕ → ℕ) (facts : List Entry) (number limit : ℕ) (fitness : Fitness) where
+  judged_by : (key : Key) (body : FactBody) → reading_instrument body ≡ Some number → limit ≡ limits key.day
+      → fitness ≡ fitness_by limit facts key body → fitness ≡ fitness_at limits facts key body
+  judged_by key (Reading component instrument operator purpose ppm background) named limit_is is =
+      is ∙ ap (λ l. fitness_of facts l key instrument ppm) limit_is
+  judged_by key _ named limit_is is = absurd cc
+
+  pub fitness_is : (e : Entry) → reading_instrument e.1.body ≡ Some number → limit ≡ limits e.0.day
+      → fitness ≡ fitness_by limit facts e.0 e.1.body → fitness ≡ fitness_among limits facts e
+  fitness_is e = judged_by e.0 e.1.body
+
+-- .. and of what is no reading
+pub no_fitness : (limits : ℕ → ℕ) (facts : List Entry) (key : Key) (body : FactBody) → reading_instrument body ≡ None
+    → NoCalibration ≡ fitness_at limits facts key body
+no_fitness limits facts key (Reading component instrument operator purpose ppm background) none = absurd cc
+no_fitness limits facts key _ none = refl
 
 -- the facts up to a day are in order
 pub front_ascends : (day : ℕ) (facts : List Entry) → Ascends goes_first facts → Ascends goes_first (up_to day facts)

@@ -93,38 +93,6 @@ module _ (batches : List Batch) (store register : Kept) (headers : List Header) 
       ap (λ es. facts_in (record { arrived = es; spare = [] })) sound.entered
       ∙ sym (filter-in_order goes_first strict_goes_first (λ e. is_registered e.1.body) flat (history_apart (take count batches) sound.differ))
 
-  front_again : take count (take count batches) ≡ take count batches
-  front_again = take_all count (take count batches) (omega (arith, count_is))
-
-  none_behind : drop count (take count batches) ≡ []
-  none_behind = drop_of_length-le (take count batches) (omega (arith, count_is))
-
-  -- with the other batches let go, whatever there is room for
-  pub bare : (s r : Kept) → s.arrived ≡ store.arrived → r.arrived ≡ register.arrived → AreOf (take count batches) s r (take count headers) count
-  bare s r same same_entries =
-      let front = take count batches in
-      record {
-        headed = ap (take count) sound.headed ∙ take-headers_of count 0 batches;
-        counted = omega (arith, count_is);
-        filled = all_of_first _ count batches sound.filled;
-        arrived = same ∙ sound.arrived ∙ ap (flat_map entries_of) (sym front_again);
-        few = subst (λ es. length es ≤ 8_000_000) (sym same) sound.few;
-        entered = same_entries ∙ sound.entered ∙ ap (λ bs. register_facts (flat_map entries_of bs)) (sym front_again);
-        more = s.spare;
-        room = ap (λ bs. facts_stated bs ++ s.spare) (sym none_behind);
-        more_entries = r.spare;
-        entry_room = ap (λ bs. filter (λ fact. is_registered fact.body) (facts_stated bs) ++ r.spare) (sym none_behind);
-        ruly = rw front_again sound.ruly;
-        differ = rw front_again sound.differ;
-        in_range = rw front_again sound.in_range;
-      }
-
-  -- .. and what is held then
-  pub bare_held : held_by (take count batches) count ≡ record { adopted = take count batches; spare = [] }
-  bare_held =
-      ap (λ bs. record { adopted = bs; spare = drop count (take count batches) }) front_again
-      ∙ ap (λ bs. record { adopted = take count batches; spare = bs }) none_behind
-
   -- with room for these batches
   module _ (others : List Batch) where
     in_front : take count (take count batches ++ others) ≡ take count batches

@@ -1,11 +1,11 @@
 -- What the register and the lists of a store say of a process unit on a day.
 use Rattle.std.proofs.Common.{◌≡◌, ℕ, Bool, Option, Some, None, false, cond, nat_le, nat_lt, inl, inr, arith, leb-false, option_map, option_and_then}
-use Rattle.std.proofs.Common.{List, ◌++◌, length, take, filter, map, get_or, ◌<◌, ◌≤◌, ◌+◌, Contains, sym, ap, ◌∙◌, subst, length-take-le}
+use Rattle.std.proofs.Common.{List, [], ◌∷◌, ◌++◌, length, take, filter, map, get_or, ◌<◌, ◌≤◌, ◌+◌, Contains, sym, refl, ap, ◌∙◌, subst, length-take-le}
 use Rattle.std.specs.List.{AllByRecursion, filter_map}
 use Rattle.std.proofs.lemmas.Bool.{cases_Bool}
 use Rattle.ldar_law.proofs.Gifts.{cases_Option}
 use Rattle.std.specs.Option.{option_to_list}
-use Rattle.std.proofs.lemmas.List.{take_all}
+use Rattle.std.proofs.lemmas.List.{length-map, map-append}
 use Rattle.std.proofs.lemmas.List.Concat.{flat_map-append}
 use Rattle.std.proofs.lemmas.List.Elements.{Contains-get_or, filter-append, filter_map-append}
 use Rattle.list_words.specs.Order.{Ascends}
@@ -15,25 +15,27 @@ use Rattle.history_laws.specs.RulyLaws.{IsEachOnce}
 use Rattle.history_laws.specs.RangeLaws.{IsInRange}
 use Rattle.history_laws.proofs.MemberLemmas.{components_are_members, members_ascend, members_stand_in_unit}
 use Rattle.history_laws.proofs.RangeLemmas.{components_stand_in_range, members_fit, part_is_in_range, startups_are_days}
-use Rattle.history_laws.proofs.RegisterUpTo.{components_up_to_a_day, components_are_of_all_members, units_up_to_a_day}
+use Rattle.history_laws.proofs.RegisterUpTo.{classes_up_to, components_up_to_a_day, components_are_of_all_members, units_up_to_a_day}
 use Rattle.history_laws.proofs.UpTo.{ascending_are_in_order}
 use Rattle.ldar_law.specs.declared.equipment.Equipment.{Equipment}
 use Rattle.ldar_law.specs.declared.numbers.TheConstants.{LAST_FACT_DAY, MOST_COMPONENTS}
+use Rattle.ldar_law.specs.declared.of_unit.OfUnit.{OfUnit}
 use Rattle.ldar_law.specs.declared.sheet.Sheet.{Sheet}
 use Rattle.ldar_law.specs.declared.tally.Tally.{Tally}
 use Rattle.ldar_law.specs.declared.unit_entry.UnitEntry.{UnitEntry}
 use Rattle.ldar_law.specs.Duties.{duties_of}
-use Rattle.ldar_law.specs.Equipment.{equipment_of, members_of, unit_entry_of}
+use Rattle.ldar_law.specs.Equipment.{classes_of, equipment_of, members_of, unit_entry_of}
 use Rattle.ldar_law.specs.Shown.{sheet_of}
 use Rattle.ldar_law.specs.Slices.{register_facts}
 use Rattle.ldar_law.specs.Tags.{is_shown, line_on_open}
 use Rattle.ldar_law.specs.Units.{Known, known_of, components_of, all_tags, tag_list, delay_list, due_list}
 use Rattle.ldar_law.proofs.SliceLemmas.{register_facts_suffice}
 use Rattle.semiannual_report.specs.Columns.{AreOfComponents}
-use Rattle.office_views.specs.Known.{known_among}
+use Rattle.office_views.specs.declared.component.Component.{Component}
+use Rattle.office_views.specs.Components.{all_in_law, in_law, known_among}
 use Rattle.office_views.specs.Lists.{AreKept}
 use Rattle.office_views.specs.Tallied.{AreTallies, CountsMore, HaveRoom}
-use Rattle.office_views.proofs.ListLemmas.{all_given, all_map, ascends_map, few_given, given_ascend, given_more}
+use Rattle.office_views.proofs.ListLemmas.{all_given, all_map, ascends_map, few_given, given_ascend, given_more, mapped_more}
 use Rattle.office_views.proofs.TallyLemmas.{room_for, tallied_more}
 
 -- a component as the register has it, on a day
@@ -43,6 +45,14 @@ component_is day number facts entries up is =
     ap (λ es. option_and_then (if_begun day) (equipment_of number es)) is
     ∙ ap (option_and_then (if_begun day)) (register_facts_suffice number facts).0.equipment
     ∙ sym (components_up_to_a_day day number facts (ascending_are_in_order facts up)).equipment
+
+-- its classes as the register has them, on a day
+pub classes_are : (day number : ℕ) (facts entries : List Entry) → entries ≡ register_facts facts
+    → filter (λ entered. nat_le entered.0.day day) (classes_of number entries) ≡ classes_of number (up_to day facts)
+classes_are day number facts entries is =
+    ap (λ es. filter (λ entered. nat_le entered.0.day day) (classes_of number es)) is
+    ∙ ap (filter (λ entered. nat_le entered.0.day day)) (register_facts_suffice number facts).0.classes
+    ∙ sym (classes_up_to day number facts)
 
 -- the members as the register has them
 pub members_are : (unit : ℕ) (facts entries : List Entry) → entries ≡ register_facts facts → members_of unit entries ≡ members_of unit facts
@@ -77,13 +87,17 @@ components_are day unit facts entries up once is =
     components_are_of_all_members day unit facts (ascending_are_in_order facts up) once
     ∙ ap (known_among (up_to day facts)) (sym (members_are unit facts entries is))
 
--- .. when all members are looked at
-pub all_listed : {X : Type 0} (f : List Known → X) (day unit i : ℕ) (facts entries : List Entry) (numbers : List ℕ) (x : X)
-    → Ascends goes_first facts → AreKept facts entries → numbers ≡ members_of unit entries → length numbers ≤ i
-    → x ≡ f (known_among (up_to day facts) (take i numbers)) → x ≡ f (components_of unit (up_to day facts))
-all_listed f day unit i facts entries numbers x up kept are end is =
-    is ∙ ap (λ ns. f (known_among (up_to day facts) ns)) (take_all i numbers end ∙ are)
-    ∙ sym (ap f (components_are day unit facts entries up kept.once kept.register))
+-- .. with room for one mark of each in a count
+pub components_fit : (day unit : ℕ) (facts entries : List Entry) → Ascends goes_first facts → AreKept facts entries
+    → length (components_of unit (up_to day facts)) ≤ MOST_COMPONENTS
+components_fit day unit facts entries up kept =
+    let members = members_of unit entries in
+    let most : length members ≤ MOST_COMPONENTS =
+    subst (λ (ns : List ℕ). length ns ≤ MOST_COMPONENTS) (sym (members_are unit facts entries kept.register))
+    (members_fit facts unit kept.in_range kept.once) in
+    let given = few_given (λ number. option_map (known_of (up_to day facts)) (equipment_of number (up_to day facts))) members in
+    subst (λ (cs : List Known). length cs ≤ MOST_COMPONENTS) (sym (components_are day unit facts entries up kept.once kept.register))
+    (omega (arith, most, given))
 
 -- ---- with one more member
 
@@ -92,6 +106,10 @@ pub member_at : (unit : ℕ) (facts entries : List Entry) (numbers : List ℕ) (
     → i < length numbers → Contains (members_of unit facts) (get_or numbers i 0)
 member_at unit facts entries numbers i kept are within =
     subst (λ ns. Contains ns (get_or numbers i 0)) (are ∙ members_are unit facts entries kept.register) (Contains-get_or numbers i 0 within)
+
+mapped_option : {X Y : Type 0} (f : X → Y) (o : Option X) → map f (option_to_list o) ≡ option_to_list (option_map f o)
+mapped_option f None = refl
+mapped_option f (Some x) = refl
 
 -- the lists of some components and of more
 pub tag_list-append : (day : ℕ) (xs ys : List Known) → tag_list day (xs ++ ys) ≡ tag_list day xs ++ tag_list day ys
@@ -106,37 +124,40 @@ pub due_list-append : (startup day : ℕ) (skipped : List Bool) (xs ys : List Kn
     → due_list startup day skipped (xs ++ ys) ≡ due_list startup day skipped xs ++ due_list startup day skipped ys
 due_list-append startup day skipped xs ys = flat_map-append (λ c. duties_of c.item c.classes startup c.events skipped day) xs ys
 
-module _ (facts : List Entry) (numbers : List ℕ) (i : ℕ) (within : i < length numbers)
-    (known : List Known) (known_is : known ≡ option_to_list (option_map (known_of facts) (equipment_of (get_or numbers i 0) facts))) where
-  next_is : known_among facts (take i numbers) ++ known ≡ known_among facts (take (i + 1) numbers)
-  next_is =
-      ap (λ k. known_among facts (take i numbers) ++ k) known_is
-      ∙ sym (given_more (λ number. option_map (known_of facts) (equipment_of number facts)) numbers i 0 within)
+-- what is known of the members so far, with the next
+pub known_more : (facts : List Entry) (of : OfUnit) (numbers : List ℕ) (i : ℕ) (next : Option Component) (components : List Component)
+    → i < length numbers → option_map (in_law of) next ≡ option_map (known_of facts) (equipment_of (get_or numbers i 0) facts)
+    → all_in_law of components ≡ known_among facts (take i numbers)
+    → all_in_law of (components ++ option_to_list next) ≡ known_among facts (take (i + 1) numbers)
+known_more facts of numbers i next components within is were =
+    map-append (in_law of) components (option_to_list next)
+    ∙ ap (λ ks. ks ++ all_in_law of (option_to_list next)) were
+    ∙ ap (λ ks. known_among facts (take i numbers) ++ ks) (mapped_option (in_law of) next ∙ ap option_to_list is)
+    ∙ sym (given_more (λ number. option_map (known_of facts) (equipment_of number facts)) numbers i 0 within)
 
-  -- a list of a unit, where the list of some components and of more is those of both
+-- ---- with one more component
+
+module _ (of : OfUnit) (cs : List Component) (i : ℕ) (c : Component) (within : i < length cs) (is : c ≡ get_or cs i c) where
+  -- a list of a unit, if the list of some components and of more is those of both
   pub list_more : {X : Type 0} (f : List Known → List X) → ((xs ys : List Known) → f (xs ++ ys) ≡ f xs ++ f ys) → (old new : List X)
-      → old ≡ f (known_among facts (take i numbers)) → new ≡ old ++ f known → new ≡ f (known_among facts (take (i + 1) numbers))
+      → old ≡ f (all_in_law of (take i cs)) → new ≡ old ++ f (in_law of c ∷ []) → new ≡ f (all_in_law of (take (i + 1) cs))
   list_more f joins old new was put =
-      put ∙ ap (λ xs. xs ++ f known) was ∙ sym (joins (known_among facts (take i numbers)) known) ∙ ap f next_is
+      put ∙ ap (λ xs. xs ++ f (in_law of c ∷ [])) was ∙ sym (joins (all_in_law of (take i cs)) (in_law of c ∷ []))
+      ∙ ap f (sym (mapped_more (in_law of) cs i c within is))
 
   -- the counts of its quarters
-  pub tallies_more : (startup day quarter : ℕ) (old new : List Tally) → AreTallies startup day (known_among facts (take i numbers)) quarter old
-      → CountsMore startup day known old new → AreTallies startup day (known_among facts (take (i + 1) numbers)) quarter new
+  pub tallies_more : (startup day quarter : ℕ) (old new : List Tally) → AreTallies startup day (all_in_law of (take i cs)) quarter old
+      → CountsMore startup day (in_law of c ∷ []) old new → AreTallies startup day (all_in_law of (take (i + 1) cs)) quarter new
   tallies_more startup day quarter old new are counts =
-      subst (λ cs. AreTallies startup day cs quarter new) next_is
-      (tallied_more startup day quarter (known_among facts (take i numbers)) known old new are counts)
+      subst (λ ks. AreTallies startup day ks quarter new) (sym (mapped_more (in_law of) cs i c within is))
+      (tallied_more startup day quarter (all_in_law of (take i cs)) (in_law of c ∷ []) old new are counts)
 
--- there is room for one more of the members of a unit
-pub room_for_member : (startup day quarter : ℕ) (known facts entries : List Entry) (unit i : ℕ) (tallies : List Tally) (numbers : List ℕ)
-    → AreKept facts entries → numbers ≡ members_of unit entries → i < length numbers
-    → AreTallies startup day (known_among known (take i numbers)) quarter tallies → HaveRoom tallies
-room_for_member startup day quarter known facts entries unit i tallies numbers kept are within counted =
-    let members = are ∙ members_are unit facts entries kept.register in
-    let most : length numbers ≤ MOST_COMPONENTS =
-    subst (λ (ns : List ℕ). length ns ≤ MOST_COMPONENTS) (sym members) (members_fit facts unit kept.in_range kept.once) in
-    let given = few_given (λ number. option_map (known_of known) (equipment_of number known)) (take i numbers) in
-    room_for startup day quarter (known_among known (take i numbers)) tallies counted
-    (omega (arith, most, within, given, length-take-le i numbers (omega (arith, within))))
+-- there is room for one more of at most 60,000 components
+pub room_for_one : (of : OfUnit) (cs : List Component) (i startup day quarter : ℕ) (tallies : List Tally) → i < length cs
+    → length cs ≤ MOST_COMPONENTS → AreTallies startup day (all_in_law of (take i cs)) quarter tallies → HaveRoom tallies
+room_for_one of cs i startup day quarter tallies within few counted =
+    room_for startup day quarter (all_in_law of (take i cs)) tallies counted
+    (omega (arith, few, within, length-map (take i cs) (in_law of), length-take-le i cs (omega (arith, within))))
 
 -- ---- the sheets of a unit
 
@@ -167,12 +188,14 @@ sheets_are_distinct facts numbers in_range up =
           subst (λ n. n ≤ MOST_COMPONENTS) (sym found.2) stands.component.1));
     }
 
--- .. on a day, by all members
-pub sheets_of_members : (day unit : ℕ) (facts entries : List Entry) (numbers : List ℕ) → AreKept facts entries → numbers ≡ members_of unit entries
-    → AreOfComponents (map sheet_of (known_among (up_to day facts) numbers))
-sheets_of_members day unit facts entries numbers kept are =
-    sheets_are_distinct (up_to day facts) numbers (part_is_in_range facts (λ e. nat_le e.0.day day) kept.in_range)
-    (subst (Ascends nat_lt) (sym (are ∙ members_are unit facts entries kept.register)) (members_ascend facts unit kept.once))
+-- .. on a day
+pub sheets_of_unit_are_distinct : (day unit : ℕ) (facts entries : List Entry) → Ascends goes_first facts → AreKept facts entries
+    → AreOfComponents (map sheet_of (components_of unit (up_to day facts)))
+sheets_of_unit_are_distinct day unit facts entries up kept =
+    let numbers = members_of unit entries in
+    let ascend = subst (Ascends nat_lt) (sym (members_are unit facts entries kept.register)) (members_ascend facts unit kept.once) in
+    subst (λ ks. AreOfComponents (map sheet_of ks)) (sym (components_are day unit facts entries up kept.once kept.register))
+    (sheets_are_distinct (up_to day facts) numbers (part_is_in_range facts (λ e. nat_le e.0.day day) kept.in_range) ascend)
 
 -- ---- a process unit on a day
 

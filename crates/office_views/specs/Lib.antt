@@ -1,9 +1,9 @@
 pub mod Answers
 pub mod Asked
+pub mod Components
 pub mod Headers
 pub mod Held
 pub mod Inside
-pub mod Known
 pub mod Lists
 pub mod Taking
 pub mod Tallied

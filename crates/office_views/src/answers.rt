@@ -10,7 +10,7 @@ ghost use Rattle.office_views.specs.Lists.{AreKept, facts_by};
 use crate::due::duties_of_unit;
 use crate::lists::Lists;
 use crate::shown::Shown;
-use crate::unit_lists::{delays_of_unit, tags_of_unit};
+use crate::tag_lists::{delays_of_unit, tags_of_unit};
 use component_register::Register;
 use fact_kinds::Memory;
 use fact_store::Steps;

@@ -8,7 +8,7 @@ ghost use Rattle.office_views.specs.Answers.{IsView};
 ghost use Rattle.office_views.specs.Asked as says;
 
 use crate::register_on::unit_on;
-use crate::reporting::has_begun;
+use crate::reports::has_begun;
 use crate::shares::has_quarter_begun;
 use component_register::Register;
 use ldar_days::Day;

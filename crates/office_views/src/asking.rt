@@ -13,7 +13,7 @@ ghost use Rattle.office_views.specs.Lists.{AreKept};
 use crate::answers::{delays_on, due_on, shown, tags_on};
 use crate::asked::view_day;
 use crate::lists::Lists;
-use crate::reporting::half_text;
+use crate::reports::half_text;
 use crate::routes::route_on;
 use crate::shares::quarter_text;
 use crate::shown::Shown;

@@ -1,24 +1,23 @@
-ghost use Rattle.std.specs.Prelude.{◌≡◌, ◌-◌, ◌++◌, ◌≤◌, IfOk, IfSome, OnOk};
-ghost use Rattle.std.specs.Option.{option_map, option_to_list};
+ghost use Rattle.std.specs.Prelude.{◌≡◌, ◌-◌, ◌++◌, ◌≤◌, IfOk, OnOk, length};
 ghost use Rattle.fact_store.specs.Kept.{facts_in};
-ghost use Rattle.ldar_law.specs.declared.numbers.TheConstants.{LAST_FACT_DAY};
+ghost use Rattle.ldar_law.specs.declared.numbers.TheConstants.{LAST_FACT_DAY, MOST_COMPONENTS};
+ghost use Rattle.ldar_law.specs.declared.of_unit.OfUnit.{OfUnit as SomeUnit};
 ghost use Rattle.ldar_law.specs.Duties as duties;
-ghost use Rattle.ldar_law.specs.Equipment as equipment;
 ghost use Rattle.ldar_law.specs.Skips.{skipped_to};
 ghost use Rattle.ldar_law.specs.Units as law;
-ghost use Rattle.office_views.specs.Known.{in_law, IsOrdered};
-ghost use Rattle.office_views.specs.Lists.{AreKept, AreReady, facts_by};
+ghost use Rattle.office_views.specs.Components.{all_in_law};
+ghost use Rattle.office_views.specs.Lists.{AreKept, facts_by};
 
-use crate::instruments::{Instruments, none_ready};
-use crate::known::Known;
+use crate::component::Component;
 use crate::lists::Lists;
-use crate::tallies::tallies_of_unit;
-use crate::unit_lists::{elections_on, known_at, stops_on};
+use crate::members::unit_of;
+use crate::tallies::tallies_to;
+use crate::unit::Unit;
 use component_register::Register;
 use fact_kinds::Memory;
 use fact_store::Steps;
 use ldar_days::{Day, quarter_of};
-use ldar_law::{Duty, ElectionEntry, Tally, UnitEntry};
+use ldar_law::{Duty, Tally, UnitEntry};
 use monitor_calendar::duties_of;
 use skip_periods::all_skipped;
 use std::alloc::Global;
@@ -35,101 +34,93 @@ fn quarter_at(startup: Day, day: Day) -> u16
     }
 }
 
-/// The counts by which quarters up to one are skipped: none where no programme of skip periods was elected.
-fn tallies_asked<L: Ledger>(
-    ready: &mut Instruments,
-    lists: &Lists<'_>,
-    register: &Register,
-    unit: &UnitEntry,
+/// The counts by which quarters up to one are skipped: none if no program of skip periods was elected.
+fn tallies_asked(
+    alloc: Global,
+    startup: Day,
     quarter: u16,
-    elections: &[ElectionEntry],
-    steps: &mut Steps<L>,
+    day: Day,
+    known: &Unit<'_>,
 ) -> Result<Vec<Tally>, Memory>
-    requires kept { AreKept (facts_in lists.now.store.now) (facts_in register.now) }
-    requires startup { unit.now.startup ≤ LAST_FACT_DAY }
-    requires ready { AreReady ready.old.items (facts_by lists.now) }
-    ensures value { IfOk result (λ tallies. skipped_to tallies.items elections.now unit.now.startup quarter
-        ≡ skipped_to (law.tallies_to unit.now.startup lists.now.day (law.components_of unit.now.unit (facts_by lists.now)) (quarter - 1))
-        elections.now unit.now.startup quarter) }
-    ensures ready { OnOk result (AreReady ready.new.items (facts_by lists.now)) }
+    requires startup { startup ≤ LAST_FACT_DAY }
+    requires few { length known.now.components.items ≤ MOST_COMPONENTS }
+    ensures value { IfOk result (λ tallies. skipped_to tallies.items known.now.elections startup quarter
+        ≡ skipped_to (law.tallies_to startup day (all_in_law known.now.of_unit known.now.components.items) (quarter - 1))
+        known.now.elections startup quarter) }
 {
-    if elections.is_empty() {
-        return Ok(Vec::new(lists.alloc));
+    if known.elections.as_slice().is_empty() {
+        return Ok(Vec::new(alloc));
     }
-    tallies_of_unit(
-        ready,
-        lists,
-        register,
-        unit,
+    tallies_to(
+        alloc,
+        startup,
         quarter.saturating_sub(1),
-        steps,
+        day,
+        &known.components,
+        &known.of_unit,
     )
 }
 
 /// Which quarters of a process unit are skipped, from the first to the one of the day (40 CFR 60.483-2a).
-fn skipped_on<L: Ledger>(
-    ready: &mut Instruments,
-    lists: &Lists<'_>,
-    register: &Register,
-    unit: &UnitEntry,
-    steps: &mut Steps<L>,
-) -> Result<Vec<bool>, Memory>
-    requires kept { AreKept (facts_in lists.now.store.now) (facts_in register.now) }
-    requires startup { unit.now.startup ≤ LAST_FACT_DAY }
-    requires ready { AreReady ready.old.items (facts_by lists.now) }
-    ensures value { IfOk result (λ skipped. skipped.items ≡ law.skipped_on unit.now.startup lists.now.day
-        (law.components_of unit.now.unit (facts_by lists.now)) (equipment.elections_of unit.now.unit (facts_by lists.now))) }
-    ensures ready { OnOk result (AreReady ready.new.items (facts_by lists.now)) }
-{
-    let quarter = quarter_at(unit.startup, lists.day);
-    let elections = elections_on(lists, unit.unit, steps)?;
-    let tallies = tallies_asked(ready, lists, register, unit, quarter, &elections, steps)?;
-    all_skipped(lists.alloc, &tallies, &elections, unit.startup, quarter)
-}
-
-/// Adds the duties at a component that is known.
-fn add_own(
-    alloc: Global,
-    all: &mut Vec<Duty>,
-    startup: Day,
-    skipped: &[bool],
-    day: Day,
-    known: &Known,
-) -> Result<(), Memory>
+fn skipped_on(alloc: Global, startup: Day, day: Day, known: &Unit<'_>) -> Result<Vec<bool>, Memory>
     requires startup { startup ≤ LAST_FACT_DAY }
-    requires ordered { IsOrdered known.now }
-    ensures put { OnOk result (all.new.items ≡ all.old.items
-        ++ duties.duties_of known.now.item known.now.classes startup known.now.events skipped.now day) }
+    requires few { length known.now.components.items ≤ MOST_COMPONENTS }
+    ensures value { IfOk result (λ skipped. skipped.items
+        ≡ law.skipped_on startup day (all_in_law known.now.of_unit known.now.components.items) known.now.elections) }
 {
-    let own = duties_of(
+    let quarter = quarter_at(startup, day);
+    let tallies = tallies_asked(alloc, startup, quarter, day, known)?;
+    all_skipped(
         alloc,
-        &known.item,
-        known.classes.as_slice(),
+        &tallies,
+        known.elections.as_slice(),
         startup,
-        known.events.as_slice(),
-        skipped,
-        day,
-    )?;
-    all.extend_from_slice(&own)
+        quarter,
+    )
 }
 
-/// Adds the duties at a component, if it is known.
+/// Adds the duties at a component.
 fn add_duties(
     alloc: Global,
     all: &mut Vec<Duty>,
     startup: Day,
     skipped: &[bool],
     day: Day,
-    known: &Option<Known>,
+    component: &Component<'_>,
 ) -> Result<(), Memory>
     requires startup { startup ≤ LAST_FACT_DAY }
-    requires ordered { IfSome known.now IsOrdered }
-    ensures put { OnOk result (all.new.items ≡ all.old.items ++ law.due_list startup day skipped.now (option_to_list (option_map in_law known.now))) }
+    ensures put { OnOk result (all.new.items ≡ all.old.items
+        ++ duties.duties_of component.now.item component.now.classes.now startup component.now.events skipped.now day) }
 {
-    if let Some(known) = known {
-        add_own(alloc, all, startup, skipped, day, known)?;
+    let own = duties_of(
+        alloc,
+        &component.item,
+        component.classes,
+        startup,
+        component.events.as_slice(),
+        skipped,
+        day,
+    )?;
+    all.extend_from_slice(&own)
+}
+
+/// The duties at some components, by component, cause, due day and event. No tag is made for them.
+fn duties_at(
+    alloc: Global,
+    startup: Day,
+    skipped: &[bool],
+    day: Day,
+    components: &[Component<'_>],
+) -> Result<Vec<Duty>, Memory>
+    requires startup { startup ≤ LAST_FACT_DAY }
+    ensures value { (of_unit : SomeUnit) → IfOk result (λ all. all.items
+        ≡ law.due_list startup day skipped.now (all_in_law of_unit components.now)) }
+{
+    let mut all = Vec::new(alloc);
+    for component in components {
+        add_duties(alloc, &mut all, startup, skipped, day, component)?;
     }
-    Ok(())
+    Ok(all)
 }
 
 /// What has to be done at the components of a process unit, by component, cause, due day and event (40 CFR 60.482-1a to 60.482-11a).
@@ -143,22 +134,13 @@ pub fn duties_of_unit<L: Ledger>(
     requires startup { unit.now.startup ≤ LAST_FACT_DAY }
     ensures value { IfOk result (λ all. all.items ≡ law.duties_of_unit unit.now lists.now.day (facts_by lists.now)) }
 {
-    let mut ready = none_ready(lists.alloc);
-    let skipped = skipped_on(&mut ready, lists, register, unit, steps)?;
-    let stops = stops_on(lists, unit.unit, steps)?;
-    let mut all = Vec::new(lists.alloc);
-    for number in register.members(unit.unit) {
-        let known = known_at(
-            &mut ready, lists, register, unit.unit, *number, &stops, steps,
-        )?;
-        add_duties(
-            lists.alloc,
-            &mut all,
-            unit.startup,
-            &skipped,
-            lists.day,
-            &known,
-        )?;
-    }
-    Ok(all)
+    let known = unit_of(lists, register, unit.unit, steps)?;
+    let skipped = skipped_on(lists.alloc, unit.startup, lists.day, &known)?;
+    duties_at(
+        lists.alloc,
+        unit.startup,
+        &skipped,
+        lists.day,
+        &known.components,
+    )
 }

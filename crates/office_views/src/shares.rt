@@ -7,10 +7,9 @@ ghost use Rattle.ldar_law.specs.Reports as reports;
 ghost use Rattle.ldar_law.specs.Shown as law;
 ghost use Rattle.office_views.specs.Lists.{AreKept, facts_by};
 
-use crate::instruments::none_ready;
 use crate::lists::Lists;
-use crate::tallies::tallies_of_unit;
-use crate::unit_lists::elections_on;
+use crate::members::unit_of;
+use crate::tallies::tallies_to;
 use component_register::Register;
 use fact_kinds::Memory;
 use fact_store::Steps;
@@ -61,12 +60,19 @@ pub fn quarter_text<L: Ledger>(
     requires quarter { 1 ≤ quarter }
     ensures value { IfOk result (λ text. text ≡ law.quarter_text unit.now quarter lists.now.day (facts_by lists.now)) }
 {
-    let mut ready = none_ready(lists.alloc);
-    let tallies = tallies_of_unit(&mut ready, lists, register, unit, quarter, steps)?;
-    let elections = elections_on(lists, unit.unit, steps)?;
+    let known = unit_of(lists, register, unit.unit, steps)?;
+    let tallies = tallies_to(
+        lists.alloc,
+        unit.startup,
+        quarter,
+        lists.day,
+        &known.components,
+        &known.of_unit,
+    )?;
+    let elections = known.elections.as_slice();
     let past = usize::from(quarter - 1);
     let tally = tallies[past];
-    let is_skipped = skipped(&tallies[..past], &elections, unit.startup, quarter);
+    let is_skipped = skipped(&tallies[..past], elections, unit.startup, quarter);
     percent_text(
         lists.alloc,
         u16::from(unit.unit),

@@ -1,12 +1,14 @@
 ghost use Rattle.std.specs.Prelude.{◌≡◌, List, [], ◌∷◌, ◌++◌, IfOk, OnOk, filter, filter_map, option_and_then, option_map, slice_get};
 ghost use Rattle.ldar_law.specs.declared.event.Event.{Event as SomeEvent};
 ghost use Rattle.ldar_law.specs.Tags as law;
+ghost use Rattle.office_views.specs.Components.{in_law};
 
-use crate::entered::add;
+use crate::component::Component;
+use crate::unit_entries::add;
 use delay_of_repair::repair_of;
 use fact_kinds::{Kind, Memory};
 use ldar_days::Day;
-use ldar_law::{DelayEntry, Event, Span, Stop, Tag, attempt_by};
+use ldar_law::{DelayEntry, Event, OfUnit, Span, Stop, Tag, attempt_by};
 use leak_tags::spans_of;
 use std::alloc::Global;
 
@@ -99,8 +101,23 @@ fn add_tag(
     Ok(())
 }
 
-/// The tags of a component, in the order of their detection (40 CFR 60.486a(b), (c), 60.482-9a).
-pub fn tags_of(
+/// The tags of a component, in the order of their detection, with what is entered for its process unit (40 CFR 60.486a(b),
+/// (c), 60.482-9a).
+pub fn tags_of(alloc: Global, component: &Component<'_>, unit: &OfUnit) -> Result<Vec<Tag>, Memory>
+    ensures value { IfOk result (λ tags. tags.items ≡ (in_law unit.now component.now).tags) }
+{
+    let item = &component.item;
+    tags_by(
+        alloc,
+        item.component,
+        item.kind,
+        component.events.as_slice(),
+        unit.stops.as_slice(),
+    )
+}
+
+/// The tags of a component with these events, in the order of their detection.
+fn tags_by(
     alloc: Global,
     component: u16,
     kind: Kind,

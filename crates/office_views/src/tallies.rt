@@ -1,29 +1,21 @@
-ghost use Rattle.std.specs.Prelude.{◌≡◌, ◌<◌, ◌≤◌, ℕ, [], IfOk, IfSome, OnOk, length, map, vec_len};
+ghost use Rattle.std.specs.Prelude.{◌≡◌, ◌≤◌, ℕ, [], ◌∷◌, IfOk, OnOk, length, map, vec_len};
 ghost use Rattle.std.specs.List.{list_any};
-ghost use Rattle.std.specs.Option.{option_map, option_to_list};
 ghost use Rattle.list_words.specs.Ranges.{from_to};
-ghost use Rattle.fact_store.specs.Kept.{facts_in};
-ghost use Rattle.ldar_law.specs.declared.numbers.TheConstants.{LAST_FACT_DAY};
+ghost use Rattle.ldar_law.specs.declared.numbers.TheConstants.{LAST_FACT_DAY, MOST_COMPONENTS};
 ghost use Rattle.ldar_law.specs.Percent as percent;
 ghost use Rattle.ldar_law.specs.Tags.{is_delayed};
 ghost use Rattle.ldar_law.specs.Tallies as counts;
 ghost use Rattle.ldar_law.specs.Units as law;
-ghost use Rattle.office_views.specs.Known.{in_law, IsOrdered};
-ghost use Rattle.office_views.specs.Lists.{AreKept, AreReady, facts_by};
+ghost use Rattle.office_views.specs.Components.{all_in_law, in_law};
 ghost use Rattle.office_views.specs.Tallied.{AreTallies, Counts, CountsMore, HasRoom, HaveRoom, TellDelays};
 
-use crate::instruments::Instruments;
-use crate::known::Known;
-use crate::lists::Lists;
-use crate::unit_lists::{known_at, stops_on};
-use component_register::Register;
+use crate::component::Component;
+use crate::tags::tags_of;
 use fact_kinds::Memory;
-use fact_store::Steps;
 use ldar_days::Day;
-use ldar_law::{Mark, Tag, Tally, UnitEntry, judging_day};
+use ldar_law::{Mark, OfUnit, Tag, Tally, judging_day};
 use skip_periods::marks_to;
 use std::alloc::Global;
-use std::sync::ledger::Ledger;
 
 /// Whether the repair of some leak that is open on a day is delayed.
 fn has_delay_on(day: Day, tags: &[Tag]) -> bool
@@ -77,25 +69,26 @@ fn told_delays(
     delayed_to(alloc, startup, quarter, day, tags)
 }
 
-/// What a component adds to the counts of each quarter up to one.
+/// What a component adds to the counts of each quarter up to one, with what is entered for its process unit.
 fn marks_of(
     alloc: Global,
     startup: Day,
     quarter: u16,
     day: Day,
-    known: &Known,
+    component: &Component<'_>,
+    unit: &OfUnit,
 ) -> Result<Vec<Mark>, Memory>
     requires startup { startup ≤ LAST_FACT_DAY }
-    requires ordered { IsOrdered known.now }
-    ensures value { IfOk result (λ marks. marks.items ≡ map (λ q. law.mark_in startup day q (in_law known.now)) (from_to 1 quarter)) }
+    ensures value { IfOk result (λ marks. marks.items ≡ map (λ q. law.mark_in startup day q (in_law unit.now component.now)) (from_to 1 quarter)) }
 {
-    let delayed = told_delays(alloc, startup, quarter, day, known.tags.as_slice())?;
+    let tags = tags_of(alloc, component, unit)?;
+    let delayed = told_delays(alloc, startup, quarter, day, &tags)?;
     marks_to(
         alloc,
-        &known.item,
-        known.classes.as_slice(),
+        &component.item,
+        component.classes,
         startup,
-        known.events.as_slice(),
+        component.events.as_slice(),
         &delayed,
         quarter,
         day,
@@ -123,29 +116,27 @@ fn add_marks(tallies: &mut Vec<Tally>, marks: &[Mark])
     }
 }
 
-/// Counts a component in the quarters from the first to one, if it is known.
+/// Counts a component in the quarters from the first to one, with what is entered for its process unit.
 fn add_component(
     alloc: Global,
     tallies: &mut Vec<Tally>,
     startup: Day,
     quarter: u16,
     day: Day,
-    known: &Option<Known>,
+    component: &Component<'_>,
+    unit: &OfUnit,
 ) -> Result<(), Memory>
     requires startup { startup ≤ LAST_FACT_DAY }
-    requires ordered { IfSome known.now IsOrdered }
     requires count { vec_len tallies.old ≡ quarter }
     requires room { HaveRoom tallies.old.items }
-    ensures put { OnOk result (CountsMore startup day (option_to_list (option_map in_law known.now)) tallies.old.items tallies.new.items) }
+    ensures put { OnOk result (CountsMore startup day (in_law unit.now component.now ∷ []) tallies.old.items tallies.new.items) }
 {
-    if let Some(known) = known {
-        let marks = marks_of(alloc, startup, quarter, day, known)?;
-        add_marks(tallies, &marks);
-    }
+    let marks = marks_of(alloc, startup, quarter, day, component, unit)?;
+    add_marks(tallies, &marks);
     Ok(())
 }
 
-/// So many quarters in which nothing was counted.
+/// `quarter` quarters in which nothing was counted.
 fn none_counted(alloc: Global, quarter: u16) -> Result<Vec<Tally>, Memory>
     ensures value { IfOk result (λ tallies. (startup day : ℕ) → AreTallies startup day [] quarter tallies.items) }
 {
@@ -156,34 +147,23 @@ fn none_counted(alloc: Global, quarter: u16) -> Result<Vec<Tally>, Memory>
     vec![in alloc; none; usize::from(quarter)]
 }
 
-/// The counts of the quarters of a process unit, from the first to one, as known on the day (40 CFR 60.485a(h)).
-pub fn tallies_of_unit<L: Ledger>(
-    ready: &mut Instruments,
-    lists: &Lists<'_>,
-    register: &Register,
-    unit: &UnitEntry,
+/// The counts of the quarters of a process unit with these components, from the first to one, as known on a day
+/// (40 CFR 60.485a(h)).
+pub fn tallies_to(
+    alloc: Global,
+    startup: Day,
     quarter: u16,
-    steps: &mut Steps<L>,
+    day: Day,
+    components: &[Component<'_>],
+    unit: &OfUnit,
 ) -> Result<Vec<Tally>, Memory>
-    requires kept { AreKept (facts_in lists.now.store.now) (facts_in register.now) }
-    requires startup { unit.now.startup ≤ LAST_FACT_DAY }
-    requires ready { AreReady ready.old.items (facts_by lists.now) }
-    ensures value { IfOk result (λ tallies. tallies.items
-        ≡ law.tallies_to unit.now.startup lists.now.day (law.components_of unit.now.unit (facts_by lists.now)) quarter) }
-    ensures ready { OnOk result (AreReady ready.new.items (facts_by lists.now)) }
+    requires startup { startup ≤ LAST_FACT_DAY }
+    requires few { length components.now ≤ MOST_COMPONENTS }
+    ensures value { IfOk result (λ tallies. tallies.items ≡ law.tallies_to startup day (all_in_law unit.now components.now) quarter) }
 {
-    let stops = stops_on(lists, unit.unit, steps)?;
-    let mut tallies = none_counted(lists.alloc, quarter)?;
-    for number in register.members(unit.unit) {
-        let known = known_at(ready, lists, register, unit.unit, *number, &stops, steps)?;
-        add_component(
-            lists.alloc,
-            &mut tallies,
-            unit.startup,
-            quarter,
-            lists.day,
-            &known,
-        )?;
+    let mut tallies = none_counted(alloc, quarter)?;
+    for component in components {
+        add_component(alloc, &mut tallies, startup, quarter, day, component, unit)?;
     }
     Ok(tallies)
 }

@@ -14,10 +14,10 @@ use crate::asked::unit_asked;
 use crate::asking::answer;
 use crate::comparing::is_batch_of;
 use crate::header::{Header, facts_of_all, push_headers};
+use crate::intake::{make_room, put_entries, put_facts};
 use crate::lists::Lists;
-use crate::reporting::report_on;
+use crate::reports::report_on;
 use crate::shown::{AskError, Shown};
-use crate::taking::{put_entries, put_facts};
 use component_register::Register;
 use fact_kinds::{Batch, Memory};
 use fact_store::{Facts, Steps};
@@ -88,17 +88,16 @@ impl Views {
         (self.adopted as u32, self.facts as u64)
     }
 
-    /// Makes room for just these batches, in this order. After `Memory` no batch has room, and the adopted ones are as they
-    /// were.
+    /// Makes room for just these batches, in this order. After `Memory` all is as it was.
     pub fn reserve(&mut self, batches: &[Batch]) -> Result<(), Memory>
         ensures ok { OnOk result (self.new ≡ record self.old { spare = batches.now }) }
-        ensures none { OnErr result (self.new ≡ record self.old { spare = [] }) }
+        ensures unchanged { OnErr result (self.new ≡ self.old) }
     {
-        self.headers.truncate(self.adopted);
         let facts = facts_of_all(self.alloc, batches)?;
         self.headers.reserve(batches.len())?;
-        self.register.reserve(&facts)?;
-        self.store.reserve(&facts)?;
+        make_room(&mut self.store, &mut self.register, &facts)?;
+        // From here on no memory is taken: only now the room of the batches before is let go.
+        self.headers.truncate(self.adopted);
         push_headers(&mut self.headers, self.facts, batches);
         Ok(())
     }

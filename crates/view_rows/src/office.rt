@@ -52,10 +52,11 @@ impl Office {
         }
     }
 
-    /// Makes room for a batch alone. Want of memory leaves the adopted ones, and may take the room of others.
+    /// Makes room for a batch alone. After `Memory` all is as it was.
     pub fn reserve(&mut self, batch: &Batch) -> Result<(), Memory>
         ensures roomy { OnOk result (self.new ≡ record self.old { spare = batch.now ∷ [] }) }
         ensures adopted { self.new.adopted ≡ self.old.adopted }
+        ensures unchanged { OnErr result (self.new ≡ self.old) }
     {
         self.views.reserve(from_ref(batch))
     }

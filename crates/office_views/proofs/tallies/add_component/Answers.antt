@@ -1,8 +1,6 @@
-use Rattle.std.proofs.Common.{length, sym, ap, ◌∙◌, subst, arith}
-use Rattle.std.specs.Option.{option_to_list, option_map}
+use Rattle.std.proofs.Common.{length, sym, ap, ◌∙◌, arith}
 use Rattle.ldar_law.specs.Units.{mark_in}
-use Rattle.office_views.specs.Known.{in_law}
-use Rattle.office_views.specs.Tallied.{CountsMore}
+use Rattle.office_views.specs.Components.{in_law}
 use Rattle.office_views.proofs.ListLemmas.{numbers_long}
 use Rattle.office_views.proofs.TallyLemmas.{one_counted}
 use Rattle.office_views.proofs.tallies.add_component.Goals as goal
@@ -10,15 +8,14 @@ use Rattle.office_views.proofs.tallies.add_component.Goals as goal
 pub add_marks-requires-clause-same : goal.add_marks-requires-clause-same
 add_marks-requires-clause-same c =
     let a = c.args in
-    ap length (c.deref.ensures.value ∙ c.in_ok-marks.ensures.value) ∙ numbers_long (λ q. mark_in a.startup a.day q (in_law c.in-Some.known)) a.quarter
-    ∙ sym c.requires.count
+    ap length (c.deref.ensures.value ∙ c.in_ok-marks.ensures.value)
+    ∙ numbers_long (λ q. mark_in a.startup a.day q (in_law a.unit.now a.component.now)) a.quarter ∙ sym c.requires.count
 
-pub returns-in_ok-marks : goal.returns-in_ok-marks
-returns-in_ok-marks c =
+pub returns : goal.returns
+returns c =
     let a = c.args in
     let old = a.tallies.now.items in
     record {
-      put = subst (λ known. CountsMore a.startup a.day (option_to_list (option_map in_law known)) old c.add_marks.new.tallies.items) (sym c.in-Some.is)
-          (one_counted a.startup a.day a.quarter (in_law c.in-Some.known) c.deref.result.now old c.add_marks.new.tallies.items
-          (c.deref.ensures.value ∙ c.in_ok-marks.ensures.value) (omega (arith, c.requires.count, a.tallies.now.ok)) c.add_marks.ensures.value);
+      put = one_counted a.startup a.day a.quarter (in_law a.unit.now a.component.now) c.deref.result.now old c.add_marks.new.tallies.items
+          (c.deref.ensures.value ∙ c.in_ok-marks.ensures.value) (omega (arith, c.requires.count, a.tallies.now.ok)) c.add_marks.ensures.value;
     }

@@ -1,0 +1,21 @@
+use Rattle.std.proofs.Common.{ap, ◌∙◌, arith}
+use Rattle.std.proofs.lemmas.List.{take_all}
+use Rattle.ldar_law.specs.Units.{tag_list}
+use Rattle.office_views.specs.Components.{all_in_law}
+use Rattle.office_views.proofs.UnitLemmas.{list_more, tag_list-append}
+use Rattle.office_views.proofs.tag_lists.tags_shown.Goals as goal
+
+pub loop-component-preserved : goal.loop-component-preserved
+loop-component-preserved c =
+    let a = c.args in
+    let l = c.loop-component in
+    list_more a.unit.now a.components.now l.component-index c.component-item.result c.loop-component-test.true c.component-item.is
+    (tag_list a.day) (tag_list-append a.day) l.tags.items c.add_tags.new.tags.items l.invariant c.in_ok-add_tags.ensures.put
+
+pub returns : goal.returns
+returns c =
+    let a = c.args in
+    let l = c.loop-component in
+    record {
+      value = l.invariant ∙ ap (λ cs. tag_list a.day (all_in_law a.unit.now cs)) (take_all l.component-index a.components.now (omega arith));
+    }
