@@ -1,5 +1,5 @@
 -- What the calls of a disk did, as its log keeps it for proofs.
-use Rattle.std.specs.Prelude.{ℕ, List, reverse, map, Vec}
+use Rattle.std.specs.Prelude.{ℕ, List, [], ◌∷◌, reverse, map, Vec}
 use Rattle.std.specs.declared.alloc.Global.{Global}
 use Rattle.disk_model.specs.Moments.{Change, WroteAt, SyncedAs}
 use Rattle.disk_model.specs.declared.past.Step.{Step}
@@ -13,3 +13,8 @@ change_by Synced bytes = SyncedAs bytes
 -- the changes of a log, the latest first
 abbrev pub changes_by : List (Step × Vec ℕ Global) → List Change
 changes_by log = map (λ entry. change_by entry.0 entry.1.items) (reverse log)
+
+-- the content that a log begins with, and no byte where it has none
+abbrev pub first_content : {B : Type 0} → List (Vec ℕ Global × B) → List ℕ
+first_content [] = []
+first_content (entry ∷ log) = entry.0.items

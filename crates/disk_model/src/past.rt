@@ -50,3 +50,29 @@ impl Past {
         self.steps = self.steps.and(&Step::Synced, content);
     }
 }
+
+// The bytes that a disk was made with, for proofs alone: it takes no memory.
+#[derive(Drop)]
+pub struct Start {
+    content: Log<Vec<u8>, ()>,
+}
+
+impl Model for Start {
+    ghost use Rattle.std.specs.Prelude.{ℕ, List};
+    ghost use Rattle.disk_model.specs.Steps.{first_content};
+
+    ghost Value = { List ℕ };
+
+    ghost view = { λ s. first_content s.content.items };
+}
+
+impl Start {
+    // A disk was made with these bytes.
+    pub fn of(content: &Vec<u8>) -> Start
+        ensures value { result ≡ content.now.items }
+    {
+        Start {
+            content: Log::new().and(content, &()),
+        }
+    }
+}

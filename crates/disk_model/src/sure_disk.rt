@@ -5,12 +5,11 @@ ghost use Rattle.disk_model.specs.MomentLaws.{left_counts_now, left_only_now, le
 ghost use Rattle.disk_model.specs.Moments.{Images, Left};
 ghost use Rattle.disk_model.specs.SureDisk.{sure_clock, IsAtLastClock, RefusesWrite, after_refusal, after_sure_write, after_sure_sync};
 
-use crate::past::Past;
+use crate::past::{Past, Start};
 use crate::places::{copy_from, overwrite};
 use crate::{Disk, DiskFault, Memory};
 use std::alloc::Global;
 use std::marker::Model;
-use std::snapshot::Snapshot;
 
 /// A disk in memory that takes its room when it is made, and fails only where a write would end
 /// past it, or a write or sync comes at the last clock. Its room is counted in bytes.
@@ -20,7 +19,7 @@ pub struct SureDisk {
     room: usize,
     faults: u64,
     clock: u64,
-    start: Snapshot<Vec<u8>>,
+    start: Start,
     past: Past,
 }
 
@@ -33,7 +32,7 @@ impl Model for SureDisk {
 
     ghost view = { λ d. record {
       bytes = d.bytes.items;
-      start = d.start.value.items;
+      start = d.start;
       past = d.past;
       room = d.room;
       faults = d.faults;
@@ -41,7 +40,7 @@ impl Model for SureDisk {
 
     ghost invariant = { λ d. (d.room ≤ vec_capacity d.bytes)
         × (d.clock ≡ length d.past)
-        × Images d.start.value.items d.past d.bytes.items };
+        × Images d.start d.past d.bytes.items };
 }
 
 impl SureDisk {
@@ -57,7 +56,7 @@ impl SureDisk {
     {
         let mut content = Vec::with_capacity(alloc, room)?;
         content.extend_from_slice(bytes)?;
-        let start = Snapshot::of(&content);
+        let start = Start::of(&content);
         Ok(SureDisk {
             bytes: content,
             room,

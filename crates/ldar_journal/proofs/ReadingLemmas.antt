@@ -142,7 +142,7 @@ facts_grow frames batches is =
     )
 
 -- there are no more batches than facts
-few_batches : (frames : List (List Batch)) → AllByRecursion IsFrame frames → length (batches_of frames) ≤ fact_count (batches_of frames)
+pub few_batches : (frames : List (List Batch)) → AllByRecursion IsFrame frames → length (batches_of frames) ≤ fact_count (batches_of frames)
 few_batches [] each = omega arith
 few_batches (f ∷ frames) each =
     omega (

@@ -4,6 +4,7 @@ pub mod FrameAt
 pub mod Gates
 pub mod Image
 pub mod Known
+pub mod Notes
 pub mod Opening
 pub mod Piece
 pub mod Shelf

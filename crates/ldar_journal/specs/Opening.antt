@@ -8,6 +8,7 @@ use Rattle.fact_kinds.specs.declared.identity.Identity.{Identity}
 use Rattle.ldar_journal.specs.declared.judging.Judged.{Judged}
 use Rattle.ldar_journal.specs.declared.judging.Judged.TheVariants.{Closed, Bad, Whole}
 use Rattle.ldar_journal.specs.declared.opening.OpenWhy.{OpenWhy}
+use Rattle.ldar_journal.specs.declared.window.TheConstants.{PIECE}
 use Rattle.ldar_journal.specs.FrameAt.{IsFrameOf, HasNoFrame}
 use Rattle.ldar_journal.specs.Image.{header, frame, batches_of, IsFrame, IsFront, OpensTo}
 use Rattle.ldar_journal.specs.Damage.{OnNotAJournal, IfDamaged, IsDamagedAt}
@@ -71,5 +72,5 @@ pub record IsReading (content : Option (List ℕ)) (images : List ℕ → Type 0
 pub record IsStarted (content : Option (List ℕ)) (images : List ℕ → Type 0) (window : WindowState) (positions : PositionsState) : Type 0 where
   pub behind : Told content (λ bytes. IsBehind bytes 16 [] window.bytes)
   pub durable : Told content (λ bytes. Only bytes images)
-  pub size : window.size ≡ 1_048_576
+  pub size : window.size ≡ PIECE
   pub none : positions.identities ≡ []

@@ -1,3 +1,16 @@
+//! A frame of a journal, in bytes. The first frame is behind the header, at place 16; each other one begins where the one
+//! before it ends.
+//!
+//! | place | width | meaning |
+//! |---|---|---|
+//! | 0 | 1 | the gate: 1 if the frame is kept; any other value closes the journal here |
+//! | 1 | 4 | the length of the payload, big-endian, from 1 to 188,560 |
+//! | 5 | length | the payload: 1 to 16 batches, each as its handheld spelled it, one after the other |
+//! | 5 + length | 1 | the next gate |
+//!
+//! A frame is valid if its gate is 1, its length is in range, all of its payload is there, and the payload is exactly 1 to
+//! 16 whole batches (`IsFrameOf`). Which batches may follow those before them is judged apart (`IsKept`).
+
 ghost use Rattle.std.specs.Prelude.{◌≡◌, ℕ, ◌+◌, ◌≤◌, ◌<◌, List, [], ◌∷◌, ◌++◌, length, take, drop, true, false, IfOk, OnOk};
 ghost use Rattle.std.specs.Bool.{MatchBool};
 ghost use Rattle.std.specs.Option.{MatchOption};

@@ -3,7 +3,6 @@ ghost use Rattle.std.specs.Prelude.{◌≡◌, [], ◌∷◌, ◌++◌};
 use fact_kinds::Batch;
 use http_server::Log;
 use std::marker::Model;
-use std::snapshot::Snapshot;
 
 /// Some batches, for proofs alone: it takes no memory, and its calls do nothing when they run.
 #[derive(Drop)]
@@ -48,10 +47,46 @@ impl Chapter {
     }
 }
 
+/// The batches of a chapter, noted from behind a reference, for proofs alone.
+#[derive(Drop)]
+pub struct Note {
+    chapter: Log<Chapter, ()>,
+}
+
+impl Model for Note {
+    ghost use Rattle.std.specs.Prelude.{List};
+    ghost use Rattle.fact_kinds.specs.declared.batch.Batch.{Batch};
+    ghost use Rattle.ldar_journal.specs.Notes.{noted};
+
+    ghost Value = { List Batch };
+
+    ghost view = { λ n. noted n.chapter.items };
+}
+
+impl Note {
+    /// No batch.
+    pub fn none() -> Note
+        ensures value { result ≡ [] }
+    {
+        Note {
+            chapter: Log::new(),
+        }
+    }
+
+    /// These batches.
+    pub fn of(chapter: &Chapter) -> Note
+        ensures value { result ≡ chapter.now }
+    {
+        Note {
+            chapter: Log::new().and(chapter, &()),
+        }
+    }
+}
+
 /// Frames one after the other, each as its batches, for proofs alone.
 #[derive(Drop)]
 pub struct Frames {
-    chapters: Log<Snapshot<Chapter>, ()>,
+    notes: Log<Note, ()>,
 }
 
 impl Model for Frames {
@@ -60,7 +95,7 @@ impl Model for Frames {
 
     ghost Value = { List (List Batch) };
 
-    ghost view = { λ f. map (λ e. e.0.value) f.chapters.items };
+    ghost view = { λ f. map (λ e. e.0) f.notes.items };
 }
 
 impl Frames {
@@ -68,22 +103,20 @@ impl Frames {
     pub fn new() -> Frames
         ensures value { result ≡ [] }
     {
-        Frames {
-            chapters: Log::new(),
-        }
+        Frames { notes: Log::new() }
     }
 
     /// Goes on with a frame of these batches.
     pub fn push(&mut self, chapter: &Chapter)
         ensures value { self.new ≡ self.old ++ chapter.now ∷ [] }
     {
-        self.push_kept(&Snapshot::of(chapter));
+        self.push_noted(&Note::of(chapter));
     }
 
-    /// Goes on with a frame of batches that were kept for proofs.
-    pub fn push_kept(&mut self, chapter: &Snapshot<Chapter>)
-        ensures value { self.new ≡ self.old ++ chapter.now.value ∷ [] }
+    /// Goes on with a frame of batches that were noted.
+    pub fn push_noted(&mut self, note: &Note)
+        ensures value { self.new ≡ self.old ++ note.now ∷ [] }
     {
-        self.chapters = self.chapters.and(chapter, &());
+        self.notes = self.notes.and(note, &());
     }
 }

@@ -1,19 +1,33 @@
+//! A journal and its invariants (`IsShelved` carries 1 to 6):
+//!
+//! 1. The disk's bytes, if it tells them, begin with the header and the frames, whole and open, one after the other, and
+//!    `end` is the place behind the last of them (`stands`).
+//! 2. So does each image that a crash may leave now (`stands`, for each image).
+//! 3. If no frame is in doubt, a closed gate is at `end`, and whatever follows it is ignored (`stands`: `EndsAt`).
+//! 4. If a frame is in doubt, the whole of it is behind the gate at `end`, whatever that gate holds (`stands`: `IsInDoubt`).
+//! 5. The frames may be kept: each has 1 to 16 batches, no identity occurs twice, and there are at most 8,000,000 facts.
+//!    With the frame in doubt they may be kept too (`counted`, `in_doubt`).
+//! 6. `end` is the length of header and frames, also on a disk that tells no bytes; `torn` is the length of the frame in
+//!    doubt behind its gate, and 0 if there is none (`counted`, `in_doubt`).
+//! 7. Only `append` opens a gate, after all that is behind it is stable; so a crash leaves the whole frame or none of it
+//!    (`append`: `any_moment`; `settle`: `any_moment`).
+
 ghost use Rattle.std.specs.Prelude.{◌≡◌, ◌≢◌, ◌+◌, ◌≤◌, [], ◌∷◌, ◌++◌, length, true, false, Ok, OnOk, OnErr, IsOk, IsErrOf};
 ghost use Rattle.disk_model.specs.Faults.{Rose};
 ghost use Rattle.disk_model.specs.Images.{Only};
 ghost use Rattle.disk_model.specs.Keeps.{Keeps};
 ghost use Rattle.disk_model.specs.Told.{Told, BothTold};
+ghost use Rattle.fact_kinds.specs.declared.limits.TheConstants.{MOST_FACTS};
 ghost use Rattle.ldar_journal.specs.Crash.{OnDisk, LeavesOnly, AnswersInRoom};
 ghost use Rattle.ldar_journal.specs.Image.{batches_of, end_of, IsKept, EndsAt, OpensTo};
 ghost use Rattle.ldar_journal.specs.Shelf.{OpensAs, OpensToEither, IsCounted, IsInDoubt};
 
 use crate::gates::{open_gate, put_behind};
-use crate::history::{Chapter, Frames};
+use crate::history::{Frames, Note};
 use crate::prepared::Frame;
 use crate::settling::{Settled, is_open_for_good};
 use disk_model::{Disk, DiskFault};
 use std::marker::Model;
-use std::snapshot::Snapshot;
 
 /// An append failed. Behind an open gate the frame may stand or not.
 #[derive(Clone, Copy, Debug, PartialEq, Eq)]
@@ -30,7 +44,7 @@ pub struct Journal<D: Disk> {
     end: u64,
     frames: Frames,
     /// The batches of the frame in doubt, if one is.
-    doubt: Snapshot<Chapter>,
+    doubt: Note,
     /// How many bytes the frame in doubt takes behind its gate, and 0 where none is in doubt.
     torn: u64,
 }
@@ -40,9 +54,9 @@ impl<D: Disk> Model for Journal<D> {
 
     ghost Value = { Shelf D };
 
-    ghost view = { λ j. record { disk = j.disk; frames = j.frames; doubt = j.doubt.value } };
+    ghost view = { λ j. record { disk = j.disk; frames = j.frames; doubt = j.doubt } };
 
-    ghost invariant = { λ j. IsShelved (D.content j.disk) (D.images j.disk) j.end j.frames j.doubt.value j.torn };
+    ghost invariant = { λ j. IsShelved (D.content j.disk) (D.images j.disk) j.end j.frames j.doubt j.torn };
 }
 
 impl<D: Disk> Journal<D> {
@@ -57,7 +71,7 @@ impl<D: Disk> Journal<D> {
             disk,
             end,
             frames,
-            doubt: Snapshot::of(&Chapter::none()),
+            doubt: Note::none(),
             torn: 0,
         }
     }
@@ -77,6 +91,7 @@ impl<D: Disk> Journal<D> {
         ensures images { OnDisk (D.content result.now) (D.images result.now)
             (λ image. OpensAs image self.now.frames self.now.doubt) }
         ensures kept { IsKept (batches_of self.now.frames) }
+        ensures few { length (batches_of self.now.frames) ≤ MOST_FACTS }
     {
         &self.disk
     }
@@ -134,7 +149,7 @@ impl<D: Disk> Journal<D> {
             return Err(Torn { gate: false });
         }
         if open_gate(&mut self.disk, gate).is_err() {
-            self.doubt = frame.batches();
+            self.doubt = frame.note();
             self.torn = length;
             return Err(Torn { gate: true });
         }
@@ -166,13 +181,13 @@ impl<D: Disk> Journal<D> {
         let gate = self.end;
         let stands = is_open_for_good(&mut self.disk, gate)?;
         if !stands {
-            self.doubt = Snapshot::of(&Chapter::none());
+            self.doubt = Note::none();
             self.torn = 0;
             return Ok(Settled::Gone);
         }
-        self.frames.push_kept(&self.doubt);
+        self.frames.push_noted(&self.doubt);
         self.end = gate + self.torn;
-        self.doubt = Snapshot::of(&Chapter::none());
+        self.doubt = Note::none();
         self.torn = 0;
         Ok(Settled::Stands)
     }

@@ -4,6 +4,7 @@ ghost use Rattle.disk_model.specs.Faults.{Rose};
 ghost use Rattle.disk_model.specs.Keeps.{Keeps};
 ghost use Rattle.disk_model.specs.Told.{BothTold};
 ghost use Rattle.ldar_journal.specs.Crash.{AnswersOverRoom};
+ghost use Rattle.ldar_journal.specs.declared.window.TheConstants.{PIECE};
 ghost use Rattle.ldar_journal.specs.FrameAt.{HasNoFrame};
 ghost use Rattle.ldar_journal.specs.Opening.{IsJudged, IfWhole};
 ghost use Rattle.ldar_journal.specs.Piece.{IsFaultOrMemory};
@@ -36,7 +37,7 @@ pub fn judge<D: Disk>(
     batches: &mut Vec<Batch>,
 ) -> Result<Judged, OpenWhy>
     requires fits { place < 2 ^ 63 }
-    requires roomy { window.old.size ≡ 1_048_576 }
+    requires roomy { window.old.size ≡ PIECE }
     ensures judged { IfOk result (λ judged. BothTold (D.content disk.old) (D.content disk.new)
         (λ old new. IsAhead place window.old.bytes old → place ≤ length old → IsJudged old place batches.new.items judged)) }
     ensures whole { IfOk result (IfWhole batches.new.items (length window.new.bytes)) }
@@ -72,7 +73,7 @@ fn begins_open(bytes: &[u8]) -> bool
 /// Reads until a frame at a place can be judged.
 fn fetch_frame<D: Disk>(disk: &mut D, window: &mut Window, place: u64) -> Result<(), DiskFault>
     requires fits { place < 2 ^ 63 }
-    requires roomy { window.old.size ≡ 1_048_576 }
+    requires roomy { window.old.size ≡ PIECE }
     ensures more { (more : List ℕ) × (window.new ≡ record { bytes = window.old.bytes ++ more; size = window.old.size }) }
     ensures ahead { BothTold (D.content disk.old) (D.content disk.new) (λ old new. IsAhead place window.old.bytes old → IsAhead place window.new.bytes old) }
     ensures enough { OnOk result (BothTold (D.content disk.old) (D.content disk.new)

@@ -1,6 +1,7 @@
 //! A journal of accepted batches in a file, behind gates that a crash leaves closed.
 #![tactic(auto)]
 
+mod batches;
 mod creation;
 mod frame;
 mod gates;
@@ -16,6 +17,7 @@ mod reader;
 mod settling;
 mod window;
 
+pub use batches::open_journal;
 pub use creation::{CreateError, create};
 pub use journal::{Journal, Torn};
 pub use opening::{OpenError, OpenWhy};

@@ -4,12 +4,11 @@ ghost use Rattle.fact_kinds.specs.declared.limits.TheConstants.{FRAME_BATCHES};
 ghost use Rattle.ldar_journal.specs.Image.{IsBatch, payload, IsFrame};
 ghost use Rattle.ldar_journal.specs.Shelf.{behind_gate};
 
-use crate::history::{Chapter, Frames};
+use crate::history::{Chapter, Frames, Note};
 use fact_kinds::{Batch, Memory};
 use ldar_facts::write_batch;
 use std::alloc::Global;
 use std::marker::Model;
-use std::snapshot::Snapshot;
 
 /// A frame made ready to be appended: what will stand behind its gate. Contracts see its batches.
 #[derive(Drop)]
@@ -40,11 +39,11 @@ impl Frame {
         self.bytes.as_slice()
     }
 
-    /// The batches of this frame, kept for proofs alone.
-    pub fn batches(&self) -> Snapshot<Chapter>
-        ensures value { result.value ≡ self.now }
+    /// The batches of this frame, for proofs alone.
+    pub fn note(&self) -> Note
+        ensures value { result ≡ self.now }
     {
-        Snapshot::of(&self.batches)
+        Note::of(&self.batches)
     }
 
     /// Adds this frame to others.

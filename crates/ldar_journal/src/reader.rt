@@ -43,6 +43,7 @@ impl<D: Disk> Model for Opening<D> {
     ghost use Rattle.disk_model.specs.Told.{Told};
     ghost use Rattle.ldar_journal.specs.Image.{batches_of};
     ghost use Rattle.ldar_journal.specs.Known.{IsKnown};
+    ghost use Rattle.ldar_journal.specs.declared.window.TheConstants.{PIECE};
     ghost use Rattle.ldar_journal.specs.Opening.{OpeningState, IsReading, IsClosedAt};
 
     ghost Value = { OpeningState D };
@@ -51,7 +52,7 @@ impl<D: Disk> Model for Opening<D> {
 
     ghost invariant = { λ o. IsReading (D.content o.disk) (D.images o.disk) o.place o.frames o.window.bytes
         × IsKnown (batches_of o.frames) o.positions.identities o.facts
-        × (o.window.size ≡ 1_048_576)
+        × (o.window.size ≡ PIECE)
         × (o.ended ≡ true → Told (D.content o.disk) (λ bytes. IsClosedAt bytes o.place)) };
 }
 

@@ -4,6 +4,7 @@ ghost use Rattle.disk_model.specs.Faults.{Rose};
 ghost use Rattle.disk_model.specs.Keeps.{Keeps};
 ghost use Rattle.disk_model.specs.Told.{BothTold};
 ghost use Rattle.ldar_journal.specs.Crash.{AnswersOverRoom};
+ghost use Rattle.ldar_journal.specs.declared.window.TheConstants.{PIECE};
 ghost use Rattle.ldar_journal.specs.Window.{IsAhead, OnlyReads};
 
 use disk_model::{Disk, DiskFault};
@@ -11,8 +12,8 @@ use fact_kinds::Memory;
 use std::alloc::Global;
 use std::marker::Model;
 
-/// How many bytes a window has room for, and so how many are asked for at once at most.
-pub const PIECE: usize = 1 << 20;
+/// The size of a window in bytes, and so the most that one read asks for.
+pub const PIECE: usize = 1_048_576;
 
 /// Bytes of a disk that were read and not yet used, in a buffer of fixed size. Only its making wants memory. Bytes are moved
 /// only where the end of the buffer is reached.
@@ -40,7 +41,7 @@ impl Model for Window {
 impl Window {
     /// An empty window.
     pub fn new(alloc: Global) -> Result<Window, Memory>
-        ensures value { IfOk result (λ window. window ≡ record { bytes = []; size = 1_048_576 }) }
+        ensures value { IfOk result (λ window. window ≡ record { bytes = []; size = PIECE }) }
     {
         Ok(Window {
             buffer: vec![in alloc; 0; PIECE]?,

@@ -20,31 +20,31 @@ invariant_of-self g c =
     let j = c.self.inside in
     let d = g.D.Disk in
     let put = c.put_behind in
-    let is_ready = ready d.content d.images j.disk j.end j.frames j.doubt.value c.args.frame.now j.torn c.args.self.now c.self.view_is c.self.invariant
+    let is_ready = ready d.content d.images j.disk j.end j.frames j.doubt c.args.frame.now j.torn c.args.self.now c.self.view_is c.self.invariant
     c.requires.settled
     c.bytes-bytes.ensures.is_frame c.requires.kept in
-    IsShelved-shut d.clock d.left d.images d.content j.disk j.end j.frames j.doubt.value c.args.frame.now j.torn is_ready
+    IsShelved-shut d.clock d.left d.images d.content j.disk j.end j.frames j.doubt c.args.frame.now j.torn is_ready
     put.new.disk (length c.bytes-bytes.result.now) put.ensures.front put.ensures.crash put.ensures.any_moment
 
 pub returns-then-is_err-clause-opens : goal.returns-then-is_err-clause-opens
 returns-then-is_err-clause-opens g c =
     let j = c.self.inside in
-    IsShelved-opens (g.D.Disk.content c.put_behind.new.disk) (g.D.Disk.images c.put_behind.new.disk) j.end j.frames j.doubt.value j.torn (invariant_of-self g c)
+    IsShelved-opens (g.D.Disk.content c.put_behind.new.disk) (g.D.Disk.images c.put_behind.new.disk) j.end j.frames j.doubt j.torn (invariant_of-self g c)
 
 pub returns-then-is_err-clause-images : goal.returns-then-is_err-clause-images
 returns-then-is_err-clause-images g c =
     let j = c.self.inside in
-    IsShelved-as (g.D.Disk.content c.put_behind.new.disk) (g.D.Disk.images c.put_behind.new.disk) j.end j.frames j.doubt.value j.torn (invariant_of-self g c)
+    IsShelved-as (g.D.Disk.content c.put_behind.new.disk) (g.D.Disk.images c.put_behind.new.disk) j.end j.frames j.doubt j.torn (invariant_of-self g c)
 
 pub returns-then-is_err-clause-any_moment : goal.returns-then-is_err-clause-any_moment
 returns-then-is_err-clause-any_moment g c =
     let j = c.self.inside in
     let d = g.D.Disk in
     let put = c.put_behind in
-    let is_ready = ready d.content d.images j.disk j.end j.frames j.doubt.value c.args.frame.now j.torn c.args.self.now c.self.view_is c.self.invariant
+    let is_ready = ready d.content d.images j.disk j.end j.frames j.doubt c.args.frame.now j.torn c.args.self.now c.self.view_is c.self.invariant
     c.requires.settled
     c.bytes-bytes.ensures.is_frame c.requires.kept in
-    rw (← c.self.view_is) (put_moments d.clock d.left d.images d.content j.disk j.end j.frames j.doubt.value c.args.frame.now j.torn is_ready
+    rw (← c.self.view_is) (put_moments d.clock d.left d.images d.content j.disk j.end j.frames j.doubt c.args.frame.now j.torn is_ready
     put.new.disk (length c.bytes-bytes.result.now) put.ensures.front put.ensures.crash put.ensures.any_moment)
 
 pub returns-then-is_err-clause-any_moment_shut : goal.returns-then-is_err-clause-any_moment_shut
@@ -52,10 +52,10 @@ returns-then-is_err-clause-any_moment_shut g c = λ shut.
     let j = c.self.inside in
     let d = g.D.Disk in
     let put = c.put_behind in
-    let is_ready = ready d.content d.images j.disk j.end j.frames j.doubt.value c.args.frame.now j.torn c.args.self.now c.self.view_is c.self.invariant
+    let is_ready = ready d.content d.images j.disk j.end j.frames j.doubt c.args.frame.now j.torn c.args.self.now c.self.view_is c.self.invariant
     c.requires.settled
     c.bytes-bytes.ensures.is_frame c.requires.kept in
-    rw (← c.self.view_is) (put_leaves_frames d.clock d.left d.images d.content j.disk j.end j.frames j.doubt.value c.args.frame.now j.torn is_ready
+    rw (← c.self.view_is) (put_leaves_frames d.clock d.left d.images d.content j.disk j.end j.frames j.doubt c.args.frame.now j.torn is_ready
     put.new.disk (length c.bytes-bytes.result.now) put.ensures.front put.ensures.crash put.ensures.any_moment)
 
 -- the gate could not be opened
@@ -65,28 +65,28 @@ invariant_of-self-then-is_err-2 g c =
     let j = c.self.inside in
     let d = g.D.Disk in
     let put = c.put_behind in
-    let is_ready = ready d.content d.images j.disk j.end j.frames j.doubt.value c.args.frame.now j.torn c.args.self.now c.self.view_is c.self.invariant
+    let is_ready = ready d.content d.images j.disk j.end j.frames j.doubt c.args.frame.now j.torn c.args.self.now c.self.view_is c.self.invariant
     c.requires.settled
     c.bytes-bytes.ensures.is_frame c.requires.kept in
     let was_put = sym c.is_err.ensures.value ∙ c.if-is_err.false in
     let holds = from_ok put.result was_put put.ensures.put in
     let stable = from_ok put.result was_put put.ensures.durable in
-    rw (c.batches.ensures.value, c.bytes-bytes.ensures.value) (
-    IsShelved-torn d.clock d.left d.images d.content j.disk j.end j.frames j.doubt.value c.args.frame.now j.torn is_ready
+    rw (c.note-self-inside.ensures.value, c.bytes-bytes.ensures.value) (
+    IsShelved-torn d.clock d.left d.images d.content j.disk j.end j.frames j.doubt c.args.frame.now j.torn is_ready
     put.new.disk (length c.bytes-bytes.result.now) put.ensures.front put.ensures.crash put.ensures.any_moment
     c.open_gate.new.disk (rw c.bytes-bytes.ensures.value at holds) stable c.open_gate.ensures.others c.open_gate.ensures.crash)
 
 pub returns-then-is_err-2-clause-opens : goal.returns-then-is_err-2-clause-opens
 returns-then-is_err-2-clause-opens g c =
     let j = c.self.inside in
-    IsShelved-opens (g.D.Disk.content c.open_gate.new.disk) (g.D.Disk.images c.open_gate.new.disk) j.end j.frames c.batches.result.value
+    IsShelved-opens (g.D.Disk.content c.open_gate.new.disk) (g.D.Disk.images c.open_gate.new.disk) j.end j.frames c.note-self-inside.result
     (length c.bytes-bytes.result.now)
     (invariant_of-self-then-is_err-2 g c)
 
 pub returns-then-is_err-2-clause-images : goal.returns-then-is_err-2-clause-images
 returns-then-is_err-2-clause-images g c =
     let j = c.self.inside in
-    IsShelved-as (g.D.Disk.content c.open_gate.new.disk) (g.D.Disk.images c.open_gate.new.disk) j.end j.frames c.batches.result.value
+    IsShelved-as (g.D.Disk.content c.open_gate.new.disk) (g.D.Disk.images c.open_gate.new.disk) j.end j.frames c.note-self-inside.result
     (length c.bytes-bytes.result.now)
     (invariant_of-self-then-is_err-2 g c)
 
@@ -95,13 +95,13 @@ returns-then-is_err-2-clause-behind g c = λ torn.
     let j = c.self.inside in
     let d = g.D.Disk in
     let put = c.put_behind in
-    let is_ready = ready d.content d.images j.disk j.end j.frames j.doubt.value c.args.frame.now j.torn c.args.self.now c.self.view_is c.self.invariant
+    let is_ready = ready d.content d.images j.disk j.end j.frames j.doubt c.args.frame.now j.torn c.args.self.now c.self.view_is c.self.invariant
     c.requires.settled
     c.bytes-bytes.ensures.is_frame c.requires.kept in
     let was_put = sym c.is_err.ensures.value ∙ c.if-is_err.false in
     let holds = from_ok put.result was_put put.ensures.put in
     let stable = from_ok put.result was_put put.ensures.durable in
-    doubt_at_end d.clock d.left d.images d.content j.disk j.end j.frames j.doubt.value c.args.frame.now j.torn is_ready
+    doubt_at_end d.clock d.left d.images d.content j.disk j.end j.frames j.doubt c.args.frame.now j.torn is_ready
     put.new.disk (length c.bytes-bytes.result.now) put.ensures.front put.ensures.crash put.ensures.any_moment
     c.open_gate.new.disk (rw c.bytes-bytes.ensures.value at holds) stable c.open_gate.ensures.others c.open_gate.ensures.crash
 
@@ -110,13 +110,13 @@ returns-then-is_err-2-clause-any_moment g c =
     let j = c.self.inside in
     let d = g.D.Disk in
     let put = c.put_behind in
-    let is_ready = ready d.content d.images j.disk j.end j.frames j.doubt.value c.args.frame.now j.torn c.args.self.now c.self.view_is c.self.invariant
+    let is_ready = ready d.content d.images j.disk j.end j.frames j.doubt c.args.frame.now j.torn c.args.self.now c.self.view_is c.self.invariant
     c.requires.settled
     c.bytes-bytes.ensures.is_frame c.requires.kept in
     let was_put = sym c.is_err.ensures.value ∙ c.if-is_err.false in
     let holds = from_ok put.result was_put put.ensures.put in
     let stable = from_ok put.result was_put put.ensures.durable in
-    rw (← c.self.view_is) (append_moments d.clock d.left d.images d.content j.disk j.end j.frames j.doubt.value c.args.frame.now j.torn is_ready
+    rw (← c.self.view_is) (append_moments d.clock d.left d.images d.content j.disk j.end j.frames j.doubt c.args.frame.now j.torn is_ready
     put.new.disk (length c.bytes-bytes.result.now) put.ensures.front put.ensures.crash put.ensures.any_moment
     c.open_gate.new.disk (rw c.bytes-bytes.ensures.value at holds) stable c.open_gate.ensures.others c.open_gate.ensures.crash
     put.ensures.keeps.time c.open_gate.ensures.any_moment)
@@ -128,7 +128,7 @@ invariant_of-self-2 g c =
     let j = c.self.inside in
     let d = g.D.Disk in
     let put = c.put_behind in
-    let is_ready = ready d.content d.images j.disk j.end j.frames j.doubt.value c.args.frame.now j.torn c.args.self.now c.self.view_is c.self.invariant
+    let is_ready = ready d.content d.images j.disk j.end j.frames j.doubt c.args.frame.now j.torn c.args.self.now c.self.view_is c.self.invariant
     c.requires.settled
     c.bytes-bytes.ensures.is_frame c.requires.kept in
     let was_put = sym c.is_err.ensures.value ∙ c.if-is_err.false in
@@ -136,7 +136,7 @@ invariant_of-self-2 g c =
     let stable = from_ok put.result was_put put.ensures.durable in
     let was_opened = sym c.is_err-2.ensures.value ∙ c.if-is_err-2.false in
     rw (c.add_to.ensures.value, c.bytes-bytes.ensures.value) (
-    IsShelved-appended d.clock d.left d.images d.content j.disk j.end j.frames j.doubt.value c.args.frame.now j.torn is_ready
+    IsShelved-appended d.clock d.left d.images d.content j.disk j.end j.frames j.doubt c.args.frame.now j.torn is_ready
     put.new.disk (length c.bytes-bytes.result.now) put.ensures.front put.ensures.crash put.ensures.any_moment
     c.open_gate.new.disk (rw c.bytes-bytes.ensures.value at holds) stable c.open_gate.ensures.others c.open_gate.ensures.crash
     (from_ok c.open_gate.result was_opened c.open_gate.ensures.opened) (from_ok c.open_gate.result was_opened c.open_gate.ensures.durable))
@@ -145,14 +145,14 @@ pub returns-clause-opens : goal.returns-clause-opens
 returns-clause-opens g c =
     let j = c.self.inside in
     IsShelved-opens (g.D.Disk.content c.open_gate.new.disk) (g.D.Disk.images c.open_gate.new.disk) (j.end + length c.bytes-bytes.result.now)
-    c.add_to.new.frames j.doubt.value j.torn
+    c.add_to.new.frames j.doubt j.torn
     (invariant_of-self-2 g c)
 
 pub returns-clause-images : goal.returns-clause-images
 returns-clause-images g c =
     let j = c.self.inside in
     IsShelved-as (g.D.Disk.content c.open_gate.new.disk) (g.D.Disk.images c.open_gate.new.disk) (j.end + length c.bytes-bytes.result.now) c.add_to.new.frames
-    j.doubt.value j.torn
+    j.doubt j.torn
     (invariant_of-self-2 g c)
 
 pub returns-clause-any_moment : goal.returns-clause-any_moment
@@ -160,13 +160,13 @@ returns-clause-any_moment g c =
     let j = c.self.inside in
     let d = g.D.Disk in
     let put = c.put_behind in
-    let is_ready = ready d.content d.images j.disk j.end j.frames j.doubt.value c.args.frame.now j.torn c.args.self.now c.self.view_is c.self.invariant
+    let is_ready = ready d.content d.images j.disk j.end j.frames j.doubt c.args.frame.now j.torn c.args.self.now c.self.view_is c.self.invariant
     c.requires.settled
     c.bytes-bytes.ensures.is_frame c.requires.kept in
     let was_put = sym c.is_err.ensures.value ∙ c.if-is_err.false in
     let holds = from_ok put.result was_put put.ensures.put in
     let stable = from_ok put.result was_put put.ensures.durable in
-    rw (← c.self.view_is) (append_moments d.clock d.left d.images d.content j.disk j.end j.frames j.doubt.value c.args.frame.now j.torn is_ready
+    rw (← c.self.view_is) (append_moments d.clock d.left d.images d.content j.disk j.end j.frames j.doubt c.args.frame.now j.torn is_ready
     put.new.disk (length c.bytes-bytes.result.now) put.ensures.front put.ensures.crash put.ensures.any_moment
     c.open_gate.new.disk (rw c.bytes-bytes.ensures.value at holds) stable c.open_gate.ensures.others c.open_gate.ensures.crash
     put.ensures.keeps.time c.open_gate.ensures.any_moment)

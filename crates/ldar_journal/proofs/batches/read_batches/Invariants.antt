@@ -1,0 +1,18 @@
+use Rattle.std.proofs.Common.{◌≡◌, ◌-◌, ◌≤◌}
+use Rattle.disk_model.specs.Keeps.{Keeps}
+use Rattle.ldar_journal.specs.Image.{batches_of, fact_count}
+use Rattle.ldar_journal.specs.Window.{OnlyReads}
+use Rattle.ldar_journal.proofs.batches.read_batches.Given as goal
+
+-- the batches of the frames so far were read
+abbrev pub invariant-loop-frame : goal.invariant-loop-frame
+invariant-loop-frame g l = record {
+  read : l.batches.items ≡ batches_of l.opening.frames;
+  few : fact_count (batches_of l.opening.frames) ≤ 8_000_000;
+  reads : OnlyReads g.D.Disk.content g.D.Disk.images g.D.Disk.left g.D.Disk.clock l.fn.opening.disk l.opening.disk;
+  room : g.D.Disk.room l.opening.disk ≡ g.D.Disk.room l.fn.opening.disk;
+  keeps : Keeps g.D.Disk.clock g.D.Disk.name g.D.Disk.faults l.fn.opening.disk l.opening.disk;
+}
+
+abbrev pub decreases-loop-frame : goal.decreases-loop-frame
+decreases-loop-frame g l = 8_000_000 - fact_count (batches_of l.opening.frames)
