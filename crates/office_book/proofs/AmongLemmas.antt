@@ -1,8 +1,8 @@
 -- A batch behind a history and others of its group: where its identity stands, and the verdict on it.
-use Rattle.std.proofs.Common.{◌≡◌, ◌≢◌, inl, inr, ℕ, zero, suc, ◌+◌, ◌<◌, ◌≤◌, Bool, true, false, ◌&&◌, Some, None, List, [], ◌∷◌, ◌++◌}
+use Rattle.std.proofs.Common.{◌≡◌, ◌≢◌, inl, inr, ℕ, zero, suc, ◌+◌, ◌<◌, ◌≤◌, Bool, true, false, ◌&&◌, Option, Some, None, List, [], ◌∷◌, ◌++◌}
 use Rattle.std.proofs.Common.{length, take, drop, get_or, refl, sym, ◌∙◌, ap, subst, arith, append_assoc}
-use Rattle.std.specs.Prelude.{◌-◌, ◌↔◌, IsTrue, cond, codes, slice_get, nat_lt}
-use Rattle.std.specs.List.{position_from, list_any}
+use Rattle.std.specs.Prelude.{◌-◌, ◌↔◌, IsTrue, IfSome, IsNone, cond, codes, slice_get, nat_lt}
+use Rattle.std.specs.List.{AllByRecursion, position_from, list_any}
 use Rattle.std.proofs.lemmas.Bool.{false≢true, cases_Bool}
 use Rattle.std.proofs.lemmas.Bool.Decides.{nat_tests}
 use Rattle.std.proofs.lemmas.List.{append-nil, length-take}
@@ -27,9 +27,8 @@ use Rattle.list_words.proofs.Members.{Contains-from_among}
 use Rattle.history_laws.proofs.Counting.{cut_at}
 use Rattle.history_laws.proofs.MoreLemmas.{part_stays}
 use Rattle.history_laws.proofs.Passing.{let_pass}
-use Rattle.office_book.specs.declared.archive.Standing.TheVariants.{Kept}
-use Rattle.office_book.specs.Archive.{IsStanding}
-use Rattle.office_book.specs.Grouped.{IsOfHandheld, MayShare, IsAmong}
+use Rattle.office_book.specs.Archive.{IsKeptAt, MayCome}
+use Rattle.office_book.specs.Grouped.{IsOfHandheld, IsAmong}
 use Rattle.office_book.proofs.HistoryLemmas.{found_from, cut_at as cut_behind}
 
 -- ---- places in two lists
@@ -69,8 +68,8 @@ get_behind (x ∷ xs) ys n m is =
 -- ---- where a batch is kept
 
 -- what is kept in a history is kept with more batches behind it
-pub standing_more : (history others : List Batch) (batch : Batch) (position : ℕ) (same : Bool) → IsStanding history batch (Kept position same)
-    → IsStanding (history ++ others) batch (Kept position same)
+pub standing_more : (history others : List Batch) (batch : Batch) (position : ℕ) (same : Bool) → IsKeptAt history batch position same
+    → IsKeptAt (history ++ others) batch position same
 standing_more history others batch position same stands = (
   stands.0,
   (
@@ -83,7 +82,7 @@ standing_more history others batch position same stands = (
 
 -- what is new in a history, and is found among those behind it
 pub standing_among : (history others : List Batch) (batch : Batch) (first position : ℕ) (same : Bool) → IsNew history batch → first ≡ length history + 1
-    → IsAmong first others batch position same → IsStanding (history ++ others) batch (Kept position same)
+    → IsAmong first others batch position same → IsKeptAt (history ++ others) batch position same
 standing_among history others batch first position same new is among =
     let behind = found_from (is_of (identity_of batch)) first others position among.stands in
     let after = behind.0 in
@@ -102,6 +101,16 @@ pub new_behind : (history others : List Batch) (batch : Batch) (first : ℕ) →
     → position_from (is_of (identity_of batch)) first others ≡ None → IsNew (history ++ others) batch
 new_behind history others batch first new is none =
     position_behind (is_of (identity_of batch)) 1 history others first (omega arith) new ∙ none
+
+-- where the others were searched for a batch that is new in a history
+pub kept_among : (history others : List Batch) (batch : Batch) (first : ℕ) (found : Option (ℕ × Bool)) → IsNew history batch → first ≡ length history + 1
+    → IfSome found (λ kept. IsAmong first others batch kept.0 kept.1) → IfSome found (λ kept. IsKeptAt (history ++ others) batch kept.0 kept.1)
+kept_among history others batch first None new is among = tt
+kept_among history others batch first (Some kept) new is among = standing_among history others batch first kept.0 kept.1 new is among
+
+pub new_among : (history others : List Batch) (batch : Batch) (first : ℕ) (found : Option (ℕ × Bool)) → IsNew history batch → first ≡ length history + 1
+    → (IsNone found → position_from (is_of (identity_of batch)) first others ≡ None) → IsNone found → IsNew (history ++ others) batch
+new_among history others batch first found new is none missing = new_behind history others batch first new is (none missing)
 
 -- ---- the verdict
 
@@ -146,19 +155,17 @@ no_entry history batch passes handheld =
     entered b n is denies other = other (grind (arith, nat_tests))
 
 -- batches of handhelds behind a history leave the register as it is
-pub register_stays : (history others : List Batch) → MayShare history others → register_facts (facts_of (history ++ others)) ≡ register_facts (facts_of history)
-register_stays history [] may = ap (λ (l : List Batch). register_facts (facts_of l)) (append-nil history)
-register_stays history (batch ∷ others) may =
+pub register_stays : (history others : List Batch) → MayCome history others → AllByRecursion IsOfHandheld others
+    → register_facts (facts_of (history ++ others)) ≡ register_facts (facts_of history)
+register_stays history [] may alike = ap (λ (l : List Batch). register_facts (facts_of l)) (append-nil history)
+register_stays history (batch ∷ others) may alike =
     let whole = append_assoc history (batch ∷ []) others in
-    let kept : IsKept ((history ++ batch ∷ []) ++ others) = subst (λ (l : List Batch). IsKept l) (sym whole) may.may_come.kept in
+    let kept : IsKept ((history ++ batch ∷ []) ++ others) = subst (λ (l : List Batch). IsKept l) (sym whole) may.kept in
     let front = IsKept-front (history ++ batch ∷ []) others kept in
-    let passes : verdict_on history batch ≡ Pass = (ruly_is_each (history ++ batch ∷ others)).0 may.may_come.ruly history batch others refl in
+    let passes : verdict_on history batch ≡ Pass = (ruly_is_each (history ++ batch ∷ others)).0 may.ruly history batch others refl in
     ap (λ (l : List Batch). register_facts (facts_of l)) (sym whole)
-    ∙ register_stays (history ++ batch ∷ []) others (record {
-      may_come = record { kept = kept; ruly = subst (λ (l : List Batch). IsTrue (is_ruly l)) (sym whole) may.may_come.ruly };
-      alike = may.alike.1;
-    })
-    ∙ part_stays (λ (e : Entry). is_registered e.1.body) history batch front.differ (no_entry history batch passes may.alike.0)
+    ∙ register_stays (history ++ batch ∷ []) others (record { kept = kept; ruly = subst (λ (l : List Batch). IsTrue (is_ruly l)) (sym whole) may.ruly }) alike.1
+    ∙ part_stays (λ (e : Entry). is_registered e.1.body) history batch front.differ (no_entry history batch passes alike.0)
 
 -- how many facts there are with them
 pub facts_behind : (history others : List Batch) → length (facts_of (history ++ others)) ≡ length (facts_of history) + fact_count others
@@ -166,9 +173,9 @@ facts_behind history others =
     omega (arith, facts_count (history ++ others), facts_count history, sum_by-append (λ (batch : Batch). length batch.facts) history others)
 
 -- .. and they are few enough
-pub facts_fit : (history others : List Batch) → MayShare history others → length (facts_of history) + fact_count others ≤ 8_000_000
+pub facts_fit : (history others : List Batch) → MayCome history others → length (facts_of history) + fact_count others ≤ 8_000_000
 facts_fit history others may =
-    let fits = may.may_come.kept.fits in
+    let fits = may.kept.fits in
     let count = facts_behind history others in
     let whole = facts_count (history ++ others) in
     omega arith

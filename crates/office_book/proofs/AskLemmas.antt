@@ -1,5 +1,7 @@
--- What a call that asks a group ensures.
-use Rattle.std.proofs.Common.{◌≡◌, ◌≢◌, ℕ, zero, suc, ◌<◌, ◌≤◌, Option, List, [], ◌∷◌, ◌++◌, length, replicate, refl, sym, ◌∙◌, ap, subst, arith}
+-- A call that asks a group.
+use Rattle.std.proofs.Common.{◌≡◌, ◌≢◌, ℕ, zero, suc, ◌+◌, ◌-◌, ◌<◌, ◌≤◌, Option, List, [], ◌∷◌, ◌++◌, length, take, replicate, refl, sym, ◌∙◌, ap, subst}
+use Rattle.std.proofs.Common.{arith, append_assoc, length-append}
+use Rattle.std.proofs.lemmas.List.{take_at, length-map}
 use Rattle.std.specs.List.{AllByRecursion}
 use Rattle.disk_model.specs.Faults.{Rose}
 use Rattle.fact_kinds.specs.declared.batch.Batch.{Batch}
@@ -50,49 +52,71 @@ pub faults_each : (n : ℕ) → length (replicate n Fault) ≡ n
 faults_each zero = refl
 faults_each (suc n) = ap suc (faults_each n)
 
+-- a call has as many replies as requests
+said_each : (call : Call) (requests : List Request) (said : List Reply) → requests_of call ≡ requests → replies_of call ≡ said
+    → length said ≡ length requests
+said_each call requests said asked answered =
+    ap (λ (l : List Reply). length l) (sym answered) ∙ length-map call.turns (λ turn. turn.reply) ∙ sym (length-map call.turns (λ turn. turn.request))
+    ∙ ap (λ (l : List Request). length l) asked
+
+-- replies whose end was lent, to be answered: those in front stay, and behind them stands what was said
+tail_said : (count : ℕ) (begins front said post rest : List Reply) → begins ≡ front → count ≡ length front + length said
+    → take count ((begins ++ (said ++ post)) ++ rest) ≡ front ++ said
+tail_said count begins front said post rest begins_so long =
+    ap (λ (l : List Reply). take count ((l ++ (said ++ post)) ++ rest)) begins_so
+    ∙ ap (λ (l : List Reply). take count l) (append_assoc front (said ++ post) rest ∙ ap (λ (l : List Reply). front ++ l) (append_assoc said post rest)
+    ∙ sym (append_assoc front said (post ++ rest)))
+    ∙ take_at (front ++ said) (post ++ rest) count (length-append front said ∙ sym long)
+
+pub tail_answered : (call : Call) (requests : List Request) (count start : ℕ) (front reserved items lent said post rest : List Reply)
+    → reserved ≡ front → start ≡ length reserved → items ≡ reserved ++ replicate (length requests) Fault → lent ≡ items → count ≡ length items
+    → requests_of call ≡ requests → replies_of call ≡ said → take count ((take start lent ++ (said ++ post)) ++ rest) ≡ front ++ said
+tail_answered call requests count start front reserved items lent said post rest kept begins put is whole asked answered =
+    let faults = replicate (length requests) Fault in
+    let each = said_each call requests said asked answered in
+    let first : take start lent ≡ front = ap (λ (l : List Reply). take start l) (is ∙ put) ∙ take_at reserved faults start (sym begins) ∙ kept in
+    let long : length items ≡ length front + length said =
+    ap (λ (l : List Reply). length l) (put ∙ ap (λ (l : List Reply). l ++ faults) kept) ∙ length-append front faults
+    ∙ ap (λ (k : ℕ). length front + k) (faults_each (length requests) ∙ sym each) in
+    tail_said count (take start lent) front said post rest first (whole ∙ long)
+
+-- faults from the first place on are all
+pub all_faults : (new old : List Reply) → new ≡ take 0 old ++ replicate (length old - 0) Fault → new ≡ replicate (length old) Fault
+all_faults new old is = let whole : length old - 0 ≡ length old = omega arith in is ∙ ap (λ (n : ℕ). replicate n Fault) whole
+
 module _ {D : Type 0} (content_of : D → Option (List ℕ)) (images_of : D → List ℕ → Type 0) (left_of : D → ℕ → List ℕ → Type 0)
     (clock_of name_of faults_of : D → ℕ) (only_now : (d : D) (image : List ℕ) → left_of d (clock_of d) image → images_of d image) where
-  -- what the call of a group ensures of the replies that stand there
-  abbrev pub IsGroup : Shelf D → List Request → List Reply → List Reply → Shelf D → Type 0
-  IsGroup old requests before after new =
-      (call : Call) × Leads content_of left_of clock_of name_of faults_of old (call ∷ []) new × (requests_of call ≡ requests)
-      × (after ≡ before ++ replies_of call) × AllByRecursion HasRule (replies_of call) × (call.end.clock ≤ clock_of new.disk)
-
-  as_group : (old new : Shelf D) (requests : List Request) (before after said : List Reply)
-      → IsCall content_of images_of left_of clock_of name_of faults_of only_now old requests said new → after ≡ before ++ said → AllByRecursion HasRule said
-      → IsGroup old requests before after new
-  as_group old new requests before after said call puts ruled = (
-    call.0,
-    call.1,
-    call.2,
-    puts ∙ ap (λ (l : List Reply). before ++ l) (sym call.3),
-    subst (λ (l : List Reply). AllByRecursion HasRule l) (sym call.3) ruled,
-    call.4,
-  )
-
   -- a settling that failed
-  pub faults_group : (old new : Shelf D) (requests : List Request) (before after : List Reply) → 0 < length requests → length requests ≤ 16
+  pub faults_group : (old new : Shelf D) (requests : List Request) (replies : List Reply) → 0 < length requests → length requests ≤ 16
       → Moves content_of images_of left_of clock_of name_of faults_of old new 0 → Rose (faults_of old.disk) (faults_of new.disk)
-      → old.doubt ≢ [] → state_of new ≡ state_of old → after ≡ before ++ replicate (length requests) Fault
-      → IsGroup old requests before after new
-  faults_group old new [] before after some few moves rose doubt stays puts = absurd (omega arith)
-  faults_group old new (request ∷ requests) before after some few moves rose doubt stays puts =
-      as_group old new (request ∷ requests) before after (Fault ∷ replicate (length requests) Fault)
+      → old.doubt ≢ [] → state_of new ≡ state_of old → replies ≡ replicate (length requests) Fault
+      → IsCall content_of images_of left_of clock_of name_of faults_of only_now old requests replies new
+  faults_group old new [] replies some few moves rose doubt stays all = absurd (omega arith)
+  faults_group old new (request ∷ requests) replies some few moves rose doubt stays all =
+      subst (λ (l : List Reply). IsCall content_of images_of left_of clock_of name_of faults_of only_now old (request ∷ requests) l new) (sym all)
       (faults_call content_of images_of left_of clock_of name_of faults_of only_now old new request requests (replicate (length requests) Fault) moves rose
-      doubt stays (faults_are (length requests)) (faults_each (length requests)) few) puts (tt, faults_ruled (length requests))
+      doubt stays (faults_are (length requests)) (faults_each (length requests)) few)
 
   -- a settling, if there had to be one, and what was said then
-  pub serves_group : (old middle new : Shelf D) (found : Finding) (requests : List Request) (before after said : List Reply)
+  pub serves_group : (old middle new : Shelf D) (found : Finding) (requests : List Request) (replies : List Reply)
       → 0 < length requests → length requests ≤ 16 → IsFound found (state_of old) (state_of middle)
       → Moves content_of images_of left_of clock_of name_of faults_of old middle 0
       → Moves content_of images_of left_of clock_of name_of faults_of middle new 1
-      → Serves (Rose (faults_of middle.disk) (faults_of new.disk)) (batches_of middle.frames) requests said (state_of new)
-      → after ≡ before ++ said → AllByRecursion HasRule said → IsGroup old requests before after new
-  serves_group old middle new found [] before after said some few is_found one two serves puts ruled = absurd (omega arith)
-  serves_group old middle new found (request ∷ requests) before after [] some few is_found one two serves puts ruled = absurd serves
-  serves_group old middle new found (request ∷ requests) before after (reply ∷ said) some few is_found one two serves puts ruled =
-      let each = serves_each (Rose (faults_of middle.disk) (faults_of new.disk)) (batches_of middle.frames) (request ∷ requests) (reply ∷ said)
+      → Serves (Rose (faults_of middle.disk) (faults_of new.disk)) (batches_of middle.frames) requests replies (state_of new)
+      → IsCall content_of images_of left_of clock_of name_of faults_of only_now old requests replies new
+  serves_group old middle new found [] replies some few is_found one two serves = absurd (omega arith)
+  serves_group old middle new found (request ∷ requests) [] some few is_found one two serves = absurd serves
+  serves_group old middle new found (request ∷ requests) (reply ∷ replies) some few is_found one two serves =
+      let each = serves_each (Rose (faults_of middle.disk) (faults_of new.disk)) (batches_of middle.frames) (request ∷ requests) (reply ∷ replies)
       (state_of new) serves in
-      as_group old new (request ∷ requests) before after (reply ∷ said)
-      (serves_call content_of images_of left_of clock_of name_of faults_of only_now (Rose (faults_of middle.disk) (faults_of new.disk)) old middle new found
-      request requests reply said is_found one two (λ why. why) serves (omega arith) few) puts ruled
+      serves_call content_of images_of left_of clock_of name_of faults_of only_now (Rose (faults_of middle.disk) (faults_of new.disk)) old middle new found
+      request requests reply replies is_found one two (λ why. why) serves (omega arith) few
+
+  -- a view that is asked alone
+  pub view_group : (old new : Shelf D) (requests : List Request) (replies' : List Reply) (request : Request) (reply : Reply)
+      → requests ≡ request ∷ [] → replies' ≡ reply ∷ []
+      → IsCall content_of images_of left_of clock_of name_of faults_of only_now old (request ∷ []) (reply ∷ []) new
+      → IsCall content_of images_of left_of clock_of name_of faults_of only_now old requests replies' new
+  view_group old new requests replies' request reply asked said call =
+      subst (λ (l : List Request). IsCall content_of images_of left_of clock_of name_of faults_of only_now old l replies' new) (sym asked)
+      (subst (λ (l : List Reply). IsCall content_of images_of left_of clock_of name_of faults_of only_now old (request ∷ []) l new) (sym said) call)

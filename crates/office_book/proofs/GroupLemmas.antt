@@ -1,10 +1,11 @@
 -- Batches that are asked to be kept at once: what is said to each, behind those before it.
 use Rattle.std.proofs.Common.{◌≡◌, ◌≢◌, ◌⊎◌, inl, inr, ℕ, zero, suc, ◌+◌, ◌<◌, ◌≤◌, Bool, true, false, ◌&&◌, ◌==◌, Option, Some, None, is_none, List}
 use Rattle.std.proofs.Common.{[], ◌∷◌, ◌++◌}
-use Rattle.std.proofs.Common.{length, take, get_or, refl, sym, ◌∙◌, ap, subst, arith, add-one, append_assoc, length-append}
-use Rattle.std.specs.Prelude.{IsTrue, if◌then◌else◌, Result, Ok, Err, OnErr}
+use Rattle.std.proofs.Common.{length, take, drop, get_or, replicate, refl, sym, ◌∙◌, ap, subst, arith, add-one, append_assoc, length-append}
+use Rattle.std.specs.Prelude.{IsTrue, if◌then◌else◌, slice_set}
 use Rattle.std.specs.List.{AllByRecursion}
-use Rattle.std.proofs.lemmas.List.{append-nil}
+use Rattle.std.proofs.lemmas.List.{append-nil, take_more_set}
+use Rattle.std.proofs.lemmas.Option.{same_Some}
 use Rattle.std.proofs.lemmas.Bool.Decides.{nat_tests}
 use Rattle.std.proofs.Math.Seq.{take-suc}
 use Rattle.fact_kinds.specs.declared.batch.Batch.{Batch}
@@ -21,9 +22,11 @@ use Rattle.ldar_law.specs.Replies.{HasRule}
 use Rattle.ldar_law.specs.Verdicts.{is_pass, is_ruly, verdict_on}
 use Rattle.ldar_law.proofs.Gifts.{cases_Option}
 use Rattle.office_book.specs.Archive.{MayCome}
-use Rattle.office_book.specs.Asking.{IsFromHandheld}
-use Rattle.office_book.specs.Grouped.{IsOfHandheld, IsSaid, MayShare, IsTold, IsSorted, IsUnwritten, before_adding}
+use Rattle.office_book.specs.Asking.{IsFromHandheld, IsSync, MayShareFrame}
+use Rattle.office_book.specs.Grouped.{IsOfHandheld, IsSaid, IsTold, IsSorted, IsUnwritten, before_adding}
+use Rattle.office_book.specs.Room.{AddsNothing, IsNoFault, PutsNoFault}
 use Rattle.office_book.specs.Serving.{certain, uncertain, added, Serves}
+use Rattle.office_views.specs.Answers.{IsView}
 use Rattle.office_book.proofs.HistoryLemmas.{kept_more, ruly_more}
 use Rattle.office_book.proofs.KeepLemmas.{adds_it, adds_one, receipted, serves_said}
 
@@ -284,12 +287,12 @@ adds_none history batch reply said =
     ap (λ (o : Option Batch). elim o as (λ _. List Batch) [ None ↦ [] | Some more ↦ more ∷ [] ])
     (not_added (is_accepted history batch) batch (said_adds history batch reply said.answers))
 
-pub told_said : (history : List Batch) (batch : Batch) (others : List Batch) (reply : Reply) → MayShare history others
+pub told_said : (history : List Batch) (batch : Batch) (others : List Batch) (reply : Reply) → MayCome history others
     → IsSaid (history ++ others) batch reply → IsTold history batch others others reply
 told_said history batch others reply may said = record {
   serves = serves_said ⊥ (history ++ others) batch reply (certain (history ++ others)) said.answers refl;
   adds = sym (append-nil others) ∙ ap (λ (l : List Batch). others ++ l) (sym (adds_none (history ++ others) batch reply said));
-  may_share = may;
+  may_come = may;
   ruled = said.ruled;
 }
 
@@ -299,21 +302,18 @@ all_push P [] x each p = (p, tt)
 all_push P (y ∷ xs) x each p = (each.0, all_push P xs x each.1 p)
 
 -- a batch that is new and passes behind the others goes behind them
-pub told_added : (history : List Batch) (batch : Batch) (others : List Batch) (position : ℕ) → MayShare history others → IsOfHandheld batch
+pub told_added : (history : List Batch) (batch : Batch) (others : List Batch) (position : ℕ) → MayCome history others
     → IsNew (history ++ others) batch → verdict_on (history ++ others) batch ≡ Pass → position ≡ length (history ++ others) + 1
     → IsTold history batch others (others ++ batch ∷ []) (Receipt batch.handheld batch.number position)
-told_added history batch others position may handheld new passes place =
+told_added history batch others position may new passes place =
     let whole = append_assoc history others (batch ∷ []) in
     record {
       serves = subst (λ (l : List Batch). Serves ⊥ (history ++ others) (Sync batch ∷ []) (Receipt batch.handheld batch.number position ∷ []) (certain l)) whole
           (receipted ⊥ (history ++ others) batch position (certain ((history ++ others) ++ batch ∷ [])) new passes place refl);
       adds = ap (λ (l : List Batch). others ++ l) (sym (adds_one (history ++ others) batch (adds_it (history ++ others) batch new passes)));
-      may_share = record {
-        may_come = record {
-          kept = subst (λ (l : List Batch). IsKept l) whole (kept_more (history ++ others) batch may.may_come.kept new passes);
-          ruly = subst (λ (l : List Batch). IsTrue (is_ruly l)) whole (ruly_more (history ++ others) batch may.may_come.ruly passes);
-        };
-        alike = all_push IsOfHandheld others batch may.alike handheld;
+      may_come = record {
+        kept = subst (λ (l : List Batch). IsKept l) whole (kept_more (history ++ others) batch may.kept new passes);
+        ruly = subst (λ (l : List Batch). IsTrue (is_ruly l)) whole (ruly_more (history ++ others) batch may.ruly passes);
       };
       ruled = tt;
     }
@@ -332,7 +332,7 @@ sorted_next history asked said old new first more batch reply sorted told none s
     record {
       serves = serves_join ⊥ history (history ++ old) asked said (Sync batch ∷ []) (reply ∷ []) (certain (history ++ new)) sorted.serves told.serves;
       adds = adds;
-      may_share = told.may_share;
+      may_come = told.may_come;
       ruled = all_push HasRule said reply sorted.ruled told.ruled;
       before = elim (none_or_some new) [
         | inl empty ↦ none empty ∙ ap (λ (n : ℕ). n + 1) sorted.before ∙ sym (next.0 (adds ∙ empty))
@@ -349,7 +349,7 @@ pub sorted_none : (history : List Batch) → MayCome history [] → IsSorted his
 sorted_none history may = record {
   serves = ap certain (append-nil history);
   adds = refl;
-  may_share = record { may_come = may; alike = tt };
+  may_come = may;
   ruled = tt;
   before = refl;
 }
@@ -371,10 +371,10 @@ at_place P [] i x each within is = absurd (omega arith)
 at_place P (y ∷ xs) zero x each within is = subst P (sym is) each.0
 at_place P (y ∷ xs) (suc i) x each within is = at_place P xs i x each.1 (omega arith) is
 
--- a request of a group is a batch of a handheld
-pub asks_batch : (requests : List Request) (i : ℕ) (request : Request) → AllByRecursion IsFromHandheld requests → i < length requests
-    → request ≡ get_or requests i request → IsFromHandheld request
-asks_batch requests i request alike within is = at_place IsFromHandheld requests i request alike within is
+-- a request of a group is to keep a batch
+pub asks_batch : (requests : List Request) (i : ℕ) (request : Request) → AllByRecursion IsSync requests → i < length requests
+    → request ≡ get_or requests i request → IsSync request
+asks_batch requests i request syncs within is = at_place IsSync requests i request syncs within is
 
 -- the requests up to one, and it
 next_request : (requests : List Request) (i : ℕ) (request : Request) (batch : Batch) → i < length requests → request ≡ get_or requests i request
@@ -382,32 +382,81 @@ next_request : (requests : List Request) (i : ℕ) (request : Request) (batch : 
 next_request requests i request batch within is asks =
     rw (add-one, take-suc requests i request within) (ap (λ (r : Request). take i requests ++ r ∷ []) (sym is ∙ asks))
 
--- the replies with one more
-pub replies_next : (now before front said : List Reply) (reply : Reply) → now ≡ before ++ reply ∷ [] → before ≡ front ++ said
-    → now ≡ front ++ (said ++ reply ∷ [])
-replies_next now before front said reply puts is =
-    puts ∙ ap (λ (l : List Reply). l ++ reply ∷ []) is ∙ append_assoc front said (reply ∷ [])
+-- a list stays as long where one element is put in its place
+pub length_set : {X : Type 0} (xs : List X) (i : ℕ) (x : X) → length (slice_set xs i x) ≡ length xs
+length_set [] i x = refl
+length_set (y ∷ xs) zero x = refl
+length_set (y ∷ xs) (suc i) x = ap suc (length_set xs i x)
 
-pub unwritten_at : (history : List Batch) (requests : List Request) (i : ℕ) (request : Request) (batch : Batch) (said : List Reply) (reply : Reply)
-    → i < length requests → request ≡ get_or requests i request → request ≡ Sync batch → IsUnwritten history (take i requests) said
+pub unwritten_at : (history : List Batch) (requests : List Request) (i : ℕ) (request : Request) (batch : Batch) (replies : List Reply) (reply : Reply)
+    → i < length replies → i < length requests → request ≡ get_or requests i request → request ≡ Sync batch → IsUnwritten history (take i requests) (take i replies)
     → Serves ⊥ history (Sync batch ∷ []) (reply ∷ []) (certain history) → HasRule reply
-    → IsUnwritten history (take (i + 1) requests) (said ++ reply ∷ [])
-unwritten_at history requests i request batch said reply within is asks unwritten serves rule =
-    subst (λ (l : List Request). IsUnwritten history l (said ++ reply ∷ [])) (sym (next_request requests i request batch within is asks))
-    (unwritten_next history (take i requests) said batch reply unwritten serves rule)
+    → IsUnwritten history (take (i + 1) requests) (take (i + 1) (slice_set replies i reply))
+unwritten_at history requests i request batch replies reply room within is asks unwritten serves rule =
+    subst (λ (l : List Reply). IsUnwritten history (take (i + 1) requests) l) (sym (take_more_set replies i reply room))
+    (subst (λ (l : List Request). IsUnwritten history l (take i replies ++ reply ∷ [])) (sym (next_request requests i request batch within is asks))
+    (unwritten_next history (take i requests) (take i replies) batch reply unwritten serves rule))
 
 -- no request yet
 pub unwritten_none : (history : List Batch) → IsUnwritten history [] []
 unwritten_none history = record { serves = refl; ruled = tt }
 
-pub sorted_at : (history : List Batch) (requests : List Request) (i : ℕ) (request : Request) (batch : Batch) (said : List Reply) (reply : Reply)
-    (old new : List Batch) (first more : ℕ) → i < length requests → request ≡ get_or requests i request → request ≡ Sync batch
-    → IsSorted history (take i requests) said old first → IsTold history batch old new reply
+pub sorted_at : (history : List Batch) (requests : List Request) (i : ℕ) (request : Request) (batch : Batch) (replies : List Reply) (reply : Reply)
+    (old new : List Batch) (first more : ℕ) → i < length replies → i < length requests → request ≡ get_or requests i request → request ≡ Sync batch
+    → IsSorted history (take i requests) (take i replies) old first → IsTold history batch old new reply
     → (new ≡ [] → more ≡ first + 1) → (new ≢ [] → more ≡ first)
-    → IsSorted history (take (i + 1) requests) (said ++ reply ∷ []) new more
-sorted_at history requests i request batch said reply old new first more within is asks sorted told none some =
-    subst (λ (l : List Request). IsSorted history l (said ++ reply ∷ []) new more) (sym (next_request requests i request batch within is asks))
-    (sorted_next history (take i requests) said old new first more batch reply sorted told none some)
+    → IsSorted history (take (i + 1) requests) (take (i + 1) (slice_set replies i reply)) new more
+sorted_at history requests i request batch replies reply old new first more room within is asks sorted told none some =
+    subst (λ (l : List Reply). IsSorted history (take (i + 1) requests) l new more) (sym (take_more_set replies i reply room))
+    (subst (λ (l : List Request). IsSorted history l (take i replies ++ reply ∷ []) new more) (sym (next_request requests i request batch within is asks))
+    (sorted_next history (take i requests) (take i replies) old new first more batch reply sorted told none some))
+
+-- something holds of each of a front, and of two lists together
+all_take : {X : Type 0} (P : X → Type 0) (n : ℕ) (xs : List X) → AllByRecursion P xs → AllByRecursion P (take n xs)
+all_take P zero xs each = tt
+all_take P (suc n) [] each = tt
+all_take P (suc n) (x ∷ xs) each = (each.0, all_take P n xs each.1)
+
+all_append : {X : Type 0} (P : X → Type 0) (xs ys : List X) → AllByRecursion P xs → AllByRecursion P ys → AllByRecursion P (xs ++ ys)
+all_append P [] ys one two = two
+all_append P (x ∷ xs) ys one two = (one.0, all_append P xs ys one.1 two)
+
+-- a batch that a request adds is its own
+own_batch : (b : Bool) (one batch : Batch) → (if b then Some one else None) ≡ Some batch → one ≡ batch
+own_batch true one batch is = same_Some one batch is
+own_batch false one batch is = absurd cc
+
+added_own : (history : List Batch) (request : Request) (batch : Batch) → IsFromHandheld request → batch_added history request ≡ Some batch → IsOfHandheld batch
+added_own history (Sync one) batch from is = subst IsOfHandheld (own_batch (is_accepted history one) one batch is) from
+added_own history (Due unit day) batch from is = absurd from
+added_own history (Tags unit day) batch from is = absurd from
+added_own history (Delays unit day) batch from is = absurd from
+added_own history (Route unit day stops) batch from is = absurd from
+added_own history (Percent unit quarter day) batch from is = absurd from
+added_own history (ReportView unit half day) batch from is = absurd from
+
+-- what batches of handhelds add is of handhelds
+added_alike : (history : List Batch) (requests : List Request) → AllByRecursion IsFromHandheld requests → AllByRecursion IsOfHandheld (added history requests)
+added_alike history [] alike = tt
+added_alike history (request ∷ requests) alike =
+    by (batch_added history request) (λ batch is. added_own history request batch alike.0 is) (added_alike history requests alike.1)
+    (λ batch. added_alike (history ++ batch ∷ []) requests alike.1)
+  where
+    by : (o : Option Batch) → ((batch : Batch) → o ≡ Some batch → IsOfHandheld batch) → AllByRecursion IsOfHandheld (added history requests)
+        → ((batch : Batch) → AllByRecursion IsOfHandheld (added (history ++ batch ∷ []) requests)) → AllByRecursion IsOfHandheld (elim o as (λ _. List Batch) [
+          | None ↦ added history requests
+          | Some batch ↦ batch ∷ added (history ++ batch ∷ []) requests
+        ])
+    by None own none some = none
+    by (Some batch) own none some = (own batch refl, some batch)
+
+-- so is what stands before one of a group: before the first of it nothing stands
+pub alike_before : (history : List Batch) (requests : List Request) (i : ℕ) (batches : List Batch) → MayShareFrame requests → i < length requests
+    → added history (take i requests) ≡ batches → AllByRecursion IsOfHandheld batches
+alike_before history requests zero batches share within adds = subst (λ (l : List Batch). AllByRecursion IsOfHandheld l) adds tt
+alike_before history requests (suc i) batches share within adds =
+    subst (λ (l : List Batch). AllByRecursion IsOfHandheld l) adds
+    (added_alike history (take (suc i) requests) (all_take IsFromHandheld (suc i) requests (share (omega arith))))
 
 -- a request adds one batch at most
 pub one_told : (history : List Batch) (batch : Batch) (old new : List Batch) (reply : Reply) → IsTold history batch old new reply → length new ≤ length old + 1
@@ -431,42 +480,9 @@ before_within history (request ∷ requests) = by (batch_added history request) 
     by None rest = omega arith
     by (Some batch) rest = omega arith
 
--- ---- replies behind those that stand there
+-- ---- replies without a fault
 
--- so many of the replies: those in front, and some of the others
-pub take_past : (front said : List Reply) (n k : ℕ) → n ≡ length front + k → take n (front ++ said) ≡ front ++ take k said
-take_past [] said n k is = let same : n ≡ k = omega arith in ap (λ (m : ℕ). take m said) same
-take_past (reply ∷ front) said n k is =
-    let next : n ≡ suc (length front + k) = omega arith in
-    ap (λ (m : ℕ). take m (reply ∷ (front ++ said))) next ∙ ap (λ (l : List Reply). reply ∷ l) (take_past front said (length front + k) k refl)
-
--- .. those in front
-pub take_front : (all front said : List Reply) (n : ℕ) → all ≡ front ++ said → length front ≡ n → take n all ≡ front
-take_front all front said n is long =
-    ap (λ (l : List Reply). take n l) is ∙ take_past front said n 0 (omega arith) ∙ append-nil front
-
--- the replies stay, where they are those in front and what was said
-pub replies_stay : (all front said : List Reply) (n : ℕ) → all ≡ front ++ said → length front ≡ n → all ≡ take n all ++ said
-replies_stay all front said n is long = is ∙ ap (λ (l : List Reply). l ++ said) (sym (take_front all front said n is long))
-
--- faults in place of the replies from one on
-pub replies_cut : (all front said new faults : List Reply) (n first : ℕ) → all ≡ front ++ said → length front ≡ n → new ≡ take (n + first) all ++ faults
-    → new ≡ take n all ++ (take first said ++ faults)
-replies_cut all front said new faults n first is long puts =
-    puts ∙ ap (λ (l : List Reply). l ++ faults) (ap (λ (l : List Reply). take (n + first) l) is ∙ take_past front said (n + first) first (omega arith))
-    ∙ append_assoc front (take first said) faults
-    ∙ ap (λ (l : List Reply). l ++ (take first said ++ faults)) (sym (take_front all front said n is long))
-
--- something holds of each of a front, and of two lists together
-all_take : {X : Type 0} (P : X → Type 0) (n : ℕ) (xs : List X) → AllByRecursion P xs → AllByRecursion P (take n xs)
-all_take P zero xs each = tt
-all_take P (suc n) [] each = tt
-all_take P (suc n) (x ∷ xs) each = (each.0, all_take P n xs each.1)
-
-all_append : {X : Type 0} (P : X → Type 0) (xs ys : List X) → AllByRecursion P xs → AllByRecursion P ys → AllByRecursion P (xs ++ ys)
-all_append P [] ys one two = two
-all_append P (x ∷ xs) ys one two = (one.0, all_append P xs ys one.1 two)
-
+-- so it is where faults follow what was said
 pub cut_ruled : (first : ℕ) (said faults : List Reply) → AllByRecursion HasRule said → AllByRecursion HasRule faults
     → AllByRecursion HasRule (take first said ++ faults)
 cut_ruled first said faults one two = all_append HasRule (take first said) faults (all_take HasRule first said one) two
@@ -485,11 +501,6 @@ added_within history (request ∷ requests) =
     by None none some = omega arith
     by (Some batch) none some = let rest = some batch in omega arith
 
--- what is promised of a failure, where it holds anyway
-pub on_err : {T E : Type 0} (r : Result T E) {P : Type 0} → P → OnErr r P
-on_err (Ok v) p = tt
-on_err (Err e) p = p
-
 -- one more or none
 pub more_within : (batches : List Batch) (first more i : ℕ) → first ≤ i → (batches ≡ [] → more ≡ first + 1) → (batches ≢ [] → more ≡ first) → more ≤ i + 1
 more_within [] first more i within none some = let is = none refl in omega arith
@@ -503,3 +514,174 @@ none_held (batch ∷ batches) n long test = absurd (let none : n ≡ 0 = grind (
 pub some_held : (batches : List Batch) (n : ℕ) → n ≡ length batches → (n == 0) ≡ false → batches ≢ []
 some_held [] n long test empty = let some : n ≢ 0 = grind (arith, nat_tests) in some (omega arith)
 some_held (batch ∷ batches) n long test empty = cc
+
+-- ---- faults in place of replies
+
+replicate_more : (n : ℕ) → replicate n Fault ++ Fault ∷ [] ≡ Fault ∷ replicate n Fault
+replicate_more zero = refl
+replicate_more (suc n) = ap (λ (l : List Reply). Fault ∷ l) (replicate_more n)
+
+-- one fault more behind a front and faults
+pub faults_more : (front : List Reply) (n m : ℕ) → m ≡ n + 1 → (front ++ replicate n Fault) ++ Fault ∷ [] ≡ front ++ replicate m Fault
+faults_more front n m more =
+    let next : suc n ≡ m = omega arith in
+    append_assoc front (replicate n Fault) (Fault ∷ [])
+    ∙ ap (λ (l : List Reply). front ++ l) (replicate_more n ∙ ap (λ (k : ℕ). replicate k Fault) next)
+
+-- no fault yet
+pub faults_none : (front : List Reply) (n : ℕ) → n ≡ 0 → front ≡ front ++ replicate n Fault
+faults_none front n none = sym (append-nil front) ∙ ap (λ (k : ℕ). front ++ replicate k Fault) (sym none)
+
+-- ---- a group that adds nothing
+
+-- the first of some replies, where its request adds nothing
+quiet_step : (faulty : Type 0) (history : List Batch) (request : Request) (requests : List Request) (reply : Reply) (replies : List Reply) (next : State)
+    (P : Type 0) → batch_added history request ≡ None → (Serves faulty history requests replies next → P)
+    → Serves faulty history (request ∷ requests) (reply ∷ replies) next → IsNoFault reply × P
+quiet_step faulty history request requests (Receipt handheld number position) replies next P none rest serves =
+    (λ is. cc, rest (subst (λ (l : List Batch). Serves faulty l requests replies next) (answers_same history request _ serves.0 none serves.1) serves.2))
+quiet_step faulty history request requests (Conflict position) replies next P none rest serves =
+    (λ is. cc, rest (subst (λ (l : List Batch). Serves faulty l requests replies next) (answers_same history request _ serves.0 none serves.1) serves.2))
+quiet_step faulty history request requests (Denied fact rule) replies next P none rest serves =
+    (λ is. cc, rest (subst (λ (l : List Batch). Serves faulty l requests replies next) (answers_same history request _ serves.0 none serves.1) serves.2))
+quiet_step faulty history request requests (Full facts) replies next P none rest serves =
+    (λ is. cc, rest (subst (λ (l : List Batch). Serves faulty l requests replies next) (answers_same history request _ serves.0 none serves.1) serves.2))
+quiet_step faulty history request requests (Shown text) replies next P none rest serves =
+    (λ is. cc, rest (subst (λ (l : List Batch). Serves faulty l requests replies next) (answers_same history request _ serves.0 none serves.1) serves.2))
+quiet_step faulty history request requests (NoSuch what) replies next P none rest serves =
+    (λ is. cc, rest (subst (λ (l : List Batch). Serves faulty l requests replies next) (answers_same history request _ serves.0 none serves.1) serves.2))
+quiet_step faulty history request requests Fault replies next P none rest serves =
+    absurd (let clash : Some serves.batch ≡ None = sym serves.adds ∙ none in cc)
+quiet_step faulty history request requests Memory replies next P none rest serves = (λ is. cc, rest serves.1)
+
+-- requests that add nothing have no fault, and leave the state
+quiet_added : (faulty : Type 0) (history : List Batch) (requests : List Request) (replies : List Reply) (next : State)
+    → Serves faulty history requests replies next → added history requests ≡ [] → AllByRecursion IsNoFault replies × (next ≡ certain history)
+quiet_added faulty history [] [] next serves none = (tt, serves)
+quiet_added faulty history [] (reply ∷ replies) next serves none = absurd serves
+quiet_added faulty history (request ∷ requests) [] next serves none = absurd serves
+quiet_added faulty history (request ∷ requests) (reply ∷ replies) next serves none =
+    elim (cases_Option (batch_added history request)) [
+      | inl missing ↦
+          let same : added history (request ∷ requests) ≡ added history requests =
+          ap (λ (o : Option Batch). elim o as (λ _. List Batch) [
+            | None ↦ added history requests
+            | Some batch ↦ batch ∷ added (history ++ batch ∷ []) requests
+          ]) missing in
+          let both = quiet_step faulty history request requests reply replies next (AllByRecursion IsNoFault replies × (next ≡ certain history)) missing
+          (λ rest. quiet_added faulty history requests replies next rest (sym same ∙ none)) serves in
+          ((both.0, both.1.0), both.1.1)
+      | inr one ↦
+          let full : added history (request ∷ requests) ≡ one.0 ∷ added (history ++ one.0 ∷ []) requests =
+          ap (λ (o : Option Batch). elim o as (λ _. List Batch) [
+            | None ↦ added history requests
+            | Some batch ↦ batch ∷ added (history ++ batch ∷ []) requests
+          ]) one.1 in
+          absurd (let clash : one.0 ∷ added (history ++ one.0 ∷ []) requests ≡ [] = sym full ∙ none in cc)
+    ]
+
+-- so do requests that are all answered by want of memory
+quiet_memory : (faulty : Type 0) (history : List Batch) (requests : List Request) (replies : List Reply) (next : State)
+    → Serves faulty history requests replies next → AllByRecursion (λ (reply : Reply). reply ≡ Memory) replies
+    → AllByRecursion IsNoFault replies × (next ≡ certain history)
+quiet_memory faulty history [] [] next serves all = (tt, serves)
+quiet_memory faulty history [] (reply ∷ replies) next serves all = absurd serves
+quiet_memory faulty history (request ∷ requests) [] next serves all = absurd serves
+quiet_memory faulty history (request ∷ requests) (reply ∷ replies) next serves all =
+    let wanting = subst (λ (r : Reply). Serves faulty history (request ∷ requests) (r ∷ replies) next) all.0 serves in
+    let rest = quiet_memory faulty history requests replies next wanting.1 all.1 in
+    ((λ is. let clash : Fault ≡ Memory = sym is ∙ all.0 in cc, rest.0), rest.1)
+
+-- in each of these ways
+pub quiet : (faulty : Type 0) (history : List Batch) (requests : List Request) (replies : List Reply) (next : State)
+    → Serves faulty history requests replies next → AddsNothing history next.history requests replies
+    → AllByRecursion IsNoFault replies × (next.history ≡ history)
+quiet faulty history requests replies next serves (inl none) =
+    let both = quiet_added faulty history requests replies next serves none in (both.0, ap (λ (s : State). s.history) both.1)
+quiet faulty history requests replies next serves (inr (inl all)) =
+    let both = quiet_memory faulty history requests replies next serves all in (both.0, ap (λ (s : State). s.history) both.1)
+quiet faulty history requests replies next serves (inr (inr both)) = both
+
+-- a history is not itself with some batches more
+pub not_grown : (history batches : List Batch) → batches ≢ [] → history ++ batches ≡ history → ⊥
+not_grown history [] some is = some refl
+not_grown history (batch ∷ batches) some is =
+    let long = ap length is in
+    let more = length-append history (batch ∷ batches) in
+    omega arith
+
+-- there is a fault among the replies
+pub fault_among : (front : List Reply) (n : ℕ) → 0 < n → AllByRecursion IsNoFault (front ++ replicate n Fault) → ⊥
+fault_among [] zero some each = omega arith
+fault_among [] (suc n) some each = each.0 refl
+fault_among (reply ∷ front) n some each = fault_among front n some each.1
+
+-- a group that adds a batch has a request that is the first to do so
+pub before_some : (history : List Batch) (requests : List Request) → added history requests ≢ [] → before_adding history requests < length requests
+before_some history [] some = absurd (some refl)
+before_some history (request ∷ requests) some =
+    by (batch_added history request) some (λ more. before_some history requests more)
+  where
+    by : (o : Option Batch) → (elim o as (λ _. List Batch) [
+      | None ↦ added history requests
+      | Some batch ↦ batch ∷ added (history ++ batch ∷ []) requests
+    ]) ≢ [] → (added history requests ≢ [] → before_adding history requests < length requests)
+        → (elim o as (λ _. ℕ) [ None ↦ before_adding history requests + 1 | Some batch ↦ 0 ]) < length (request ∷ requests)
+    by None some rest = let less = rest some in omega arith
+    by (Some batch) some rest = omega arith
+
+-- ---- one request, or several batches of handhelds
+
+from_sync : (request : Request) → IsFromHandheld request → IsSync request
+from_sync (Sync batch) from = tt
+from_sync (Due unit day) from = absurd from
+from_sync (Tags unit day) from = absurd from
+from_sync (Delays unit day) from = absurd from
+from_sync (Route unit day stops) from = absurd from
+from_sync (Percent unit quarter day) from = absurd from
+from_sync (ReportView unit half day) from = absurd from
+
+from_syncs : (requests : List Request) → AllByRecursion IsFromHandheld requests → AllByRecursion IsSync requests
+from_syncs [] each = tt
+from_syncs (request ∷ requests) each = (from_sync request each.0, from_syncs requests each.1)
+
+-- a group that begins with a batch is of batches
+pub all_sync : (requests : List Request) (first : Request) → MayShareFrame requests → first ≡ get_or requests 0 first → IsSync first
+    → AllByRecursion IsSync requests
+all_sync [] first share is sync = tt
+all_sync (request ∷ []) first share is sync = (subst IsSync is sync, tt)
+all_sync (request ∷ other ∷ requests) first share is sync = from_syncs (request ∷ other ∷ requests) (share (omega arith))
+
+-- one that begins with another request is that request
+pub alone : (requests : List Request) (first : Request) → MayShareFrame requests → 0 < length requests → first ≡ get_or requests 0 first
+    → (IsFromHandheld first → ⊥) → requests ≡ first ∷ []
+alone [] first share some is other = absurd (omega arith)
+alone (request ∷ []) first share some is other = ap (λ (r : Request). r ∷ []) (sym is)
+alone (request ∷ one ∷ requests) first share some is other = absurd (other (subst IsFromHandheld (sym is) (share (omega arith)).0))
+
+-- a view is no batch of a handheld
+pub view_alone : (request : Request) → IsView request → IsFromHandheld request → ⊥
+view_alone (Sync batch) view from = view
+view_alone (Due unit day) view from = from
+view_alone (Tags unit day) view from = from
+view_alone (Delays unit day) view from = from
+view_alone (Route unit day stops) view from = from
+view_alone (Percent unit quarter day) view from = from
+view_alone (ReportView unit half day) view from = from
+
+drop_front : (front said : List Reply) → drop (length front) (front ++ said) ≡ said
+drop_front [] said = refl
+drop_front (reply ∷ front) said = drop_front front said
+
+-- none of what was put behind others is a fault
+pub own_part : (front all said : List Reply) → all ≡ front ++ said → PutsNoFault front all → AllByRecursion IsNoFault said
+own_part front all said is puts =
+    let same : puts.0 ≡ said =
+    sym (drop_front front puts.0) ∙ ap (λ (l : List Reply). drop (length front) l) (sym puts.1 ∙ is) ∙ drop_front front said in
+    subst (λ (l : List Reply). AllByRecursion IsNoFault l) same puts.2
+
+-- the only reply
+pub one_place : (replies : List Reply) (reply : Reply) → length replies ≡ 1 → slice_set replies 0 reply ≡ reply ∷ []
+one_place [] reply one = absurd (omega arith)
+one_place (other ∷ []) reply one = refl
+one_place (other ∷ another ∷ replies) reply one = absurd (omega arith)

@@ -22,8 +22,7 @@ use Rattle.ldar_law.specs.Machine.{IsNew, batch_at}
 use Rattle.ldar_law.specs.Verdicts.{is_ruly, verdict_on}
 use Rattle.ldar_law.proofs.VerdictLemmas.{ruly_is_each, passes_undenied}
 use Rattle.history_laws.proofs.Passing.{one_more_passes}
-use Rattle.office_book.specs.declared.archive.Standing.TheVariants.{Kept}
-use Rattle.office_book.specs.Archive.{IsStanding}
+use Rattle.office_book.specs.Archive.{IsKeptAt}
 
 -- nothing is where nothing is found
 none_where : (o : Option ℕ) → is_some o ≡ false → o ≡ None
@@ -108,7 +107,7 @@ found_from {X = X} p i (x ∷ xs) k e = by (p x) (λ later. found_from p (i + 1)
 -- a batch whose identity was found stands there, with this content or with other
 pub standing_kept : (history : List Batch) (identities : List Identity) (batch : Batch) (position : ℕ) (same : Bool) → identities ≡ map identity_of history
     → position_in (identity_of batch) identities ≡ Some position → IsTrue same ↔ (batch_at history position ≡ Some batch)
-    → IsStanding history batch (Kept position same)
+    → IsKeptAt history batch position same
 standing_kept history identities batch position same known found tells =
     let here : position_of (identity_of batch) history ≡ Some position =
     position_of-is (identity_of batch) history ∙ ap (λ (l : List Identity). position_in (identity_of batch) l) (sym known) ∙ found in

@@ -3,30 +3,25 @@ use Rattle.std.proofs.Common.{◌≡◌, inl, inr, ℕ, ◌+◌, Bool, true, fal
 use Rattle.std.proofs.Common.{◌∙◌, ap, subst}
 use Rattle.std.specs.Prelude.{IsTrue, is_none, if◌then◌else◌, Result, Ok, Err, is_err, OnErr}
 use Rattle.std.proofs.lemmas.Bool.{false≢true}
-use Rattle.std.proofs.lemmas.List.{append-nil}
 use Rattle.fact_kinds.specs.declared.batch.Batch.{Batch}
 use Rattle.fact_kinds.specs.Identity.{identity_of, position_of}
-use Rattle.ldar_journal.specs.Image.{IsKept}
 use Rattle.ldar_law.specs.declared.reply.Reply.{Reply}
 use Rattle.ldar_law.specs.declared.reply.Reply.TheVariants.{Receipt, Conflict, Denied, Full, Shown, NoSuch, Fault, Memory}
 use Rattle.ldar_law.specs.declared.request.Request.TheVariants.{Sync}
 use Rattle.ldar_law.specs.declared.verdict.Verdict.{Verdict}
 use Rattle.ldar_law.specs.declared.verdict.Verdict.TheVariants.{Pass, Denied as DeniedBatch, Full as FullOffice}
 use Rattle.ldar_law.specs.Machine.{State, IsNew, Answers, batch_added, is_accepted}
-use Rattle.ldar_law.specs.Verdicts.{is_pass, is_ruly, verdict_on}
-use Rattle.office_book.specs.declared.archive.Standing.TheVariants.{Kept, New}
-use Rattle.office_book.specs.declared.writing.Written.TheVariants as written
-use Rattle.office_book.specs.Archive.{IsStanding, MayCome}
+use Rattle.ldar_law.specs.Verdicts.{is_pass, verdict_on}
+use Rattle.office_book.specs.Archive.{IsKeptAt}
 use Rattle.office_book.specs.Grouped.{IsSaid}
-use Rattle.office_book.specs.Kept.{IsWritten, kept_reply}
-use Rattle.office_book.specs.Serving.{certain, uncertain, added, Serves}
-use Rattle.office_book.proofs.HistoryLemmas.{kept_more, ruly_more}
+use Rattle.office_book.specs.Kept.{kept_reply}
+use Rattle.office_book.specs.Serving.{certain, added, Serves}
 use Rattle.office_book.proofs.RuleLemmas.{rule_in_range}
 
 -- ---- a batch that is kept, or denied, or too much
 
 -- what is said to a batch whose identity is kept
-pub said_kept : (history : List Batch) (batch : Batch) (position : ℕ) (same : Bool) (reply : Reply) → IsStanding history batch (Kept position same)
+pub said_kept : (history : List Batch) (batch : Batch) (position : ℕ) (same : Bool) (reply : Reply) → IsKeptAt history batch position same
     → reply ≡ kept_reply batch position same → IsSaid history batch reply
 said_kept history batch position true reply stands is =
     subst (λ (r : Reply). IsSaid history batch r) (sym is) (record {
@@ -36,13 +31,13 @@ said_kept history batch position true reply stands is =
 said_kept history batch position false reply stands is =
     subst (λ (r : Reply). IsSaid history batch r) (sym is) (record { answers = (stands.0, stands.1, stands.3 refl, refl); ruled = tt })
 
-pub said_denied : (history : List Batch) (batch : Batch) (fact rule : ℕ) → IsStanding history batch (New (DeniedBatch fact rule))
+pub said_denied : (history : List Batch) (batch : Batch) (fact rule : ℕ) → IsNew history batch → verdict_on history batch ≡ DeniedBatch fact rule
     → IsSaid history batch (Denied fact rule)
-said_denied history batch fact rule stands =
-    record { answers = (stands.0, stands.1, refl); ruled = rule_in_range history batch fact rule stands.1 }
+said_denied history batch fact rule new denied = record { answers = (new, denied, refl); ruled = rule_in_range history batch fact rule denied }
 
-pub said_full : (history : List Batch) (batch : Batch) (facts : ℕ) → IsStanding history batch (New (FullOffice facts)) → IsSaid history batch (Full facts)
-said_full history batch facts stands = record { answers = (stands.0, stands.1, refl); ruled = tt }
+pub said_full : (history : List Batch) (batch : Batch) (facts : ℕ) → IsNew history batch → verdict_on history batch ≡ FullOffice facts
+    → IsSaid history batch (Full facts)
+said_full history batch facts new full = record { answers = (new, full, refl); ruled = tt }
 
 -- the state is left as it is
 pub serves_said : (faulty : Type 0) (history : List Batch) (batch : Batch) (reply : Reply) (next : State) → Answers history (Sync batch) reply history
@@ -77,38 +72,11 @@ pub adds_one : (history : List Batch) (batch : Batch) → batch_added history (S
 adds_one history batch adds =
     ap (λ (o : Option Batch). elim o as (λ _. List Batch) [ None ↦ [] | Some more ↦ more ∷ [] ]) adds
 
-pub may_follow : (history : List Batch) (batch : Batch) → MayCome history [] → IsNew history batch → verdict_on history batch ≡ Pass
-    → MayCome history (batch ∷ [])
-may_follow history batch may new passes = record {
-  kept = kept_more history batch (subst (λ (l : List Batch). IsKept l) (append-nil history) may.kept) new passes;
-  ruly = ruly_more history batch (subst (λ (l : List Batch). IsTrue (is_ruly l)) (append-nil history) may.ruly) passes;
-}
-
 pub receipted : (faulty : Type 0) (history : List Batch) (batch : Batch) (position : ℕ) (next : State) → IsNew history batch → verdict_on history batch ≡ Pass
-    → position ≡ length history + 1 → IsWritten faulty history (batch ∷ []) written.Stands next
+    → position ≡ length history + 1 → next ≡ certain (history ++ batch ∷ [])
     → Serves faulty history (Sync batch ∷ []) (Receipt batch.handheld batch.number position ∷ []) next
 receipted faulty history batch position next new passes place stands =
     (history ++ batch ∷ [], (refl, refl, inr (accepted history batch new passes, place, refl)), stands)
-
-pub faulted : (faulty : Type 0) (history : List Batch) (batch : Batch) (next : State) → IsNew history batch → verdict_on history batch ≡ Pass
-    → IsWritten faulty history (batch ∷ []) written.Fault next → Serves faulty history (Sync batch ∷ []) (Fault ∷ []) next
-faulted faulty history batch next new passes wrote =
-    let adds = adds_it history batch new passes in
-    record {
-      why = wrote.0;
-      batch = batch;
-      adds = adds;
-      leaves = elim wrote.1 [
-        | inl none ↦ inl none
-        | inr doubt ↦ inr (doubt ∙ ap (λ (l : List Batch). uncertain history l) (sym (adds_one history batch adds)))
-      ];
-      others = tt;
-      each = refl;
-    }
-
-pub wanted : (faulty : Type 0) (history : List Batch) (batch : Batch) (next : State) → IsNew history batch → verdict_on history batch ≡ Pass
-    → IsWritten faulty history (batch ∷ []) written.Memory next → Serves faulty history (Sync batch ∷ []) (Memory ∷ []) next
-wanted faulty history batch next new passes stays = (inl (batch, adds_it history batch new passes), stays)
 
 -- a call that failed
 pub from_err : {T E : Type 0} (r : Result T E) {P : Type 0} → is_err r ≡ true → OnErr r P → P

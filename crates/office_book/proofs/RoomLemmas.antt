@@ -1,19 +1,33 @@
 -- What an office promises over a disk that tells its room.
-use Rattle.std.proofs.Common.{ℕ, Option, List, [], ◌∷◌, refl, arith}
+use Rattle.std.proofs.Common.{◌≡◌, ◌≢◌, ◌⊎◌, inl, inr, ℕ, Option, List, [], ◌∷◌, ◌++◌, refl, sym, ◌∙◌, ap, subst, arith}
 use Rattle.std.specs.List.{AllByRecursion}
 use Rattle.fact_kinds.specs.declared.batch.Batch.{Batch}
 use Rattle.ldar_journal.specs.Crash.{AnswersInRoom}
+use Rattle.ldar_journal.specs.Image.{batches_of}
+use Rattle.ldar_journal.specs.Shelf.{Shelf}
+use Rattle.ldar_journal.proofs.Histories.{batches_of-push}
 use Rattle.ldar_law.specs.declared.reply.Reply.{Reply}
 use Rattle.ldar_law.specs.declared.reply.Reply.TheVariants.{Receipt, Conflict, Denied, Full, Shown, NoSuch, Fault, Memory}
 use Rattle.ldar_law.specs.declared.request.Request.{Request}
 use Rattle.ldar_law.specs.Machine.{State}
-use Rattle.office_book.specs.Room.{IsNoFault}
-use Rattle.office_book.specs.Serving.{Serves}
+use Rattle.office_book.specs.Room.{HasRoom, HasRoomFor, IsNoFault}
+use Rattle.office_book.specs.Serving.{added, Serves}
 
 -- no call of the disk was made
 pub room_stays : {D : Type 0} (room_of : D → Option ℕ) (clock_of : D → ℕ) (n : ℕ) (disk : D) (P : ℕ → Type 0) → ((room : ℕ) → P room)
     → AnswersInRoom room_of clock_of n disk disk P
 room_stays room_of clock_of n disk P kept = record { stays = refl; steps = λ room told. omega arith; answers = λ room told below. kept room }
+
+-- room for what requests add is there after the settling, whatever was found
+pub room_after : {D : Type 0} (old middle : Shelf D) (requests : List Request) (room : ℕ)
+    → (middle.frames ≡ old.frames) ⊎ ((old.doubt ≢ []) × (middle.frames ≡ old.frames ++ old.doubt ∷ [])) → HasRoomFor old requests room
+    → HasRoom middle.frames (added (batches_of middle.frames) requests) room
+room_after old middle requests room (inl same) has =
+    subst (λ (f : List (List Batch)). HasRoom f (added (batches_of f) requests) room) (sym same) has.0
+room_after old middle requests room (inr grown) has =
+    let whole = ap batches_of grown.1 ∙ batches_of-push old.frames old.doubt in
+    subst (λ (f : List (List Batch)). HasRoom f (added (batches_of middle.frames) requests) room) (sym grown.1)
+    (subst (λ (l : List Batch). HasRoom (old.frames ++ old.doubt ∷ []) (added l requests) room) (sym whole) (has.1 grown.0))
 
 -- ---- replies without a fault
 

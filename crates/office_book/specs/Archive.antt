@@ -1,13 +1,11 @@
--- The batches that an office keeps: how another stands to them.
-use Rattle.std.specs.Prelude.{◌≡◌, ◌≤◌, true, false, IsTrue, List, ◌++◌, length, map}
+-- The batches that an office keeps, and where another is kept among them.
+use Rattle.std.specs.Prelude.{◌≡◌, ℕ, ◌≤◌, Bool, true, false, IsTrue, List, ◌++◌, length, map}
 use Rattle.batch_positions.specs.Positions.{PositionsState}
 use Rattle.fact_kinds.specs.declared.batch.Batch.{Batch}
 use Rattle.fact_kinds.specs.Identity.{identity_of}
 use Rattle.ldar_journal.specs.Image.{IsKept}
-use Rattle.ldar_law.specs.Machine.{StandsAt, IsNew}
-use Rattle.ldar_law.specs.Verdicts.{is_ruly, verdict_on}
-use Rattle.office_book.specs.declared.archive.Standing.{Standing}
-use Rattle.office_book.specs.declared.archive.Standing.TheVariants.{Kept, New}
+use Rattle.ldar_law.specs.Machine.{StandsAt}
+use Rattle.ldar_law.specs.Verdicts.{is_ruly}
 use Rattle.office_views.specs.Held.{Held}
 
 -- these batches are a history that may be kept and is ruly; each is found at its position, and there is room for those that have it
@@ -22,8 +20,6 @@ pub record MayCome (history batches : List Batch) : Type 0 where
   pub kept : IsKept (history ++ batches)
   pub ruly : IsTrue (is_ruly (history ++ batches))
 
--- how a batch stands to a history: kept with this content or with other, or new, with a verdict
-abbrev pub IsStanding : List Batch → Batch → Standing → Type 0
-IsStanding history batch (Kept position same) =
-    (kept : Batch) × StandsAt history batch position kept × (same ≡ true → kept ≡ batch) × (same ≡ false → ¬ (kept ≡ batch))
-IsStanding history batch (New verdict) = IsNew history batch × (verdict_on history batch ≡ verdict)
+-- the identity of a batch is kept in a history at this position, from 1, with the same content or with other
+abbrev pub IsKeptAt : List Batch → Batch → ℕ → Bool → Type 0
+IsKeptAt history batch position same = (kept : Batch) × StandsAt history batch position kept × (same ≡ true → kept ≡ batch) × (same ≡ false → ¬ (kept ≡ batch))

@@ -24,6 +24,16 @@ IsFromHandheld (Route unit day stops) = ⊥
 IsFromHandheld (Percent unit quarter day) = ⊥
 IsFromHandheld (ReportView unit half day) = ⊥
 
+-- the request is to keep a batch
+abbrev pub IsSync : Request → Type 0
+IsSync (Sync batch) = Unit {0}
+IsSync (Due unit day) = ⊥
+IsSync (Tags unit day) = ⊥
+IsSync (Delays unit day) = ⊥
+IsSync (Route unit day stops) = ⊥
+IsSync (Percent unit quarter day) = ⊥
+IsSync (ReportView unit half day) = ⊥
+
 -- one request, or several batches of handhelds
 abbrev pub MayShareFrame : List Request → Type 0
 MayShareFrame requests = 1 < length requests → AllByRecursion IsFromHandheld requests

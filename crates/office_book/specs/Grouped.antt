@@ -20,16 +20,11 @@ pub record IsSaid (history : List Batch) (batch : Batch) (reply : Reply) : Type 
   pub answers : Answers history (Sync batch) reply history
   pub ruled : HasRule reply
 
--- these batches may come behind a history, and are of handhelds
-pub record MayShare (history batches : List Batch) : Type 0 where
-  pub may_come : MayCome history batches
-  pub alike : AllByRecursion IsOfHandheld batches
-
 -- what is said to a batch behind others of its group, if those stand; it goes behind them where it is added
 pub record IsTold (history : List Batch) (batch : Batch) (old new : List Batch) (reply : Reply) : Type 0 where
   pub serves : Serves ⊥ (history ++ old) (Sync batch ∷ []) (reply ∷ []) (certain (history ++ new))
   pub adds : new ≡ old ++ added (history ++ old) (Sync batch ∷ [])
-  pub may_share : MayShare history new
+  pub may_come : MayCome history new
   pub ruled : HasRule reply
 
 -- how many requests stand before the first that adds a batch
@@ -41,7 +36,7 @@ before_adding history (request ∷ requests) = elim (batch_added history request
 pub record IsSorted (history : List Batch) (requests : List Request) (said : List Reply) (batches : List Batch) (first : ℕ) : Type 0 where
   pub serves : Serves ⊥ history requests said (certain (history ++ batches))
   pub adds : added history requests ≡ batches
-  pub may_share : MayShare history batches
+  pub may_come : MayCome history batches
   pub ruled : AllByRecursion HasRule said
   pub before : first ≡ before_adding history requests
 

@@ -7,8 +7,8 @@ use Rattle.ldar_journal.specs.Shelf.{Shelf}
 use Rattle.ldar_law.specs.declared.reply.Reply.{Reply}
 use Rattle.ldar_law.specs.declared.reply.Reply.TheVariants.{Receipt, Conflict}
 use Rattle.ldar_law.specs.Machine.{State}
-use Rattle.office_book.specs.declared.writing.Written.{Written}
-use Rattle.office_book.specs.declared.writing.Written.TheVariants.{Stands, Fault, Memory}
+use Rattle.office_book.specs.declared.frame.Written.{Written}
+use Rattle.office_book.specs.declared.frame.Written.TheVariants.{Stands, Fault, Memory}
 use Rattle.office_book.specs.Archive.{MayCome}
 use Rattle.office_book.specs.Safe.{StandsIn, state_of}
 use Rattle.office_book.specs.Serving.{certain, uncertain}

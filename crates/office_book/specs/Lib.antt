@@ -5,6 +5,7 @@ pub mod Kept
 pub mod Moves
 pub mod Opened
 pub mod Receipts
+pub mod Restamps
 pub mod Room
 pub mod Safe
 pub mod SafeLaws

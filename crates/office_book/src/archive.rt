@@ -1,14 +1,14 @@
-ghost use Rattle.std.specs.Prelude.{◌≡◌, ◌↔◌, ◌+◌, ◌<◌, ◌≤◌, List, IsTrue, Some, [], ◌++◌, length, take, drop, map, OnOk};
+ghost use Rattle.std.specs.Prelude.{◌≡◌, ◌↔◌, ◌+◌, ◌<◌, ◌≤◌, List, IsTrue, Some, [], ◌++◌, length, take, drop, map, OnOk, IfSome, IsNone};
 ghost use Rattle.fact_kinds.specs.declared.batch.Batch.{Batch as FactBatch};
 ghost use Rattle.fact_kinds.specs.declared.limits.TheConstants.{MOST_FACTS};
 ghost use Rattle.fact_kinds.specs.Facts.{facts_of, facts_to};
 ghost use Rattle.fact_kinds.specs.Identity.{identity_of};
 ghost use Rattle.ldar_journal.specs.Image.{IsKept};
-ghost use Rattle.ldar_law.specs.Machine.{batch_at};
+ghost use Rattle.ldar_law.specs.Machine.{batch_at, IsNew};
 ghost use Rattle.ldar_law.specs.Shown as law;
 ghost use Rattle.ldar_law.specs.Slices.{register_facts};
 ghost use Rattle.ldar_law.specs.Verdicts.{is_ruly, verdict_on};
-ghost use Rattle.office_book.specs.Archive.{IsStanding, MayCome};
+ghost use Rattle.office_book.specs.Archive.{IsKeptAt, MayCome};
 ghost use Rattle.office_views.specs.Answers.{report_asked, IsShown, IsView, Tells};
 
 use crate::Memory;
@@ -21,13 +21,6 @@ use ldar_law::{Report, Request, Verdict};
 use office_views::{AskError, Shown, Views, ask_views, report_views};
 use std::marker::{Brand, Model};
 use std::sync::ledger::{Blank, Ledger};
-
-/// How a batch stands to those that are kept.
-pub enum Standing {
-    /// A batch of its identity is kept at this position, from 1, with the same content or with other.
-    Kept { position: u32, same: bool },
-    New(Verdict),
-}
 
 /// The batches that an office keeps, in order, with what they show and where each stands. Contracts see them beside those that
 /// have room.
@@ -87,27 +80,21 @@ impl Archive {
         adopt_all::<Brand>(&mut self.views, &mut self.positions, batches, Blank::new(1));
     }
 
-    /// How a batch stands to those that are kept.
-    pub fn standing(&self, batch: &Batch) -> Standing
-        ensures value { IsStanding self.now.adopted batch.now result }
+    /// Where a batch with the identity of this one is kept, from 1, and whether it is the same batch.
+    pub fn kept_at(&self, batch: &Batch) -> Option<(u32, bool)>
+        ensures kept { IfSome result (λ kept. IsKeptAt self.now.adopted batch.now kept.0 kept.1) }
+        ensures is_new { IsNone result → IsNew self.now.adopted batch.now }
     {
         match self.positions.position(batch.identity()) {
-            Some(position) => Standing::Kept {
-                position,
-                same: is_kept_at::<Brand>(&self.views, position, batch, Blank::new(1)),
-            },
-            None => Standing::New(self.judged(batch)),
+            Some(position) => {
+                let same = is_kept_at::<Brand>(&self.views, position, batch, Blank::new(1));
+                Some((position, same))
+            }
+            None => None,
         }
     }
 
-    /// The verdict on a batch after those that are kept.
-    pub fn judged(&self, batch: &Batch) -> Verdict
-        ensures value { result ≡ verdict_on self.now.adopted batch.now }
-    {
-        judged_after(&self.views, batch)
-    }
-
-    /// The verdict on a batch after those that are kept and others behind them, which enter no equipment and have so many facts.
+    /// The verdict on a batch after those that are kept and others, which enter no equipment and have this many facts.
     pub fn judged_behind(&self, facts: u64, batch: &Batch) -> Verdict
         requires fits { length (facts_of self.now.adopted) + facts ≤ MOST_FACTS }
         ensures value { (history : List FactBatch) → register_facts (facts_of history) ≡ register_facts (facts_of self.now.adopted)

@@ -1,7 +1,21 @@
-ghost use Rattle.std.specs.Prelude.{◌≡◌, length};
+//! An office over a journal, and its invariants (`IsBook` carries 1 to 5):
+//!
+//! 1. The batches of the journal are a history that may be kept and is ruly: no identity occurs twice, and each batch passes
+//!    after those before it. With the batches in doubt they are one too (`may_come`).
+//! 2. The archive has exactly the batches of the journal (`adopted`); batches in doubt do not count.
+//! 3. The archive has room for the batches in doubt, so that a settling takes no memory (`roomy`).
+//! 4. There is a copy of each batch in doubt, for the settling to adopt (`copied`).
+//! 5. Each image that a crash may leave now opens to the history, or to it and the batches in doubt (`stands`; told outside
+//!    by `Book::stands`).
+//! 6. Where the archive finds a batch is where the journal has it (`IsArchive`: `known`).
+
+ghost use Rattle.std.specs.Prelude.{◌≡◌, ◌+◌, ◌<◌, ◌^◌, [], length};
+ghost use Rattle.fact_kinds.specs.declared.limits.TheConstants.{FRAME_BATCHES};
 ghost use Rattle.fact_kinds.specs.Facts.{facts_of};
 ghost use Rattle.ldar_journal.specs.Crash.{OnDisk};
 ghost use Rattle.ldar_journal.specs.Image.{batches_of};
+ghost use Rattle.ldar_journal.specs.Shelf.{OpensAs};
+ghost use Rattle.office_book.specs.Archive.{MayCome};
 ghost use Rattle.office_book.specs.Safe.{StandsIn, state_of};
 
 use crate::archive::Archive;
@@ -11,10 +25,6 @@ use ldar_journal::Journal;
 use std::marker::Model;
 
 /// One office over one journal. Contracts see the journal: its disk, its frames, and the batches of a frame in doubt.
-///
-/// What it keeps at every moment (`IsBook`): the batches of the journal and those in doubt are a ruly history; the archive has
-/// the batches of the journal, and room for those in doubt; what a crash leaves opens to the history, or to it and the batches
-/// in doubt.
 #[derive(Drop)]
 pub struct Book<D: Disk> {
     pub(crate) journal: Journal<D>,
@@ -43,11 +53,31 @@ impl<D: Disk> Book<D> {
         self.archive.counts()
     }
 
+    /// The position of the next batch to be kept, from 1.
+    pub(crate) fn next_position(&self) -> u32
+        ensures value { result ≡ length (batches_of self.now.frames) + 1 }
+        ensures fits { result + FRAME_BATCHES < 2 ^ 32 }
+        ensures may_come { MayCome (batches_of self.now.frames) [] }
+    {
+        let _disk = self.journal.disk();
+        let (count, _) = self.counts();
+        count + 1
+    }
+
     /// The disk of the journal.
     pub fn disk(&self) -> &D
         ensures value { result.now ≡ self.now.disk }
+        ensures images { OnDisk (D.content result.now) (D.images result.now)
+            (λ image. OpensAs image self.now.frames self.now.doubt) }
     {
         self.journal.disk()
+    }
+
+    /// A law: what each image opens to that a crash may leave now. It is the history, or that and the batches in doubt.
+    pub fn stands(&self)
+        ensures law { OnDisk (D.content self.now.disk) (D.images self.now.disk) (StandsIn (state_of self.now)) }
+    {
+        let _disk = self.journal.disk();
     }
 
     /// Gives the disk back.

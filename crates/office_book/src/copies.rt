@@ -12,14 +12,3 @@ pub fn copy_of(alloc: Global, batch: &Batch) -> Result<Batch, Memory>
     facts.extend_from_slice(batch.facts.as_slice())?;
     Batch::new(batch.handheld, batch.number, facts).ok_or(AllocError)
 }
-
-/// Batches with the same content.
-pub fn copies_of(alloc: Global, batches: &[Batch]) -> Result<Vec<Batch>, Memory>
-    ensures value { IfOk result (λ copies. copies.items ≡ batches.now) }
-{
-    let mut copies = Vec::new(alloc);
-    for batch in batches {
-        copies.push(copy_of(alloc, batch)?)?;
-    }
-    Ok(copies)
-}

@@ -1,21 +1,19 @@
 //! The office that handhelds and people ask: batches are kept, and what is due is shown.
 #![tactic(auto)]
 
-mod answering;
 mod archive;
-mod asking;
 mod book;
 mod copies;
-mod grouping;
+mod frame;
+mod group;
 mod intake;
-mod keeping;
 pub mod laws;
 mod office;
 mod opening;
-mod settling;
-mod telling;
-mod viewing;
-mod writing;
+mod replies;
+mod requests;
+mod settlement;
+mod views;
 
 pub use book::Book;
 pub use office::Office;

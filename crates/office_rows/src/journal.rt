@@ -5,7 +5,7 @@ use crate::seen::same;
 use disk_model::{Disk, MemoryDisk};
 use fact_kinds::Batch;
 use ldar_facts::{Read, read_batch};
-use ldar_journal::{CreateError, Journal, OpenWhy, Opening, Torn, create, prepare};
+use ldar_journal::{CreateError, Journal, OpenWhy, Opening, Torn, create, open_journal, prepare};
 use std::alloc::Global;
 use std::process::Abort;
 use std::test::Fail;
@@ -36,8 +36,8 @@ pub fn read_on<D: Disk>(alloc: Global, opening: &mut Opening<D>) -> Result<usize
 
 // How many batches stand on a disk, or why it does not open.
 pub fn batches_on<D: Disk>(alloc: Global, disk: D) -> Result<usize, OpenWhy> {
-    match Opening::begin(alloc, disk) {
-        Ok(mut opening) => read_on(alloc, &mut opening),
+    match open_journal(alloc, disk) {
+        Ok((_, batches)) => Ok(batches.len()),
         Err(error) => Err(error.why),
     }
 }

@@ -1,4 +1,4 @@
-use Rattle.std.proofs.Common.{Ok, ap}
+use Rattle.std.proofs.Common.{Ok, inl, inr, refl, ◌∙◌, ap}
 use Rattle.office_book.proofs.BookLemmas.{book_still, book_gone, moves_still, moves_gone, moves_stand}
 use Rattle.office_book.proofs.MoveLemmas.{moves_stays}
 use Rattle.office_book.proofs.book.Book.settle_first.Goals as goal
@@ -47,3 +47,19 @@ returns-in-Gone-clause-moves g c =
     let was = c.in_ok-settle.ensures in
     rw (← c.self.view_is) (moves_gone d.content d.images d.left d.clock d.name d.faults c.self.inside.journal c.settle.new.self
     (was.gone (ap Ok c.in-Gone.is)) was.settled settle.keeps settle.unchanged settle.any_moment settle.images)
+
+-- the frames
+
+pub returns-then-not-settling-clause-frames : goal.returns-then-not-settling-clause-frames
+returns-then-not-settling-clause-frames g c = inl refl
+
+pub returns-in_err-settle-clause-frames : goal.returns-in_err-settle-clause-frames
+returns-in_err-settle-clause-frames g c = inl (c.in_err-settle.ensures.still.0 ∙ ap (λ s. s.frames) c.self.view_is)
+
+pub returns-in-Stands-clause-frames : goal.returns-in-Stands-clause-frames
+returns-in-Stands-clause-frames g c =
+    let doubt = c.settling.ensures.in_doubt c.if-not-settling.false in
+    inr (rw (← c.self.view_is) (doubt, c.in_ok-settle.ensures.stands (ap Ok c.in-Stands.is)))
+
+pub returns-in-Gone-clause-frames : goal.returns-in-Gone-clause-frames
+returns-in-Gone-clause-frames g c = inl (c.in_ok-settle.ensures.gone (ap Ok c.in-Gone.is) ∙ ap (λ s. s.frames) c.self.view_is)

@@ -8,7 +8,7 @@ use Rattle.ldar_journal.specs.Image.{batches_of, end_of, IsKept}
 use Rattle.ldar_journal.proofs.CrashLemmas.{AnswersInRoom-weaker}
 use Rattle.ldar_journal.proofs.Histories.{batches_of-push}
 use Rattle.office_book.specs.Archive.{MayCome}
-use Rattle.office_book.specs.declared.writing.Written.TheVariants as written
+use Rattle.office_book.specs.declared.frame.Written.TheVariants as written
 use Rattle.office_book.specs.Moves.{Moves}
 use Rattle.office_book.specs.Room.{HasRoom}
 use Rattle.office_book.specs.Serving.{certain}
