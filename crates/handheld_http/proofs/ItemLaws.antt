@@ -8,10 +8,11 @@ use Rattle.httparse.specs.Grammar.{RequestHead}
 use Rattle.httparse.proofs.GrammarLemmas.{request_unique}
 use Rattle.handheld_http.specs.Heads.{Pair, longest_body, empty_line, EndsHead, HasNoEnd, IsHead, pairs_of, body_length, length_by, stated_length, is_number}
 use Rattle.handheld_http.specs.Heads.{is_post, count_named, value_of, closes}
-use Rattle.handheld_http.specs.Cuts.{Begins, BeginsRequest, IsNoHead, HasNoBody, Refuses, HasNoHeadYet, LacksBody}
+use Rattle.handheld_http.specs.Cuts.{Begins, BeginsRequest, IsExtent, IsLineAt, IsNoHead, HasNoBody, Refuses, HasNoHeadYet, LacksBody}
 use Rattle.handheld_http.specs.Items as items
 use Rattle.handheld_http.specs.Items.{IsWhole, IsItem, IsClosing, HasNoItem, IsRefused}
 use Rattle.handheld_http.specs.declared.outcome.Cut.TheVariants.{Whole, More, Refused}
+use Rattle.handheld_http.specs.declared.outcome.Extent.{Extent}
 use Rattle.handheld_http.proofs.Places.{SameBefore, OccursAt-same, EndsHead-same}
 
 -- ---- where a head ends
@@ -242,6 +243,14 @@ head_tells_cut_with bytes more head body closing begins =
       λ inside. (stays, inside),
       λ short. inr (record { head = head; body = body; closing = closing; begins = stays; short = short }),
     )
+
+-- .. with the places in it
+pub extent_stays : (bytes more : List ℕ) (extent : Extent) → IsExtent bytes extent → IsExtent (bytes ++ more) extent
+extent_stays bytes more extent is = record {
+  h = is.h;
+  begins = Begins-append bytes more extent.head extent.body extent.closing is.h is.begins;
+  line = subst (λ (l : List ℕ). IsLineAt l extent is.h) (sym (take-append-le extent.head bytes more (ends_inside bytes extent.head is.begins.ends))) is.line;
+}
 
 pub refusal_stays_with : items.RefusalStays
 refusal_stays_with bytes more status (inl long) = inl (record {

@@ -1,46 +1,52 @@
 -- What the request asks that was cut.
-use Rattle.std.proofs.Common.{◌≡◌, ℕ, ◌+◌, ◌-◌, ◌≤◌, Bool, List, ◌++◌, length, take, drop, map, Ok, Err, sym, ap, subst, ◌∙◌, refl, arith, length-take}
+use Rattle.std.proofs.Common.{◌≡◌, ℕ, ◌+◌, ◌-◌, ◌≤◌, Bool, List, ◌++◌, length, take, drop, Ok, Err, inl, inr, sym, ap, subst, ◌∙◌, refl, arith, length-take}
 use Rattle.std.specs.List.{slice_range}
 use Rattle.std.proofs.lemmas.List.{drop-take, take-append-drop}
 use Rattle.httparse.specs.Grammar.{RequestHead}
-use Rattle.httparse.specs.Spans.{header_bytes, span_bytes, IsRequestAt}
-use Rattle.httparse.specs.declared.spans.HeaderSpan.{HeaderSpan}
-use Rattle.httparse.specs.declared.spans.RequestSpans.{RequestSpans}
-use Rattle.handheld_http.specs.Heads.{IsHead, pairs_of, body_length}
-use Rattle.handheld_http.specs.Cuts.{Begins}
-use Rattle.handheld_http.specs.Parsed.{HasHead, IsReadable, IsLine}
-use Rattle.handheld_http.specs.Requests.{Means, RequestAsks, WasCut, IsAsked}
+use Rattle.handheld_http.specs.Heads.{EndsHead, IsHead, pairs_of, body_length}
+use Rattle.handheld_http.specs.Cuts.{Begins, IsCut, IsExtent, IsLineAt}
+use Rattle.handheld_http.specs.Parsed.{IsAccepted, Judges}
+use Rattle.handheld_http.specs.Requests.{Means, RequestAsks, IsAsked}
+use Rattle.handheld_http.specs.declared.outcome.Cut.TheVariants.{Whole}
+use Rattle.handheld_http.specs.declared.outcome.Extent.{Extent}
 use Rattle.handheld_http.specs.declared.answer.Asked.{Asked}
 use Rattle.handheld_http.proofs.ItemLaws.{IsHead-unique, Begins-unique, Begins-front, ends_inside}
 
--- the fields of a head of which a body is read say how long it is
-pub read_length : (bytes : List ℕ) (spans : List HeaderSpan) (parts : RequestSpans) → IsReadable bytes → HasHead bytes spans parts
-    → (n : ℕ) × (body_length (span_bytes bytes parts.method) (map (header_bytes bytes) (take parts.headers spans)) ≡ Ok n)
-read_length bytes spans parts (h, n, reads, length) (k, same, at) =
-    let head_is : h ≡ k = IsHead-unique bytes h k reads same in
-    let length_is : body_length k.method (pairs_of k) ≡ Ok n =
-    subst (λ (l : RequestHead). body_length l.method (pairs_of l) ≡ Ok n) head_is length in
-    (n, rw (at.method, at.fields) length_is)
-
--- the line of a head is that of the request that begins with it
-pub same_line : (bytes : List ℕ) (head body : ℕ) (closing : Bool) (h : RequestHead) → Begins bytes head body closing h
-    → (method target : List ℕ) (n : ℕ) (k : RequestHead) → IsLine (take head bytes) method target n k
-    → (n ≡ body) × (method ≡ h.method) × (target ≡ h.target)
-same_line bytes head body closing h begins method target n k line =
-    let head_is : k ≡ h = IsHead-unique (take head bytes) k h line.reads begins.reads in
-    let length_is : body_length h.method (pairs_of h) ≡ Ok n =
-    subst (λ (l : RequestHead). body_length l.method (pairs_of l) ≡ Ok n) head_is line.length_is in (
-      cc (begins.length, length_is),
-      line.method_is ∙ ap (λ (l : RequestHead). l.method) head_is,
-      line.target_is ∙ ap (λ (l : RequestHead). l.target) head_is,
+-- a head that is accepted is at the front, where it ends
+pub accepted_extent : (bytes : List ℕ) (head : ℕ) (extent : Extent) (h : RequestHead) → EndsHead bytes head → IsAccepted (take head bytes) extent h
+    → (extent.head ≡ head) × IsExtent bytes extent
+accepted_extent bytes head extent h ends accepted =
+    let same : extent.head ≡ head = accepted.whole ∙ length-take head bytes ∙ omega (arith, ends_inside bytes head ends) in
+    let begins : Begins bytes head extent.body extent.closing h = record {
+      ends = ends;
+      reads = accepted.reads;
+      length = accepted.length_is;
+      closing_is = accepted.closing_is;
+    } in (
+      same,
+      record {
+        h = h;
+        begins = subst (λ (n : ℕ). Begins bytes n extent.body extent.closing h) (sym same) begins;
+        line = subst (λ (n : ℕ). IsLineAt (take n bytes) extent h) (sym same) accepted.line;
+      },
     )
 
--- the body that a line states is there
-pub body_inside : (bytes : List ℕ) (head : ℕ) → WasCut bytes head → (method target : List ℕ) (n : ℕ)
-    → ((k : RequestHead) × IsLine (take head bytes) method target n k) → head + n ≤ length bytes
-body_inside bytes head (body, closing, cut) method target n (k, line) =
-    let same = same_line bytes head body closing cut.0.0 cut.0.1 method target n k line in
-    omega (arith, same.0, cut.1)
+-- a head of which a body is read is not refused
+pub judged : (bytes : List ℕ) (status body : ℕ) (h : RequestHead) → IsHead bytes h → body_length h.method (pairs_of h) ≡ Ok body
+    → Judges bytes (Err status) → ⊥
+judged bytes status body h reads length (inl none) = none.0 h reads
+judged bytes status body h reads length (inr (k, barred)) =
+    let head_is : k ≡ h = IsHead-unique bytes k h barred.reads reads in
+    let barred_is : body_length h.method (pairs_of h) ≡ Err status =
+    subst (λ (l : RequestHead). body_length l.method (pairs_of l) ≡ Err status) head_is barred.length_is in
+    cc (length, barred_is)
+
+-- the request that was cut has the extent of its head
+pub cut_extent : (bytes : List ℕ) (head : ℕ) (extent : Extent) → extent.head ≡ head → IsExtent bytes extent → (body : ℕ) (closing : Bool)
+    → IsCut bytes (Whole head body closing) → (extent.body ≡ body) × (extent.head + extent.body ≤ length bytes)
+cut_extent bytes head extent same is body closing cut =
+    let one = Begins-unique bytes extent.head extent.body extent.closing is.h head body closing cut.0.0 is.begins cut.0.1 in
+    (one.1, omega (arith, same, one.1, cut.1))
 
 -- the body of a request, in its bytes
 body_of_item : (bytes : List ℕ) (head body : ℕ) → slice_range bytes head (head + body) ≡ drop head (take (head + body) bytes)
@@ -68,12 +74,8 @@ line_means bytes head body closing h begins inside asked asks =
     }
 
 -- .. whichever way it was cut
-pub line_asks : (bytes : List ℕ) (head : ℕ) (method target : List ℕ) (n : ℕ)
-    → ((k : RequestHead) × IsLine (take head bytes) method target n k) → (asked : Asked)
-    → RequestAsks method target (slice_range bytes head (head + n)) asked → IsAsked bytes head asked
-line_asks bytes head method target n (k, line) asked asks body closing ((h, begins), inside) =
-    let same = same_line bytes head body closing h begins method target n k line in
-    let by_method = subst (λ (l : List ℕ). RequestAsks l target (slice_range bytes head (head + n)) asked) same.1 asks in
-    let by_target = subst (λ (l : List ℕ). RequestAsks h.method l (slice_range bytes head (head + n)) asked) same.2 by_method in
-    let by_body = subst (λ (m : ℕ). RequestAsks h.method h.target (slice_range bytes head (head + m)) asked) same.0 by_target in
-    line_means bytes head body closing h begins inside asked by_body
+pub extent_asks : (bytes : List ℕ) (head : ℕ) (extent : Extent) → extent.head ≡ head → IsExtent bytes extent → (asked : Asked)
+    → Means (take (extent.head + extent.body) bytes) asked → IsAsked bytes head asked
+extent_asks bytes head extent same is asked means body closing cut =
+    let one = cut_extent bytes head extent same is body closing cut in
+    subst (λ (n : ℕ). Means (take n bytes) asked) (omega (arith, same, one.0)) means

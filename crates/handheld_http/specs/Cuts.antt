@@ -1,9 +1,11 @@
 -- What stands at the front of the bytes of a connection: a request, the beginning of one, or what is refused.
 use Rattle.std.specs.Prelude.{◌≡◌, ℕ, ◌+◌, ◌<◌, ◌≤◌, ◌⊎◌, Bool, List, length, take, Ok, Err}
 use Rattle.httparse.specs.Grammar.{RequestHead}
+use Rattle.httparse.specs.Spans.{IsWithin, span_bytes}
 use Rattle.handheld_http.specs.Heads.{longest_head, EndsHead, HasNoEnd, IsHead, pairs_of, body_length, closes}
 use Rattle.handheld_http.specs.declared.outcome.Cut.{Cut}
 use Rattle.handheld_http.specs.declared.outcome.Cut.TheVariants.{Whole, More, Refused}
+use Rattle.handheld_http.specs.declared.outcome.Extent.{Extent}
 use Rattle.handheld_http.specs.declared.outcome.Front.{Front}
 use Rattle.handheld_http.specs.declared.outcome.Front.TheVariants.{Head, Unended, Refused as FrontRefused}
 
@@ -17,6 +19,19 @@ pub record Begins (bytes : List ℕ) (head body : ℕ) (closing : Bool) (h : Req
 -- the bytes begin with some head of a request
 abbrev pub BeginsRequest : List ℕ → ℕ → ℕ → Bool → Type 0
 BeginsRequest bytes head body closing = (h : RequestHead) × Begins bytes head body closing h
+
+-- the method and the target of a head are at these places
+pub record IsLineAt (head : List ℕ) (extent : Extent) (h : RequestHead) : Type 0 where
+  pub method_within : IsWithin (length head) extent.method
+  pub target_within : IsWithin (length head) extent.target
+  pub method_is : span_bytes head extent.method ≡ h.method
+  pub target_is : span_bytes head extent.target ≡ h.target
+
+-- the bytes begin with a head that says this
+pub record IsExtent (bytes : List ℕ) (extent : Extent) : Type 0 where
+  pub h : RequestHead
+  pub begins : Begins bytes extent.head extent.body extent.closing h
+  pub line : IsLineAt (take extent.head bytes) extent h
 
 -- no head ends in time
 pub record IsTooLong (bytes : List ℕ) (status : ℕ) : Type 0 where
@@ -50,7 +65,7 @@ pub record HasNoHeadYet (bytes : List ℕ) : Type 0 where
 
 -- what is known of the head at the front
 abbrev pub IsFront : List ℕ → Front → Type 0
-IsFront bytes (Head head body closing) = BeginsRequest bytes head body closing
+IsFront bytes (Head extent) = IsExtent bytes extent
 IsFront bytes Unended = HasNoHeadYet bytes
 IsFront bytes (FrontRefused status) = Refuses bytes status
 

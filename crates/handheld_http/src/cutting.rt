@@ -1,12 +1,13 @@
-ghost use Rattle.std.specs.Prelude.{◌≡◌, ℕ, ◌≤◌, length, take, IfSome, IfNone};
+ghost use Rattle.std.specs.Prelude.{◌≡◌, ℕ, ◌+◌, ◌≤◌, ◌↔◌, length, take, IsTrue, IfSome, IfNone};
 ghost use Rattle.handheld_http.specs.Heads.{EndsHead, HasNoEnd};
-ghost use Rattle.handheld_http.specs.Cuts.{IsFront, IsCut};
+ghost use Rattle.handheld_http.specs.Cuts.{IsExtent, IsFront, IsCut};
 
 use crate::heads::{LONGEST_HEAD, judge};
-use crate::outcome::{Cut, Front};
+use crate::outcome::{Cut, Extent, Front};
 use memchr::memmem;
 
-const EMPTY_LINE: &[u8] = &[13, 10, 13, 10];
+/// The end of a line, and an empty line after it.
+pub const EMPTY_LINE: &[u8] = &[13, 10, 13, 10];
 
 /// The bytes among which a head ends.
 fn front(bytes: &[u8]) -> &[u8]
@@ -37,11 +38,7 @@ pub fn head_of(bytes: &[u8]) -> Front
         return unended(bytes);
     };
     match judge(&bytes[..head]) {
-        Ok(says) => Front::Head {
-            head,
-            body: says.body,
-            closing: says.closing,
-        },
+        Ok(extent) => Front::Head(extent),
         Err(status) => Front::Refused { status },
     }
 }
@@ -57,21 +54,25 @@ fn unended(bytes: &[u8]) -> Front
     Front::Refused { status: 431 }
 }
 
+/// Whether the body is there, of a request whose head is at the front.
+pub fn has_body(bytes: &[u8], extent: Extent) -> bool
+    requires begins { IsExtent bytes.now extent }
+    ensures value { IsTrue result ↔ (extent.head + extent.body ≤ length bytes.now) }
+{
+    extent.body <= bytes.len() - extent.head
+}
+
 /// What stands at the front of the bytes that came: a request, the beginning of one, or what is refused.
 pub fn cut(bytes: &[u8]) -> Cut
     ensures value { IsCut bytes.now result }
 {
     match head_of(bytes) {
-        Front::Head {
-            head,
-            body,
-            closing,
-        } if body <= bytes.len() - head => Cut::Whole {
-            head,
-            body,
-            closing,
+        Front::Head(extent) if has_body(bytes, extent) => Cut::Whole {
+            head: extent.head,
+            body: extent.body,
+            closing: extent.closing,
         },
-        Front::Head { .. } | Front::Unended => Cut::More,
+        Front::Head(_) | Front::Unended => Cut::More,
         Front::Refused { status } => Cut::Refused { status },
     }
 }

@@ -17,8 +17,8 @@ mod response;
 mod routes;
 
 pub use answer::{Answer, Asked, Refusal};
-pub use cutting::{cut, head_of};
+pub use cutting::{EMPTY_LINE, cut, has_body, head_of};
 pub use heads::{LONGEST_BODY, LONGEST_HEAD};
-pub use outcome::{Cut, Front};
-pub use requests::request_of;
+pub use outcome::{Cut, Extent, Front};
+pub use requests::{asked_by, request_of};
 pub use response::reply_bytes;

@@ -1,3 +1,16 @@
+use httparse::spans::Span;
+
+/// What a head says of its request: its length and that of the body, whether it is the last request that is answered, and
+/// where in the head its method and its target are.
+#[derive(Clone, Copy, Debug, PartialEq, Eq)]
+pub struct Extent {
+    pub head: usize,
+    pub body: usize,
+    pub closing: bool,
+    pub method: Span,
+    pub target: Span,
+}
+
 /// What stands at the front of the bytes that came.
 #[derive(Clone, Copy, Debug, PartialEq, Eq)]
 pub enum Cut {
@@ -19,16 +32,10 @@ pub enum Cut {
 /// What is known of a request by its head alone.
 #[derive(Clone, Copy, Debug, PartialEq, Eq)]
 pub enum Front {
-    /// The head is whole: so many bytes, and so many of body that follow it.
-    Head {
-        head: usize,
-        body: usize,
-        closing: bool,
-    },
+    /// The head is whole, and says this.
+    Head(Extent),
     /// The head has not ended yet.
     Unended,
     /// No request stands here, whatever follows.
-    Refused {
-        status: u16,
-    },
+    Refused { status: u16 },
 }

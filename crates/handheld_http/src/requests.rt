@@ -1,12 +1,14 @@
-ghost use Rattle.std.specs.Prelude.{◌≡◌, IfOk, IsUtf8};
+ghost use Rattle.std.specs.Prelude.{◌≡◌, ◌+◌, ◌≤◌, length, take, IfOk, IsUtf8};
+ghost use Rattle.handheld_http.specs.Cuts.{IsExtent};
 ghost use Rattle.handheld_http.specs.Heads as heads;
 ghost use Rattle.handheld_http.specs.Requests as spec;
-ghost use Rattle.handheld_http.specs.Requests.{IsAsked, RequestAsks, ResourceAsks, SyncAsks, WasCut};
+ghost use Rattle.handheld_http.specs.Requests.{IsAsked, Means, RequestAsks, ResourceAsks, SyncAsks, WasCut};
 
 use crate::answer::{Asked, Refusal};
 use crate::batch_json::batch_in;
 use crate::fields::is_post;
-use crate::heads::line_of;
+use crate::heads::judge;
+use crate::outcome::Extent;
 use crate::paths::{parts_of, path_of, view_of};
 use crate::routes::{Page, Resource, resource_of};
 use fact_kinds::Memory;
@@ -70,13 +72,26 @@ fn text_of(bytes: &[u8]) -> &str
     }
 }
 
-/// What the request asks that `cut` found at the front of these bytes, with a head of so many bytes: a batch or a view, or
-/// why it asks nothing.
+/// What the request at the front asks, whose head says this, and whose body is there: a batch or a view, or why it asks
+/// nothing.
+pub fn asked_by(alloc: Global, bytes: &[u8], extent: Extent) -> Result<Asked, Memory>
+    requires begins { IsExtent bytes.now extent }
+    requires whole { extent.head + extent.body ≤ length bytes.now }
+    ensures value { IfOk result (Means (take (extent.head + extent.body) bytes.now)) }
+{
+    let head = &bytes[..extent.head];
+    let body = &bytes[extent.head..extent.head + extent.body];
+    let target = text_of(extent.target.of(head));
+    asked_of(alloc, extent.method.of(head), target, body)
+}
+
+/// What the request asks that `cut` found at the front of these bytes, with a head of so many bytes.
 pub fn request_of(alloc: Global, bytes: &[u8], head: usize) -> Result<Asked, Memory>
     requires was_cut { WasCut bytes.now head }
     ensures value { IfOk result (IsAsked bytes.now head) }
 {
-    let line = line_of(&bytes[..head]);
-    let body = &bytes[head..head + line.body];
-    asked_of(alloc, line.method, text_of(line.target), body)
+    let Ok(extent) = judge(&bytes[..head]) else {
+        unreachable!()
+    };
+    asked_by(alloc, bytes, extent)
 }

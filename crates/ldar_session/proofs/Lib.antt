@@ -1,9 +1,10 @@
 pub mod BatchLemmas
-pub mod DockLemmas
+pub mod EndLemmas
+pub mod ItemLemmas
 pub mod RequestLemmas
 pub mod RequestStreams
 pub mod RunLemmas
-pub mod SessionLemmas
 pub mod StampLemmas
 pub mod StreamLemmas
 pub mod Stretches
+pub mod TalkLemmas

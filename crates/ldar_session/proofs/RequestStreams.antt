@@ -1,5 +1,5 @@
 -- Bytes are cut into requests in one way.
-use Rattle.std.proofs.Common.{◌≡◌, ℕ, zero, suc, inl, inr, Bool, true, false, List, [], ◌∷◌, ◌++◌, length, map, take, Option}
+use Rattle.std.proofs.Common.{◌≡◌, ℕ, zero, suc, inl, inr, Bool, true, false, List, [], ◌∷◌, ◌++◌, length, map, take, Option, Some, None}
 use Rattle.std.proofs.Common.{refl, sym, ap, subst, ◌∙◌, append_assoc, length-append, arith}
 use Rattle.std.specs.List.{flat_map, AllByRecursion}
 use Rattle.std.proofs.Math.Seq.{take-append_seam}
@@ -8,14 +8,26 @@ use Rattle.handheld_http.proofs.ItemLaws.{Begins-unique, items_in_range, more_is
 use Rattle.ldar_session.specs.declared.ended.Ended.{Ended}
 use Rattle.ldar_session.specs.declared.ended.Ended.TheVariants.{Done, Stopped, CutShort, Refused, ReadFault, WriteFault, Memory}
 use Rattle.ldar_session.specs.Served.{Served, items_of}
-use Rattle.ldar_session.specs.Session.{Ends, EndsOpen, LeavesNone}
-use Rattle.ldar_session.specs.Requests.{AreRequests, IsRequest, IsStream}
+use Rattle.ldar_law.specs.Machine.{Turn}
+use Rattle.ldar_session.specs.Session.{Ends, LeavesNone}
+use Rattle.ldar_session.specs.Speech.{IsAnswered}
+use Rattle.ldar_session.specs.Requests.{AreRequests, IsStream, request_speech}
 use Rattle.ldar_session.proofs.StreamLemmas.{cut_in_order, cut_both, items_of-items, same_front, same_behind}
 
--- what was answered is a request
-is_item : (closing : Bool) (s : Served) → IsRequest closing s → IsItem s.item
+-- what was answered is a request, after which the connection closes or not
+whole_by : (closing : Bool) (item text : List ℕ) (turn : Option Turn)
+    → IsAnswered request_speech closing (record { item = item; turn = turn; text = text }) → IsWhole item closing
+whole_by closing item text None is = is.whole
+whole_by closing item text (Some turn) is = is.0.whole
+
+-- .. also where it is the item of what was served
+whole_in : (closing : Bool) (s : Served) → IsAnswered request_speech closing s → IsWhole s.item closing
+whole_in closing s is = whole_by closing s.item s.text s.turn is
+
+-- .. so it is a request
+is_item : (closing : Bool) (s : Served) → IsAnswered request_speech closing s → IsItem s.item
 unfolding IsItem
-is_item closing s is = (closing, is.whole)
+is_item closing s is = (closing, whole_in closing s is)
 
 -- .. and each is
 are_items : (closing : Bool) (served : List Served) → AreRequests closing served → AllByRecursion IsItem (map (λ (s : Served). s.item) served)
@@ -43,7 +55,7 @@ in_order closing served rest requests more are all same =
     (ap (λ l. l ++ rest) (sym (items_of-items served)) ∙ same)
 
 -- no request stands in front of these bytes
-none_stands : (rest more : List ℕ) (closing : Bool) (s : Served) → HasNoItem rest → IsRequest closing s → rest ≡ s.item ++ more → ⊥
+none_stands : (rest more : List ℕ) (closing : Bool) (s : Served) → HasNoItem rest → IsAnswered request_speech closing s → rest ≡ s.item ++ more → ⊥
 none_stands rest more closing s none is same =
     let front : s.item ≡ take (length s.item) rest = sym (take-append_seam s.item more) ∙ ap (take (length s.item)) (sym same) in
     none (length s.item) (omega (arith, ap length same, length-append s.item more)) (subst (λ (l : List ℕ). IsItem l) front (is_item closing s is))
@@ -58,13 +70,13 @@ same_streams closing last s t [] [] rest left are are' none none' same =
 same_streams closing last s t [] (u ∷ other) rest left are are' none none' same =
     let more = items_of (u ∷ other) ++ left in
     let first = same_front IsItem no_proper_front_with s.item t.item rest more (is_item closing s are.0) (is_item false t are'.0) same in
-    let stays = whole_unique s.item closing false are.0.whole (subst (λ (i : List ℕ). IsWhole i false) (sym first) are'.0.whole) in
+    let stays = whole_unique s.item closing false (whole_in closing s are.0) (subst (λ (i : List ℕ). IsWhole i false) (sym first) (whole_in false t are'.0)) in
     let behind = same_behind s.item t.item rest more first same ∙ append_assoc u.item (items_of other) left in
     absurd (none_stands rest (items_of other ++ left) _ u (none stays) are'.1.0 behind)
 same_streams closing last s t (v ∷ served) [] rest left are are' none none' same =
     let more = items_of (v ∷ served) ++ rest in
     let first = same_front IsItem no_proper_front_with s.item t.item more left (is_item false s are.0) (is_item last t are'.0) same in
-    let stays = whole_unique s.item false last are.0.whole (subst (λ (i : List ℕ). IsWhole i last) (sym first) are'.0.whole) in
+    let stays = whole_unique s.item false last (whole_in false s are.0) (subst (λ (i : List ℕ). IsWhole i last) (sym first) (whole_in last t are'.0)) in
     let behind = sym (same_behind s.item t.item more left first same) ∙ append_assoc v.item (items_of served) rest in
     absurd (none_stands left (items_of served ++ rest) _ v (none' (sym stays)) are.1.0 behind)
 same_streams closing last s t (v ∷ served) (u ∷ other) rest left are are' none none' same =
@@ -113,31 +125,21 @@ none_in_nothing : HasNoItem []
 none_in_nothing zero within item = absurd (omega (arith, (items_in_range [] item).0))
 none_in_nothing (suc n) within item = absurd (omega (arith, within))
 
--- behind requests that stay open the input gave none more
-leaves_open : (ended : Ended) (served : List Served) (rest : List ℕ) (left : Option (List ℕ)) (unsaid : List ℕ) → EndsOpen ended served rest left unsaid
-    → IsStream served rest
-leaves_open Done served rest left unsaid ends = inl (ends.are, subst HasNoItem (sym ends.input.0) none_in_nothing)
-leaves_open Stopped served rest left unsaid ends = absurd ends.input
-leaves_open (CutShort got) served rest left unsaid ends = inl (ends.are, (more_is_none_with rest ends.input.2).0)
-leaves_open (Refused at) served rest left unsaid ends = absurd ends.input
-leaves_open ReadFault served rest left unsaid ends = inl (ends.are, (more_is_none_with rest ends.input).0)
-leaves_open WriteFault served rest left unsaid ends = absurd ends.input
-leaves_open Memory served rest left unsaid ends = absurd ends.input
-
 -- no whole request was left unanswered
 pub leaves_none : (ended : Ended) (served : List Served) (rest : List ℕ) (left : Option (List ℕ)) (unsaid : List ℕ) → Ends ended served rest left unsaid
     → LeavesNone ended served rest
-leaves_none Done served rest left unsaid (inl stays) = leaves_open Done served rest left unsaid stays
+leaves_none Done served rest left unsaid (inl stays) = inl (stays.are, subst HasNoItem (sym stays.input.0) none_in_nothing)
 leaves_none Done served rest left unsaid (inr closed) = inr (closed.are, closed.some)
 leaves_none Stopped served rest left unsaid ends = ends.most
-leaves_none (CutShort got) served rest left unsaid ends = leaves_open (CutShort got) served rest left unsaid ends
-leaves_none (Refused at) served rest left unsaid (ends, said) = (
+leaves_none (CutShort got) served rest left unsaid ends = inl (ends.are, (more_is_none_with rest ends.input.2).0)
+leaves_none (Refused at) served rest left unsaid (inl stays) = absurd stays.input.1
+leaves_none (Refused at) served rest left unsaid (inr (ends, said)) = (
   ends.before,
   ends.last,
   ends.served_are,
   ends.counted,
-  inl (ends.are, refused_is_none_with ends.last.item rest (ends.away.status, ends.away.refused)),
+  inl (ends.are, refused_is_none_with ends.last.item rest (ends.away.says.status, ends.away.says.refused)),
 )
-leaves_none ReadFault served rest left unsaid ends = leaves_open ReadFault served rest left unsaid ends
+leaves_none ReadFault served rest left unsaid ends = inl (ends.are, (more_is_none_with rest ends.input).0)
 leaves_none WriteFault served rest left unsaid ends = tt
 leaves_none Memory served rest left unsaid ends = tt

@@ -1,5 +1,5 @@
 -- Runs of the machine, as a connection sees them.
-use Rattle.std.proofs.Common.{◌≡◌, ℕ, List, [], ◌∷◌}
+use Rattle.std.proofs.Common.{◌≡◌, ◌≤◌, ℕ, List, [], ◌∷◌, arith}
 use Rattle.std.specs.List.{AllByRecursion}
 use Rattle.ldar_law.specs.Machine.{Call, Turn, Moment, Runs, IsOfCall}
 use Rattle.ldar_session.specs.Served.{HasItsClock}
@@ -14,3 +14,9 @@ own_clocks before end (turn ∷ turns) each = (each.0.returns, own_clocks before
 pub runs_have_clocks : (start end : Moment) (calls : List Call) → Runs start calls end → AllByRecursion HasItsClock calls
 runs_have_clocks start end [] run = tt
 runs_have_clocks start end (call ∷ calls) run = (own_clocks run.0.before call.end call.turns run.0.call, runs_have_clocks call.end end calls run.1)
+
+-- a run never sets the clock back: so no stamp of a connection over an office whose calls are a run is past the clock at its end
+pub run_never_falls : (start end : Moment) (calls : List Call) → Runs start calls end → start.clock ≤ end.clock
+run_never_falls start end [] run = run.2
+run_never_falls start end (call ∷ calls) run =
+    omega (arith, run.0.time, run_never_falls call.end end calls run.1)

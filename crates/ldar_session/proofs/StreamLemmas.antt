@@ -13,7 +13,7 @@ use Rattle.ldar_law.specs.Machine.{Turn}
 use Rattle.ldar_law.specs.Replies.{reply_text}
 use Rattle.ldar_session.specs.Served.{Served, items_of}
 use Rattle.ldar_session.specs.Batches.{Asks, IsBatch, IsSpelling}
-use Rattle.ldar_session.proofs.BatchLemmas.{items_of-map}
+use Rattle.ldar_session.proofs.ItemLemmas.{items_of-map}
 
 -- ---- spellings
 

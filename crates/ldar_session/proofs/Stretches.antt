@@ -1,5 +1,5 @@
 -- Stretches of a connection: none, one call, and two that join. What an item is does not matter.
-use Rattle.std.proofs.Common.{◌≡◌, ℕ, ◌≤◌, List, [], ◌∷◌, ◌++◌, length, take, Option, None, All, refl, sym, ap, subst, ◌∙◌, append_assoc, arith}
+use Rattle.std.proofs.Common.{◌≡◌, ℕ, ◌≤◌, List, [], ◌∷◌, ◌++◌, length, take, Option, None, All, refl, sym, ap, subst, ◌∙◌, append_assoc, length-append, arith}
 use Rattle.std.specs.List.{AllByRecursion}
 use Rattle.std.specs.Option.{option_to_list}
 use Rattle.std.proofs.lemmas.List.{append-nil}
@@ -9,12 +9,27 @@ use Rattle.list_words.proofs.Members.{all_append}
 use Rattle.ldar_law.specs.Machine.{Call, Turn}
 use Rattle.ldar_ports.specs.Sink.{Piece, Puts, IsStamped, bytes_of, stamps_of}
 use Rattle.ldar_ports.proofs.PutsLemmas.{puts_none, puts_more}
-use Rattle.ldar_session.specs.Served.{Served, Stretch, HasItsClock, Stamped, texts_of, turns_of}
+use Rattle.ldar_session.specs.Served.{Served, Stretch, LacksOneGroup, HasItsClock, Stamped, texts_of, turns_of}
 use Rattle.ldar_session.proofs.StampLemmas.{all_parts, length-stamps_of, stamped_more, stamped_behind, unasked_since}
+
+-- where all was said to the first items, only what is said to a group after them may be unsaid
+pub lacks_group : (first more : List Served) (put : List Piece) (unsaid : List ℕ) → length more ≤ 16 → texts_of more ≡ bytes_of put ++ unsaid
+    → LacksOneGroup (first ++ more) unsaid
+lacks_group first more put unsaid fits said = record {
+  before = first;
+  last = more;
+  served_are = refl;
+  group = fits;
+  lacks = omega (arith, ap length said, length-append (bytes_of put) unsaid);
+}
+
+-- where nothing is unsaid, nothing is
+pub lacks_none : (served : List Served) → LacksOneGroup served []
+lacks_none served = record { before = served; last = []; served_are = sym (append-nil served); group = omega arith; lacks = omega arith }
 
 module _ {O : Type 0} (IsItem : Served → Type 0) (led : O → List Call → O → Type 0) where
   -- nothing was served
-  pub stretch_none : ((office : O) → led office [] office) → (office : O) (pieces : Option (List Piece))
+  unfoldable pub stretch_none : ((office : O) → led office [] office) → (office : O) (pieces : Option (List Piece))
       → Stretch IsItem led office office pieces pieces [] []
   stretch_none stays office pieces = record {
     calls = [];
@@ -28,7 +43,7 @@ module _ {O : Type 0} (IsItem : Served → Type 0) (led : O → List Call → O 
   }
 
   -- one call, and behind it pieces that say what its turns were answered
-  pub stretch_call : (old new : O) (call : Call) (pieces pieces' : Option (List Piece)) (put : List Piece) (served : List Served) (unsaid : List ℕ) (clock : ℕ)
+  unfoldable pub stretch_call : (old new : O) (call : Call) (pieces pieces' : Option (List Piece)) (put : List Piece) (served : List Served) (unsaid : List ℕ) (clock : ℕ)
       → led old (call ∷ []) new → turns_of served ≡ call.turns → AllByRecursion IsItem served
       → Puts pieces put pieces' → texts_of served ≡ bytes_of put ++ unsaid → All (IsStamped clock) put → call.end.clock ≤ clock
       → Stretch IsItem led old new pieces pieces' served unsaid
@@ -44,7 +59,7 @@ module _ {O : Type 0} (IsItem : Served → Type 0) (led : O → List Call → O 
   }
 
   -- one call of which nothing is said
-  pub stretch_unsaid : (old new : O) (call : Call) (pieces : Option (List Piece)) (served : List Served)
+  unfoldable pub stretch_unsaid : (old new : O) (call : Call) (pieces : Option (List Piece)) (served : List Served)
       → led old (call ∷ []) new → turns_of served ≡ call.turns → AllByRecursion IsItem served
       → Stretch IsItem led old new pieces pieces served (texts_of served)
   stretch_unsaid old new call pieces served run are each =
@@ -52,7 +67,7 @@ module _ {O : Type 0} (IsItem : Served → Type 0) (led : O → List Call → O 
       (All-nil (IsStamped call.end.clock)) (omega arith)
 
   -- no call, and pieces that say a front of what is said to an item that asked nothing
-  pub stretch_put : ((office : O) → led office [] office) → (office : O) (pieces pieces' : Option (List Piece)) (put : List Piece)
+  unfoldable pub stretch_put : ((office : O) → led office [] office) → (office : O) (pieces pieces' : Option (List Piece)) (put : List Piece)
       → (s : Served) (unsaid : List ℕ)
       → s.turn ≡ None → IsItem s → Puts pieces put pieces' → s.text ≡ bytes_of put ++ unsaid
       → Stretch IsItem led office office pieces pieces' (s ∷ []) unsaid
@@ -67,8 +82,22 @@ module _ {O : Type 0} (IsItem : Served → Type 0) (led : O → List Call → O 
     stamped = λ own. (unasked_since s (take (length s.text) (stamps_of put)) unasked, tt);
   }
 
+  -- a stretch whose items are of another kind, too
+  abbrev pub stretch_of : (IsOther : Served → Type 0) (old new : O) (pieces pieces' : Option (List Piece)) (served : List Served) (unsaid : List ℕ)
+      → Stretch IsItem led old new pieces pieces' served unsaid → AllByRecursion IsOther served → Stretch IsOther led old new pieces pieces' served unsaid
+  stretch_of IsOther old new pieces pieces' served unsaid stretch each = record {
+    calls = stretch.calls;
+    put = stretch.put;
+    run = stretch.run;
+    turns = stretch.turns;
+    each = each;
+    puts = stretch.puts;
+    said = stretch.said;
+    stamped = stretch.stamped;
+  }
+
   -- a stretch of which all is said, and one behind it
-  pub stretch_more : ((a b c : O) (first second : List Call) → led a first b → led b second c → led a (first ++ second) c)
+  unfoldable pub stretch_more : ((a b c : O) (first second : List Call) → led a first b → led b second c → led a (first ++ second) c)
       → (old middle new : O) (pieces pieces' pieces'' : Option (List Piece)) (first second : List Served) (unsaid : List ℕ)
       → Stretch IsItem led old middle pieces pieces' first [] → Stretch IsItem led middle new pieces' pieces'' second unsaid
       → Stretch IsItem led old new pieces pieces'' (first ++ second) unsaid

@@ -3,3 +3,4 @@ pub mod Dock
 pub mod Requests
 pub mod Served
 pub mod Session
+pub mod Speech

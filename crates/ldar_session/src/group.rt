@@ -1,106 +1,117 @@
-ghost use Rattle.std.specs.Prelude.{◌≡◌, ◌≢◌, ◌<◌, ◌≤◌, ◌⊎◌, length, drop, take, IfOk, OnOk, IfNone, IfSome};
+ghost use Rattle.std.specs.Prelude.{◌≡◌, ◌<◌, ◌≤◌, ◌⊎◌, ◌↔◌, true, length, drop, IsTrue, IfOk, OnOk, IfNone, IfSome};
 ghost use Rattle.std.specs.List.{AllByRecursion};
-ghost use Rattle.ldar_facts.specs.Grammar.{Spells};
 ghost use Rattle.office_book.specs.Asking.{IsFromHandheld};
-ghost use Rattle.ldar_session.specs.Batches.{IsGroup, StandInFront, NoneJoins};
-ghost use Rattle.ldar_session.specs.Dock.{IsFront};
+ghost use Rattle.ldar_session.specs.Speech.{AreInFront, IsGroup, IsQuestion, NoneJoins};
 
 use crate::Memory;
-use fact_kinds::{Batch, FRAME_BATCHES};
-use ldar_facts::{Read, read_batch};
+use crate::item::{Front, Item, Question};
+use crate::protocol::Protocol;
+use fact_kinds::FRAME_BATCHES;
 use ldar_law::Request;
 use std::alloc::Global;
 
-/// Batches that are asked at once, and in how many bytes they stand.
+/// Requests that are asked at once, in so many bytes, and whether the last closes the connection.
 #[derive(Drop)]
 pub struct Group {
     pub requests: Vec<Request>,
     pub used: usize,
+    pub closing: bool,
 }
 
-/// What stands at the front of some bytes.
-#[derive(Drop)]
-pub enum Front {
-    Together(Group),
-    /// The beginning of a batch, and no batch.
-    Unfinished,
-    /// No batch goes on with the byte at this place.
-    Wrong { at: usize },
-}
-
-/// The batches at the front that are asked at once: one of handheld 0, or at most so many of other
-/// handhelds.
-pub fn front_of(alloc: Global, bytes: &[u8], most: usize) -> Result<Front, Memory>
-    requires { 0 < most }
-    ensures value { IfOk result (λ front. IsFront bytes.now most front) }
-{
-    match read_batch(alloc, bytes)? {
-        Read::Whole { batch, used } => Ok(Front::Together(group_from(
-            alloc, bytes, most, batch, used,
-        )?)),
-        Read::Short => Ok(Front::Unfinished),
-        Read::Bad { at } => Ok(Front::Wrong { at }),
-    }
-}
-
-/// The group that begins with this batch, of so many bytes.
-fn group_from(
+/// The requests that are asked with the one at the front: a batch of a handheld other than 0 is asked with the whole
+/// batches of such handhelds that follow it, at most so many.
+pub fn group_from<P: Protocol>(
     alloc: Global,
     bytes: &[u8],
     most: usize,
-    batch: Batch,
-    used: usize,
+    first: Question,
 ) -> Result<Group, Memory>
     requires some { 0 < most }
-    requires within { used ≤ length bytes.now }
-    requires spells { Spells (take used bytes.now) batch }
-    ensures value { IfOk result (λ group. IsGroup bytes.now most group.requests.items group.used) }
+    requires first { IsQuestion P.speech bytes.now first }
+    ensures value { IfOk result (λ group. IsGroup P.speech bytes.now most group.requests.items group.closing group.used) }
 {
-    let is_alone = batch.handheld == 0;
+    let is_alone = is_asked_alone(&first.request);
+    let used = first.used;
+    let closing = first.closing;
     let mut requests = Vec::with_capacity(alloc, FRAME_BATCHES)?;
-    requests.push(Request::Sync(batch))?;
-    let mut group = Group { requests, used };
+    requests.push(first.request)?;
+    let mut group = Group {
+        requests,
+        used,
+        closing,
+    };
     if is_alone {
         return Ok(group);
     }
-    add_others(alloc, bytes, most, &mut group)?;
+    add_others::<P>(alloc, bytes, most, &mut group)?;
     Ok(group)
 }
 
-/// Adds the batches behind those of a group, up to one of handheld 0, or until they are so many.
-fn add_others(alloc: Global, bytes: &[u8], most: usize, group: &mut Group) -> Result<(), Memory>
-    requires stand { StandInFront bytes.now group.old.requests.items group.old.used }
+/// Adds the batches after those of a group, up to a closing one, or to an item that is no batch of a handheld other than
+/// 0, or until there are so many.
+fn add_others<P: Protocol>(
+    alloc: Global,
+    bytes: &[u8],
+    most: usize,
+    group: &mut Group,
+) -> Result<(), Memory>
+    requires in_front { AreInFront P.speech bytes.now group.old.requests.items group.old.closing group.old.used }
     requires fits { length group.old.requests.items ≤ most }
     requires each { AllByRecursion IsFromHandheld group.old.requests.items }
-    ensures stand { StandInFront bytes.now group.new.requests.items group.new.used }
+    ensures in_front { AreInFront P.speech bytes.now group.new.requests.items group.new.closing group.new.used }
     ensures fits { length group.new.requests.items ≤ most }
     ensures each { AllByRecursion IsFromHandheld group.new.requests.items }
     ensures grows { length group.old.requests.items ≤ length group.new.requests.items }
-    ensures full { OnOk result ((length group.new.requests.items ≡ most) ⊎ NoneJoins (drop group.new.used bytes.now)) }
+    ensures full { OnOk result ((length group.new.requests.items ≡ most)
+        ⊎ ((group.new.closing ≡ true) ⊎ NoneJoins P.speech (drop group.new.used bytes.now))) }
 {
     'others: while group.requests.len() < most {
-        let Some((batch, used)) = next_other(alloc, &bytes[group.used..])? else {
+        if group.closing {
+            return Ok(());
+        }
+        let Some(other) = next_other::<P>(alloc, &bytes[group.used..])? else {
             return Ok(());
         };
-        group.requests.push(Request::Sync(batch))?;
+        let used = other.used;
+        let closing = other.closing;
+        group.requests.push(other.request)?;
         group.used += used;
+        group.closing = closing;
     }
     Ok(())
 }
 
-/// The batch at the front and its length, where there is one of a handheld other than 0.
-fn next_other(alloc: Global, bytes: &[u8]) -> Result<Option<(Batch, usize)>, Memory>
-    ensures none { IfOk result (λ found. IfNone found (NoneJoins bytes.now)) }
-    ensures found { IfOk result (λ found. IfSome found (λ other. (other.1 ≤ length bytes.now)
-        × Spells (take other.1 bytes.now) other.0 × (other.0.handheld ≢ 0))) }
+/// The item at the front, if it asks for a batch of a handheld other than 0.
+fn next_other<P: Protocol>(alloc: Global, bytes: &[u8]) -> Result<Option<Question>, Memory>
+    ensures none { IfOk result (λ found. IfNone found (NoneJoins P.speech bytes.now)) }
+    ensures found { IfOk result (λ found. IfSome found (IsQuestion P.speech bytes.now)) }
+    ensures joins { IfOk result (λ found. IfSome found (λ other. IsFromHandheld other.request)) }
 {
-    match read_batch(alloc, bytes)? {
-        Read::Whole { batch, used } => {
-            if batch.handheld == 0 {
+    let mut protocol = P::new();
+    match protocol.front(alloc, bytes)? {
+        Front::Whole(Item::Asks(question)) => {
+            if is_asked_alone(&question.request) {
                 return Ok(None);
             }
-            Ok(Some((batch, used)))
+            Ok(Some(question))
         }
-        Read::Short | Read::Bad { .. } => Ok(None),
+        Front::Whole(Item::Says(_) | Item::Away(_)) | Front::Unfinished | Front::Wrong { .. } => {
+            Ok(None)
+        }
+    }
+}
+
+/// Whether a request never shares a frame of the journal: it is no batch, or one of handheld 0.
+fn is_asked_alone(request: &Request) -> bool
+    ensures value { IsTrue result ↔ (¬ (IsFromHandheld request.now)) }
+{
+    match request {
+        Request::Sync(batch) => batch.handheld == 0,
+        Request::Due { .. }
+        | Request::Tags { .. }
+        | Request::Delays { .. }
+        | Request::Route { .. }
+        | Request::Percent { .. }
+        | Request::Report { .. } => true,
     }
 }

@@ -1,19 +1,18 @@
-//! One connection of an office: what it is sent is asked in order, and the replies are put behind it.
+//! One connection of an office: what it is sent is asked in order, and each reply is put after it was asked.
 #![tactic(auto)]
 
-mod answering;
-mod arriving;
-mod asking;
+mod answer;
+mod batches;
 mod connection;
-mod docking;
 mod ended;
-mod extent;
 mod group;
+mod input;
+mod item;
 pub mod laws;
-mod together;
+mod protocol;
+mod requests;
 
-pub use connection::session;
-pub use docking::dock;
+pub use connection::{dock, session};
 pub use ended::{Ended, MOST_ANSWERS};
 /// Memory ran out.
 pub use std::alloc::AllocError as Memory;
