@@ -23,7 +23,7 @@ CountFrom-push number [] next counted is = (omega (arith, is), tt)
 CountFrom-push number (first ∷ more) next counted is = (counted.0, CountFrom-push (number + 1) more next counted.1 (omega arith))
 
 -- the revisions of a unit's half with one report more
-revisions_put : (unit half : ℕ) (all : List Filed) (next : Filed)
+pub revisions_put : (unit half : ℕ) (all : List Filed) (next : Filed)
     → revisions unit half (all ++ next ∷ []) ≡ revisions unit half all ++ filter (is_filed_for unit half) (next ∷ [])
 revisions_put unit half all next = filter-append (is_filed_for unit half) all (next ∷ [])
 
@@ -46,7 +46,7 @@ numbered_put all next numbered is unit half = elim (cases_Bool (is_filed_for uni
 -- ---- the last revision
 
 -- the number after that of the last report, or another where there is none
-abbrev after : ℕ → Option Filed → ℕ
+abbrev pub after : ℕ → Option Filed → ℕ
 after number None = number
 after number (Some last) = last.revision + 1
 
@@ -62,7 +62,7 @@ or_none None = refl
 or_none (Some last) = refl
 
 -- the last report has the number of how many there are
-last_counted : (p : Filed → Bool) (number : ℕ) (all : List Filed) → CountFrom number (filter p all)
+pub last_counted : (p : Filed → Bool) (number : ℕ) (all : List Filed) → CountFrom number (filter p all)
     → after number (last_such p all) ≡ length (filter p all) + number
 last_counted p number [] counted = omega arith
 last_counted p number (filed ∷ more) counted = elim (cases_Bool (p filed)) [

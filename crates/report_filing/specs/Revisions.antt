@@ -1,5 +1,5 @@
 -- The map that a filing is: of each unit and half its revisions, which count from 1.
-use Rattle.std.specs.Prelude.{◌≡◌, ℕ, ◌+◌, Bool, ◌&&◌, nat_eq, Option, List, [], ◌∷◌, filter, length}
+use Rattle.std.specs.Prelude.{◌≡◌, ℕ, ◌+◌, Bool, ◌&&◌, nat_eq, Option, List, [], ◌∷◌, filter, find, length}
 use Rattle.list_words.specs.Words.{last_such}
 use Rattle.ldar_law.specs.declared.report.Filed.{Filed}
 
@@ -14,6 +14,14 @@ revisions unit half all = filter (is_filed_for unit half) all
 -- the last revision of a unit's half
 abbrev pub latest_of : ℕ → ℕ → List Filed → Option Filed
 latest_of unit half all = last_such (is_filed_for unit half) all
+
+-- filed for this unit and half under this number
+abbrev pub is_revision : ℕ → ℕ → ℕ → Filed → Bool
+is_revision unit half revision filed = is_filed_for unit half filed && nat_eq filed.revision revision
+
+-- the revision of this number of a unit's half
+abbrev pub revision_of : ℕ → ℕ → ℕ → List Filed → Option Filed
+revision_of unit half revision all = find (is_revision unit half revision) all
 
 -- the revisions count on from this number
 abbrev pub CountFrom : ℕ → List Filed → Type 0

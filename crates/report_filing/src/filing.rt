@@ -2,7 +2,7 @@ ghost use Rattle.std.specs.Prelude.{◌≡◌, ◌≤◌, ℕ, List, [], ◌∷�
 ghost use Rattle.disk_model.specs.Faults.{Rose};
 ghost use Rattle.disk_model.specs.Told.{Told, BothTold};
 ghost use Rattle.ldar_law.specs.declared.report.Filed.{Filed};
-ghost use Rattle.report_filing.specs.Revisions.{latest_of, AreNumbered, IsNext};
+ghost use Rattle.report_filing.specs.Revisions.{latest_of, revision_of, AreNumbered, IsNext};
 
 use fact_kinds::Memory;
 use ldar_law::Filed;
@@ -39,6 +39,20 @@ pub trait Filing {
     /// The last revision of a unit's half, if one was filed.
     fn latest(&mut self, alloc: Global, unit: u8, half: u16) -> Result<Option<Filed>, FilingFault>
         ensures value { IfOk result (λ found. Told (on_file self.old) (λ old. found ≡ latest_of unit half old)) }
+        ensures numbered { Told (on_file self.old) AreNumbered }
+        ensures unchanged { on_file self.new ≡ on_file self.old }
+        ensures count { faults self.old ≤ faults self.new }
+        ensures cause { result ≡ Err FilingFault.Failed → Rose (faults self.old) (faults self.new) };
+
+    /// The revision of this number of a unit's half, if it was filed.
+    fn revision(
+        &mut self,
+        alloc: Global,
+        unit: u8,
+        half: u16,
+        revision: u32,
+    ) -> Result<Option<Filed>, FilingFault>
+        ensures value { IfOk result (λ found. Told (on_file self.old) (λ old. found ≡ revision_of unit half revision old)) }
         ensures numbered { Told (on_file self.old) AreNumbered }
         ensures unchanged { on_file self.new ≡ on_file self.old }
         ensures count { faults self.old ≤ faults self.new }

@@ -1,5 +1,5 @@
 ghost use Rattle.std.specs.Prelude.{◌≡◌, Some, [], ◌∷◌, ◌++◌, IfOk, OnOk, OnErr, option_map};
-ghost use Rattle.report_filing.specs.Revisions.{is_filed_for, latest_of, AreNumbered, IsNext};
+ghost use Rattle.report_filing.specs.Revisions.{is_filed_for, latest_of, is_revision, revision_of, AreNumbered, IsNext};
 
 use crate::cells::copy_of;
 use crate::{Filing, FilingFault, Memory};
@@ -71,6 +71,21 @@ fn latest_among(all: &[Filed], unit: u8, half: u16) -> Option<&Filed>
         .find(|filed| is_filed_for(filed, unit, half))
 }
 
+/// Whether a report was filed for this unit and half under this number.
+fn is_revision(filed: &Filed, unit: u8, half: u16, revision: u32) -> bool
+    ensures value { result ≡ is_revision unit half revision filed.now }
+{
+    is_filed_for(filed, unit, half) && filed.revision == revision
+}
+
+/// The revision of this number of a unit's half.
+fn revision_among(all: &[Filed], unit: u8, half: u16, revision: u32) -> Option<&Filed>
+    ensures value { option_map (λ filed. filed.now) result ≡ revision_of unit half revision all.now }
+{
+    all.iter()
+        .find(|filed| is_revision(filed, unit, half, revision))
+}
+
 /// The same report on file once more.
 fn copied(alloc: Global, filed: &Filed) -> Result<Filed, Memory>
     ensures value { IfOk result (λ copy. copy ≡ filed.now) }
@@ -91,6 +106,19 @@ impl Filing for MapFiling {
 
     fn latest(&mut self, alloc: Global, unit: u8, half: u16) -> Result<Option<Filed>, FilingFault> {
         match latest_among(&self.all, unit, half) {
+            Some(filed) => Ok(Some(copied(alloc, filed)?)),
+            None => Ok(None),
+        }
+    }
+
+    fn revision(
+        &mut self,
+        alloc: Global,
+        unit: u8,
+        half: u16,
+        revision: u32,
+    ) -> Result<Option<Filed>, FilingFault> {
+        match revision_among(&self.all, unit, half, revision) {
             Some(filed) => Ok(Some(copied(alloc, filed)?)),
             None => Ok(None),
         }

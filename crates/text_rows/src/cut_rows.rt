@@ -119,14 +119,15 @@ fn requests_are_cut(rt: HostRuntime) -> Result<(), Fail> {
 
 #[test]
 fn a_head_is_known_before_its_body(rt: HostRuntime) -> Result<(), Fail> {
-    let known = Front::Head {
-        head: 83,
-        body: 2,
-        closing: false,
-    };
     assert_eq!(rt; head_of(&POST[..82]), Front::Unended);
-    assert_eq!(rt; head_of(&POST[..83]), known);
-    assert_eq!(rt; head_of(POST), known);
+    for bytes in [&POST[..83], POST] {
+        let Front::Head(extent) = head_of(bytes) else {
+            return Err(Fail::from("a head"));
+        };
+        assert_eq!(rt; (extent.head, extent.body, extent.closing), (83, 2, false));
+        assert_eq!(rt; (extent.method.start, extent.method.end), (0, 4));
+        assert_eq!(rt; (extent.target.start, extent.target.end), (5, 10));
+    }
     Ok(())
 }
 

@@ -65,6 +65,23 @@ impl Filing for FailingFiling {
         self.kept.latest(alloc, unit, half)
     }
 
+    fn revision(
+        &mut self,
+        alloc: Global,
+        unit: u8,
+        half: u16,
+        revision: u32,
+    ) -> Result<Option<Filed>, FilingFault> {
+        let _kept = self.kept.as_slice();
+        let call = self.calls;
+        self.calls = call.saturating_add(1);
+        if call == self.failing {
+            self.faults = self.faults.saturating_add(1);
+            return Err(FilingFault::Failed);
+        }
+        self.kept.revision(alloc, unit, half, revision)
+    }
+
     fn put(&mut self, alloc: Global, filed: &Filed) -> Result<(), FilingFault> {
         let call = self.calls;
         self.calls = call.saturating_add(1);
@@ -100,6 +117,17 @@ impl Filing for FullFiling {
                 stops: Items::new(Vec::new(alloc)),
             },
         }))
+    }
+
+    fn revision(
+        &mut self,
+        alloc: Global,
+        unit: u8,
+        half: u16,
+        revision: u32,
+    ) -> Result<Option<Filed>, FilingFault> {
+        let last = self.latest(alloc, unit, half)?;
+        Ok(last.filter(|filed| filed.revision == revision))
     }
 
     fn put(&mut self, _alloc: Global, _filed: &Filed) -> Result<(), FilingFault> {

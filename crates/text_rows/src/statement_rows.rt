@@ -1,6 +1,8 @@
-use filed_rows::{Error, ErrorCode, FiledRow, InMemory, Place, Table};
-use sqlite::{Connection, MemStore};
+use crate::shared::path_of;
+use report_table::{AtPath, Error, ErrorCode, FiledRow, InMemory, Table};
+use sqlite::Connection;
 use std::alloc::Global;
+use std::fs;
 use std::test::Fail;
 
 /// A row of unit 1 with this half and revision, and this byte for its shutdowns.
@@ -17,9 +19,9 @@ fn row(alloc: Global, half: u16, revision: u32, stops: u8) -> Result<FiledRow, F
 }
 
 /// The revision and the shutdowns of the row that is found.
-fn found<P: Place>(
+fn found<T: Table>(
     alloc: Global,
-    table: &mut Table<P>,
+    table: &mut T,
     half: u16,
 ) -> Result<Option<(u32, Vec<u8>)>, Error> {
     Ok(
@@ -29,38 +31,10 @@ fn found<P: Place>(
     )
 }
 
-/// A store whose table has a row with a text in place of its shutdowns' bytes.
-#[derive(Drop)]
-struct Spoiled;
-
-impl Place for Spoiled {
-    type Store = MemStore;
-
-    fn open(&self, alloc: Global) -> Result<Connection<MemStore>, Error> {
-        let mut conn = Connection::open_in_memory(alloc)?;
-        conn.execute_batch(
-            "CREATE TABLE filed (unit INTEGER NOT NULL, half INTEGER NOT NULL, revision INTEGER NOT NULL, day INTEGER NOT NULL, months BLOB NOT NULL, delays BLOB NOT NULL, stops BLOB NOT NULL, PRIMARY KEY (unit, half, revision)) STRICT; INSERT INTO filed VALUES (1, 8, 5000000000, 19813, x'00', x'', x'')",
-        )?;
-        Ok(conn)
-    }
-}
-
-/// No store.
-#[derive(Drop)]
-struct Nowhere;
-
-impl Place for Nowhere {
-    type Store = MemStore;
-
-    fn open(&self, _alloc: Global) -> Result<Connection<MemStore>, Error> {
-        Err(Error::SqliteFailure(ErrorCode::CannotOpen))
-    }
-}
-
 #[test]
 fn the_greatest_revision_is_found(rt: HostRuntime) -> Result<(), Fail> {
     let alloc = rt.alloc();
-    let mut table = Table::new(InMemory);
+    let mut table = InMemory::new();
     assert!(rt; found(alloc, &mut table, 8).ok().ok_or("refused")?.is_none());
     // The half, the revision and the shutdowns of what is put, and whether it is taken.
     let cases = [
@@ -86,7 +60,7 @@ fn the_greatest_revision_is_found(rt: HostRuntime) -> Result<(), Fail> {
 #[test]
 fn a_statement_past_the_limit_on_steps_is_refused(rt: HostRuntime) -> Result<(), Fail> {
     let alloc = rt.alloc();
-    let mut table = Table::new(InMemory);
+    let mut table = InMemory::new();
     assert!(rt; table.insert(alloc, &row(alloc, 8, 1, 7)?).is_ok());
     table.set_step_limit(Some(0));
     let interrupted = Err(Error::SqliteFailure(ErrorCode::OperationInterrupted));
@@ -100,11 +74,26 @@ fn a_statement_past_the_limit_on_steps_is_refused(rt: HostRuntime) -> Result<(),
     Ok(())
 }
 
+/// A store at a path, whose table has a row with a revision past the greatest number.
+fn spoil(rt: &HostRuntime, path: &str) -> Result<(), Error> {
+    Connection::open(rt, path)?.execute_batch(
+        "CREATE TABLE filed (unit INTEGER NOT NULL, half INTEGER NOT NULL, revision INTEGER NOT NULL, day INTEGER NOT NULL, months BLOB NOT NULL, delays BLOB NOT NULL, stops BLOB NOT NULL, PRIMARY KEY (unit, half, revision)) STRICT; INSERT INTO filed VALUES (1, 8, 5000000000, 19813, x'00', x'', x'')",
+    )
+}
+
+/// The table at a path.
+fn at_path(rt: &HostRuntime, path: &str) -> Result<AtPath, Fail> {
+    Ok(AtPath::new(*rt, String::from_str(rt.alloc(), path)?))
+}
+
 #[test]
 fn no_row_is_found_where_it_does_not_read_back(rt: HostRuntime) -> Result<(), Fail> {
     let alloc = rt.alloc();
-    assert!(rt; found(alloc, &mut Table::new(Spoiled), 8).is_err());
-    assert!(rt; found(alloc, &mut Table::new(Spoiled), 9).is_ok());
-    assert!(rt; found(alloc, &mut Table::new(Nowhere), 8).is_err());
-    Ok(())
+    let path = path_of(&rt, "spoiled")?;
+    let path = path.as_str();
+    assert!(rt; spoil(&rt, path).is_ok());
+    assert!(rt; found(alloc, &mut at_path(&rt, path)?, 8).is_err());
+    assert!(rt; found(alloc, &mut at_path(&rt, path)?, 9).is_ok());
+    assert!(rt; found(alloc, &mut at_path(&rt, "/no such folder/filed")?, 8).is_err());
+    Ok(fs::remove_file(&rt, path)?)
 }

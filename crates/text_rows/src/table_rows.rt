@@ -1,12 +1,13 @@
-use crate::shared::day;
+ghost use Rattle.std.specs.Prelude.{None};
+
+use crate::shared::{day, path_of};
 use fact_kinds::{Key, Name};
-use filed_rows::{Error, ErrorCode};
-use filed_table::{InMemory, Place, TableFiling};
 use ldar_days::Day;
-use ldar_law::{Cells, DelayEntry, DelayLine, Items, MonthCells, Report, Stop, Until};
-use report_filing::{FileError, file_report};
-use sqlite::{Connection, MemStore};
+use ldar_law::{Amended, Cells, DelayEntry, DelayLine, Items, MonthCells, Report, Stop, Until};
+use report_filing::{FileError, Filing, amended_cells, file_report};
+use report_table::{AtPath, Error, ErrorCode, FiledRow, InMemory, Table, TableFiling};
 use std::alloc::Global;
+use std::fs;
 use std::test::Fail;
 
 /// A line on a repair that is delayed until then.
@@ -64,30 +65,69 @@ fn report(alloc: Global, half: u16, late_in_march: u32) -> Result<Report, Fail> 
     })
 }
 
-/// A store whose table has a row with too few bytes for its numbers.
+/// A table with one row for half 8, which has too few bytes for its numbers.
 #[derive(Drop)]
 struct Spoiled;
 
-impl Place for Spoiled {
-    type Store = MemStore;
+impl Table for Spoiled {
+    ghost rows = { λ t. None };
 
-    fn open(&self, alloc: Global) -> Result<Connection<MemStore>, Error> {
-        let mut conn = Connection::open_in_memory(alloc)?;
-        conn.execute_batch(
-            "CREATE TABLE filed (unit INTEGER NOT NULL, half INTEGER NOT NULL, revision INTEGER NOT NULL, day INTEGER NOT NULL, months BLOB NOT NULL, delays BLOB NOT NULL, stops BLOB NOT NULL, PRIMARY KEY (unit, half, revision)) STRICT; INSERT INTO filed VALUES (1, 8, 1, 19813, x'00', x'', x'')",
-        )?;
-        Ok(conn)
+    fn set_step_limit(&mut self, _steps: Option<u64>) {}
+
+    fn insert(&mut self, _alloc: Global, _row: &FiledRow) -> Result<(), Error> {
+        Ok(())
+    }
+
+    fn latest(&mut self, alloc: Global, unit: u8, half: u16) -> Result<Option<FiledRow>, Error> {
+        if half != 8 {
+            return Ok(None);
+        }
+        Ok(Some(FiledRow {
+            unit,
+            half,
+            revision: 1,
+            day: 19_813,
+            months: vec![in alloc; 0]?,
+            delays: Vec::new(alloc),
+            stops: Vec::new(alloc),
+        }))
+    }
+
+    fn revision(
+        &mut self,
+        alloc: Global,
+        unit: u8,
+        half: u16,
+        _revision: u32,
+    ) -> Result<Option<FiledRow>, Error> {
+        self.latest(alloc, unit, half)
     }
 }
 
-/// No store.
+/// A table whose store cannot be opened.
 #[derive(Drop)]
 struct Nowhere;
 
-impl Place for Nowhere {
-    type Store = MemStore;
+impl Table for Nowhere {
+    ghost rows = { λ t. None };
 
-    fn open(&self, _alloc: Global) -> Result<Connection<MemStore>, Error> {
+    fn set_step_limit(&mut self, _steps: Option<u64>) {}
+
+    fn insert(&mut self, _alloc: Global, _row: &FiledRow) -> Result<(), Error> {
+        Err(Error::SqliteFailure(ErrorCode::CannotOpen))
+    }
+
+    fn latest(&mut self, _alloc: Global, _unit: u8, _half: u16) -> Result<Option<FiledRow>, Error> {
+        Err(Error::SqliteFailure(ErrorCode::CannotOpen))
+    }
+
+    fn revision(
+        &mut self,
+        _alloc: Global,
+        _unit: u8,
+        _half: u16,
+        _revision: u32,
+    ) -> Result<Option<FiledRow>, Error> {
         Err(Error::SqliteFailure(ErrorCode::CannotOpen))
     }
 }
@@ -95,7 +135,7 @@ impl Place for Nowhere {
 #[test]
 fn a_report_with_other_cells_is_the_next_revision(rt: HostRuntime) -> Result<(), Fail> {
     let alloc = rt.alloc();
-    let mut filing = TableFiling::new(InMemory);
+    let mut filing = TableFiling::new(InMemory::new());
     // The half, the number in March, the limit on steps, and what is answered.
     let cases = [
         (8, 1, None, Ok(1)),
@@ -131,4 +171,83 @@ fn nothing_is_filed_where_the_store_fails(rt: HostRuntime) -> Result<(), Fail> {
         Err(FileError::Fault)
     );
     Ok(())
+}
+
+/// What the later of two revisions amends, or nothing if one of them is not on file.
+fn amended<F: Filing>(
+    alloc: Global,
+    filing: &mut F,
+    from: u32,
+    to: u32,
+) -> Result<Option<Vec<Amended>>, Fail> {
+    let Some(old) = filing.revision(alloc, 1, 8, from).ok().ok_or("failed")? else {
+        return Ok(None);
+    };
+    let Some(new) = filing.revision(alloc, 1, 8, to).ok().ok_or("failed")? else {
+        return Ok(None);
+    };
+    Ok(Some(amended_cells(alloc, &old.cells, &new.cells)?))
+}
+
+/// Whether this is what the second revision amends of the first: month 6, column 2, from 1 to 0.
+fn is_late_repair(amended: &[Amended]) -> bool {
+    let want = Amended {
+        month: 6,
+        column: 2,
+        old: 1,
+        new: 0,
+    };
+    amended == [want].as_slice()
+}
+
+#[test]
+fn revisions_in_memory_amend_each_other(rt: HostRuntime) -> Result<(), Fail> {
+    let alloc = rt.alloc();
+    let mut filing = TableFiling::new(InMemory::new());
+    assert_eq!(rt;
+        file_report(alloc, &mut filing, &report(alloc, 8, 1)?),
+        Ok(1)
+    );
+    assert_eq!(rt;
+        file_report(alloc, &mut filing, &report(alloc, 8, 0)?),
+        Ok(2)
+    );
+    let late = amended(alloc, &mut filing, 1, 2)?.ok_or("none")?;
+    assert!(rt; is_late_repair(&late));
+    assert!(rt; amended(alloc, &mut filing, 2, 2)?.ok_or("none")?.is_empty());
+    assert!(rt; amended(alloc, &mut filing, 1, 3)?.is_none());
+    assert!(rt; amended(alloc, &mut filing, 0, 1)?.is_none());
+    Ok(())
+}
+
+/// The reports on file at a path, as a run of the program of its own has them.
+fn at_path(rt: &HostRuntime, path: &str) -> Result<TableFiling<AtPath>, Fail> {
+    let path = String::from_str(rt.alloc(), path)?;
+    Ok(TableFiling::new(AtPath::new(*rt, path)))
+}
+
+/// Files this report in a run of its own.
+fn filed_at(rt: &HostRuntime, path: &str, report: &Report) -> Result<Result<u32, FileError>, Fail> {
+    Ok(file_report(rt.alloc(), &mut at_path(rt, path)?, report))
+}
+
+#[test]
+fn reports_stay_on_file_at_a_path(rt: HostRuntime) -> Result<(), Fail> {
+    let alloc = rt.alloc();
+    let path = path_of(&rt, "filed")?;
+    let path = path.as_str();
+    // A question for a revision makes no file.
+    assert!(rt; amended(alloc, &mut at_path(&rt, path)?, 1, 2)?.is_none());
+    assert!(rt; !fs::exists(&rt, path)?);
+    let first = report(alloc, 8, 1)?;
+    assert_eq!(rt; filed_at(&rt, path, &first)?, Ok(1));
+    assert_eq!(rt;
+        filed_at(&rt, path, &first)?,
+        Err(FileError::Same { revision: 1 })
+    );
+    assert_eq!(rt; filed_at(&rt, path, &report(alloc, 8, 0)?)?, Ok(2));
+    let late = amended(alloc, &mut at_path(&rt, path)?, 1, 2)?.ok_or("none")?;
+    assert!(rt; is_late_repair(&late));
+    assert!(rt; amended(alloc, &mut at_path(&rt, path)?, 1, 3)?.is_none());
+    Ok(fs::remove_file(&rt, path)?)
 }

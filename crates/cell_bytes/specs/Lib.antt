@@ -1,2 +1,0 @@
-pub mod CellBytes
-pub mod Kept

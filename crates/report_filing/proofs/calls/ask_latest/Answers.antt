@@ -1,0 +1,14 @@
+use Rattle.std.proofs.Common.{sym, subst}
+use Rattle.disk_model.specs.Told.{BothTold}
+use Rattle.report_filing.specs.Calls.{map_of, AnswersCall}
+use Rattle.report_filing.specs.declared.calls.FilingCall.TheVariants as call
+use Rattle.report_filing.proofs.CallLemmas.{latest_answer}
+use Rattle.report_filing.proofs.calls.ask_latest.Goals as goal
+
+pub returns-clause-value : goal.returns-clause-value
+returns-clause-value g c =
+    let old = g.F.Filing.on_file c.args.filing.now in
+    let new = g.F.Filing.on_file c.latest.new.self in
+    subst (λ given. BothTold old new (λ old new. AnswersCall (call.Latest c.args.unit c.args.half) given (map_of old) (map_of new)))
+    (sym c.found_or_fault.ensures.value)
+    (latest_answer c.args.unit c.args.half c.latest.result old new c.latest.ensures.unchanged c.latest.ensures.value)

@@ -1,0 +1,12 @@
+use Rattle.std.proofs.Common.{◌≡◌, ◌*◌, List, take}
+use Rattle.std.specs.List.{flat_map, AllByRecursion}
+use Rattle.ldar_law.specs.declared.delay.DelayLine.{DelayLine}
+use Rattle.report_table.specs.CellBytes.{line_bytes, delays_bytes}
+use Rattle.report_table.specs.Ranges.{IsLine}
+use Rattle.report_table.proofs.reading.delays_of.Given as goal
+
+-- what was read so far is spelled by the bytes so far, and is the first of what the bytes are put together from
+abbrev pub invariant-loop-at : goal.invariant-loop-at
+invariant-loop-at l =
+    (take (26 * l.at) l.bytes ≡ flat_map line_bytes l.lines.items)
+    × ((given : List DelayLine) → AllByRecursion IsLine given → l.bytes ≡ delays_bytes given → l.lines.items ≡ take l.at given)

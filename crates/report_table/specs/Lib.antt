@@ -1,0 +1,9 @@
+pub mod CellBytes
+pub mod CellsIn
+pub mod Faults
+pub mod Given
+pub mod Kept
+pub mod Ranges
+pub mod Reports
+pub mod Rows
+pub mod Statements

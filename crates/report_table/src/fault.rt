@@ -1,0 +1,15 @@
+ghost use Rattle.std.specs.Prelude.{◌≡◌};
+ghost use Rattle.report_table.specs.Faults as spec;
+
+use crate::{Error, ErrorCode};
+use report_filing::FilingFault;
+
+/// What a statement that was refused is: a fault of the filing, unless memory was wanting.
+pub(crate) fn fault_of(error: Error) -> FilingFault
+    ensures value { result ≡ spec.fault_of error }
+{
+    match error {
+        Error::SqliteFailure(ErrorCode::OutOfMemory) => FilingFault::Memory,
+        _ => FilingFault::Failed,
+    }
+}
