@@ -8,7 +8,6 @@ use Rattle.disk_model.specs.Images.{Only}
 use Rattle.disk_model.specs.Keeps.{Keeps}
 use Rattle.disk_model.specs.Told.{Told, BothTold}
 use Rattle.fact_kinds.specs.declared.batch.Batch.{Batch}
-use Rattle.ldar_ports.specs.Source.{Takes}
 use Rattle.ldar_ports.specs.Sink.{Piece, stamps_of}
 use Rattle.ldar_journal.specs.Crash.{LeavesOnly, OnDisk}
 use Rattle.ldar_journal.specs.Image.{batches_of, Opens, OpensTo}
@@ -20,10 +19,12 @@ use Rattle.ldar_law.specs.Verdicts.{is_ruly}
 use Rattle.office_book.specs.Receipts.{AreReceiptsKept, IsReceiptKept}
 use Rattle.office_book.specs.Safe.{StandsIn, StandsInRun, IsSafe, Leads, state_of, moment_of}
 use Rattle.office_book.proofs.ReceiptLemmas.{receipts_are_behind}
-use Rattle.ldar_session.specs.Served.{Served, Stretch, HasItsClock, Stamped, items_of, turns_in, turns_of}
+use Rattle.ldar_session.specs.Served.{Served, HasItsClock, Stamped, turns_in, turns_of}
 use Rattle.ldar_session.proofs.RunLemmas.{runs_have_clocks}
 use Rattle.ldar_session.proofs.StampLemmas.{all_parts}
 use Rattle.office_commands.specs.Connection.{AreLinesKept, IsCrashSafe, IsConnection}
+use Rattle.office_commands.specs.Scene.{SeenDisk, Streams, seen}
+use Rattle.office_commands.specs.Tasks.{Talks}
 use Rattle.office_commands.proofs.RulyLemmas.{run_ruly, is_ruly_state}
 
 -- ---- receipts, and the lines that say them
@@ -98,11 +99,24 @@ run_keeps (call ∷ calls) start end run =
     let rest = run_keeps calls call.end end run.1 in
     (omega (arith, count.0, count.1, rest.0), omega (arith, time, rest.1))
 
+-- what was opened tells to the end
+pub tells_to_end : (x y z : Option (List ℕ)) (frames : List (List Batch)) → IsOpened x y frames → BothTold y z (λ _ _. Unit {0})
+    → BothTold x z (λ _ _. Unit {0})
+tells_to_end None None z frames opened tells = tells
+tells_to_end None (Some y) z frames opened tells = absurd opened
+tells_to_end (Some x) None z frames opened tells = absurd opened
+tells_to_end (Some x) (Some y) None frames opened tells = absurd tells
+tells_to_end (Some x) (Some y) (Some z) frames opened tells = tt
+
 -- ---- what a crash leaves
 
 module _ {D : Type 0} (content_of : D → Option (List ℕ)) (images_of : D → List ℕ → Type 0) (left_of : D → ℕ → List ℕ → Type 0)
     (clock_of name_of faults_of : D → ℕ) (only_now : (d : D) (c : List ℕ) → left_of d (clock_of d) c → images_of d c)
     (since_earlier : (d : D) (s t : ℕ) (c : List ℕ) → s ≤ t → left_of d t c → left_of d s c) where
+  -- what is seen of the disk
+  abbrev look : D → SeenDisk
+  look = seen content_of images_of left_of clock_of faults_of
+
   -- an image of the disk that was opened stands in the state that it was opened to
   opened_stands : (start : Shelf D) (bytes same : List ℕ) → same ≡ bytes → OpensTo bytes start.frames → Only same (images_of start.disk)
       → (image : List ℕ) → images_of start.disk image → StandsIn (state_of start) image
@@ -118,7 +132,7 @@ module _ {D : Type 0} (content_of : D → Option (List ℕ)) (images_of : D → 
       → start.doubt ≡ [] → IsTrue (is_ruly (batches_of start.frames))
       → turns_in calls ≡ turns_of served → Stamped served (stamps_of put)
       → ((image : List ℕ) → images_of end.disk image → StandsIn (state_of end) image)
-      → IsCrashSafe images_of left_of clock_of old end.disk (moment_of clock_of faults_of start) calls (moment_of clock_of faults_of end) served put
+      → IsCrashSafe (look old) (look end.disk) (moment_of clock_of faults_of start) calls (moment_of clock_of faults_of end) served put
   crash_safe old start end calls served put opened entry later runs safe receipts settled ruly turns stamped at_end =
       let moments : (t : ℕ) (image : List ℕ) → t ≤ clock_of old → left_of end.disk t image
       → left_of old t image ⊎ (images_of old image ⊎ StandsInRun (state_of start) calls image) =
@@ -157,7 +171,7 @@ module _ {D : Type 0} (content_of : D → Option (List ℕ)) (images_of : D → 
       → Runs (moment_of clock_of faults_of start) calls (moment_of clock_of faults_of end)
       → start.doubt ≡ [] → IsTrue (is_ruly (batches_of start.frames))
       → turns_in calls ≡ turns_of served → Stamped served (stamps_of put)
-      → Told x (λ _. IsCrashSafe images_of left_of clock_of old end.disk (moment_of clock_of faults_of start) calls (moment_of clock_of faults_of end)
+      → Told x (λ _. IsCrashSafe (look old) (look end.disk) (moment_of clock_of faults_of start) calls (moment_of clock_of faults_of end)
       served put)
   safe_told old start end calls served put None y z opened only tells stands safe receipts entry later runs settled ruly turns stamped = tt
   safe_told old start end calls served put (Some x) None z opened only tells stands safe receipts entry later runs settled ruly turns stamped = absurd opened
@@ -169,17 +183,16 @@ module _ {D : Type 0} (content_of : D → Option (List ℕ)) (images_of : D → 
 
   -- a connection over an opened disk
   served_over : {E : Type 0} (IsItem : Served → Type 0) (Closes : E → List Served → List ℕ → Option (List ℕ) → List ℕ → Type 0)
-      (old : D) (start end : Shelf D) (ended : E) (left left' : Option (List ℕ)) (pieces pieces' : Option (List Piece))
-      (served : List Served) (rest unsaid : List ℕ)
+      (old : D) (start end : Shelf D) (ended : E) (at at' : Streams)
       → IsOpened (content_of old) (content_of start.disk) start.frames → start.doubt ≡ [] → IsTrue (is_ruly (batches_of start.frames))
       → LeavesOnly clock_of left_of old start.disk (images_of old) → Told (content_of start.disk) (λ bytes. Only bytes (images_of start.disk))
       → Keeps clock_of name_of faults_of old start.disk
-      → Takes left (items_of served ++ rest) left'
-      → Stretch IsItem (Leads content_of left_of clock_of name_of faults_of) start end pieces pieces' served unsaid
-      → Closes ended served rest left' unsaid
+      → Talks (Leads content_of left_of clock_of name_of faults_of) clock_of IsItem Closes ended start end at at'
       → OnDisk (content_of end.disk) (images_of end.disk) (StandsIn (state_of end))
-      → IsConnection IsItem Closes content_of images_of left_of clock_of faults_of ended left left' pieces pieces' old end.disk
-  served_over IsItem Closes old start end ended left left' pieces pieces' served rest unsaid opened settled ruly entry only keeps takes stretch ends stands =
+      → IsConnection IsItem Closes ended at at' (look old) (look end.disk)
+  served_over IsItem Closes old start end ended at at' opened settled ruly entry only keeps talk stands =
+      let served = talk.0 in
+      let stretch = talk.4.stretch in
       let leads = stretch.run in
       let runs = leads.runs in
       let own = runs_have_clocks (moment_of clock_of faults_of start) (moment_of clock_of faults_of end) stretch.calls runs in
@@ -194,18 +207,20 @@ module _ {D : Type 0} (content_of : D → Option (List ℕ)) (images_of : D → 
         last = moment_of clock_of faults_of end;
         runs = runs;
         now = (refl, refl);
+        tells = tells_to_end (content_of old) (content_of start.disk) (content_of end.disk) start.frames opened leads.tells;
         stands = OnDisk-content (StandsIn (state_of end)) (content_of end.disk) (images_of end.disk) stands;
         served = served;
-        rest = rest;
-        unsaid = unsaid;
+        rest = talk.1;
+        unsaid = talk.2;
         put = stretch.put;
         turns = stretch.turns;
         each = stretch.each;
-        takes = takes;
+        takes = talk.3;
         puts = stretch.puts;
         said = stretch.said;
         stamped = stretch.stamped own;
-        ends = ends;
+        within = talk.4.within (λ old new calls leads. (run_keeps calls (moment_of clock_of faults_of old) (moment_of clock_of faults_of new) leads.runs).1);
+        ends = talk.5;
         safe = safe_told old start end stretch.calls served stretch.put (content_of old) (content_of start.disk) (content_of end.disk) opened only
             leads.tells stands leads.safe (receipts_are_behind content_of left_of clock_of name_of faults_of start end stretch.calls leads) entry keeps.time
             runs settled ruly stretch.turns (stretch.stamped own);
@@ -213,29 +228,21 @@ module _ {D : Type 0} (content_of : D → Option (List ℕ)) (images_of : D → 
 
   -- .. which is handed back
   pub served_by : {E : Type 0} (IsItem : Served → Type 0) (Closes : E → List Served → List ℕ → Option (List ℕ) → List ℕ → Type 0)
-      (old new : D) (start end : Shelf D) (ended : E) (left left' : Option (List ℕ)) (pieces pieces' : Option (List Piece))
-      (served : List Served) (rest unsaid : List ℕ)
+      (old new : D) (start end : Shelf D) (ended : E) (at at' : Streams)
       → IsOpened (content_of old) (content_of start.disk) start.frames → start.doubt ≡ [] → IsTrue (is_ruly (batches_of start.frames))
       → LeavesOnly clock_of left_of old start.disk (images_of old) → Told (content_of start.disk) (λ bytes. Only bytes (images_of start.disk))
       → Keeps clock_of name_of faults_of old start.disk
-      → Takes left (items_of served ++ rest) left'
-      → Stretch IsItem (Leads content_of left_of clock_of name_of faults_of) start end pieces pieces' served unsaid
-      → Closes ended served rest left' unsaid → new ≡ end.disk
+      → Talks (Leads content_of left_of clock_of name_of faults_of) clock_of IsItem Closes ended start end at at' → new ≡ end.disk
       → OnDisk (content_of new) (images_of new) (StandsIn (state_of end))
-      → IsConnection IsItem Closes content_of images_of left_of clock_of faults_of ended left left' pieces pieces' old new
-  served_by IsItem Closes old new start end ended left left' pieces pieces' served rest unsaid opened settled ruly entry only keeps takes stretch ends
-      same stands =
-      subst (λ (d : D). IsConnection IsItem Closes content_of images_of left_of clock_of faults_of ended left left' pieces pieces' old d) (sym same)
-      (served_over IsItem Closes old start end ended left left' pieces pieces' served rest unsaid opened settled ruly entry only keeps takes stretch ends
+      → IsConnection IsItem Closes ended at at' (look old) (look new)
+  served_by IsItem Closes old new start end ended at at' opened settled ruly entry only keeps talk same stands =
+      subst (λ (d : D). IsConnection IsItem Closes ended at at' (look old) (look d)) (sym same)
+      (served_over IsItem Closes old start end ended at at' opened settled ruly entry only keeps talk
       (subst (λ (d : D). OnDisk (content_of d) (images_of d) (StandsIn (state_of end))) same stands))
 
-  -- .. the disk keeps what each call keeps
-  pub served_keeps : (old new : D) (start end : Shelf D) (calls : List Call) → Keeps clock_of name_of faults_of old start.disk
-      → Leads content_of left_of clock_of name_of faults_of start calls end → new ≡ end.disk → Keeps clock_of name_of faults_of old new
-  served_keeps old new start end calls keeps leads same =
+  -- a run keeps what each call keeps
+  pub run_keeps_disk : (start end : Shelf D) (calls : List Call) → Leads content_of left_of clock_of name_of faults_of start calls end
+      → Keeps clock_of name_of faults_of start.disk end.disk
+  run_keeps_disk start end calls leads =
       let run = run_keeps calls (moment_of clock_of faults_of start) (moment_of clock_of faults_of end) leads.runs in
-      subst (λ (d : D). Keeps clock_of name_of faults_of old d) (sym same) (record {
-        time = omega (arith, keeps.time, run.1);
-        name = leads.name ∙ keeps.name;
-        count = omega (arith, keeps.count, run.0);
-      })
+      record { time = run.1; name = leads.name; count = run.0 }

@@ -1,7 +1,7 @@
--- How commands end: what was not opened, what was shown, and which statuses tell which faults.
-use Rattle.std.proofs.Common.{◌≡◌, ◌≢◌, ℕ, Option, Some, List, [], ◌∷◌, ◌++◌, IsTrue, refl, sym, ◌∙◌, subst}
-use Rattle.disk_model.specs.Told.{BothTold}
-use Rattle.disk_model.proofs.ToldLemmas.{BothTold-weaker}
+-- How commands end: what was not opened, what was shown, and which statuses report which faults.
+use Rattle.std.proofs.Common.{◌≡◌, ◌<◌, ℕ, Option, Some, length, List, [], ◌∷◌, ◌++◌, IsTrue, refl, sym, ◌∙◌, subst}
+use Rattle.disk_model.specs.Told.{BothTold, Told}
+use Rattle.disk_model.proofs.ToldLemmas.{BothTold-weaker, Told-weaker}
 use Rattle.fact_kinds.specs.declared.batch.Batch.{Batch}
 use Rattle.fact_kinds.specs.Facts.{facts_to}
 use Rattle.ldar_journal.specs.Crash.{LeavesOnly, OnDisk}
@@ -11,134 +11,125 @@ use Rattle.ldar_journal.specs.Shelf.{Shelf}
 use Rattle.ldar_journal.proofs.CrashLemmas.{OnDisk-weaker}
 use Rattle.ldar_journal.proofs.CreationLemmas.{empty_opens}
 use Rattle.ldar_law.specs.declared.reply.Reply.{Reply}
-use Rattle.ldar_law.specs.declared.reply.Reply.TheVariants.{Receipt, Conflict, Denied, Full, Shown, NoSuch, Fault, Memory}
-use Rattle.ldar_law.specs.declared.report.Filed.{Filed}
-use Rattle.ldar_law.specs.declared.request.Request.{Request}
-use Rattle.ldar_law.specs.Shown.{shown}
 use Rattle.ldar_law.specs.Verdicts.{is_ruly}
-use Rattle.ldar_ports.specs.Sink.{Piece}
 use Rattle.office_views.specs.Answers.{report_asked}
 use Rattle.office_book.specs.declared.opening.BookWhy.{BookWhy}
 use Rattle.office_book.specs.declared.opening.BookWhy.TheVariants as reasons
 use Rattle.office_book.specs.Opened.{IsNoBook}
 use Rattle.ldar_session.specs.declared.ended.Ended.{Ended}
 use Rattle.ldar_session.specs.declared.ended.Ended.TheVariants as ends
-use Rattle.office_commands.specs.declared.command.Command.{Command}
 use Rattle.office_commands.specs.declared.status.Status.{Status}
-use Rattle.office_commands.specs.declared.status.Status.TheVariants.{ReadFault, WriteFault, DiskFault, FilingFault}
+use Rattle.office_commands.specs.declared.status.Status.TheVariants.{Done, NotEmpty}
 use Rattle.office_commands.specs.Filing.{AskedEnds}
-use Rattle.office_commands.specs.Run.{LeavesAlone, IsNotOpened, IsShown, IsFiled, ReplyEnds, PutEnds, shown_by}
-use Rattle.office_commands.specs.Statuses.{TextEnds, refusal_of, status_of}
+use Rattle.office_commands.specs.Run.{IsNotOpened, IsMade, IsShown, IsFiled, InitEnds, ShowsEnds}
+use Rattle.office_commands.specs.Scene.{Streams, LeavesAlone, MayLeave, seen}
+use Rattle.office_commands.specs.Statuses.{HasCause, refusal_of, status_of}
 use Rattle.office_commands.proofs.ConnectionLemmas.{opens_history, opened_stays}
-use Rattle.office_commands.proofs.KindLemmas.{shown_kind}
-use Rattle.office_commands.proofs.ViewLemmas.{IsViewed}
 
--- ---- which statuses tell which faults
+-- ---- which statuses report which faults
 
--- a command whose journal was not opened tells a fault of the disk only for one
-pub refused_fault : (why : BookWhy) (status : Status) → status ≡ refusal_of why → status ≡ DiskFault → why ≡ reasons.Disk
-refused_fault reasons.Disk status is told = refl
-refused_fault reasons.NotAJournal status is told = let clash = sym is ∙ told in absurd cc
-refused_fault (reasons.Damaged at) status is told = let clash = sym is ∙ told in absurd cc
-refused_fault (reasons.Unruly position rule) status is told = let clash = sym is ∙ told in absurd cc
-refused_fault reasons.Memory status is told = let clash = sym is ∙ told in absurd cc
+-- a cause holds if what it rests on does
+pub cause_by : (status : Status) (input input' output output' disk disk' filing filing' : Type 0) → (input → input') → (output → output')
+    → (disk → disk') → (filing → filing') → HasCause status input output disk filing → HasCause status input' output' disk' filing'
+cause_by status input input' output output' disk disk' filing filing' one two three four has =
+    (λ is. one (has.0 is), λ is. two (has.1 is), λ is. three (has.2 is), λ is. four (has.3 is))
 
--- .. and no other fault
-pub refused_no_read : (why : BookWhy) (status : Status) → status ≡ refusal_of why → status ≢ ReadFault
-refused_no_read reasons.Disk status is told = let clash = sym is ∙ told in absurd cc
-refused_no_read reasons.NotAJournal status is told = let clash = sym is ∙ told in absurd cc
-refused_no_read (reasons.Damaged at) status is told = let clash = sym is ∙ told in absurd cc
-refused_no_read (reasons.Unruly position rule) status is told = let clash = sym is ∙ told in absurd cc
-refused_no_read reasons.Memory status is told = let clash = sym is ∙ told in absurd cc
+-- a command whose journal was not opened reports a fault of the disk only for one, and no other fault
+refused_by : (why : BookWhy) (input output disk filing : Type 0) → (why ≡ reasons.Disk → disk)
+    → HasCause (refusal_of why) input output disk filing
+refused_by reasons.Disk input output disk filing cause = (λ told. absurd cc, λ told. absurd cc, λ told. cause refl, λ told. absurd cc)
+refused_by reasons.NotAJournal input output disk filing cause = (λ told. absurd cc, λ told. absurd cc, λ told. absurd cc, λ told. absurd cc)
+refused_by (reasons.Damaged at) input output disk filing cause = (λ told. absurd cc, λ told. absurd cc, λ told. absurd cc, λ told. absurd cc)
+refused_by (reasons.Unruly position rule) input output disk filing cause = (λ told. absurd cc, λ told. absurd cc, λ told. absurd cc, λ told. absurd cc)
+refused_by reasons.Memory input output disk filing cause = (λ told. absurd cc, λ told. absurd cc, λ told. absurd cc, λ told. absurd cc)
 
-pub refused_no_write : (why : BookWhy) (status : Status) → status ≡ refusal_of why → status ≢ WriteFault
-refused_no_write reasons.Disk status is told = let clash = sym is ∙ told in absurd cc
-refused_no_write reasons.NotAJournal status is told = let clash = sym is ∙ told in absurd cc
-refused_no_write (reasons.Damaged at) status is told = let clash = sym is ∙ told in absurd cc
-refused_no_write (reasons.Unruly position rule) status is told = let clash = sym is ∙ told in absurd cc
-refused_no_write reasons.Memory status is told = let clash = sym is ∙ told in absurd cc
+pub refused_cause : (why : BookWhy) (status : Status) (input output disk filing : Type 0) → status ≡ refusal_of why → (why ≡ reasons.Disk → disk)
+    → HasCause status input output disk filing
+refused_cause why status input output disk filing is cause =
+    subst (λ (s : Status). HasCause s input output disk filing) (sym is) (refused_by why input output disk filing cause)
 
-pub refused_no_filing : (why : BookWhy) (status : Status) → status ≡ refusal_of why → status ≢ FilingFault
-refused_no_filing reasons.Disk status is told = let clash = sym is ∙ told in absurd cc
-refused_no_filing reasons.NotAJournal status is told = let clash = sym is ∙ told in absurd cc
-refused_no_filing (reasons.Damaged at) status is told = let clash = sym is ∙ told in absurd cc
-refused_no_filing (reasons.Unruly position rule) status is told = let clash = sym is ∙ told in absurd cc
-refused_no_filing reasons.Memory status is told = let clash = sym is ∙ told in absurd cc
+-- a command whose connection ended reports a fault of reading or writing only for one, and none of the disk or the filing
+ended_by : (ended : Ended) (input output disk filing : Type 0) → (ended ≡ ends.ReadFault → input) → (ended ≡ ends.WriteFault → output)
+    → HasCause (status_of ended) input output disk filing
+ended_by ends.Done input output disk filing read write = (λ told. absurd cc, λ told. absurd cc, λ told. absurd cc, λ told. absurd cc)
+ended_by ends.Stopped input output disk filing read write = (λ told. absurd cc, λ told. absurd cc, λ told. absurd cc, λ told. absurd cc)
+ended_by (ends.CutShort got) input output disk filing read write = (λ told. absurd cc, λ told. absurd cc, λ told. absurd cc, λ told. absurd cc)
+ended_by (ends.Refused at) input output disk filing read write = (λ told. absurd cc, λ told. absurd cc, λ told. absurd cc, λ told. absurd cc)
+ended_by ends.ReadFault input output disk filing read write = (λ told. read refl, λ told. absurd cc, λ told. absurd cc, λ told. absurd cc)
+ended_by ends.WriteFault input output disk filing read write = (λ told. absurd cc, λ told. write refl, λ told. absurd cc, λ told. absurd cc)
+ended_by ends.Memory input output disk filing read write = (λ told. absurd cc, λ told. absurd cc, λ told. absurd cc, λ told. absurd cc)
 
--- a command whose connection ended tells a fault of reading only for one
-pub ended_read : (ended : Ended) (status : Status) → status ≡ status_of ended → status ≡ ReadFault → ended ≡ ends.ReadFault
-ended_read ends.Done status is told = let clash = sym is ∙ told in absurd cc
-ended_read ends.Stopped status is told = let clash = sym is ∙ told in absurd cc
-ended_read (ends.CutShort got) status is told = let clash = sym is ∙ told in absurd cc
-ended_read (ends.Refused at) status is told = let clash = sym is ∙ told in absurd cc
-ended_read ends.ReadFault status is told = refl
-ended_read ends.WriteFault status is told = let clash = sym is ∙ told in absurd cc
-ended_read ends.Memory status is told = let clash = sym is ∙ told in absurd cc
+pub ended_cause : (ended : Ended) (status : Status) (input output disk filing : Type 0) → status ≡ status_of ended → (ended ≡ ends.ReadFault → input)
+    → (ended ≡ ends.WriteFault → output) → HasCause status input output disk filing
+ended_cause ended status input output disk filing is read write =
+    subst (λ (s : Status). HasCause s input output disk filing) (sym is) (ended_by ended input output disk filing read write)
 
--- .. a fault of writing only for one
-pub ended_write : (ended : Ended) (status : Status) → status ≡ status_of ended → status ≡ WriteFault → ended ≡ ends.WriteFault
-ended_write ends.Done status is told = let clash = sym is ∙ told in absurd cc
-ended_write ends.Stopped status is told = let clash = sym is ∙ told in absurd cc
-ended_write (ends.CutShort got) status is told = let clash = sym is ∙ told in absurd cc
-ended_write (ends.Refused at) status is told = let clash = sym is ∙ told in absurd cc
-ended_write ends.ReadFault status is told = let clash = sym is ∙ told in absurd cc
-ended_write ends.WriteFault status is told = refl
-ended_write ends.Memory status is told = let clash = sym is ∙ told in absurd cc
+-- ---- the journal
 
--- .. and none of the disk
-pub ended_no_disk : (ended : Ended) (status : Status) → status ≡ status_of ended → status ≢ DiskFault
-ended_no_disk ends.Done status is told = let clash = sym is ∙ told in absurd cc
-ended_no_disk ends.Stopped status is told = let clash = sym is ∙ told in absurd cc
-ended_no_disk (ends.CutShort got) status is told = let clash = sym is ∙ told in absurd cc
-ended_no_disk (ends.Refused at) status is told = let clash = sym is ∙ told in absurd cc
-ended_no_disk ends.ReadFault status is told = let clash = sym is ∙ told in absurd cc
-ended_no_disk ends.WriteFault status is told = let clash = sym is ∙ told in absurd cc
-ended_no_disk ends.Memory status is told = let clash = sym is ∙ told in absurd cc
-
-module _ {D : Type 0} (content_of : D → Option (List ℕ)) (images_of : D → List ℕ → Type 0) (left_of : D → ℕ → List ℕ → Type 0) (clock_of : D → ℕ) where
+module _ {D : Type 0} (content_of : D → Option (List ℕ)) (images_of : D → List ℕ → Type 0) (left_of : D → ℕ → List ℕ → Type 0)
+    (clock_of faults_of : D → ℕ) where
   -- a journal that was not opened
   pub not_opened : (old new : D) (why : BookWhy) (status : Status) → IsNoBook (content_of old) (content_of new) why
       → LeavesOnly clock_of left_of old new (images_of old) → status ≡ refusal_of why
-      → IsNotOpened content_of images_of left_of clock_of status old new
+      → IsNotOpened status (seen content_of images_of left_of clock_of faults_of old) (seen content_of images_of left_of clock_of faults_of new)
   not_opened old new why status refused leaves is = record {
     why = why;
     tells = is;
     reason = refused.reason;
-    alone = record { unchanged = refused.unchanged; leaves = leaves };
+    alone = record { unchanged = refused.unchanged; leaves = record { since = leaves.since } };
   }
 
   -- a journal that was opened and handed back was left alone
   handed_back : (old new : D) (start : Shelf D) → HasFrames (content_of old) (content_of start.disk) start.frames
-      → LeavesOnly clock_of left_of old start.disk (images_of old) → new ≡ start.disk → LeavesAlone content_of images_of left_of clock_of old new
+      → LeavesOnly clock_of left_of old start.disk (images_of old) → new ≡ start.disk
+      → LeavesAlone (seen content_of images_of left_of clock_of faults_of old) (seen content_of images_of left_of clock_of faults_of new)
   handed_back old new start opened leaves same =
-      subst (λ (d : D). LeavesAlone content_of images_of left_of clock_of old d) (sym same)
-      (record { unchanged = opened_stays (content_of old) (content_of start.disk) start.frames opened; leaves = leaves })
+      subst (λ (d : D). LeavesAlone (seen content_of images_of left_of clock_of faults_of old) (seen content_of images_of left_of clock_of faults_of d))
+      (sym same)
+      (record { unchanged = opened_stays (content_of old) (content_of start.disk) start.frames opened; leaves = record { since = leaves.since } })
 
   -- the report of such a journal was filed
-  pub is_filed : (unit half day : ℕ) (status : Status) (filed filed' : Option (List Filed)) (pieces pieces' : Option (List Piece)) (old new : D)
-      (start : Shelf D) → HasFrames (content_of old) (content_of start.disk) start.frames → IsTrue (is_ruly (batches_of start.frames))
-      → LeavesOnly clock_of left_of old start.disk (images_of old) → new ≡ start.disk
-      → AskedEnds (report_asked unit half day (facts_to day (batches_of start.frames))) status filed filed' pieces pieces'
-      → IsFiled content_of images_of left_of clock_of unit half day status filed filed' pieces pieces' old new
-  is_filed unit half day status filed filed' pieces pieces' old new start opened ruly leaves same ends = record {
+  pub is_filed : (unit half day : ℕ) (status : Status) (at at' : Streams) (old new : D) (start : Shelf D)
+      → HasFrames (content_of old) (content_of start.disk) start.frames → IsTrue (is_ruly (batches_of start.frames))
+      → LeavesOnly clock_of left_of old start.disk (images_of old) → new ≡ start.disk → at'.unread ≡ at.unread
+      → AskedEnds (report_asked unit half day (facts_to day (batches_of start.frames))) status at.filed at'.filed at.pieces at'.pieces
+      → IsFiled unit half day status at at' (seen content_of images_of left_of clock_of faults_of old) (seen content_of images_of left_of clock_of faults_of new)
+  is_filed unit half day status at at' old new start opened ruly leaves same unread ends = record {
     history = batches_of start.frames;
     opened = record { opens = opens_history (content_of old) (content_of start.disk) start.frames opened; ruly = ruly };
+    unread = unread;
     ends = ends;
     alone = handed_back old new start opened leaves same;
   }
 
-  -- a text of it was shown
-  pub is_shown : (command : Command) (reply : Reply) (status : Status) (pieces pieces' : Option (List Piece)) (old new : D) (start : Shelf D)
+  -- how the making of a journal ended
+  pub is_made : (status : Status) (old new : D) → InitEnds status (content_of old) (content_of new)
+      → (status ≡ Done → OnDisk (content_of new) (images_of new) (λ image. Opens image []))
+      → (status ≡ NotEmpty → LeavesOnly clock_of left_of old new (images_of old))
+      → Told (content_of old) (λ bytes. 0 < length bytes → LeavesOnly clock_of left_of old new (images_of old))
+      → IsMade status (seen content_of images_of left_of clock_of faults_of old) (seen content_of images_of left_of clock_of faults_of new)
+  is_made status old new ends images refused others = record {
+    ends = ends;
+    images = images;
+    refused = λ is. record { since = (refused is).since };
+    others =
+        Told-weaker (λ (bytes : List ℕ). 0 < length bytes → LeavesOnly clock_of left_of old new (images_of old))
+        (λ (bytes : List ℕ). 0 < length bytes → MayLeave (seen content_of images_of left_of clock_of faults_of old)
+        (seen content_of images_of left_of clock_of faults_of new) (images_of old))
+        (λ bytes leaves some. record { since = (leaves some).since }) (content_of old) others;
+  }
+
+  -- something of it was shown
+  pub is_shown : (shown_of : List Batch → Option Reply) (status : Status) (at at' : Streams) (old new : D) (start : Shelf D)
       → HasFrames (content_of old) (content_of start.disk) start.frames → IsTrue (is_ruly (batches_of start.frames))
-      → LeavesOnly clock_of left_of old start.disk (images_of old) → new ≡ start.disk
-      → shown_by command (batches_of start.frames) ≡ Some reply → ReplyEnds reply status pieces pieces'
-      → IsShown content_of images_of left_of clock_of command status pieces pieces' old new
-  is_shown command reply status pieces pieces' old new start opened ruly leaves same is said = record {
+      → LeavesOnly clock_of left_of old start.disk (images_of old) → new ≡ start.disk → at'.unread ≡ at.unread
+      → ShowsEnds (shown_of (batches_of start.frames)) status at.pieces at'.pieces
+      → IsShown shown_of status at at' (seen content_of images_of left_of clock_of faults_of old) (seen content_of images_of left_of clock_of faults_of new)
+  is_shown shown_of status at at' old new start opened ruly leaves same unread ends = record {
     history = batches_of start.frames;
     opened = record { opens = opens_history (content_of old) (content_of start.disk) start.frames opened; ruly = ruly };
-    reply = reply;
-    is = is;
-    ends = said;
+    unread = unread;
+    ends = ends;
     alone = handed_back old new start opened leaves same;
   }
 
@@ -157,18 +148,3 @@ pub laid_down : (old new : Option (List ℕ)) → BothTold old new (λ old new. 
 laid_down old new both =
     BothTold-weaker (λ old new. (old ≡ []) × (new ≡ header ++ 0 ∷ [])) (λ old new. (old ≡ []) × Opens new [])
     (λ old new both. (both.0, subst (λ (l : List ℕ). Opens l []) (sym both.1) ([], refl, empty_opens))) old new both
-
--- what is put of the reply to a view is what is shown
-pub viewed_ends : (history : List Batch) (request : Request) (reply : Reply) (status : Status) (old new : Option (List Piece))
-    → IsViewed history request reply → PutEnds reply status old new
-    → (told : Reply) × (shown history request ≡ Some told) × ReplyEnds told status old new
-viewed_ends history request (Receipt handheld number position) status old new viewed ends =
-    absurd (shown_kind history request (Receipt handheld number position) viewed)
-viewed_ends history request (Conflict position) status old new viewed ends = absurd (shown_kind history request (Conflict position) viewed)
-viewed_ends history request (Denied fact rule) status old new viewed ends = absurd (shown_kind history request (Denied fact rule) viewed)
-viewed_ends history request (Full facts) status old new viewed ends = absurd (shown_kind history request (Full facts) viewed)
-viewed_ends history request (Shown text) status old new viewed ends = (Shown text, viewed, ends)
-viewed_ends history request (NoSuch what) status old new viewed ends = (NoSuch what, viewed, ends)
-viewed_ends history request Fault status old new viewed ends = absurd (shown_kind history request Fault viewed)
-viewed_ends history request Memory status old new viewed ends =
-    (Shown viewed.0, viewed.1, subst (λ (s : Status). TextEnds viewed.0 s old new) (sym ends.0) ends.1)

@@ -1,15 +1,12 @@
-mod CommandLemmas
 mod ConnectionLemmas
 mod EndLemmas
 mod FaultLemmas
 mod FilingLemmas
 mod ImportLemmas
-mod KindLemmas
 mod NoteLemmas
 mod NumberLemmas
 mod RulyLemmas
-mod RunLemmas
 mod SendingLemmas
 mod StatusLemmas
-mod ViewLemmas
+mod TaskLemmas
 mod WordLemmas

@@ -111,9 +111,10 @@ settled_ruly they_stand state ruly = certain_ruly (settled they_stand state) ref
 settled_ruly they_are_gone state ruly = certain_ruly (settled they_are_gone state) refl ruly.history
 
 -- a turn, by its reply
-abbrev GoesBy : Reply → State → Turn → State → Type 0
+abbrev pub GoesBy : Reply → State → Turn → State → Type 0
 GoesBy reply state turn next = elim reply [ Fault ↦ ⊥ | Memory ↦ IsWanting state turn next | other ↦ IsAnswered state turn next ]
 
+-- .. and those after it
 abbrev pub StepsBy : Reply → State → Turn → List Turn → State → Type 0
 StepsBy reply state turn turns next = elim reply [
   | Fault ↦ BreaksOff state turn turns next

@@ -7,20 +7,22 @@ use Rattle.ldar_law.specs.declared.request.Request.TheVariants.{Due, Tags, Delay
 use Rattle.handheld_http.specs.Requests.{decimal_in}
 use Rattle.office_views.specs.Answers.{IsView}
 use Rattle.office_commands.specs.declared.command.Command.{Command}
-use Rattle.office_commands.specs.declared.command.Command.TheVariants.{Init, Dock, Drain, Import, Show, File, Check}
+use Rattle.office_commands.specs.declared.command.Command.TheVariants.{Init, Office}
+use Rattle.office_commands.specs.declared.command.Task.{Task}
+use Rattle.office_commands.specs.declared.command.Task.TheVariants.{Dock, Drain, Import, Show, File, Check}
 use Rattle.office_commands.specs.declared.command.Sort.{Sort}
 use Rattle.office_commands.specs.declared.command.Sort.TheVariants.{Units, Components}
 use Rattle.register_import.specs.declared.limits.TheConstants.{LAST_NUMBER}
 
--- a command that shows something shows a view, and the batches of one that imports can be numbered
+-- a task that shows something shows a view, and the batches of an import can be numbered
+abbrev pub IsTaskInRange : Task → Type 0
+IsTaskInRange (Import number sort) = number ≤ LAST_NUMBER
+IsTaskInRange (Show request) = IsView request
+IsTaskInRange _ = Unit {0}
+
 abbrev pub IsInRange : Command → Type 0
 IsInRange Init = Unit {0}
-IsInRange Dock = Unit {0}
-IsInRange Drain = Unit {0}
-IsInRange (Import number sort) = number ≤ LAST_NUMBER
-IsInRange (Show request) = IsView request
-IsInRange (File unit half day) = Unit {0}
-IsInRange Check = Unit {0}
+IsInRange (Office task) = IsTaskInRange task
 
 -- a word is just this text
 abbrev pub is_word : List ℕ → List ℕ → Bool
@@ -30,9 +32,9 @@ is_word word text = pointwise nat_eq word text
 abbrev pub alone : List ℕ → Option Command
 alone word =
     if is_word word (codes "init") then Some Init
-    else if is_word word (codes "dock") then Some Dock
-    else if is_word word (codes "drain") then Some Drain
-    else if is_word word (codes "check") then Some Check
+    else if is_word word (codes "dock") then Some (Office Dock)
+    else if is_word word (codes "drain") then Some (Office Drain)
+    else if is_word word (codes "check") then Some (Office Check)
     else None
 
 -- what a file of the register lists, by its word
@@ -46,7 +48,7 @@ sort_named word =
 unfoldable pub import_of : List ℕ → List ℕ → Option Command
 import_of number sort = elim (decimal_in LAST_NUMBER number) [
   | None ↦ None
-  | Some number ↦ elim (sort_named sort) [ None ↦ None | Some sort ↦ Some (Import number sort) ]
+  | Some number ↦ elim (sort_named sort) [ None ↦ None | Some sort ↦ Some (Office (Import number sort)) ]
 ]
 
 -- .. if this is its word
@@ -102,7 +104,7 @@ view_of_four name unit second third =
 
 -- the command that shows a view
 abbrev pub showing : List ℕ → Option Request → Option Command
-showing word view = if is_word word (codes "show") then option_map Show view else None
+showing word view = if is_word word (codes "show") then option_map (λ request. Office (Show request)) view else None
 
 -- the command that files the report that UNIT, HALF and DAY are
 unfoldable pub filing_of : List ℕ → List ℕ → List ℕ → Option Command
@@ -110,7 +112,7 @@ filing_of unit half day = elim (decimal_in 255 unit) [
   | None ↦ None
   | Some unit ↦ elim (decimal_in 65_535 half) [
     | None ↦ None
-    | Some half ↦ elim (day_of day) [ None ↦ None | Some day ↦ Some (File unit half day) ]
+    | Some half ↦ elim (day_of day) [ None ↦ None | Some day ↦ Some (Office (File unit half day)) ]
   ]
 ]
 

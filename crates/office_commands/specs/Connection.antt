@@ -1,11 +1,10 @@
--- What docking and draining over the journal of a disk do, and what a crash at any moment leaves of it.
+-- What a connection or an import does to the journal of a disk, and what a crash at any moment leaves of it.
 use Rattle.std.specs.Prelude.{◌≡◌, ◌≤◌, ◌⊎◌, ℕ, List, [], ◌∷◌, ◌++◌, length, take, drop, Option, MatchOption, IsTrue}
 use Rattle.std.specs.List.{AllByRecursion}
-use Rattle.disk_model.specs.Told.{Told}
+use Rattle.disk_model.specs.Told.{Told, BothTold}
 use Rattle.fact_kinds.specs.declared.batch.Batch.{Batch}
 use Rattle.ldar_ports.specs.Source.{Takes}
 use Rattle.ldar_ports.specs.Sink.{Piece, Puts, bytes_of, stamps_of}
-use Rattle.ldar_journal.specs.Crash.{LeavesOnly}
 use Rattle.ldar_journal.specs.Image.{Opens}
 use Rattle.ldar_law.specs.Machine.{Call, Moment, Runs}
 use Rattle.ldar_law.specs.Verdicts.{is_ruly}
@@ -19,6 +18,7 @@ use Rattle.office_commands.specs.Sending.{IsSent}
 use Rattle.ldar_session.specs.Session.{Ends as EndsRequests}
 use Rattle.ldar_session.specs.Served.{Served, Stamped, items_of, texts_of, turns_in, turns_of}
 use Rattle.ldar_session.specs.declared.ended.Ended.{Ended}
+use Rattle.office_commands.specs.Scene.{SeenDisk, Streams, MayLeave}
 use Rattle.office_commands.specs.declared.command.Sort.{Sort}
 use Rattle.office_commands.specs.declared.status.Status.{Status}
 use Rattle.office_commands.specs.Imports.{EndsImport}
@@ -47,34 +47,33 @@ AreLinesKept left (s ∷ served) stamps =
 -- lines: .. and in each image left after a byte of its line was put.
 -- at_end: an image that could be left now stands in the last state.
 -- ruly: if each image at entry opened to a ruly history, so does each image left at any moment.
-pub record IsCrashSafe {D : Type 0} (images_of : D → List ℕ → Type 0) (left_of : D → ℕ → List ℕ → Type 0) (clock_of : D → ℕ) (old new : D)
-    (opening : Moment) (calls : List Call) (last : Moment) (served : List Served) (put : List Piece) : Type 0 where
-  pub any_moment : LeavesOnly clock_of left_of old new (λ image. images_of old image ⊎ StandsInRun opening.state calls image)
-  pub since : (image : List ℕ) → left_of new opening.clock image → StandsInRun opening.state calls image
-  pub behind : AreBehind (left_of new) calls
-  pub receipts : AreReceiptsKept (left_of new) calls
-  pub lines : AreLinesKept (left_of new) served (stamps_of put)
-  pub at_end : (image : List ℕ) → images_of new image → StandsIn last.state image
-  pub ruly : ((image : List ℕ) → images_of old image → OpensRuly image) → (image : List ℕ) → left_of new (clock_of old) image → OpensRuly image
+pub record IsCrashSafe (old new : SeenDisk) (opening : Moment) (calls : List Call) (last : Moment) (served : List Served) (put : List Piece) : Type 0 where
+  pub any_moment : MayLeave old new (λ image. old.images image ⊎ StandsInRun opening.state calls image)
+  pub since : (image : List ℕ) → new.left opening.clock image → StandsInRun opening.state calls image
+  pub behind : AreBehind new.left calls
+  pub receipts : AreReceiptsKept new.left calls
+  pub lines : AreLinesKept new.left served (stamps_of put)
+  pub at_end : (image : List ℕ) → new.images image → StandsIn last.state image
+  pub ruly : ((image : List ℕ) → old.images image → OpensRuly image) → (image : List ℕ) → new.left old.clock image → OpensRuly image
 
 -- The bytes read are the items of a run of the machine, from the history that the journal opened to, and the bytes written are what is said to them,
--- up to what is unsaid; the content at the end opens to the last state; and the run is safe at every crash.
-pub record IsConnection {D E : Type 0} (IsItem : Served → Type 0) (Closes : E → List Served → List ℕ → Option (List ℕ) → List ℕ → Type 0)
-    (content_of : D → Option (List ℕ)) (images_of : D → List ℕ → Type 0) (left_of : D → ℕ → List ℕ → Type 0)
-    (clock_of faults_of : D → ℕ) (ended : E) (left left' : Option (List ℕ)) (pieces pieces' : Option (List Piece)) (old new : D) : Type 0 where
+-- up to what is unsaid, none of them past the last clock; the content at the end opens to the last state; and the run is safe at every crash.
+pub record IsConnection {E : Type 0} (IsItem : Served → Type 0) (Closes : E → List Served → List ℕ → Option (List ℕ) → List ℕ → Type 0) (ended : E)
+    (old new : Streams) (disk disk' : SeenDisk) : Type 0 where
   -- the history that the journal opened to
   pub history : List Batch
-  pub opens : Told (content_of old) (λ bytes. Opens bytes history)
+  pub opens : Told disk.content (λ bytes. Opens bytes history)
   pub ruly : IsTrue (is_ruly history)
   -- the run
   pub opening : Moment
   pub begins : opening.state ≡ certain history
-  pub later : (clock_of old ≤ opening.clock) × (faults_of old ≤ opening.faults)
+  pub later : (disk.clock ≤ opening.clock) × (disk.faults ≤ opening.faults)
   pub calls : List Call
   pub last : Moment
   pub runs : Runs opening calls last
-  pub now : (last.faults ≡ faults_of new) × (last.clock ≡ clock_of new)
-  pub stands : Told (content_of new) (StandsIn last.state)
+  pub now : (last.faults ≡ disk'.faults) × (last.clock ≡ disk'.clock)
+  pub tells : BothTold disk.content disk'.content (λ _ _. Unit {0})
+  pub stands : Told disk'.content (StandsIn last.state)
   -- what was read and written
   pub served : List Served
   pub rest : List ℕ
@@ -82,29 +81,24 @@ pub record IsConnection {D E : Type 0} (IsItem : Served → Type 0) (Closes : E 
   pub put : List Piece
   pub turns : turns_in calls ≡ turns_of served
   pub each : AllByRecursion IsItem served
-  pub takes : Takes left (items_of served ++ rest) left'
-  pub puts : Puts pieces put pieces'
+  pub takes : Takes old.unread (items_of served ++ rest) new.unread
+  pub puts : Puts old.pieces put new.pieces
   pub said : texts_of served ≡ bytes_of put ++ unsaid
   pub stamped : Stamped served (stamps_of put)
-  pub ends : Closes ended served rest left' unsaid
+  pub within : AllByRecursion (λ stamp. stamp ≤ disk'.clock) (stamps_of put)
+  pub ends : Closes ended served rest new.unread unsaid
   -- what a crash leaves
-  pub safe : Told (content_of old) (λ _. IsCrashSafe images_of left_of clock_of old new opening calls last served put)
+  pub safe : Told disk.content (λ _. IsCrashSafe disk disk' opening calls last served put)
 
 -- the items are batches, and what is said to each is the line of its reply
-abbrev pub IsDocked : {D : Type 0} (content_of : D → Option (List ℕ)) (images_of : D → List ℕ → Type 0) (left_of : D → ℕ → List ℕ → Type 0)
-    (clock_of faults_of : D → ℕ) (ended : Ended) (left left' : Option (List ℕ)) (pieces pieces' : Option (List Piece)) (old new : D) → Type 0
-IsDocked content_of images_of left_of clock_of faults_of ended left left' pieces pieces' old new =
-    IsConnection IsBatch EndsBatches content_of images_of left_of clock_of faults_of ended left left' pieces pieces' old new
+abbrev pub IsDocked : Ended → Streams → Streams → SeenDisk → SeenDisk → Type 0
+IsDocked ended old new disk disk' = IsConnection IsBatch EndsBatches ended old new disk disk'
 
 -- the items are HTTP requests, each with its answer, the last of them maybe bytes that are refused
-abbrev pub IsDrained : {D : Type 0} (content_of : D → Option (List ℕ)) (images_of : D → List ℕ → Type 0) (left_of : D → ℕ → List ℕ → Type 0)
-    (clock_of faults_of : D → ℕ) (ended : Ended) (left left' : Option (List ℕ)) (pieces pieces' : Option (List Piece)) (old new : D) → Type 0
-IsDrained content_of images_of left_of clock_of faults_of ended left left' pieces pieces' old new =
-    IsConnection HasItsAnswer EndsRequests content_of images_of left_of clock_of faults_of ended left left' pieces pieces' old new
+abbrev pub IsDrained : Ended → Streams → Streams → SeenDisk → SeenDisk → Type 0
+IsDrained ended old new disk disk' = IsConnection HasItsAnswer EndsRequests ended old new disk disk'
 
 -- the items are the batches of a file of the register that is the input, and what is said to each is the line of its reply
-abbrev pub IsImported : {D : Type 0} (content_of : D → Option (List ℕ)) (images_of : D → List ℕ → Type 0) (left_of : D → ℕ → List ℕ → Type 0)
-    (clock_of faults_of : D → ℕ) (sort : Sort) (number : ℕ) (counts : ℕ × ℕ) (status : Status) (left left' : Option (List ℕ))
-    (pieces pieces' : Option (List Piece)) (old new : D) → Type 0
-IsImported content_of images_of left_of clock_of faults_of sort number counts status left left' pieces pieces' old new =
-    IsConnection IsSent (EndsImport sort number counts) content_of images_of left_of clock_of faults_of status left left' pieces pieces' old new
+abbrev pub IsImported : Sort → ℕ → Status → Streams → Streams → SeenDisk → SeenDisk → Type 0
+IsImported sort number status old new disk disk' =
+    IsConnection IsSent (EndsImport sort number (old.output_faults, new.output_faults)) status old new disk disk'

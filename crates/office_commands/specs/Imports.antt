@@ -3,8 +3,8 @@ use Rattle.std.specs.Prelude.{◌≡◌, ◌<◌, ◌≤◌, ◌⊎◌, ℕ, Lis
 use Rattle.fact_kinds.specs.declared.batch.Batch.{Batch}
 use Rattle.ldar_ports.specs.Source.{HasEnded}
 use Rattle.ldar_law.specs.declared.request.Request.TheVariants.{Sync}
-use Rattle.office_commands.specs.declared.sending.Sent.{Sent}
-use Rattle.office_commands.specs.Sending.{EndsSending}
+use Rattle.office_commands.specs.declared.batches.Sent.{Sent}
+use Rattle.office_commands.specs.Sending.{EndsAsking}
 use Rattle.ldar_session.specs.Served.{Served}
 use Rattle.register_import.specs.declared.limits.TheConstants.{LONGEST_TEXT}
 use Rattle.register_import.specs.Units.{units_import}
@@ -50,7 +50,7 @@ pub record SendsFile (sort : Sort) (number : ℕ) (status : Status) (served : Li
   pub batches : List Batch
   pub says : batches_in sort number text ≡ Ok batches
   pub sent : Sent
-  pub sends : EndsSending sent (map Sync batches) served unsaid counts.0 counts.1
+  pub sends : EndsAsking sent (map Sync batches) served unsaid counts.0 counts.1
   pub told : status ≡ status_sent sent
 
 -- How an import ends, by what was served, the bytes read, those left in the source, what is unsaid, and the counts of faults of the output before

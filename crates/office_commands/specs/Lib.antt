@@ -3,5 +3,7 @@ pub mod Connection
 pub mod Filing
 pub mod Imports
 pub mod Run
+pub mod Scene
 pub mod Sending
 pub mod Statuses
+pub mod Tasks

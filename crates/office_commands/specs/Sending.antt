@@ -1,5 +1,5 @@
 -- What is served of batches that are sent in turn, up to and with the first that is not receipted.
-use Rattle.std.specs.Prelude.{◌≡◌, ◌⊎◌, ℕ, List, [], ◌∷◌, ◌++◌, map, MatchOption}
+use Rattle.std.specs.Prelude.{◌≡◌, ◌≤◌, ◌⊎◌, ℕ, List, [], ◌∷◌, ◌++◌, length, map, MatchOption}
 use Rattle.std.specs.List.{AllByRecursion}
 use Rattle.disk_model.specs.Faults.{Rose}
 use Rattle.ldar_law.specs.declared.reply.Reply.{Reply}
@@ -7,8 +7,10 @@ use Rattle.ldar_law.specs.declared.reply.Reply.TheVariants.{Receipt, Conflict, D
 use Rattle.ldar_law.specs.declared.request.Request.{Request}
 use Rattle.ldar_law.specs.Machine.{Turn}
 use Rattle.ldar_law.specs.Replies.{reply_text}
-use Rattle.office_commands.specs.declared.sending.Sent.{Sent}
-use Rattle.office_commands.specs.declared.sending.Sent.TheVariants.{Done, Unreceipted, WriteFault, Memory}
+use Rattle.office_commands.specs.declared.batches.Sent.{Sent}
+use Rattle.office_commands.specs.declared.batches.Sent.TheVariants.{Done, Unreceipted, WriteFault, Memory}
+use Rattle.office_commands.specs.declared.batches.Unkept.{Unkept}
+use Rattle.office_commands.specs.declared.batches.Unkept.TheVariants as unkepts
 use Rattle.ldar_session.specs.Served.{Served, turns_of}
 
 -- what was sent has a turn, and is said the line of the reply; it is no part of the input by itself
@@ -26,6 +28,31 @@ IsReceipt (Shown text) = ⊥
 IsReceipt (NoSuch what) = ⊥
 IsReceipt Fault = ⊥
 IsReceipt WantsMemory = ⊥
+
+-- the reply can be one to a batch, which no view is
+abbrev pub IsOfBatch : Reply → Type 0
+IsOfBatch (Shown text) = ⊥
+IsOfBatch (NoSuch what) = ⊥
+IsOfBatch _ = Unit {0}
+
+-- the reply to a batch that is not kept
+abbrev pub reply_for : Unkept → Reply
+reply_for (unkepts.Conflict position) = Conflict position
+reply_for (unkepts.Denied fact rule) = Denied fact rule
+reply_for (unkepts.Full facts) = Full facts
+reply_for unkepts.Fault = Fault
+reply_for unkepts.Memory = WantsMemory
+
+-- how the sending of a batch ends by its reply: as said if it is a receipt
+abbrev pub sent_as : Reply → Sent → Sent
+sent_as (Receipt handheld number position) receipted = receipted
+sent_as (Conflict position) receipted = Unreceipted (unkepts.Conflict position)
+sent_as (Denied fact rule) receipted = Unreceipted (unkepts.Denied fact rule)
+sent_as (Full facts) receipted = Unreceipted (unkepts.Full facts)
+sent_as (Shown text) receipted = receipted
+sent_as (NoSuch what) receipted = receipted
+sent_as Fault receipted = Unreceipted unkepts.Fault
+sent_as WantsMemory receipted = Unreceipted unkepts.Memory
 
 -- each of these turns receipted its batch
 abbrev pub AreReceipted : List Turn → Type 0
@@ -51,26 +78,24 @@ pub record SentUpTo (reply : Reply) (requests : List Request) (served : List Ser
   pub behind : List Request
   pub asked : requests ≡ asked_in (turns_of served) ++ behind
 
--- .. which is no receipt; all is said, or a call of the sink failed
-pub record EndsUnreceipted (reply : Reply) (requests : List Request) (served : List Served) (unsaid : List ℕ) (old new : ℕ) : Type 0 where
-  pub sent : SentUpTo reply requests served
-  pub no_receipt : ¬ (IsReceipt reply)
-  pub said : (unsaid ≡ []) ⊎ Rose old new
+-- what is unsaid is of the line of this reply
+abbrev pub IsOfLine : Reply → List ℕ → Type 0
+IsOfLine reply unsaid = length unsaid ≤ length (reply_text reply)
 
--- .. which is a receipt, of whose line something may be unsaid
-pub record EndsReceipted (requests : List Request) (served : List Served) : Type 0 where
-  pub reply : Reply
+-- .. which is no receipt; all is said, or a call of the sink failed, and only of the last line something is unsaid
+pub record EndsUnreceipted (unkept : Unkept) (requests : List Request) (served : List Served) (unsaid : List ℕ) (old new : ℕ) : Type 0 where
+  pub sent : SentUpTo (reply_for unkept) requests served
+  pub said : (unsaid ≡ []) ⊎ Rose old new
+  pub of_last : IsOfLine (reply_for unkept) unsaid
+
+-- .. with this reply, of whose line alone something may be unsaid
+pub record EndsAt (reply : Reply) (requests : List Request) (served : List Served) (unsaid : List ℕ) : Type 0 where
   pub sent : SentUpTo reply requests served
-  pub receipt : IsReceipt reply
+  pub of_last : IsOfLine reply unsaid
 
 -- how the asking of these requests ended, by what was served, what is unsaid, and the counts of faults of the sink before and after
 abbrev pub EndsAsking : Sent → List Request → List Served → List ℕ → ℕ → ℕ → Type 0
 EndsAsking Done requests served unsaid old new = AllReceipted requests served unsaid
-EndsAsking (Unreceipted reply) requests served unsaid old new = EndsUnreceipted reply requests served unsaid old new
-EndsAsking WriteFault requests served unsaid old new = EndsReceipted requests served
-EndsAsking Memory requests served unsaid old new = (reply : Reply) × SentUpTo reply requests served
-
--- .. and that of their sending, of which nothing may be served where memory is wanting
-abbrev pub EndsSending : Sent → List Request → List Served → List ℕ → ℕ → ℕ → Type 0
-EndsSending ended requests served unsaid old new =
-    ((ended ≡ Memory) × (served ≡ []) × (unsaid ≡ [])) ⊎ EndsAsking ended requests served unsaid old new
+EndsAsking (Unreceipted unkept) requests served unsaid old new = EndsUnreceipted unkept requests served unsaid old new
+EndsAsking WriteFault requests served unsaid old new = (reply : Reply) × IsReceipt reply × EndsAt reply requests served unsaid
+EndsAsking Memory requests served unsaid old new = (reply : Reply) × EndsAt reply requests served unsaid

@@ -1,8 +1,8 @@
 -- How a command may end: the exit status of each way, the line that notes it, and what is noted where that line cannot be written.
-use Rattle.std.specs.Prelude.{◌≡◌, ◌⊎◌, ℕ, List, [], ◌++◌, Option, Result, OnOk, codes}
+use Rattle.std.specs.Prelude.{◌≡◌, ◌⊎◌, ℕ, nat_eq, if◌then◌else◌, List, [], ◌++◌, Option, Result, OnOk, codes}
 use Rattle.std.specs.Fmt.{decimal}
+use Rattle.disk_model.specs.Faults.{Rose}
 use Rattle.ldar_ports.specs.Sink.{Piece, Puts, bytes_of}
-use Rattle.ldar_law.specs.declared.reply.Reply.{Reply}
 use Rattle.ldar_law.specs.declared.reply.Reply.TheVariants as replies
 use Rattle.ldar_law.specs.Replies.{reply_text, what_text}
 use Rattle.ldar_law.specs.Texts.{end_of_line}
@@ -11,8 +11,10 @@ use Rattle.office_book.specs.declared.opening.BookWhy.{BookWhy}
 use Rattle.office_book.specs.declared.opening.BookWhy.TheVariants as reasons
 use Rattle.ldar_session.specs.declared.ended.Ended.{Ended}
 use Rattle.ldar_session.specs.declared.ended.Ended.TheVariants as ends
-use Rattle.office_commands.specs.declared.sending.Sent.{Sent}
-use Rattle.office_commands.specs.declared.sending.Sent.TheVariants as sends
+use Rattle.office_commands.specs.declared.batches.Sent.{Sent}
+use Rattle.office_commands.specs.declared.batches.Sent.TheVariants as sends
+use Rattle.office_commands.specs.declared.batches.Unkept.{Unkept}
+use Rattle.office_commands.specs.declared.batches.Unkept.TheVariants as unkepts
 use Rattle.office_commands.specs.declared.status.Status.{Status}
 use Rattle.office_commands.specs.declared.status.Status.TheVariants.{Done, Usage, ReadFault, WriteFault, DiskFault, Memory}
 use Rattle.office_commands.specs.declared.status.Status.TheVariants.{NotAJournal, Damaged, Unruly, CutShort, BadInput, TooLarge, NotEmpty}
@@ -66,29 +68,9 @@ note_of FilingFault = codes "filing fault" ++ end_of_line
 note_of (SameReport revision) = codes "same as revision " ++ decimal revision ++ end_of_line
 note_of NoRevisionLeft = codes "no revision left" ++ end_of_line
 
--- the exit status where the note could not be written whole: a fault of writing, but want of memory stays
+-- the exit status where the note could not be written in full: a fault of writing, but want of memory stays
 abbrev pub number_unnoted : Status → ℕ
-number_unnoted Done = 0
-number_unnoted Usage = 4
-number_unnoted ReadFault = 4
-number_unnoted WriteFault = 4
-number_unnoted DiskFault = 4
-number_unnoted Memory = 6
-number_unnoted NotAJournal = 4
-number_unnoted (Damaged at) = 4
-number_unnoted (Unruly position rule) = 4
-number_unnoted (CutShort got) = 4
-number_unnoted (BadInput at) = 4
-number_unnoted TooLarge = 4
-number_unnoted NotEmpty = 4
-number_unnoted (BadRow at) = 4
-number_unnoted (Conflict position) = 4
-number_unnoted (Denied fact rule) = 4
-number_unnoted (Full facts) = 4
-number_unnoted (NoSuch what) = 4
-number_unnoted FilingFault = 4
-number_unnoted (SameReport revision) = 4
-number_unnoted NoRevisionLeft = 4
+number_unnoted status = let number = status_number status in if nat_eq number 0 then 0 else if nat_eq number 6 then 6 else 4
 
 -- behind the pieces that were there, pieces were put that say the text up to what is unsaid
 pub record Said (text : List ℕ) (old new : Option (List Piece)) (unsaid : List ℕ) : Type 0 where
@@ -107,11 +89,17 @@ TextEnds text WriteFault old new = (unsaid : List ℕ) × Said text old new unsa
 TextEnds text Memory old new = new ≡ old
 TextEnds text _ old new = ⊥
 
--- the status was noted whole, and the exit status is its number; or in part, and it is that of a note that could not be written
-pub record IsNoted (status : Status) (old new : Option (List Piece)) (exit : ℕ) : Type 0 where
+-- The status is noted in full, and the exit status is its number; or a write of the note failed, and the exit status is that of a note that could not
+-- be written. The numbers are the counts of faults of the notes before and after.
+pub record IsNoted (status : Status) (old new : Option (List Piece)) (before after : ℕ) (exit : ℕ) : Type 0 where
   pub unsaid : List ℕ
   pub said : Said (note_of status) old new unsaid
-  pub exits : ((unsaid ≡ []) × (exit ≡ status_number status)) ⊎ (exit ≡ number_unnoted status)
+  pub exits : ((unsaid ≡ []) × (exit ≡ status_number status)) ⊎ (Rose before after × (exit ≡ number_unnoted status))
+
+-- what each status that reports a fault rests on: on the input, the output, the disk, and the reports on file
+abbrev pub HasCause : Status → (input output disk filing : Type 0) → Type 0
+HasCause status input output disk filing =
+    (status ≡ ReadFault → input) × (status ≡ WriteFault → output) × (status ≡ DiskFault → disk) × (status ≡ FilingFault → filing)
 
 -- the status of a command whose journal was not opened
 abbrev pub refusal_of : BookWhy → Status
@@ -131,21 +119,17 @@ status_of ends.ReadFault = ReadFault
 status_of ends.WriteFault = WriteFault
 status_of ends.Memory = Memory
 
--- the status of a command that sent batches, of which the last was answered this and is not receipted; no batch is answered by a view, or with what
--- there is none of
-abbrev pub status_replied : Reply → Status
-status_replied (replies.Receipt handheld number position) = Memory
-status_replied (replies.Conflict position) = Conflict position
-status_replied (replies.Denied fact rule) = Denied fact rule
-status_replied (replies.Full facts) = Full facts
-status_replied (replies.Shown text) = Memory
-status_replied (replies.NoSuch what) = Memory
-status_replied replies.Fault = DiskFault
-status_replied replies.Memory = Memory
+-- the status if the last batch that was sent was not kept
+abbrev pub status_unkept : Unkept → Status
+status_unkept (unkepts.Conflict position) = Conflict position
+status_unkept (unkepts.Denied fact rule) = Denied fact rule
+status_unkept (unkepts.Full facts) = Full facts
+status_unkept unkepts.Fault = DiskFault
+status_unkept unkepts.Memory = Memory
 
--- .. or whose sending ended so
+-- .. or if the sending ended so
 abbrev pub status_sent : Sent → Status
 status_sent sends.Done = Done
-status_sent (sends.Unreceipted reply) = status_replied reply
+status_sent (sends.Unreceipted unkept) = status_unkept unkept
 status_sent sends.WriteFault = WriteFault
 status_sent sends.Memory = Memory

@@ -24,17 +24,24 @@ pub enum Sort {
 pub enum Command {
     /// Make an empty journal.
     Init,
-    /// Take batches.
+    /// Open the office over the journal, and do a task in it.
+    Office(Task),
+}
+
+/// What is done in an opened office.
+#[derive(Drop)]
+pub enum Task {
+    /// Keep batches.
     Dock,
     /// Answer HTTP requests.
     Drain,
-    /// Take a file of the register, as batches that are numbered from `number`.
+    /// Keep a file of the register, as batches that are numbered from `number`.
     Import { number: u32, sort: Sort },
     /// Show a view.
     Show(Request),
     /// Put the report of a half year on file, as known on a day.
     File { unit: u16, half: u16, day: Day },
-    /// Tell how many batches and facts the journal has.
+    /// Print how many batches and facts the journal has.
     Check,
 }
 
@@ -113,9 +120,9 @@ fn alone(word: &str) -> Option<Command>
 {
     match word {
         "init" => Some(Command::Init),
-        "dock" => Some(Command::Dock),
-        "drain" => Some(Command::Drain),
-        "check" => Some(Command::Check),
+        "dock" => Some(Command::Office(Task::Dock)),
+        "drain" => Some(Command::Office(Task::Drain)),
+        "check" => Some(Command::Office(Task::Check)),
         _ => None,
     }
 }
@@ -139,7 +146,7 @@ fn import_of(number: &str, sort: &str) -> Option<Command>
 {
     let number = long_number_in(LAST_NUMBER, number)?;
     let sort = sort_named(sort)?;
-    Some(Command::Import { number, sort })
+    Some(Command::Office(Task::Import { number, sort }))
 }
 
 fn sort_named(word: &str) -> Option<Sort>
@@ -172,7 +179,7 @@ fn filing_of(unit: &str, half: &str, day: &str) -> Option<Command>
     let unit = number_in(255, unit)?;
     let half = number_in(65_535, half)?;
     let day = Day::read(day.as_bytes())?;
-    Some(Command::File { unit, half, day })
+    Some(Command::Office(Task::File { unit, half, day }))
 }
 
 /// The command that shows a view, if this is its word.
@@ -185,7 +192,7 @@ fn showing(word: &str, view: Option<Request>) -> Option<Command>
         return None;
     }
     match view {
-        Some(request) => Some(Command::Show(request)),
+        Some(request) => Some(Command::Office(Task::Show(request))),
         None => None,
     }
 }

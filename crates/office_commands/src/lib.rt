@@ -1,17 +1,17 @@
 //! The commands of the office, over any source, sinks, disk and filing: `run` reads the words of one and answers it.
 #![tactic(auto)]
 
+mod batches;
 mod command;
-mod docking;
-mod filing;
-mod importing;
+mod import;
 mod init;
-mod noting;
+mod notes;
 mod number;
 mod program;
-mod sending;
-mod showing;
+mod reports;
 mod status;
+mod tasks;
+mod views;
 
 pub use program::run;
 pub use status::Status;

@@ -1,27 +1,27 @@
-ghost use Rattle.std.specs.Prelude.{◌≡◌, ◌≤◌, ◌⊎◌, Some, None, map};
+ghost use Rattle.std.specs.Prelude.{◌≡◌, ◌≤◌, ◌⊎◌, Some, None, false, map};
 ghost use Rattle.std.specs.String.{string_bytes};
 ghost use Rattle.disk_model.specs.Faults.{Rose};
 ghost use Rattle.disk_model.specs.Keeps.{Keeps};
+ghost use Rattle.office_commands.specs.declared.command.Command.TheVariants as commands;
 ghost use Rattle.office_commands.specs.declared.status.Status.{Status};
-ghost use Rattle.office_commands.specs.Command.{command_in, IsInRange};
-ghost use Rattle.office_commands.specs.Run.{Ends, IsNoFile, RunEnds};
-ghost use Rattle.office_commands.specs.Statuses.{IsNoted};
+ghost use Rattle.office_commands.specs.Command.{command_in, IsInRange, IsTaskInRange};
+ghost use Rattle.office_commands.specs.Run.{Ends, is_filing};
+ghost use Rattle.office_commands.specs.Scene.{seen, streams};
+ghost use Rattle.office_commands.specs.Statuses.{HasCause, IsNoted};
 
-use crate::command::{Command, command_of};
-use crate::docking::{dock, drain};
-use crate::filing::file;
-use crate::importing::import;
+use crate::command::{Command, Task, command_of};
 use crate::init::init;
-use crate::noting::note;
-use crate::showing::{check, show};
-use crate::status::Status;
+use crate::notes::note;
+use crate::status::{Status, refusal};
+use crate::tasks::do_task;
 use disk_model::Disk;
 use ldar_ports::{Sink, Source};
+use office_book::open_book;
 use report_filing::Filing;
 use std::alloc::Global;
 
-/// Runs one command over its own source, sinks, disk and filing, and answers the exit status. How it ended is noted in a line,
-/// unless all went well.
+/// Runs one command over its own source, sinks, disk and filing, and returns the exit status. One line notes how it ended, unless all
+/// went well.
 pub fn run<S: Source, D: Disk, K: Sink, E: Sink, F: Filing>(
     alloc: Global,
     words: &[String],
@@ -31,19 +31,24 @@ pub fn run<S: Source, D: Disk, K: Sink, E: Sink, F: Filing>(
     disk: &mut D,
     filing: &mut F,
 ) -> u8
-    // What the command takes, puts and leaves, by its status, which is noted, or that memory was wanted to read the words. For
-    // `dock`, `drain`, `import` and `file` see `IsDocked`, `IsDrained`, `IsImported` and `IsFiled`.
-    ensures ends { (status : Status) × IsNoted status (E.pieces notes.old) (E.pieces notes.new) result
-        × RunEnds D.content D.images D.left D.clock D.faults (command_in (map string_bytes words.now)) status
-        (K.faults output.old, K.faults output.new) (F.on_file filing.old) (F.on_file filing.new) (S.left input.old) (S.left input.new)
-        (K.pieces output.old) (K.pieces output.new) disk.old disk.new }
+    // What the command reads, writes and leaves, by its status, which is noted; or memory ran out while the words were read. A
+    // status that reports a fault is reached only where the count of that object rose. For `dock`, `drain`, `import` and `file`
+    // see `IsDocked`, `IsDrained`, `IsImported` and `IsFiled`.
+    ensures ends { (status : Status)
+        × IsNoted status (E.pieces notes.old) (E.pieces notes.new) (E.faults notes.old) (E.faults notes.new) result
+        × HasCause status (Rose (S.faults input.old) (S.faults input.new)) (Rose (K.faults output.old) (K.faults output.new))
+        (Rose (D.faults disk.old) (D.faults disk.new)) (Rose (F.faults filing.old) (F.faults filing.new))
+        × (((status ≡ Status.Memory) × (input.new ≡ input.old) × (output.new ≡ output.old) × (filing.new ≡ filing.old) × (disk.new ≡ disk.old))
+        ⊎ (let see = seen D.content D.images D.left D.clock D.faults in let at = streams S.left K.pieces K.faults F.on_file in
+        Ends (command_in (map string_bytes words.now)) status (at input.old output.old filing.old) (at input.new output.new filing.new)
+        (see disk.old) (see disk.new))) }
 
-    // Words that are no command are answered before anything but the notes is asked.
+    // Words that are no command touch nothing but the notes.
     ensures unchanged { command_in (map string_bytes words.now) ≡ None
         → (input.new ≡ input.old) × (output.new ≡ output.old) × (disk.new ≡ disk.old) }
 
-    // Nothing but `file` touches the filing.
-    ensures filing_unchanged { IsNoFile (command_in (map string_bytes words.now)) → filing.new ≡ filing.old }
+    // Only `file` touches the filing.
+    ensures filing_unchanged { is_filing (command_in (map string_bytes words.now)) ≡ false → filing.new ≡ filing.old }
 
     // A fault is answered only where its own count rose.
     ensures read_fault { result ≡ 3 → Rose (S.faults input.old) (S.faults input.new) }
@@ -71,16 +76,14 @@ fn run_over<S: Source, D: Disk, K: Sink, F: Filing>(
     filing: &mut F,
     disk: D,
 ) -> (Status, D)
-    ensures ends { RunEnds D.content D.images D.left D.clock D.faults (command_in (map string_bytes words.now)) result.0
-        (K.faults output.old, K.faults output.new) (F.on_file filing.old) (F.on_file filing.new) (S.left input.old) (S.left input.new)
-        (K.pieces output.old) (K.pieces output.new) disk result.1 }
+    ensures ends { ((result.0 ≡ Status.Memory) × (input.new ≡ input.old) × (output.new ≡ output.old) × (filing.new ≡ filing.old) × (result.1 ≡ disk))
+        ⊎ (let see = seen D.content D.images D.left D.clock D.faults in let at = streams S.left K.pieces K.faults F.on_file in
+        Ends (command_in (map string_bytes words.now)) result.0 (at input.old output.old filing.old) (at input.new output.new filing.new) (see disk) (see result.1)) }
     ensures unchanged { command_in (map string_bytes words.now) ≡ None
         → (input.new ≡ input.old) × (output.new ≡ output.old) × (result.1 ≡ disk) }
-    ensures filing_unchanged { IsNoFile (command_in (map string_bytes words.now)) → filing.new ≡ filing.old }
-    ensures read_fault { result.0 ≡ Status.ReadFault → Rose (S.faults input.old) (S.faults input.new) }
-    ensures write_fault { result.0 ≡ Status.WriteFault → Rose (K.faults output.old) (K.faults output.new) }
-    ensures disk_fault { result.0 ≡ Status.DiskFault → Rose (D.faults disk) (D.faults result.1) }
-    ensures filing_fault { result.0 ≡ Status.FilingFault → Rose (F.faults filing.old) (F.faults filing.new) }
+    ensures filing_unchanged { is_filing (command_in (map string_bytes words.now)) ≡ false → filing.new ≡ filing.old }
+    ensures cause { HasCause result.0 (Rose (S.faults input.old) (S.faults input.new)) (Rose (K.faults output.old) (K.faults output.new))
+        (Rose (D.faults disk) (D.faults result.1)) (Rose (F.faults filing.old) (F.faults filing.new)) }
     ensures read_count { S.faults input.old ≤ S.faults input.new }
     ensures write_count { K.faults output.old ≤ K.faults output.new }
     ensures filing_count { F.faults filing.old ≤ F.faults filing.new }
@@ -103,14 +106,11 @@ fn run_command<S: Source, D: Disk, K: Sink, F: Filing>(
     disk: D,
 ) -> (Status, D)
     requires in_range { IsInRange command }
-    ensures ends { Ends D.content D.images D.left D.clock D.faults (Some command) result.0
-        (K.faults output.old, K.faults output.new) (F.on_file filing.old) (F.on_file filing.new) (S.left input.old) (S.left input.new)
-        (K.pieces output.old) (K.pieces output.new) disk result.1 }
-    ensures filing_unchanged { IsNoFile (Some command) → filing.new ≡ filing.old }
-    ensures read_fault { result.0 ≡ Status.ReadFault → Rose (S.faults input.old) (S.faults input.new) }
-    ensures write_fault { result.0 ≡ Status.WriteFault → Rose (K.faults output.old) (K.faults output.new) }
-    ensures disk_fault { result.0 ≡ Status.DiskFault → Rose (D.faults disk) (D.faults result.1) }
-    ensures filing_fault { result.0 ≡ Status.FilingFault → Rose (F.faults filing.old) (F.faults filing.new) }
+    ensures ends { let see = seen D.content D.images D.left D.clock D.faults in let at = streams S.left K.pieces K.faults F.on_file in
+        Ends (Some command) result.0 (at input.old output.old filing.old) (at input.new output.new filing.new) (see disk) (see result.1) }
+    ensures filing_unchanged { is_filing (Some command) ≡ false → filing.new ≡ filing.old }
+    ensures cause { HasCause result.0 (Rose (S.faults input.old) (S.faults input.new)) (Rose (K.faults output.old) (K.faults output.new))
+        (Rose (D.faults disk) (D.faults result.1)) (Rose (F.faults filing.old) (F.faults filing.new)) }
     ensures read_count { S.faults input.old ≤ S.faults input.new }
     ensures write_count { K.faults output.old ≤ K.faults output.new }
     ensures filing_count { F.faults filing.old ≤ F.faults filing.new }
@@ -122,11 +122,35 @@ fn run_command<S: Source, D: Disk, K: Sink, F: Filing>(
             let status = init(&mut disk);
             (status, disk)
         }
-        Command::Dock => dock(alloc, input, output, disk),
-        Command::Drain => drain(alloc, input, output, disk),
-        Command::Import { number, sort } => import(alloc, input, output, disk, number, sort),
-        Command::Show(request) => show(alloc, output, disk, &request),
-        Command::File { unit, half, day } => file(alloc, output, filing, disk, unit, half, day),
-        Command::Check => check(alloc, output, disk),
+        Command::Office(task) => in_office(alloc, task, input, output, filing, disk),
+    }
+}
+
+/// Opens the office over the journal of a disk, and does a task in it.
+fn in_office<S: Source, D: Disk, K: Sink, F: Filing>(
+    alloc: Global,
+    task: Task,
+    input: &mut S,
+    output: &mut K,
+    filing: &mut F,
+    disk: D,
+) -> (Status, D)
+    requires in_range { IsTaskInRange task }
+    ensures ends { let see = seen D.content D.images D.left D.clock D.faults in let at = streams S.left K.pieces K.faults F.on_file in
+        Ends (Some (commands.Office task)) result.0 (at input.old output.old filing.old) (at input.new output.new filing.new) (see disk) (see result.1) }
+    ensures filing_unchanged { is_filing (Some (commands.Office task)) ≡ false → filing.new ≡ filing.old }
+    ensures cause { HasCause result.0 (Rose (S.faults input.old) (S.faults input.new)) (Rose (K.faults output.old) (K.faults output.new))
+        (Rose (D.faults disk) (D.faults result.1)) (Rose (F.faults filing.old) (F.faults filing.new)) }
+    ensures read_count { S.faults input.old ≤ S.faults input.new }
+    ensures write_count { K.faults output.old ≤ K.faults output.new }
+    ensures filing_count { F.faults filing.old ≤ F.faults filing.new }
+    ensures keeps { Keeps D.clock D.name D.faults disk result.1 }
+{
+    match open_book(alloc, disk) {
+        Ok(mut book) => {
+            let status = do_task(alloc, task, &mut book, input, output, filing);
+            (status, book.into_disk())
+        }
+        Err(error) => (refusal(error.why), error.disk),
     }
 }

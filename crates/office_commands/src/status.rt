@@ -1,8 +1,8 @@
 ghost use Rattle.std.specs.Prelude.{◌≡◌};
 ghost use Rattle.office_commands.specs.Statuses as spec;
 
-use crate::sending::Sent;
-use ldar_law::{Reply, What};
+use crate::batches::{Sent, Unkept};
+use ldar_law::What;
 use ldar_session::Ended;
 use office_book::BookWhy;
 
@@ -75,32 +75,14 @@ impl Status {
         }
     }
 
-    /// The exit status where the note of this one could not be written.
+    /// The exit status if the note of this one could not be written.
     pub fn number_unnoted(self) -> u8
         ensures value { result ≡ spec.number_unnoted self }
     {
-        match self {
-            Status::Done => 0,
-            Status::Memory => 6,
-            Status::Usage
-            | Status::ReadFault
-            | Status::WriteFault
-            | Status::DiskFault
-            | Status::NotAJournal
-            | Status::Damaged { .. }
-            | Status::Unruly { .. }
-            | Status::CutShort { .. }
-            | Status::BadInput { .. }
-            | Status::TooLarge
-            | Status::NotEmpty
-            | Status::BadRow { .. }
-            | Status::Conflict { .. }
-            | Status::Denied { .. }
-            | Status::Full { .. }
-            | Status::NoSuch(_)
-            | Status::FilingFault
-            | Status::SameReport { .. }
-            | Status::NoRevisionLeft => 4,
+        match self.number() {
+            0 => 0,
+            6 => 6,
+            _ => 4,
         }
     }
 }
@@ -138,29 +120,21 @@ pub fn status_sent(sent: &Sent) -> Status
 {
     match sent {
         Sent::Done => Status::Done,
-        Sent::Unreceipted(reply) => status_replied(reply),
+        Sent::Unreceipted(unkept) => status_unkept(*unkept),
         Sent::WriteFault => Status::WriteFault,
         Sent::Memory => Status::Memory,
     }
 }
 
-/// How it ends where this was the reply to the last batch, and no receipt. A batch is answered by no view, and nothing that
-/// there is none of.
-fn status_replied(reply: &Reply) -> Status
-    ensures value { result ≡ spec.status_replied reply.now }
+/// The status if the last batch was not kept.
+fn status_unkept(unkept: Unkept) -> Status
+    ensures value { result ≡ spec.status_unkept unkept }
 {
-    match reply {
-        Reply::Conflict { position } => Status::Conflict {
-            position: *position,
-        },
-        Reply::Denied { fact, rule } => Status::Denied {
-            fact: *fact,
-            rule: *rule,
-        },
-        Reply::Full { facts } => Status::Full { facts: *facts },
-        Reply::Fault => Status::DiskFault,
-        Reply::Memory | Reply::Receipt { .. } | Reply::Shown(_) | Reply::NoSuch(_) => {
-            Status::Memory
-        }
+    match unkept {
+        Unkept::Conflict { position } => Status::Conflict { position },
+        Unkept::Denied { fact, rule } => Status::Denied { fact, rule },
+        Unkept::Full { facts } => Status::Full { facts },
+        Unkept::Fault => Status::DiskFault,
+        Unkept::Memory => Status::Memory,
     }
 }

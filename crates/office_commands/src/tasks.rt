@@ -1,0 +1,52 @@
+ghost use Rattle.std.specs.Prelude.{◌≡◌, ◌≤◌, [], Bool, Some, false};
+ghost use Rattle.disk_model.specs.Faults.{Rose};
+ghost use Rattle.office_book.specs.Safe.{Leads};
+ghost use Rattle.office_commands.specs.Command.{IsTaskInRange};
+ghost use Rattle.office_commands.specs.declared.command.Command.TheVariants as commands;
+ghost use Rattle.office_commands.specs.Run.{is_filing};
+ghost use Rattle.office_commands.specs.Scene.{streams};
+ghost use Rattle.office_commands.specs.Statuses.{HasCause};
+ghost use Rattle.office_commands.specs.Tasks.{Does};
+
+use crate::command::Task;
+use crate::import::import;
+use crate::reports::file;
+use crate::status::{Status, status_of};
+use crate::views::{check, show};
+use disk_model::Disk;
+use ldar_ports::{Sink, Source};
+use ldar_session::{dock, session};
+use office_book::Book;
+use report_filing::Filing;
+use std::alloc::Global;
+
+/// Does a task in an opened office.
+pub fn do_task<D: Disk, S: Source, K: Sink, F: Filing>(
+    alloc: Global,
+    task: Task,
+    book: &mut Book<D>,
+    input: &mut S,
+    output: &mut K,
+    filing: &mut F,
+) -> Status
+    requires in_range { IsTaskInRange task }
+    requires settled { book.old.doubt ≡ [] }
+    ensures does { let at = streams S.left K.pieces K.faults F.on_file in
+        Does (Leads D.content D.left D.clock D.name D.faults) D.clock task result book.old book.new
+        (at input.old output.old filing.old) (at input.new output.new filing.new) }
+    ensures filing_unchanged { is_filing (Some (commands.Office task)) ≡ false → filing.new ≡ filing.old }
+    ensures cause { HasCause result (Rose (S.faults input.old) (S.faults input.new)) (Rose (K.faults output.old) (K.faults output.new))
+        (Rose (D.faults book.old.disk) (D.faults book.new.disk)) (Rose (F.faults filing.old) (F.faults filing.new)) }
+    ensures read_count { S.faults input.old ≤ S.faults input.new }
+    ensures write_count { K.faults output.old ≤ K.faults output.new }
+    ensures filing_count { F.faults filing.old ≤ F.faults filing.new }
+{
+    match task {
+        Task::Dock => status_of(dock(alloc, book, input, output)),
+        Task::Drain => status_of(session(alloc, book, input, output)),
+        Task::Import { number, sort } => import(alloc, book, input, output, number, sort),
+        Task::Show(request) => show(output, book, &request),
+        Task::File { unit, half, day } => file(alloc, output, filing, book, unit, half, day),
+        Task::Check => check(alloc, output, book),
+    }
+}
