@@ -1,67 +1,53 @@
-//! The leak detection and repair office of a refinery, as a command: its words, files and streams, and the rows that it is tried on.
+//! The leak detection and repair office of a refinery, as a command: its words, files and streams.
 #![tactic(auto)]
 
 mod file_disk;
 #[cfg(test)]
 mod file_tests;
-#[cfg(test)]
-mod filing_tests;
 mod held;
-#[cfg(test)]
-mod http_tests;
-#[cfg(test)]
-mod import_tests;
 mod journal_file;
-#[cfg(test)]
-mod large_tests;
-#[cfg(test)]
-mod row_tests;
-#[cfg(test)]
-mod stop_tests;
 mod streams;
-#[cfg(test)]
-mod tests;
 
 use disk_model::{Disk, MemoryDisk};
 pub use file_disk::FileDisk;
-use filed_table::{AtPath, TableFiling};
 use office_commands::{Status, run};
-use report_filing::{Filing, MapFiling};
+use report_filing::Filing;
+use report_table::{AtPath, InMemory, TableFiling};
 use std::process::ExitCode;
 use std::{env, io};
 pub use streams::{StdSink, StdSource};
 
 const HELP: &str = "usage: ldar JOURNAL COMMAND
 
-The leak detection and repair office of a refinery, under 40 CFR 60 Subpart VVa: it keeps
-batches of facts in a journal, and shows what is due, what leaks and what is reported.
+The leak detection and repair office of a refinery (40 CFR 60 Subpart VVa). It keeps
+batches of facts in a journal, and shows what is due, what leaks and what to report.
 
-JOURNAL  the path of a journal, or :memory: for one that is gone with the run
+JOURNAL  the path of a journal, or :memory: for one that is discarded after the run
 
 COMMAND  init                           makes an empty journal
-         dock                           keeps the batches of its input, and prints the reply to each
-         drain                          answers the HTTP requests of its input
-         import NUMBER units            keeps the process units of its input (TOML)
-         import NUMBER components       keeps the components of its input (CSV)
-         show due|tags|delays UNIT DAY  shows what is due, the leak tags, or the delays of repair
-         show route UNIT DAY STOPS      shows routes with at most so many stops
+         dock                           keeps the batches it reads, and prints a line for each
+         drain                          answers the HTTP requests it reads
+         import NUMBER units            keeps the process units it reads (TOML)
+         import NUMBER components       keeps the components it reads (CSV)
+         show due|tags|delays UNIT DAY  shows what is due, the leak tags, or delays of repair
+         show route UNIT DAY STOPS      shows routes of at most STOPS components
          show percent UNIT QUARTER DAY  shows the percent leaking in a quarter
-         show report UNIT HALF DAY      shows the report of a half year
-         file UNIT HALF DAY             puts that report on file, in JOURNAL.filed
-         check                          prints how many batches and facts the journal has
+         show report UNIT HALF DAY      shows the semiannual report
+         file UNIT HALF DAY             files that report in JOURNAL.filed
+         check                          prints the number of batches and facts
 
-UNIT is 0 to 255, a DAY as 2024-02-29; QUARTER and HALF count from 1, from the unit's first.
-The batches of an import are numbered from NUMBER. No word of a command begins with a hyphen.
+UNIT is 0 to 255, DAY is like 2024-02-29. QUARTER and HALF count from 1, the unit's first.
+An import numbers its batches from NUMBER. No word of a command may begin with a hyphen.
 
-STATUS   0  done                        7  no journal, or a damaged or unruly one
-         2  the words are no command    8  the input is cut short, bad or too large
-         3  a fault of the input        9  a journal was to be made where bytes stand
-         4  a fault of the output      10  a fault of the reports on file
-         5  a fault of the disk        11  no such thing, a bad row, a batch not kept,
-         6  memory was wanted              or a report that is on file
+STATUS   0  done                        7  not a journal, or damaged, or it breaks a rule
+         2  not a command               8  input cut short, bad or too large
+         3  read error                  9  init: the file is not empty
+         4  write error                10  error of the filed reports
+         5  disk error                 11  no such thing, bad row, batch not kept,
+         6  out of memory                  or a report that is already on file
 
-A line on standard error tells more. docs/ldar.1 is the manual, docs/FORMATS.md has what is
-read and printed, docs/HANDHELDS.md is for who writes a handheld.
+A line on standard error says more. docs/ldar.1 is the manual, docs/FORMATS.md describes
+input and output, and docs/HANDHELDS.md is for people who write handheld software.
 ";
 
 const VERSION: &str = "ldar 0.1.0\n";
@@ -77,7 +63,7 @@ fn main(rt: HostRuntime) -> ExitCode {
     }
 }
 
-/// Reads the command line and answers it.
+/// Reads the command line and runs it.
 fn answer(rt: &HostRuntime) -> u8 {
     let args = match env::args(rt) {
         Ok(args) => args,
@@ -92,7 +78,7 @@ fn answer(rt: &HostRuntime) -> u8 {
     office(rt, &words)
 }
 
-/// Answers words that could not be read: for want of memory, or since one is no text and so no command.
+/// Reports words that could not be read: out of memory, or a word that is not text, so not a command.
 fn unread(rt: &HostRuntime, kind: io::ErrorKind) -> u8 {
     match kind {
         io::ErrorKind::OutOfMemory => Status::Memory.number(),
@@ -100,7 +86,7 @@ fn unread(rt: &HostRuntime, kind: io::ErrorKind) -> u8 {
     }
 }
 
-/// Answers the words of the command line, the program's own name first.
+/// Runs the words of the command line. The first is the program's own name.
 fn office(rt: &HostRuntime, words: &[String]) -> u8 {
     let Some(journal) = words.get(1) else {
         return in_memory(rt, &[]);
@@ -113,8 +99,8 @@ fn office(rt: &HostRuntime, words: &[String]) -> u8 {
     }
 }
 
-/// Answers words over the journal of a path. The reports on file stand beside it, under its path with `.filed` behind; the file is
-/// made by the first call that asks for a report on file, so by no other command than `file`.
+/// Runs a command over the journal at a path. Filed reports are in a file beside it, at its path with `.filed` added. That file is
+/// made when a report is first asked for, so only by `file`.
 fn at_path(rt: &HostRuntime, words: &[String], path: &str) -> u8 {
     let Ok(filed) = format!(in rt.alloc(); "{path}.filed") else {
         return Status::Memory.number();
@@ -131,9 +117,10 @@ fn shown(rt: &HostRuntime, text: &str) -> u8 {
     }
 }
 
+/// Runs a command over a journal and filed reports in memory.
 fn in_memory(rt: &HostRuntime, words: &[String]) -> u8 {
     match MemoryDisk::new(rt.alloc(), &[], &[]) {
-        Ok(mut disk) => with_disk(rt, words, &mut disk, &mut MapFiling::new(rt.alloc())),
+        Ok(mut disk) => with_disk(rt, words, &mut disk, &mut TableFiling::new(InMemory::new())),
         Err(_) => 6,
     }
 }

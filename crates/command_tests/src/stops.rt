@@ -1,4 +1,4 @@
-use crate::tests::{BATCH, EMPTY, NEXT, OF_A_BATCH, ONE, ends, in_pieces, is, says};
+use crate::runs::{BATCH, EMPTY, NEXT, OF_A_BATCH, ONE, ends, in_pieces, is, says};
 use disk_model::{Disk, MemoryDisk, SureDisk};
 use std::alloc::Global;
 use std::test::Fail;

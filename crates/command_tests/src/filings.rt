@@ -6,6 +6,7 @@ use ldar_law::{Amended, Cells, Filed, Items, MonthCells};
 use ldar_ports::{ListSource, StampedSink};
 use office_commands::run;
 use report_filing::{Filing, FilingFault, MapFiling, amended_cells};
+use report_table::{InMemory, TableFiling};
 use std::alloc::Global;
 use std::test::Fail;
 
@@ -57,6 +58,17 @@ impl Filing for Stub {
                 stops: Items::new(Vec::new(alloc)),
             },
         }))
+    }
+
+    fn revision(
+        &mut self,
+        alloc: Global,
+        unit: u8,
+        half: u16,
+        revision: u32,
+    ) -> Result<Option<Filed>, FilingFault> {
+        let last = self.latest(alloc, unit, half)?;
+        Ok(last.filter(|filed| filed.revision == revision))
     }
 
     fn put(&mut self, _alloc: Global, _filed: &Filed) -> Result<(), FilingFault> {
@@ -167,10 +179,10 @@ fn is_overdue<F: Filing>(
 }
 
 // Whether the report is filed once, and no more with the same cells, and again when the late batch is kept.
-fn is_filed_twice(
+fn is_filed_twice<F: Filing>(
     alloc: Global,
     disk: &mut MemoryDisk,
-    filing: &mut MapFiling,
+    filing: &mut F,
 ) -> Result<bool, Memory> {
     let same = "same as revision 1\n";
     let first = is_overdue(alloc, disk, filing)?
@@ -184,21 +196,20 @@ fn is_filed_twice(
 }
 
 // Whether the second revision on file amends this of the first, and nothing else.
-fn amends(alloc: Global, filing: &MapFiling, want: Amended) -> Result<bool, Memory> {
-    match filing.as_slice() {
-        [first, second] => {
-            let amended = amended_cells(alloc, &first.cells, &second.cells)?;
-            Ok(amended.as_slice() == [want].as_slice())
-        }
-        _ => Ok(false),
-    }
+fn amends<F: Filing>(alloc: Global, filing: &mut F, want: Amended) -> Result<bool, Memory> {
+    let Ok(Some(first)) = filing.revision(alloc, 1, 8, 1) else {
+        return Ok(false);
+    };
+    let Ok(Some(second)) = filing.revision(alloc, 1, 8, 2) else {
+        return Ok(false);
+    };
+    let amended = amended_cells(alloc, &first.cells, &second.cells)?;
+    Ok(amended.as_slice() == [want].as_slice())
 }
 
-#[test]
-fn a_report_is_filed_again_when_late_facts_amend_it(rt: HostRuntime) -> Result<(), Fail> {
-    let mut disk = MemoryDisk::new(rt.alloc(), &[], &[])?;
-    let mut filing = MapFiling::new(rt.alloc());
-    let twice = is_filed_twice(rt.alloc(), &mut disk, &mut filing)?;
+// Whether the report is filed again over this filing, with one cell amended.
+fn is_amended<F: Filing>(alloc: Global, filing: &mut F) -> Result<bool, Memory> {
+    let mut disk = MemoryDisk::new(alloc, &[], &[])?;
     // Month 6 is March, and column 2 the valves whose repair was late.
     let want = Amended {
         month: 6,
@@ -206,8 +217,14 @@ fn a_report_is_filed_again_when_late_facts_amend_it(rt: HostRuntime) -> Result<(
         old: 1,
         new: 0,
     };
-    let amended = amends(rt.alloc(), &filing, want)?;
-    assert!(rt; twice && amended);
+    Ok(is_filed_twice(alloc, &mut disk, filing)? && amends(alloc, filing, want)?)
+}
+
+#[test]
+fn a_report_is_filed_again_when_late_facts_amend_it(rt: HostRuntime) -> Result<(), Fail> {
+    let in_map = is_amended(rt.alloc(), &mut MapFiling::new(rt.alloc()))?;
+    let in_table = is_amended(rt.alloc(), &mut TableFiling::new(InMemory::new()))?;
+    assert!(rt; in_map && in_table);
     Ok(())
 }
 

@@ -1,4 +1,4 @@
-use crate::tests::{
+use crate::runs::{
     CALM, EMPTY, NEVER, Row, ends, ends_on, failing, has_told, is, ran, says, streams_of,
 };
 use disk_model::{Disk, MemoryDisk};

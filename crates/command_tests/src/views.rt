@@ -1,5 +1,5 @@
 // bench/rows.py writes this file.
-use crate::tests::{EMPTY, is, says};
+use crate::runs::{EMPTY, is, says};
 use disk_model::MemoryDisk;
 use std::alloc::Global;
 use std::test::Fail;
@@ -65,6 +65,37 @@ const PUMP_DELAYED: &[u8] =
     b"B\0\x02\0\0\0\x01\0\x04\x08L\x90\0<\0\x01\0\0\x01\xf4\0\0\x01\xf4\0\0\x01\xf4\0\0\x01\
     \xf4\x07L\x90\x01,\0\x01\0\0\x01\xf4\x0aL\x90\x02X\0\x05\0\x01\0\x01\x01\0\0\x07\xd0\0\0\
     \0\0\x0dL\x95\x02X\0\x05\x04\0\0M=";
+
+const NO_ATTEMPT: &[u8] =
+    b"B\0\x02\0\0\0\x01\0\x04\x07M=\x01,\0\x01\0\0\x01\xf4\x0aM=\x02g\0\x01\0\x01\0\x01\x01\0\
+    \0\x02l\0\0\0\0\x07M?\x01,\0\x01\0\0\x01\xf4\x0aM?\x02X\0\x01\0\x01\0\x01\x01\0\0\0\x14\
+    \0\0\0\0";
+
+const LEAK_AFTER_ATTEMPT: &[u8] =
+    b"B\0\x02\0\0\0\x01\0\x07\x07M=\x01,\0\x01\0\0\x01\xf4\x0aM=\x02g\0\x01\0\x01\0\x01\x01\0\
+    \0\x02l\0\0\0\0\x0cM@\x02X\0\x01\x01\x07MA\x01,\0\x01\0\0\x01\xf4\x0aMA\x02X\0\x01\0\x01\
+    \0\x01\x01\0\0\x02\xbc\0\0\0\0\x07MB\x01,\0\x01\0\0\x01\xf4\x0aMB\x02X\0\x01\0\x01\0\x01\
+    \x01\0\0\0\x14\0\0\0\0";
+
+const TRIED_TWICE: &[u8] =
+    b"B\0\x02\0\0\0\x01\0\x08\x07M=\x01,\0\x01\0\0\x01\xf4\x0aM=\x02g\0\x01\0\x01\0\x01\x01\0\
+    \0\x02l\0\0\0\0\x0cM@\x02X\0\x01\x01\x07MA\x01,\0\x01\0\0\x01\xf4\x0aMA\x02X\0\x01\0\x01\
+    \0\x01\x01\0\0\x02\xbc\0\0\0\0\x0cMC\x02X\0\x01\x01\x07MD\x01,\0\x01\0\0\x01\xf4\x0aMD\
+    \x02X\0\x01\0\x01\0\x01\x01\0\0\0\x14\0\0\0\0";
+
+const PURGED: &[u8] =
+    b"B\0\x02\0\0\0\x01\0\x08\x07M=\x01,\0\x01\0\0\x01\xf4\x0aM=\x02g\0\x01\0\x01\0\x01\x01\0\
+    \0\x02l\0\0\0\0\x0dM>\x02X\0\x01\x03\0\x09M\xac\x07MP\x01,\0\x01\0\0\x01\xf4\x0aMP\x02X\
+    \0\x01\0\x01\0\x01\x01\0\0\0\x14\0\0\0\0\x08Mo\0<\0\x01\0\0\x01\xf4\0\0\x01\xf4\0\0\x01\
+    \xf4\0\0\x01\xf4\x07Mo\x01,\0\x01\0\0\x01\xf4\x0aMo\x02X\0\x01\0\x01\0\x01\x01\0\0\0\x14\
+    \0\0\0\0";
+
+const ISOLATED: &[u8] =
+    b"B\0\x02\0\0\0\x01\0\x08\x07M=\x01,\0\x01\0\0\x01\xf4\x0aM=\x02g\0\x01\0\x01\0\x01\x01\0\
+    \0\x02l\0\0\0\0\x0dM>\x02X\0\x01\x02\0\x09M\xac\x07MP\x01,\0\x01\0\0\x01\xf4\x0aMP\x02X\
+    \0\x01\0\x01\0\x01\x01\0\0\0\x14\0\0\0\0\x08Mo\0<\0\x01\0\0\x01\xf4\0\0\x01\xf4\0\0\x01\
+    \xf4\0\0\x01\xf4\x07Mo\x01,\0\x01\0\0\x01\xf4\x0aMo\x02X\0\x01\0\x01\0\x01\x01\0\0\0\x14\
+    \0\0\0\0";
 
 const NO_READING: &[u8] =
     b"B\0\0\0\0\0\x02\0\x02\x01M\x19\0\0\x02\0COKER\0\0\0\0\0\0\0\x02M\x19\0\0\0\x1e\x02\x01\0\
@@ -297,7 +328,37 @@ fn tags_are_those_of_the_rule(rt: HostRuntime) -> Result<(), Fail> {
     Ok(())
 }
 
-const VIEWS: [View; 16] = [
+const VIEWS: [View; 21] = [
+    (
+        NO_ATTEMPT,
+        "show tags 1 2024-02-22",
+        "receipt 2 1 3\n",
+        "tags 1 2024-02-22\n1 detected 2024-02-20 attempt 2024-02-25 - repair 2024-03-06 - tagged\nend 1\n",
+    ),
+    (
+        LEAK_AFTER_ATTEMPT,
+        "show tags 1 2024-02-25",
+        "receipt 2 1 3\n",
+        "tags 1 2024-02-25\n1 detected 2024-02-20 attempt 2024-02-25 2024-02-23 repair 2024-03-06 - tagged\nend 1\n",
+    ),
+    (
+        TRIED_TWICE,
+        "show tags 1 2024-02-28",
+        "receipt 2 1 3\n",
+        "tags 1 2024-02-28\n1 detected 2024-02-20 attempt 2024-02-25 2024-02-23 repair 2024-03-06 2024-02-27 tagged\nend 1\n",
+    ),
+    (
+        PURGED,
+        "show tags 1 2024-04-11",
+        "receipt 2 1 3\n",
+        "tags 1 2024-04-11\n1 detected 2024-02-20 attempt 2024-02-25 - repair purge 2024-04-10 tagged\nend 1\n",
+    ),
+    (
+        ISOLATED,
+        "show tags 1 2024-04-11",
+        "receipt 2 1 3\n",
+        "tags 1 2024-04-11\n1 detected 2024-02-20 attempt 2024-02-25 - repair isolated - tagged\nend 1\n",
+    ),
     (
         NO_READING,
         "show due 2 2024-02-20",

@@ -1,5 +1,5 @@
-use crate::row_tests::docked;
-use crate::tests::says;
+use crate::runs::says;
+use crate::views::docked;
 use std::alloc::Global;
 use std::test::Fail;
 

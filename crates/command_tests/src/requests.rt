@@ -1,12 +1,12 @@
-use crate::row_tests::docked;
-use crate::stop_tests::calls_of_opening;
-use crate::tests::{ONE, Row, ends, in_pieces, is};
+use crate::runs::{ONE, Row, ends, in_pieces, is};
+use crate::stops::calls_of_opening;
+use crate::views::docked;
 use disk_model::MemoryDisk;
 use std::alloc::Global;
 use std::test::Fail;
 
 // A request with batch 12 of handheld 7.
-const SYNC: &str =
+pub const SYNC: &str =
     "POST /sync HTTP/1.1\r\nHost: office\r\nContent-Length: 116\r\n\r\n{\"handheld\":7,\"number\":12,\"fa\
     cts\":[{\"kind\":\"calibration\",\"day\":\"2024-02-20\",\"minute\":600,\"instrument\":1,\"gas\":500}\
     ]}";
@@ -30,7 +30,7 @@ const GROUND_OF_PUMPS: &str =
     igner\":9,\"expected\":\"2024-06-10\"}]}";
 
 // The answer to batch 12 behind two others.
-const RECEIPT: &str =
+pub const RECEIPT: &str =
     "HTTP/1.1 200 OK\r\nContent-Type: text/plain\r\nContent-Length: 15\r\n\r\nreceipt 7 12 3\n";
 
 // Up to three parts of a text.

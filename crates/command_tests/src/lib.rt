@@ -1,0 +1,19 @@
+//! Tests of `office_commands::run`: each command over disks, sources and sinks in memory, with faults and stops.
+#![tactic(auto)]
+
+#[cfg(test)]
+mod batches;
+#[cfg(test)]
+mod filings;
+#[cfg(test)]
+mod imports;
+#[cfg(test)]
+mod large_units;
+#[cfg(test)]
+mod requests;
+#[cfg(test)]
+mod runs;
+#[cfg(test)]
+mod stops;
+#[cfg(test)]
+mod views;
