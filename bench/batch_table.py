@@ -2,7 +2,7 @@
 """Writes the cases of batch bytes that crates/ldar_facts_table compares with ldar_facts.
 
 A line has the bytes and what is read from them: `whole USED`, `short` or `bad PLACE`. The fields of each kind, with
-their widths and ranges, stand below in their own words; the first wrong place follows from what may come behind it.
+their widths and ranges, are listed below independently; the first wrong place follows from what may come after it.
 usage: batch_table.py >crates/ldar_facts_table/data/batches.txt
 """
 DAYS = [(13_879, 47_481)]
@@ -19,7 +19,7 @@ LETTERS = b"-0123456789ABCDEFGHIJKLMNOPQRSTUVWXYZ"
 
 lines = {}  # in order, each once
 
-# For each kind its fields behind kind, day and minute, and an example of each.
+# For each kind its fields after kind, day and minute, and an example of each.
 KINDS = {
     1: ([UNIT, FLAG, "name"], [1, 0, b"CRUDE"]),
     2: ([COMPONENT, UNIT, (1, [(1, 4)]), FLAG, FLAG] + CLASS, [7, 1, 1, 0, 0, 1, 0, 0, 2]),
@@ -44,13 +44,13 @@ def spelled(field, value):
 
 
 def batch(facts, handheld=7, number=12, count=None):
-    """Facts given as bytes, behind the front of a batch."""
+    """Facts given as bytes, after the header of a batch."""
     count = len(facts) if count is None else count
     return b"\x42" + spelled((2,), handheld) + spelled((4,), number) + spelled((2,), count) + b"".join(facts)
 
 
 def first_wrong(field, value):
-    """The place within the field of the first byte that no value in range has behind the bytes before it."""
+    """The place within the field of the first byte that no value in range has after the bytes before it."""
     width, ranges = field
     for place in range(width):
         behind = 256 ** (width - 1 - place)
@@ -96,7 +96,7 @@ def name_cases(before, behind):
 
 
 def class_cases(before, behind):
-    """A plan's ends with each designation: only what is unsafe to monitor has months."""
+    """The limits of a plan with each designation: only what is unsafe to monitor has months."""
     for designation, plan in PLANS.items():
         field_cases(plan, before + bytes([1, designation]), bytes([1]) + behind)
 

@@ -2,8 +2,8 @@
 """Measures the reading of batches by ldar_facts, beside a plain Rust program (batches.rs) that reads the same bytes.
 
 FACTS facts are read in batches of 512 from memory, PASSES times, once with all kinds in turn and once as readings alone.
-Each pass reads them twice: one caller of the reader sums what they say, and another counts them, since a reader with one
-caller is compiled into it. The program crates/facts_bench is proved and built first, so rt and rustc have to be on the path.
+Each pass reads them twice: one caller of the reader sums them and another counts them, since a reader with one caller is
+inlined into it. The program crates/facts_bench is proved and built first, so rt and rustc must be on the path.
 usage: batches.py [FACTS [PASSES]]     1000000 20 if left out
        batches.py --write FACTS        writes the batches of all kinds to standard output
 """
@@ -24,7 +24,7 @@ def number(width, value):
 
 
 def body(kind, i):
-    """The fields of the kind behind day and minute, in their widths; i makes them differ."""
+    """The fields of the kind after day and minute, in their widths; i makes them differ."""
     component, unit, instrument, ppm = number(2, 1 + i % 60_000), number(1, 1 + i % 64), number(2, 1 + i % 200), number(4, i % 1_000_000)
     gas, later = number(4, 1 + i % 999_999), number(2, 13_879 + i % 33_603)
     plain = bytes([1 + i % 5, 0, 0, 1 + i % 3])
@@ -66,7 +66,7 @@ def batches(facts, kinds):
 
 
 def seconds(program, path, passes):
-    """The least processor time of a few runs, and what was printed."""
+    """The minimum processor time of a few runs, and the output."""
     best, told = None, None
     for _ in range(RUNS):
         before = resource.getrusage(resource.RUSAGE_CHILDREN)

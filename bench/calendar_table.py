@@ -1,7 +1,7 @@
 #!/usr/bin/env python3
 """Writes crates/ldar_days_table/data/calendar.txt: the calendar as Python's datetime has it.
 
-One line a month, from 2008-01 to 2099-12, with these fields, apart by one space:
+One line a month, from 2008-01 to 2099-12, with these fields, separated by one space:
   the number of its first day (days since 1970-01-01), how many days it has,
   and six checksums, each over the values of all its days in order:
     months    each day's month, as year * 12 + month - 1, and its place in the month

@@ -1,4 +1,4 @@
-"""What the scripts of cases share: the program, its batches, and the telling of each case."""
+"""What the scripts of cases share: the program, its batches, and the report of each case."""
 import os
 import shutil
 import struct
@@ -35,7 +35,7 @@ def run(command, given=b"", **more):
 
 
 def ldar(*words, given=b"", before=(), **more):
-    """Runs the program with these words, behind the words before it."""
+    """Runs the program with these words, after the words of a prefix."""
     done = subprocess.run([*before, PROGRAM, *words], input=given, stdout=subprocess.PIPE, stderr=subprocess.DEVNULL, **more)
     return done.returncode, done.stdout
 
@@ -67,7 +67,7 @@ def case(name, got, wanted):
 
 
 def has(tool, what):
-    """Whether a tool is here. Where it is not, what was not tried is said."""
+    """Whether a tool is installed. If not, prints what is skipped."""
     if shutil.which(tool):
         return True
     pass_over(f"no {tool} here: {what}")

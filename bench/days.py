@@ -1,8 +1,8 @@
 #!/usr/bin/env python3
 """Measures calls of ldar_days, in nanoseconds each, beside jiff's calls and a plain Rust program (days.rs).
 
-The program crates/ldar_days_table is proved and built first, so rt and rustc have to be on the path.
-usage: days.py [PASSES]     how often each of the 32,873 startup days is asked, 1,000 if left out
+The program crates/ldar_days_table is proved and built first, so rt and rustc must be on the path.
+usage: days.py [PASSES]     how often each of the 32,873 startup days is used, 1,000 by default
 """
 import pathlib
 import resource
@@ -19,7 +19,7 @@ crate = here.parent / "crates/ldar_days_table"
 
 
 def seconds(program, call):
-    """The least processor time of a few runs, without what the bare loop takes in the same program."""
+    """The minimum processor time of a few runs, less that of the bare loop in the same program."""
     def once(name):
         before = resource.getrusage(resource.RUSAGE_CHILDREN).ru_utime
         subprocess.run([program, name, str(PASSES)], check=True, stdout=subprocess.DEVNULL)

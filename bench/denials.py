@@ -3,8 +3,8 @@
 import of 60,000 valves of which every 35th is difficult to monitor, beside a plain Rust program of the same rules
 (denials.rs).
 
-All come in batches of 512. What making the facts takes is left out, and in an import what entering them takes. The
-program crates/denials_bench is proved and built first, so rt and rustc have to be on the path.
+All are in batches of 512. The time for making the facts is subtracted, and in an import that for entering them. The
+program crates/denials_bench is proved and built first, so rt and rustc must be on the path.
 usage: denials.py [READINGS]     8000000 if left out
 """
 import pathlib
@@ -21,7 +21,7 @@ crate = here.parent / "crates/denials_bench"
 
 
 def measured(program, *words):
-    """The least processor time of a few runs, and what was printed."""
+    """The minimum processor time of a few runs, and the output."""
     best = None
     for _ in range(RUNS):
         before = resource.getrusage(resource.RUSAGE_CHILDREN)

@@ -1,5 +1,5 @@
 // A plain Rust register with the rules by which a batch is denied: the yardstick of denials.py.
-// usage: denials WORK SORT FACTS    as crates/denials_bench has them
+// usage: denials WORK SORT FACTS    with the same words as crates/denials_bench
 use std::collections::{HashMap, HashSet};
 
 #[derive(Clone, Copy, PartialEq, Eq, PartialOrd, Ord)]

@@ -2,9 +2,9 @@
 """Measures `ldar JOURNAL drain` beside a plain Rust program (office.rs, with requests.rs) that reads the same requests by hand.
 
 Over a journal of a million facts (see office.py): 200 requests of the percent view of one day; 16,000 batches of one fact and 400 of
-512 readings, piped; and the writes and syncs of the same frames in a loop. The least of some runs, taken in turn: the processor time less
-that of a run without requests, and for batches the time that passed.
-rustc has to be on the path. usage: drain.py
+512 readings, piped; and the writes and syncs of the same frames in a loop. Shows the minimum of some runs, taken in turn: processor time
+less that of a run without requests, and for batches the elapsed time.
+rustc must be on the path. usage: drain.py
 """
 import json
 import pathlib

@@ -1,7 +1,7 @@
 """The cases of hard_cases.py that look at system calls, by strace, or stand between the program and the C library, by faults.c.
 
-strace tells the calls in their order, lets one of them fail, or kills the program at it. A sync that fails twice cannot be
-seen on the program, whose commands end at the first fault: there the crate's own test of its files is run, if it was built."""
+strace lists the calls in order, makes one of them fail, or kills the program at it. A sync that fails twice cannot be
+observed on the program, whose commands end at the first error: the crate's own test of its files is run instead, if it was built."""
 import os
 import re
 import shutil
@@ -15,14 +15,14 @@ EMPTY = HEADER + b"\0"
 
 
 def traced(words, given=b"", calls="pread64,pwrite64,fsync,fdatasync,write,flock", **more):
-    """The calls that a run makes, each with what it is made on: the name behind the last slash, and the place in the file."""
+    """The calls of a run, each with its file's name (after the last slash) and the place in the file."""
     subprocess.run(["strace", "-f", "-y", "-s", "0", "-o", "trace", "-e", f"trace={calls}", *words], input=given, capture_output=True, **more)
     with open("trace", errors="replace") as file:
         return file.read()
 
 
 def steps(words, given=b""):
-    """The locks, reads, writes, syncs, replies and notes of a run of the program, in order; reads behind one another are told once."""
+    """The locks, reads, writes, syncs, replies and notes of a run of the program, in order; consecutive reads are listed once."""
     found = []
     for name, file, path, rest in re.findall(r"(\w+)\((\d+)<([^>]*)>(.*)", traced([PROGRAM, *words], given)):
         on = os.path.basename(path)
@@ -41,7 +41,7 @@ def steps(words, given=b""):
 
 
 def order_of_calls():
-    """What is written and made durable, and that a receipt is printed behind the last sync."""
+    """What is written and synced, and that a receipt is printed after the last sync."""
     if not has("strace", "the order of the system calls was not seen"):
         return
     os.makedirs("site/unit")
@@ -66,9 +66,9 @@ def order_of_calls():
 
 
 def calls_of(words, given, answered):
-    """Each system call of a run behind the program's start: its name, which of that name it is, and how the run may end where it
-    fails, if it is one of the program's own on the journal, its folder, or a stream. What fails once the input was read is answered, and a
-    read of the input that fails behind the answers leaves them said."""
+    """Each system call of a run after the program's start: its name, its number among those of that name, and how the run may end if it
+    fails, for calls on the journal, its folder or a stream. An error after the input was read is a reply, and an error of a later read of
+    the input leaves the replies printed."""
     is_docking, counts, found, said = False, {}, [], b""
     for name, file, path in re.findall(r"(?m)^\d+ +(\w+)\((?:(\d+)<([^>]*)>)?", traced([PROGRAM, *words], given, "all")):
         counts[name] = counts.get(name, 0) + 1
@@ -91,7 +91,7 @@ FAULTS = ["error=EIO", "error=ENOSPC", "signal=KILL"]
 
 
 def each_call(run_name, words, given, answered, wrong_with):
-    """Tries each fault at each call of a run, and says what is wrong behind it."""
+    """Tries each error at each call of a run, and reports what is wrong afterwards."""
     calls = calls_of(words, given, answered)
     for what in FAULTS:
         wrong = []
@@ -105,13 +105,13 @@ def each_call(run_name, words, given, answered, wrong_with):
 
 
 def each_call_of_init():
-    """Whatever goes wrong while a journal is made, it is there whole or is made by the next init."""
+    """Whatever goes wrong while a journal is made, it is complete or the next init makes it."""
     if has("strace", "no system call of a journal's making was made to fail"):
         each_call("init", ["unit.journal", "init"], b"", b"", wrong_init)
 
 
 def wrong_init(name, number, what):
-    """How an init ended with this fault, and what is wrong behind it, if something is."""
+    """How an init ended with this error, and what is wrong afterwards, if anything."""
     if os.path.exists("unit.journal"):
         os.remove("unit.journal")
     status, text = with_fault(name, number, what, ["unit.journal", "init"], b"")
@@ -125,7 +125,7 @@ def wrong_init(name, number, what):
 
 
 def each_call_of_a_dock():
-    """Whatever goes wrong while a batch is docked, what was receipted stands, and the batch is receipted when it comes again."""
+    """Whatever goes wrong while a batch is docked, what was receipted is kept, and the batch is receipted when it is sent again."""
     if not has("strace", "no system call of a dock was made to fail"):
         return
     for run_name, number in [("a dock", 2), ("a dock of a batch that is kept", 1)]:
@@ -134,14 +134,14 @@ def each_call_of_a_dock():
 
 
 def wrong_dock(docks, name, number, what):
-    """How the dock of a batch ended with this fault, and what is wrong behind it, if something is."""
+    """How the dock of a batch ended with this error, and what is wrong afterwards, if anything."""
     shutil.copy("base.journal", "unit.journal")
     status, text = with_fault(name, number, what, ["unit.journal", "dock"], batch(docks))
     return (status, text), wrong_behind(status, text, docks)
 
 
 def wrong_behind(status, text, docks=2):
-    """What is wrong behind a dock into a journal with batch 1, if something is."""
+    """What is wrong after a dock into a journal with batch 1, if anything."""
     told = [receipted(docks), b"disk fault\n"]
     if status == 0 and text not in told or text not in [b"", *told]:
         return f"status {status} with {text!r}"
@@ -169,7 +169,7 @@ def interrupted():
 
 
 def shim():
-    """faults.c as a library, or nothing where there is no compiler."""
+    """faults.c as a library, or nothing if there is no compiler."""
     if not has("gcc", "transfers of one byte and want of memory were not tried"):
         return None
     to = os.path.abspath("faults.so")
@@ -191,8 +191,7 @@ def one_byte_at_a_time():
 
 
 def each_piece_of_memory():
-    """Each piece of memory that a run asks for is refused in turn: the status is 6, or that is answered to the batch, and nothing
-    receipted is lost."""
+    """Refuses each allocation of a run in turn: the status is 6, or the batch is answered so, and nothing receipted is lost."""
     library = shim()
     if not library:
         return
@@ -214,14 +213,14 @@ def each_piece_of_memory():
                 wrong.append((number, got))
             if docked("unit.journal", 1) != (0, receipted(1)) or docked("unit.journal", 2)[0] != 0:
                 wrong.append((number, "the journal does not open"))
-        # A disk in memory faults where it may not grow, and a file's where the whole path of what a link leads to has no room.
+        # A disk in memory fails where it may not grow, and a file's where there is no room for the full path behind a link.
         wrong = [it for it in wrong if not (name in ("behind a link", "in memory") and it[1] == (5, b""))]
         case(f"{name}, with each of {asked} pieces of memory refused", (asked > 0, 6 in ends, wrong), (True, True, []))
     case("no file was made of a word", os.path.exists("dock"), False)
 
 
 def refusing(library, number, words, given):
-    """How a run ended with its piece of this number refused, and how many it asked for."""
+    """How a run ended with the allocation of this number refused, and how many it made."""
     reads, writes = os.pipe()
     env = {**os.environ, "LD_PRELOAD": library, "REFUSED": str(number)}
     command = ["sh", "-c", f'exec "$@" 9>&{writes}', "", "env", f"LD_PRELOAD={library}", f"REFUSED={number}", PROGRAM, *words]
@@ -234,7 +233,7 @@ def refusing(library, number, words, given):
 
 
 def synced_behind_a_failed_sync():
-    """Behind a sync that failed, what was written since the last good one is read and written again before the next sync."""
+    """After a failed sync, what was written since the last good one is read and written again before the next sync."""
     runner = shutil.which(RUNNER) or os.path.join(os.path.dirname(os.path.realpath(shutil.which("rt") or "/")), RUNNER)
     if not has("strace", "a sync behind one that failed was not tried"):
         return

@@ -1,5 +1,5 @@
-/* Preloaded before the program by fault_cases.py. ONE_BYTE: each read and write moves one byte at most.
-   REFUSED=N: the Nth piece of memory asked for, from 1, is refused; the count is written to descriptor 9 at the end. */
+/* Preloaded into the program by fault_cases.py. ONE_BYTE: each read and write moves at most one byte.
+   REFUSED=N: the Nth allocation, from 1, is refused; the number of allocations is written to descriptor 9 at the end. */
 #define _GNU_SOURCE
 #include <errno.h>
 #include <stdlib.h>

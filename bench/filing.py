@@ -1,10 +1,10 @@
 #!/usr/bin/env python3
-"""Files reports with the real program over a journal at a path, each command in a run of its own, and says what is seen here and
-nowhere else: that what is on file is there in the next run, in a table that SQLite itself reads, and what is refused.
+"""Files reports with the real program over a journal at a path, each command in a run of its own. Only this script tests that what is
+on file is there in the next run, in a table that SQLite itself reads, and what is refused.
 
-A process unit with one valve leaked on 2024-02-20, and its repair of 2024-03-07 came a day too late; so the report of its eighth
-half year counts one leak in March that was not repaired in time. A late reading shows that it was. Both are put on file, and they
-differ in that number alone.
+The one valve of a process unit leaked on 2024-02-20, and its repair of 2024-03-07 came a day too late; so the report of its eighth
+half counts one leak in March that was not repaired in time. A late reading shows that it was. Both reports are filed, and they
+differ only in that number.
 
 usage: bench/filing.py"""
 import fcntl
@@ -39,7 +39,7 @@ AS_NOBODY = {"user": NOBODY, "group": NOBODY, "extra_groups": []} if IS_ROOT els
 
 
 def filed(*words, journal=JOURNAL, **more):
-    """A run of `file`: its status, and what it printed and noted."""
+    """A run of `file`: its status, output and note."""
     done = subprocess.run([PROGRAM, journal, "file", *(words or REPORT)], stdin=subprocess.DEVNULL, capture_output=True, **more)
     return done.returncode, done.stdout.decode(), done.stderr.decode()
 
@@ -60,7 +60,7 @@ def in_time():
 
 
 def table(query, *values):
-    """What SQLite itself answers of the file. What it changes is there from then on."""
+    """What SQLite itself reads in the file. Its changes stay."""
     with sqlite3.connect(FILED) as connection:
         rows = connection.execute(query, values).fetchall()
     connection.close()
@@ -68,7 +68,7 @@ def table(query, *values):
 
 
 def revisions():
-    """Of each row on file the unit, half, revision, day, and how many repairs were late in March."""
+    """For each row the unit, half, revision, day, and the number of late repairs in March."""
     rows = table("SELECT unit, half, revision, day, months, delays, stops FROM filed ORDER BY unit, half, revision")
     return [(*row[:4], int.from_bytes(row[4][4 * LATE_IN_MARCH :][:4], "big"), len(row[4]), row[5], row[6]) for row in rows]
 
@@ -111,7 +111,7 @@ def read_by_sqlite():
 
 
 def stays(name, got):
-    """A fault of the filing, after which what is on file is as before: the first revision alone, and the journal is not touched."""
+    """A filing error, after which the file is as before: only the first revision, and the journal is untouched."""
     case(name, got, FAULT)
 
 
@@ -151,7 +151,7 @@ def read_only():
 
 
 def too_large():
-    """No file may grow, so the table cannot: the limit is told as a fault and not by a signal, since ./ldar passes that over."""
+    """No file may grow, so the table cannot: the limit is an error and not a signal, since ./ldar ignores the signal."""
     command = '"$LDAR" unit.journal file 1 8 2024-03-31'
     stays("a file that may not grow", run_limited(command))
 
@@ -184,7 +184,7 @@ def no_database():
 
 
 def shut_folder():
-    """A folder in which the file cannot be made, beside a journal that can be read."""
+    """A folder in which the file cannot be made, with a journal that can be read."""
     overdue()
     os.chmod(JOURNAL, 0o444)
     os.chmod(".", 0o555)

@@ -1,12 +1,12 @@
 #!/usr/bin/env python3
-"""Sends what docs/HANDHELDS.md shows to `ldar JOURNAL drain`, and compares what comes back with what the page says.
+"""Sends the requests of docs/HANDHELDS.md to `ldar JOURNAL drain`, and compares the responses with those of the page.
 
 - each request of the page, in order, over one pipe, and the responses byte for byte
 - each kind of fact of its tables, in a batch of its own
 - the batch in bytes, through `dock`
-- the same office asked by Python's http.client and by curl over real sockets, one connection after another
+- requests by Python's http.client and by curl over real sockets, one connection after another
 
-usage: bench/handhelds.py [--write]     (--write puts the responses that came into the page)"""
+usage: bench/handhelds.py [--write]     (--write puts the actual responses into the page)"""
 import http.client
 import json
 import os
@@ -30,7 +30,7 @@ def check(what, is_so, *shown):
 
 
 def on_the_wire(block):
-    """The bytes of a request or response of the page: lines of its head end with CR LF, its body stands as it is."""
+    """The bytes of a request or response of the page: lines of its head end with CR LF, its body is as shown."""
     head, _, body = block.partition("\n\n")
     return (head.rstrip("\n") + "\n\n").replace("\n", "\r\n").encode() + body.encode()
 
@@ -41,7 +41,7 @@ def blocks(text):
 
 
 def request_of(block):
-    """A request with the length that its body has."""
+    """A request with the length of its body."""
     head, _, body = block.partition("\n\n")
     body = body.rstrip("\n")
     if body:
@@ -56,7 +56,7 @@ def drained(journal, sent):
 
 
 def over_a_socket(journal, talk):
-    """Serves one connection by a program of its own, as a listener would, while talk speaks at the other end."""
+    """Serves one connection by a process of its own, as a listener would, while talk is the client."""
     with socket.create_server(("127.0.0.1", 0)) as listener:
         port = listener.getsockname()[1]
         child = os.fork()
@@ -90,7 +90,7 @@ def the_page(folder):
 
 
 def kinds(folder, text):
-    """Each kind of the tables, alone in a batch, in an office that has what it speaks of."""
+    """Each kind of the tables, alone in a batch, in an office that has what it refers to."""
     journal = f"{folder}/kinds.journal"
     subprocess.run([LDAR, journal, "init"], check=True)
     examples = [(kind, json.loads(fact)) for kind, fact in re.findall(r"^\| `(\w+)` \| `(\{.*?\})` \|", text, re.M)]
@@ -157,7 +157,7 @@ def by_curl(journal):
 
 
 def write_page():
-    """Puts the responses that come into the page."""
+    """Puts the actual responses into the page."""
     with open(PAGE, encoding="utf-8") as it:
         text = it.read()
     def framed(match):

@@ -1,8 +1,8 @@
 #!/usr/bin/env python3
-"""Runs the real program through what goes wrong outside it, and says at its start what is seen here and nowhere else.
+"""Runs the real program through what goes wrong outside it; the list below is tested only here.
 
-Each case says its status, and that a journal that was there still opens to what was receipted. What needs root, strace or
-gcc is passed over with a word where there is none.
+Each case checks the exit status, and that an existing journal still opens to what was receipted. Cases that need root, strace or
+gcc are skipped with a message if there is none.
 
 usage: bench/hard_cases.py"""
 import os
@@ -16,14 +16,14 @@ import fault_cases
 from cases import HEADER, HERE, IS_ROOT, LDAR, NOBODY, PROGRAM, batch, case, docked, ended, has, held, ldar, made, pass_over, receipted, run
 
 ONLY_HERE = """\
-The classes for real files and streams promise their counts of faults alone, and the gate tries them on three files (two disks
-at one file, a sync behind another, a file that may not be written). These are seen by this script, and by nothing else:
-- closed, full and not blocking streams, a reader that left, a root folder with neither /dev nor /proc
-- two programs at one journal; journals that may not be written; folders, links, full disks, odd words
-- a journal with as many facts as there may be
+The types for real files and streams promise only their error counts, and the gate tests them on three files (two disks on one
+file, two syncs in a row, a file that cannot be written). Only this script tests:
+- closed, full and non-blocking streams, a reader that left, a root folder without /dev and /proc
+- two processes on one journal; read-only journals; folders, links, full disks, odd words
+- a journal with the maximum number of facts
 - the order of the system calls, and which folder is synced
 - each system call of an init and of a dock failing, and the program killed at each
-- signals, transfers of one byte, each piece of memory refused, and the bytes that are written again behind a failed sync"""
+- signals, transfers of one byte, each allocation refused, and the bytes that are written again after a failed sync"""
 
 # Process unit 2 from 2024-01-15, with valve 30 in gas service.
 VALVE = bytes.fromhex("42 0000 00000002 0002 01 4d19 0000 02 00 434f4b4552 00000000000000 02 4d19 0000 001e 02 01 00 00 01 00 00 01")
@@ -48,7 +48,7 @@ def streams():
 
 
 def reader_left(given):
-    """The exit status of a dock whose output is a pipe that nobody reads."""
+    """The exit status of a dock whose output is a pipe without a reader."""
     reads, writes = os.pipe()
     os.close(reads)
     try:
@@ -58,7 +58,7 @@ def reader_left(given):
 
 
 def not_blocking():
-    """Streams that say that they have, or take, nothing now."""
+    """Non-blocking streams that have, or take, nothing now."""
     made("unit.journal")
     reads, writes = os.pipe()
     os.set_blocking(reads, False)
@@ -86,7 +86,7 @@ def not_blocking():
 
 
 def filled(writes):
-    """Fills a pipe, and says how many bytes it took."""
+    """Fills a pipe, and returns how many bytes it took."""
     total = 0
     for size in (4096, 1):
         try:
@@ -103,7 +103,7 @@ def ended_with(started):
 
 
 def two_programs():
-    """One journal and two programs: the second is refused at once, whatever it was to do."""
+    """One journal and two processes: the second is refused at once, whatever its command."""
     made("unit.journal")
     first = subprocess.Popen([LDAR, "unit.journal", "dock"], stdin=subprocess.PIPE, stdout=subprocess.PIPE)
     until_locked("unit.journal")
@@ -125,7 +125,7 @@ def two_programs():
 
 
 def until_locked(path):
-    """Waits until some program has locked the file."""
+    """Waits until some process has locked the file."""
     place = f":{os.stat(path).st_ino} "
     deadline = time.monotonic() + 10
     while time.monotonic() < deadline:
@@ -150,7 +150,7 @@ def paths():
 
 
 def reading_alone():
-    """A journal that may be read and not written: what is kept is told, and a new batch is a fault of the disk."""
+    """A read-only journal: what is kept is shown, and a new batch is a disk error."""
     made("unit.journal", 1)
     kept = held("unit.journal")
     os.chmod("unit.journal", 0o444)
@@ -179,7 +179,7 @@ def read_only(what, path, kept, **who):
 
 
 def mounted(*words):
-    """Mounts something, or says that nothing can be mounted."""
+    """Mounts something, or reports that nothing can be mounted."""
     if IS_ROOT and subprocess.run(["mount", *words], capture_output=True).returncode == 0:
         return True
     pass_over("nothing can be mounted here: a file system that is full, or that may not be written, was not tried")
@@ -187,7 +187,7 @@ def mounted(*words):
 
 
 def views():
-    """What is shown of a journal, and what there is none of; nothing of it changes."""
+    """Views of a journal, and what does not exist; the journal does not change."""
     made("unit.journal", 1)
     kept = held("unit.journal")
     case("the counts", ldar("unit.journal", "check"), (0, b"journal 1 batches 1 facts\n"))
@@ -207,7 +207,7 @@ def answered(body):
 
 
 def notes():
-    """What is noted on the standard error."""
+    """The notes on standard error."""
     made("unit.journal", 1)
     case("a cut input", noted("unit.journal", "dock", given=batch(2)[:19]), (8, b"", b"input cut: 19 bytes left\n"))
     case("a wrong byte behind a batch", noted("unit.journal", "dock", given=batch(1) + b"C"), (8, receipted(1), b"bad input at 20\n"))
@@ -222,7 +222,7 @@ def notes():
 
 
 def noted(*words, given=b""):
-    """The status of a run, what it printed and what it noted."""
+    """The status, output and note of a run."""
     done = subprocess.run([PROGRAM, *words], input=given, capture_output=True)
     return done.returncode, done.stdout, done.stderr
 
@@ -298,12 +298,12 @@ def full_journal():
 
 
 def frame_of_last(kept):
-    """How many bytes the last frame has: 15,625 batches leave 9 for it."""
+    """The number of bytes of the last frame: 15,625 batches leave 9 for it."""
     return 5 + 9 * len(batch(1, 512))
 
 
 def bare_root():
-    """A root folder with the program and its libraries alone: no /dev/null, no /proc."""
+    """A root folder with only the program and its libraries: no /dev/null, no /proc."""
     if not IS_ROOT or not has("ldd", "a bare root folder was not tried"):
         return pass_over("only root can change its root folder: a bare one was not tried") if not IS_ROOT else None
     os.mkdir("bare")
@@ -320,7 +320,7 @@ def bare_root():
             os.mkdir("bare/dev")
             os.mknod("bare/dev/null", 0o020000 | mode, os.makedev(1, 3))
         with_closed(name)
-    # Where nothing can stand in for a closed stream, nothing is opened.
+    # If nothing can replace a closed stream, nothing is opened.
     os.chmod("bare", 0o711)
     os.remove("bare/dev/null")
     os.remove("bare/unit.journal")

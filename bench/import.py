@@ -2,10 +2,10 @@
 """Measures the import of components from CSV to receipts by the real program, beside a plain Rust program (import.rs) and beside
 the writes and syncs of the same frames in a loop.
 
-A file of COUNT components of process unit 1 is made, and imported into a journal that has the unit: the least processor time
-and the least time of some runs taken in turn. Both have to print the same receipts and leave the same journal.
-rt and rustc have to be on the path. usage: import.py [COUNT..]
-COUNT: 15000 30000 60000 if left out.
+A file of COUNT components of process unit 1 is made, and imported into a journal that has the unit. Shows the minimum processor
+and elapsed time of some runs taken in turn. Both must print the same receipts and leave the same journal.
+rt and rustc must be on the path. usage: import.py [COUNT..]
+COUNT: 15000 30000 60000 by default.
 """
 import pathlib
 import resource
@@ -28,7 +28,7 @@ UNIT = '[[unit]]\nnumber = 1\nname = "CRUDE"\nstartup = "2020-01-15"\nolder = fa
 
 
 def components(count):
-    """A file of so many: mostly valves, each tenth a pump, and each fiftieth a valve that is difficult to monitor."""
+    """A file of that many: mostly valves, every tenth a pump, and every fiftieth a valve that is difficult to monitor."""
     rows = [COLUMNS]
     for number in range(1, count + 1):
         kind = "pump" if number % 10 == 0 else "valve"
@@ -39,7 +39,7 @@ def components(count):
 
 
 def taken(words, text):
-    """The processor time and the time in seconds of a run with this input, and what it printed."""
+    """The processor time and elapsed time in seconds of a run with this input, and its output."""
     before, began = resource.getrusage(resource.RUSAGE_CHILDREN), time.perf_counter()
     printed = subprocess.run(words, check=True, input=text, stdout=subprocess.PIPE).stdout
     ended, after = time.perf_counter(), resource.getrusage(resource.RUSAGE_CHILDREN)

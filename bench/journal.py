@@ -1,10 +1,10 @@
 #!/usr/bin/env python3
 """Measures the opening of a journal by the real program, beside a plain Rust program (journal.rs).
 
-Journals of FACTS facts are made, in batches of one fact and of 512, and opened by `dock` with an empty input: the
-least processor time of some runs taken in turn, and the memory.
-rt and rustc have to be on the path. usage: journal.py [--beside PROGRAM] [FACTS..]
-FACTS: 100000 200000 400000 if left out. PROGRAM: another build of ldar, of an earlier commit say, measured in the same run.
+Journals of FACTS facts are made, in batches of one fact and of 512, and opened by `dock` with an empty input. Shows the
+minimum processor time of some runs taken in turn, and the memory.
+rt and rustc must be on the path. usage: journal.py [--beside PROGRAM] [FACTS..]
+FACTS: 100000 200000 400000 by default. PROGRAM: another build of ldar, for example of an earlier commit, measured in the same run.
 """
 import pathlib
 import resource
@@ -29,7 +29,7 @@ def batch(number, count):
 
 
 def journal(path, facts, count):
-    """A journal of so many facts, in batches of count, one batch a frame."""
+    """A journal of that many facts, in batches of count, one batch a frame."""
     with open(path, "wb") as file:
         file.write(b"LDARJNL1" + bytes(8))
         for number in range(facts // count):
@@ -47,7 +47,7 @@ def processor_time(words):
 
 
 def memory_of(words):
-    """The greatest resident memory of a run in KiB."""
+    """The peak resident memory of a run in KiB."""
     # By /usr/bin/time, since a child of this process would count this process's own memory as its own.
     told = subprocess.run(["/usr/bin/time", "-f", "%M", *words], check=True, stdin=subprocess.DEVNULL,
                           stdout=subprocess.DEVNULL, stderr=subprocess.PIPE, text=True)
@@ -55,7 +55,7 @@ def memory_of(words):
 
 
 def measured(commands):
-    """For each of the commands the least processor time of some runs, taken in turn, and the memory."""
+    """For each of the commands the minimum processor time of some runs, taken in turn, and the memory."""
     best = {name: float("inf") for name in commands}
     for _ in range(RUNS):
         for name, words in commands.items():

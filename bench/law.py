@@ -1,15 +1,15 @@
 #!/usr/bin/env python3
 """Measures the rule's functions on the life of a component: its events, its spans, its marks of all quarters and its
-duties; an instrument that is calibrated each day, or all day, routes, and a repair that is delayed again and again. Beside them
-stands a plain Rust program with the same functions (law.rs).
+duties; an instrument that is calibrated each day, or all day, routes, and a repair that is delayed again and again. The yardstick
+is a plain Rust program with the same functions (law.rs).
 
-Each row is asked for a size and for twice that, of half as many components where there are many: so as many facts are gone
-over, and the caches of the processor hold no less of them. What making the lives takes is left out; the sums over the
-answers, which the two programs have to have in common, are in: of the marks, each pass adds that of one quarter. The program
-crates/law_bench is proved and built first, so rt and rustc have to be on the path.
-usage: law.py [RUNS [PART]]            nanoseconds of processor time; 15 runs if left out
-       law.py instructions [PART]      the instructions that valgrind counts, once: the same whatever else the machine does
-With a PART only the rows whose names have it are measured.
+Each row is measured for a size and for twice that size, with half as many components if there are many: so the number of facts
+is the same, and the processor's caches hold as much of them. The time for making the lives is subtracted. The sums over the
+answers, which both programs must agree on, are included: of the marks, each pass adds that of one quarter. The program
+crates/law_bench is proved and built first, so rt and rustc must be on the path.
+usage: law.py [RUNS [PART]]            nanoseconds of processor time; 15 runs by default
+       law.py instructions [PART]      the instructions that valgrind counts, once; other work on the machine does not matter
+With a PART only the rows whose names contain it are measured.
 """
 import pathlib
 import re
@@ -24,13 +24,13 @@ PART = sys.argv[2] if len(sys.argv) > 2 else ""
 RUNS = 1 if IS_COUNTED else int(sys.argv[1]) if len(sys.argv) > 1 else 15
 # Counting is some fifty times as slow as running, and needs no long run.
 PASSES_FOR_ONE_COUNTED = 200 if IS_COUNTED else 1
-# With fewer the time of a run of many components is lost in that of making them.
+# With fewer, the time of a run of many components is lost in that of making them.
 LEAST_PASSES = 1 if IS_COUNTED else 200
 
 here = pathlib.Path(__file__).parent
 crate = here.parent / "crates/law_bench"
 
-# what is shown, the history or call, and the components and their facts, or the size and the passes
+# the row's name, the history or call, and the components and their facts, or the size and the passes
 LIVES = (
     ("valve, 16 years, 200 events", "valve", 1, 200),
     ("pump, 16 years, 1,000 events", "pump", 1, 1_000),
@@ -49,7 +49,7 @@ OTHERS = (
 
 
 def rows():
-    """Of each row what is shown, the words for a size and for some passes, the size, the passes and the calls of a pass."""
+    """For each row its name, the words for a size and for some passes, the size, the passes and the calls of a pass."""
     for shown, history, components, facts in LIVES:
         lives = lambda size, components=components, facts=facts: max(1, components * facts // size)
         for call in ("events", "spans", "marks", "duties"):
@@ -65,7 +65,7 @@ def rows():
 
 
 def timed(program, words):
-    """The processor time of a run in nanoseconds, and what was printed."""
+    """The processor time of a run in nanoseconds, and the output."""
     before = resource.getrusage(resource.RUSAGE_CHILDREN)
     told = subprocess.run([program, *map(str, words)], check=True, stdout=subprocess.PIPE, text=True).stdout
     after = resource.getrusage(resource.RUSAGE_CHILDREN)
@@ -73,15 +73,15 @@ def timed(program, words):
 
 
 def counted(program, words):
-    """The instructions of a run, and what was printed."""
+    """The instructions of a run, and the output."""
     count = ["valgrind", "--tool=callgrind", "--callgrind-out-file=/dev/null", program]
     told = subprocess.run([*count, *map(str, words)], check=True, stdout=subprocess.PIPE, stderr=subprocess.PIPE, text=True)
     return int(re.search(r"Collected : (\d+)", told.stderr)[1]), told.stdout
 
 
 def measured(programs, words, sizes, calls):
-    """For each size, and for each program, what a call takes: run after run, the sizes and programs in turn. What is left out
-    is the least that making the lives took."""
+    """For each size and each program the time of a call: run after run, the sizes and programs in turn. The minimum time for
+    making the lives is subtracted."""
     taken = counted if IS_COUNTED else timed
     took = {(size, program): ([], []) for size, _ in sizes for program in programs}
     for _ in range(RUNS):

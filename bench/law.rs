@@ -1,5 +1,5 @@
 // A plain Rust program of the rule's functions on the life of a component: the yardstick of law.py.
-// usage: law CALL HISTORY COMPONENTS FACTS PASSES, or law CALL SIZE PASSES    as crates/law_bench has them
+// usage: law CALL HISTORY COMPONENTS FACTS PASSES, or law CALL SIZE PASSES    with the same words as crates/law_bench
 #![allow(dead_code)]
 
 include!("rule.rs");
@@ -184,7 +184,7 @@ fn component_call(call: &str, history: History, components: u32, places: u32, pa
             sum = match call {
                 "events" => events_of(item, classes, facts, fitness).iter().fold(sum, |sum, event| add(sum, event_said(event))),
                 "spans" => spans_of(item.kind, events).iter().fold(sum, |sum, span| add(sum, span_said(span))),
-                // A pass adds the mark of one quarter: a sum over all of them takes longer than making those of what is counted in none.
+                // A pass adds the mark of one quarter: a sum over all of them takes longer than making the marks of a component that is never counted.
                 "marks" => add(sum, mark_said(&marks_to(item, classes, STARTUP, events, &delayed, quarters, day)[quarter])),
                 _ => duties_of(item, classes, STARTUP, events, &skipped, day).iter().fold(sum, |sum, duty| add(sum, duty_said(duty))),
             };

@@ -1,13 +1,13 @@
 #!/usr/bin/env python3
-"""Measures the program over the file of a journal: opening it, the percent and due views of a unit of 20,000 valves, and keeping batches,
+"""Measures the program over a journal file: opening it, the percent and due views of a unit of 20,000 valves, and keeping batches,
 beside a plain Rust program (office.rs) that makes the same writes and syncs.
 
-Journals of FACTS facts are made, in batches of 512 facts and of one: the unit and its valves, and then readings, each 510 of them behind a
-precision test and a calibration of their instrument. A view's time is that of a run that opens and shows less that of one that opens. Into a
-journal of a million facts 16,000 batches of one fact are piped, and 1,000 are sent one at a time, each after the line of the one before; the
-same number of writes and syncs in a loop is timed beside them. The least processor time of some runs is shown, taken in turn, and for batches
-the time that passed; the memory is the greatest a run had, less that of a run over an empty journal.
-rustc has to be on the path. usage: office.py [FACTS..]    1000000 2000000 4000000 8000000 if left out
+Journals of FACTS facts are made, in batches of 512 facts and of one: the unit and its valves, and then readings, every 510 of them after a
+precision test and a calibration of their instrument. A view's time is that of a run that opens and shows, less that of one that only opens.
+16,000 batches of one fact are piped into a journal of a million facts, and 1,000 are sent one at a time, each after the line of the one
+before; the same number of writes and syncs in a loop is timed too. Shows the minimum processor time of some runs, taken in turn, and for
+batches the elapsed time; the memory is a run's peak, less that of a run over an empty journal.
+rustc must be on the path. usage: office.py [FACTS..]    1000000 2000000 4000000 8000000 by default
 """
 import datetime
 import os
@@ -33,7 +33,7 @@ FIRST_DAY = 19_000
 
 
 def facts_of(count):
-    """So many facts: the handheld of each, and its bytes."""
+    """That many facts: the handheld of each, and its bytes."""
     yield 0, struct.pack(">BHHBB12s", 1, BEGIN, 0, 1, 0, b"CRUDE")
     for valve in range(1, VALVES + 1):
         yield 0, struct.pack(">BHHHBBBBBBBB", 2, BEGIN, 0, valve, 1, 1, 0, 0, 1, 0, 0, valve % 3 + 1)
@@ -54,7 +54,7 @@ def last_day(count):
 
 
 def journal(path, count, most):
-    """A journal of so many facts, in batches of at most so many, one batch a frame."""
+    """A journal of that many facts, in batches of at most that size, one batch a frame."""
     with open(path, "wb") as file:
         file.write(b"LDARJNL1" + bytes(8))
         number = 0
@@ -78,12 +78,12 @@ def journal(path, count, most):
 
 
 def calibrations(count):
-    """So many batches of one calibration, of a handheld that no other batch has."""
+    """That many batches of one calibration, of a handheld that no other batch has."""
     return b"".join(struct.pack(">BHIHBHHHI", 66, 9_999, number, 1, 7, 19_773, number % 1_440, 1, 500) for number in range(count))
 
 
 def timed(words, given=b""):
-    """The processor time and the time of a run in seconds, and what was printed."""
+    """The processor time and elapsed time of a run in seconds, and the output."""
     before, began = resource.getrusage(resource.RUSAGE_CHILDREN), time.monotonic()
     told = subprocess.run(list(map(str, words)), check=True, input=given, stdout=subprocess.PIPE).stdout
     passed, after = time.monotonic() - began, resource.getrusage(resource.RUSAGE_CHILDREN)
@@ -91,7 +91,7 @@ def timed(words, given=b""):
 
 
 def memory_of(words):
-    """The greatest resident memory of a run in bytes."""
+    """The peak resident memory of a run in bytes."""
     # By /usr/bin/time, since a child of this process would count this process's own memory as its own.
     told = subprocess.run(["/usr/bin/time", "-f", "%M", *map(str, words)], check=True, stdin=subprocess.DEVNULL,
                           stdout=subprocess.DEVNULL, stderr=subprocess.PIPE, text=True)
@@ -99,7 +99,7 @@ def memory_of(words):
 
 
 def least(programs, words, given=b""):
-    """For each program the least processor time and time of some runs in turn; what they print has to be the same."""
+    """For each program the minimum processor and elapsed time of some runs in turn; their output must be the same."""
     best = [[float("inf")] * 2 for _ in programs]
     for _ in range(RUNS):
         said = []
@@ -117,7 +117,7 @@ def day_text(day):
 
 
 def words_of(work, count):
-    """The words of a view on the last day of so many facts."""
+    """The words of a view on the last day of that many facts."""
     day = day_text(last_day(count))
     first = 2020 * 12 + 3  # the unit's first quarter begins in April 2020: its startup is 2020-01-15
     quarter = (int(day[:4]) * 12 + int(day[5:7]) - 1 - first) // 3 + 1
@@ -148,7 +148,7 @@ def opened(programs, folder):
 
 
 def one_at_a_time(words, batches):
-    """The time that passes from the first batch to the last line, each batch sent after the line of the one before, and the processor time."""
+    """The elapsed time from the first batch to the last line, each batch sent after the line of the one before, and the processor time."""
     with subprocess.Popen(list(map(str, words)), stdin=subprocess.PIPE, stdout=subprocess.PIPE) as process:
         process.stdin.write(batches[0])
         process.stdin.flush()
@@ -165,7 +165,7 @@ def one_at_a_time(words, batches):
 
 
 def loop(path, frames, size):
-    """The time that passes in the writes and syncs of so many frames of so many bytes alone."""
+    """The elapsed time of only the writes and syncs of that many frames of that many bytes."""
     with open(path, "r+b", buffering=0) as file:
         file.seek(0, 2)
         at, frame = file.tell() - 1, bytes(size + 5)
@@ -180,7 +180,7 @@ def loop(path, frames, size):
 
 
 def docked(programs, folder):
-    """Batches that are put into a journal of a million facts."""
+    """Batches that are added to a journal of a million facts."""
     whole, path = folder / "whole", folder / "journal"
     journal(whole, 1_000_000, 512)
     base = least(programs, [whole, "check"])

@@ -1,7 +1,7 @@
 // A plain Rust office over the file of a journal: the yardstick of office.py.
-// usage: office JOURNAL check | show percent UNIT QUARTER DAY | show due UNIT DAY | dock | drain    as ldar has them, batches 16 at once
-// It judges each batch by the rules of denials.rs, and shows views by the functions of law.rs. A fact stands once; the facts
-// of each component are listed at the first view. Its views know no delays and no elections.
+// usage: office JOURNAL check | show percent UNIT QUARTER DAY | show due UNIT DAY | dock | drain    with the same words as ldar, up to 16 batches at once
+// It judges each batch by the rules of denials.rs, and shows views by the functions of law.rs. Each fact is kept once; the facts
+// of each component are listed at the first view. Its views ignore delays and elections.
 #![allow(dead_code)]
 
 mod law {
@@ -154,7 +154,7 @@ mod law {
                     }
                 }
 
-                /// Opens a journal, by pieces of 1 MiB.
+                /// Opens a journal, in pieces of 1 MiB.
                 fn open(file: File) -> Option<Office> {
                     file.sync_all().ok()?;
                     let mut office = Office {
@@ -211,7 +211,7 @@ mod law {
                     end - self.kept[at].first as usize == batch.facts.len() && bytes.all(|(a, b)| same_fact(a, b))
                 }
 
-                /// Keeps batches at once, in one frame. The spelling of each stands behind it.
+                /// Keeps batches at once, in one frame. The bytes of each come after it.
                 fn dock(&mut self, group: Vec<(Batch, &[u8])>) -> u32 {
                     let (mut receipts, mut facts, mut frame) = (0, self.facts.len() as u64, vec![0; 4]);
                     let mut new: Vec<Batch> = Vec::new();
@@ -285,7 +285,7 @@ mod law {
                     lists
                 }
 
-                /// Of each component of a unit what it is and its events up to a day, in order.
+                /// For each component of a unit its entry and its events up to a day, in order.
                 fn each(&self, lists: &Lists, unit: u8, day: u16, mut shows: impl FnMut(&law::Equipment, &[(law::Key, law::Class)], &[law::Event])) {
                     let (mut facts, mut fitness) = (Vec::new(), Vec::new());
                     for component in self.register.members.get(&unit).map_or(&[][..], |members| members.as_slice()) {
@@ -427,7 +427,7 @@ mod law {
                 law::Fact { day: fact.day, minute: fact.minute, body }
             }
 
-            /// Keeps the batches of the standard input. Those that are there together share a frame of up to 16 batches.
+            /// Keeps the batches of standard input. Those in hand together share a frame of up to 16 batches.
             fn dock(office: &mut Office) {
                 let (mut input, mut output) = (std::io::stdin().lock(), std::io::stdout().lock());
                 let (mut window, mut at, mut piece) = (Vec::new(), 0, vec![0; 65_536]);

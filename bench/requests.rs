@@ -1,6 +1,6 @@
 // HTTP requests with batches as JSON, read by hand, and their answers: what drain.py sends. office.rs includes it.
 
-/// What a request asks, and how many bytes it has.
+/// What a request asks, and its number of bytes.
 enum Asked { Sync(Batch), Percent { unit: u8, quarter: u16, day: u16 } }
 
 struct Json<'a> { rest: &'a [u8] }
@@ -106,7 +106,7 @@ fn day_of(text: &str) -> Option<u16> {
     (1 <= day && first + day - 1 <= law::last_day(year * 12 + month - 1)).then_some(first + day - 1)
 }
 
-/// The request at the front of some bytes and its length, once it is there whole.
+/// The request at the front of some bytes and its length, once it is complete.
 fn request_at(bytes: &[u8]) -> Option<(Asked, usize)> {
     let head = bytes.windows(4).position(|four| four == b"\r\n\r\n")? + 4;
     let text = std::str::from_utf8(&bytes[..head]).expect("a head");
@@ -159,7 +159,7 @@ fn answer(out: &mut Vec<u8>, body: &str) {
     out.extend_from_slice(format!("HTTP/1.1 200 OK\r\nContent-Type: text/plain\r\nContent-Length: {}\r\n\r\n{body}", body.len()).as_bytes());
 }
 
-/// Answers the requests of the standard input. Those that are there together share a frame of up to 16 batches.
+/// Answers the requests of standard input. Those in hand together share a frame of up to 16 batches.
 fn drain(office: &mut Office) {
     let (mut input, mut output) = (std::io::stdin().lock(), std::io::stdout().lock());
     let (mut window, mut at, mut piece) = (Vec::new(), 0, vec![0; 65_536]);

@@ -1,8 +1,8 @@
 #!/usr/bin/env python3
-"""Writes crates/ldar_cli/src/row_tests.rt: batches that are docked one after the other, and the view that is shown then.
+"""Writes crates/command_tests/src/views.rt: batches that are docked one after the other, and the view that is then shown.
 
-What is shown was worked out by hand from the rule, and stands below; bench/rule_model.py has to say the same.
-usage: bench/rows.py >crates/ldar_cli/src/row_tests.rt, and then rt fmt in that crate
+The views below were worked out by hand from the rule; bench/rule_model.py must give the same.
+usage: bench/rows.py >crates/command_tests/src/views.rt, and then rt fmt in that crate
 """
 import datetime
 import struct
@@ -125,9 +125,23 @@ def drifted(value):
                  reading("2024-02-20", 32, 499), fact("drift", "2024-02-20", 900, instrument=1, value=500, readings=(value,) * 3))
 
 
+def read_again(on, ppm):
+    return [calibration(on), reading(on, 1, ppm)]
+
+
+def tried_again(attempt, on, ppm):
+    return [fact("attempt", attempt, component=1, complete=True), *read_again(on, ppm)]
+
+
+def delayed_then_clean(ground):
+    """A leak of valve 1 that is delayed on the next day and read below the limit in two months, without an attempt."""
+    return [batch(2, 1, *FIT_LEAK, delay("2024-02-21", 1, ground, 9, "2024-06-10"), *read_again("2024-03-10", 20),
+                  *read_once("2024-04-10", 1, 20))]
+
+
 DRIPS = [seen("2024-02-19", 41, "drips"), calibration("2024-02-22"), reading("2024-02-22", 41, 1_999)]
 
-# The name of a case, its batches behind the base, the words, the reply lines but for the first two, and what is shown.
+# The name of a case, its batches after the base, the words, the reply lines except the first two, and the view.
 TAGS = [
     ("BELOW", [batch(2, 1, calibration("2024-02-20"), reading("2024-02-20", 1, 499), reading("2024-02-20", 5, 1_999),
                      reading("2024-02-20", 6, 4_999), reading("2024-02-20", 7, 9_999), reading("2024-02-20", 9, 700))],
@@ -163,6 +177,16 @@ TAGS = [
      "tags 1 2024-02-20\n5 detected 2023-08-31 attempt 2023-09-05 - repair 2024-02-29 - tagged\nend 1\n"),
 ]
 OTHERS = [
+    ("NO_ATTEMPT", [batch(2, 1, *FIT_LEAK, *read_again("2024-02-22", 20))], "tags 1 2024-02-22", "receipt 2 1 3\n",
+     f"tags 1 2024-02-22\n{TAG_1} - repair 2024-03-06 - tagged\nend 1\n"),
+    ("LEAK_AFTER_ATTEMPT", [batch(2, 1, *FIT_LEAK, *tried_again("2024-02-23", "2024-02-24", 700), *read_again("2024-02-25", 20))],
+     "tags 1 2024-02-25", "receipt 2 1 3\n", f"tags 1 2024-02-25\n{TAG_1} 2024-02-23 repair 2024-03-06 - tagged\nend 1\n"),
+    ("TRIED_TWICE", [batch(2, 1, *FIT_LEAK, *tried_again("2024-02-23", "2024-02-24", 700), *tried_again("2024-02-26", "2024-02-27", 20))],
+     "tags 1 2024-02-28", "receipt 2 1 3\n", f"tags 1 2024-02-28\n{TAG_1} 2024-02-23 repair 2024-03-06 2024-02-27 tagged\nend 1\n"),
+    ("PURGED", delayed_then_clean("c"), "tags 1 2024-04-11", "receipt 2 1 3\n",
+     f"tags 1 2024-04-11\n{TAG_1} - repair purge 2024-04-10 tagged\nend 1\n"),
+    ("ISOLATED", delayed_then_clean("b"), "tags 1 2024-04-11", "receipt 2 1 3\n",
+     f"tags 1 2024-04-11\n{TAG_1} - repair isolated - tagged\nend 1\n"),
     ("NO_READING", [VALVE_30], "due 2 2024-02-20", "receipt 0 2 3\n", "due 2 2024-02-20\n30 monthly 2024-02-29 open\nend 1\n"),
     ("QUARTERLY", [VALVE_30, batch(2, 1, *LATE)], "due 2 2024-09-10", "receipt 0 2 3\nreceipt 2 1 4\n", "due 2 2024-09-10\nend 0\n"),
     ("LATE_LEAK", [VALVE_30, batch(2, 1, *LATE), batch(2, 2, *read_once("2024-04-20", 30, 700))], "due 2 2024-09-10",
@@ -202,7 +226,7 @@ OTHERS = [
          f"{month} valves {valves} pumps 0 0 compressors 0 0\n" for month, valves in (
              ("2023-10", "0 0"), ("2023-11", "0 0"), ("2023-12", "0 0"), ("2024-01", "0 0"), ("2024-02", "1 0"), ("2024-03", "0 1"))) + "end 6\n"),
 ]
-# One fact of each kind at least, of a handheld that enters equipment.
+# At least one fact of each kind, of a handheld that enters equipment.
 EVERY_KIND = [
     batch(0, 2, unit(4, "ALKY-2", BEGIN), component(50, 4, "valve", "gas", BEGIN), component(51, 4, "pump", "heavy", BEGIN),
           fact("class", "2024-02-20", component=50, **{"class": {**PLAIN, "designation": "nde"}}), fact("retire", "2024-02-21", component=50),
@@ -259,7 +283,7 @@ def case_of_view(case):
 
 def main():
     print("""// bench/rows.py writes this file.
-use crate::tests::{EMPTY, is, says};
+use crate::runs::{EMPTY, is, says};
 use disk_model::MemoryDisk;
 use std::alloc::Global;
 use std::test::Fail;

@@ -1,5 +1,5 @@
-// The rule's functions in plain Rust, of which law.rs and views.rs are made.
-// Each function makes one pass over what it is given, takes room at once and searches by halving where order allows it.
+// The rule's functions in plain Rust, used by law.rs and views.rs.
+// Each function makes one pass over its input, allocates once and searches by halving if the input is ordered.
 
 #[derive(Clone, Copy, PartialEq, Eq, PartialOrd, Ord)]
 struct Key { day: u16, minute: u16, handheld: u16, number: u32, index: u16 }
@@ -176,7 +176,7 @@ fn events_of(item: &Equipment, classes: &[(Key, Class)], facts: &[(Key, Fact)], 
 
 // ---- tags
 
-/// The leaks of one sort that are open: whether one is delayed, and the first and last day of those that are not.
+/// The open leaks of one sort: whether one is delayed, and the first and last day of those that are not.
 #[derive(Clone, Copy, Default)]
 struct Leaks { delayed: bool, waiting: Option<(u16, u16)> }
 
@@ -199,8 +199,8 @@ fn spans_of(kind: Kind, events: &[Event]) -> Vec<Span> {
     // Spans from here on have no attempt yet.
     let mut unattempted = 0;
     let mut is_open = false;
-    // The month, whether it is read below the leak definition and whether it has a leak; the last clean month before it and
-    // the last pair of them.
+    // The month, whether it has a reading below the leak definition and whether it has a leak; the last clean month before it
+    // and the last pair of them.
     let (mut month, mut read, mut leaked, mut clean, mut pair) = (0, false, false, 0, 0);
     let twice = matches!(kind, Kind::Valve | Kind::Pump);
     for event in events {
@@ -440,7 +440,7 @@ impl Asked<'_> {
         }
     }
 
-    /// What follows events of a sort, where those meet it.
+    /// The duties that follow events of a sort, with what meets them.
     fn put_after(&self, duties: &mut Vec<Duty>, cause: u8, asks: impl Fn(&Event, bool) -> bool, meets: impl Fn(&Happening) -> bool) {
         let from = self.events.partition_point(|event| u32::from(event.key.day) + 371 < u32::from(self.day));
         let (mut wait, mut repeat) = (false, false);

@@ -3,7 +3,7 @@
 usage: python3 bench/rule_histories.py SEED HISTORIES      (from the top of a clone that is built; takes a minute for 200)
 
 Each history gives the six views and the denial of a batch as equations, which `rt check` proves by computing, in a lemma
-file of ldar_law that is taken away again. The exit status is that of the check: 0 where all agree.
+file of ldar_law that is removed afterwards. The exit status is that of the check: 0 if all agree.
 """
 import pathlib
 import random
@@ -109,7 +109,7 @@ def calibration(day, gas=500, minute=200):
 
 
 class Histories:
-    """Random histories of a unit 1 with few components. Those for views have batches that pass each after those before it."""
+    """Random histories of a unit 1 with few components. In those for views each batch passes after those before it."""
 
     def __init__(self, seed):
         self.random = random.Random(seed)
@@ -160,7 +160,7 @@ class Histories:
         return history if denial(history, b) else history + [b]
 
     def of_events(self):
-        """Some components, with all that can happen to them."""
+        """Some components, with everything that can happen to them."""
         startup = self.a_startup()
         count = self.between(1, 4)
         days = [startup + self.choice([0, 0, 40, 100, 200]) for _ in range(count)]

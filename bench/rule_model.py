@@ -1,7 +1,7 @@
-"""The rule once more, as a plain program: what a history shows and which batches are denied.
+"""The rule again, as a plain program: what a history shows and which batches are denied.
 
-It is written from the rule and from docs/RULES.md, not from the definitions of crates/ldar_law, and is as slow as it is
-plain. bench/rule_histories.py compares the two on random histories. Nothing of the program rests on it.
+It is written from the rule and from docs/RULES.md, not from the definitions of crates/ldar_law, and is simple and slow.
+bench/rule_histories.py compares the two on random histories. Nothing in the program uses it.
 
 A day is the number of days since 1970-01-01, a month year * 12 + month - 1. A fact is a dict with its day, minute and kind,
 and the fields of its kind; a batch is a dict with handheld, number and facts.
@@ -106,7 +106,7 @@ EVENTS = ("retire", "reading", "visual", "attempt", "delay", "release", "indicat
 
 
 class Office:
-    """What the facts of a history up to a view day say."""
+    """What follows from the facts of a history up to a view day."""
 
     def __init__(self, history, day):
         self.day = day
@@ -216,7 +216,7 @@ class Office:
         return v["kind"] == "retire"
 
     def is_unsettled(self, c, events):
-        """Some leak of a front of the events is settled by none of them."""
+        """Some leak of a prefix of the events is settled by none of them."""
         return any(e["leak"] and not any(v["key"] > e["key"] and self.settles(c, e, v) for v in events) for e in events)
 
     def tags(self, c):
@@ -550,7 +550,7 @@ def first_of(facts, kind, number):
 
 
 def is_share_reached(facts, in_order, unit, day):
-    """Of the valves of a unit in service on a day, three in a hundred or more are difficult."""
+    """At least three in a hundred of the unit's valves in service on a day are difficult."""
     numbers = dict.fromkeys(f["component"] for f in facts if f["kind"] == "component")
     entries = [first_of(facts, "component", n) for n in numbers]
     valves = [f for f in entries if f["type"] == "valve" and f["unit"] == unit and f["day"] <= day and not any(
@@ -620,7 +620,7 @@ def rules_against(history, batch, place):
 
 
 def denial(history, batch):
-    """The place from 1 of the first fact that is denied, and its least rule; None where the batch passes."""
+    """The place from 1 of the first fact that is denied, and its smallest rule; None if the batch passes."""
     for place in range(len(batch["facts"])):
         rules = list(rules_against(history, batch, place))
         if rules:

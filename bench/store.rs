@@ -1,5 +1,5 @@
 // A plain Rust store of facts by component and instrument in key order: the yardstick of store.py.
-// usage: store [listed|late] READS ORDER SORT FACTS    as crates/facts_bench has them
+// usage: store [listed|late] READS ORDER SORT FACTS    with the same words as crates/facts_bench
 #[derive(Clone, Copy, PartialEq, Eq, PartialOrd, Ord)]
 struct Key { day: u16, minute: u16, handheld: u16, number: u32, index: u16 }
 
@@ -36,7 +36,7 @@ impl Store {
         self.arrived.push((key, fact));
     }
 
-    /// Lists the facts that came since, each list sorted once: in place at first, and then by runs.
+    /// Lists the new facts, each list sorted once: in place at first, and then by runs.
     fn list(&mut self) {
         for (at, (_, fact)) in self.arrived.iter().enumerate().skip(self.listed) {
             push(&mut self.components, component_of(fact), at as u32);

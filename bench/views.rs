@@ -1,6 +1,6 @@
 // A plain Rust office that shows views from its facts: the yardstick of views.py.
-// usage: views FACTS    as crates/views_bench has it, with the names of views and `late N` as input
-// A view goes over the components once, or twice where quarters are skipped, and keeps no more of one than its answer takes.
+// usage: views FACTS    like crates/views_bench, with the names of views and `late N` as input
+// A view goes over the components once, or twice if quarters are skipped, and keeps only what its answer needs.
 #![allow(dead_code)]
 use std::fmt::Write as _;
 use std::io::{BufRead, Write as _};
@@ -18,8 +18,7 @@ struct Tag {
     component: u16, detected: u16, attempted: Option<u16>, repair_due: Until, closed: Option<u16>, delay: Option<DelayEntry>, removable: bool,
 }
 
-/// Facts in the order in which they came, and by number the places of those that name a component, an instrument or a unit, in
-/// key order.
+/// Facts in order of arrival, and by number the places of those that name a component, an instrument or a unit, in key order.
 #[derive(Default)]
 struct Office {
     facts: Vec<(Key, Fact)>,
@@ -86,7 +85,7 @@ impl Office {
         }
     }
 
-    /// The facts at the places of a list that are of days up to one.
+    /// The facts at the places of a list, up to a day.
     fn read(&self, lists: &[Vec<u32>], number: usize, day: u16, into: &mut Vec<(Key, Fact)>) {
         into.clear();
         for place in lists.get(number).map_or(&[][..], |list| list) {
@@ -99,7 +98,7 @@ impl Office {
 
 // ---- what is known of a component
 
-/// What a view reads with: the day, the instruments made ready so far, the unit's shutdowns, and room that is used again.
+/// What a view needs: the day, the instruments prepared so far, the unit's shutdowns, and buffers that are reused.
 struct Reader<'a> {
     office: &'a Office, day: u16, instruments: Vec<Option<Instrument>>, stops: Vec<Stop>, facts: Vec<(Key, Fact)>, fitness: Vec<Fitness>,
 }
@@ -187,7 +186,7 @@ impl Tally {
     fn is_good(&self) -> bool { self.monitored > 0 && 50 * self.leaking <= self.monitored }
 }
 
-/// Of each quarter up to one, whether a repair is delayed on the day on which the quarter is judged.
+/// For each quarter up to one, whether a repair is delayed on the quarter's judging day.
 fn delayed_to(startup: u16, quarters: u16, day: u16, tags: &[Tag]) -> Vec<bool> {
     let mut delayed = Vec::new();
     let first = first_quarter(startup);
@@ -293,7 +292,7 @@ fn ended(mut text: String, lines: usize) -> String {
 
 const CAUSES: [&str; 10] = ["", "first", "monthly", "quarterly", "yearly", "plan", "weekly", "drip", "release", "evidence"];
 
-/// Goes over what has to be done at the components of a unit, in their order.
+/// Goes over the duties of the components of a unit, in order.
 fn for_each_duty(office: &Office, unit: &UnitEntry, day: u16, mut told: impl FnMut(Duty)) {
     let elections = elections(office, unit.unit, day);
     let mut reader = Reader::new(office, unit.unit, day);
