@@ -1,4 +1,6 @@
 //! The positions of a history's batches, found by their identities.
+//!
+//! Tests: `office_tests::positions`.
 #![tactic(auto)]
 
 mod entry;

@@ -1,4 +1,6 @@
 //! The rules by which an office denies a batch, and the verdict on a batch.
+//!
+//! Tests: `register_tests::denials`.
 #![tactic(auto)]
 
 mod case;

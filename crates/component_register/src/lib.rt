@@ -1,4 +1,6 @@
 //! The equipment of process units and the classes in force, over the facts that enter them.
+//!
+//! Tests: `register_tests::registers`.
 #![tactic(auto)]
 
 mod classes;

@@ -9,7 +9,7 @@ no_place : (place : ℕ) → Some place ≡ None → is_some (Some place) ≡ fa
 no_place place e = cc
 
 module _ (detected : ℕ) (attempts : List ℕ) (stops : List Stop) (delays : List DelayEntry) where
-  -- the place of the last delay that counts is none exactly where all are ignored
+  -- there is no place of a counted delay exactly if all are ignored
   pub none_where_ignored : (o : Option ℕ) → o ≡ counted_place detected attempts stops delays → IsNone o ↔ AreIgnored detected attempts stops delays
   none_where_ignored None is = (λ e. (none_counted detected attempts stops delays).0 (sym is), λ all. refl)
   none_where_ignored (Some place) is = (
@@ -17,7 +17,7 @@ module _ (detected : ℕ) (attempts : List ℕ) (stops : List Stop) (delays : Li
     λ all. no_place place (is ∙ (none_counted detected attempts stops delays).1 all),
   )
 
-  -- .. and else that of the last that is not
+  -- otherwise the place is that of the last delay that is not ignored
   pub found_last : (o : Option ℕ) → o ≡ counted_place detected attempts stops delays → IfSome o (IsLastCounted detected attempts stops delays)
   found_last None is = tt
   found_last (Some place) is = counted_place_is_last detected attempts stops delays place (sym is)

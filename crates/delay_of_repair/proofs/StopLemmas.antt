@@ -11,7 +11,7 @@ module _ (attempts : List ℕ) where
   known_end (x ∷ xs) zero stop found = let same : x ≡ stop = cc in rw same refl
   known_end (x ∷ xs) (suc place) stop found = known_end xs place stop found
 
-  -- no shutdown stands at the place
+  -- no shutdown is at the place
   pub unknown_end : (stops : List Stop) (place : ℕ) → slice_get stops place ≡ None → end_of_first attempts (drop place stops) ≡ Shutdown
   unknown_end [] zero none = refl
   unknown_end [] (suc place) none = refl

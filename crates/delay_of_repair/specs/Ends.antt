@@ -1,11 +1,11 @@
--- The days on which a delay of a repair may end.
+-- The days on which a delay of repair can end.
 use Rattle.std.specs.Prelude.{◌≡◌, ℕ, List}
 use Rattle.ldar_law.specs.declared.delay.Stop.{Stop}
 use Rattle.ldar_days.specs.Calendar.{later_by}
 use Rattle.ldar_law.specs.Delays.{repair_by, stops_after, end_of_first, end_of_second}
 use Rattle.delay_of_repair.specs.declared.shutdowns.Ends.{Ends}
 
--- these are the ends after a detection, with these attempts and shutdowns
+-- the possible ends after a detection, with these attempts and shutdowns
 abbrev pub AreEnds : ℕ → List ℕ → List Stop → Ends → Type 0
 AreEnds detected attempts stops ends =
     (ends.repair_by ≡ repair_by detected)

@@ -10,16 +10,16 @@ use crate::shutdowns::Ends;
 use ldar_days::Day;
 use ldar_law::{DelayEntry, Stop, Until, repair_by};
 
-/// Until when a leak must be repaired, and the delay that says so.
+/// The due day of a leak's repair, and the delay that sets it.
 #[derive(Clone, Copy, Debug, PartialEq, Eq)]
 pub struct Repair {
     pub due: Until,
-    /// The place, counted from 0, of the last delay that is not ignored; `None` where each is past the due day that
-    /// those before it give.
+    /// The place, from 0, of the last delay that is not ignored; `None` if each is past the due day set by those before
+    /// it.
     pub counted: Option<usize>,
 }
 
-/// The same where no delay is entered.
+/// The repair without a delay.
 fn undelayed(detected: Day) -> Repair
     ensures due { result.due ≡ Date (law.repair_by detected) }
     ensures counted { result.counted ≡ None }
@@ -30,7 +30,7 @@ fn undelayed(detected: Day) -> Repair
     }
 }
 
-/// A number above which those of the days lie on which the due day is past.
+/// The number of the last day on which the due day is not past, or the greatest number if it never passes.
 fn last_number(due: &Until) -> u32
     ensures value { IsPastAbove due.now result }
 {
@@ -40,7 +40,8 @@ fn last_number(due: &Until) -> u32
     }
 }
 
-/// The same by the days on which a delay may end: one walk over the delays, and a due day only for one that is not ignored.
+/// The repair from the days on which a delay can end: one walk over the delays, which computes a due day only for those
+/// that are not ignored.
 fn delayed(detected: Day, delays: &[DelayEntry], ends: &Ends) -> Repair
     ensures value { (attempts : List ℕ) (stops : List SomeStop) → AreEnds detected attempts stops ends.now
         → Repairs detected attempts stops (reverse delays.now) result }
@@ -48,7 +49,7 @@ fn delayed(detected: Day, delays: &[DelayEntry], ends: &Ends) -> Repair
     let mut repair = undelayed(detected);
     let mut last = last_number(&repair.due);
     for (place, delay) in delays.iter().enumerate() {
-        // The due day so far is what the delays up to here give. Most are past it.
+        // The due day so far is the one set by the delays up to here. Most delays are past it.
         if last < delay.key.day.number() {
             continue;
         }
@@ -61,21 +62,21 @@ fn delayed(detected: Day, delays: &[DelayEntry], ends: &Ends) -> Repair
     repair
 }
 
-/// The same from the walk alone.
+/// The repair by the walk, as `repair_of`.
 fn walked(detected: Day, delays: &[DelayEntry], attempts: &[Day], stops: &[Stop]) -> Repair
     ensures due { result.due ≡ law.repair_due detected attempts.now stops.now delays.now }
     ensures counted { result.counted ≡ law.counted_place detected attempts.now stops.now delays.now }
 {
-    // Most leaks have no delay: for these no shutdown is looked for.
+    // Most leaks have no delay; for these no shutdown is searched.
     if delays.is_empty() {
         return undelayed(detected);
     }
     delayed(detected, delays, &Ends::after(detected, attempts, stops))
 }
 
-/// Until when a leak must be repaired that was detected on this day, and the delay that says so (40 CFR 60.482-7a(d)(1),
-/// 60.482-9a): `repair_due` and `counted` from one walk over the delays, for which the end of each shutdown is found once.
-/// The arguments are those of `repair_due`.
+/// The due day of the repair of a leak detected on this day, and the delay that sets it (40 CFR 60.482-7a(d)(1),
+/// 60.482-9a): the results of `repair_due` and `counted` by one walk over the delays. The end of each shutdown is computed
+/// once. The arguments are those of `repair_due`.
 pub fn repair_of(detected: Day, delays: &[DelayEntry], attempts: &[Day], stops: &[Stop]) -> Repair
     ensures due { result.due ≡ law.repair_due detected attempts.now stops.now delays.now }
     ensures counted { result.counted ≡ law.counted_place detected attempts.now stops.now delays.now }
@@ -85,17 +86,17 @@ pub fn repair_of(detected: Day, delays: &[DelayEntry], attempts: &[Day], stops: 
     walked(detected, delays, attempts, stops)
 }
 
-/// Until when a leak must be repaired that was detected on this day (40 CFR 60.482-7a(d)(1), 60.482-9a). The
-/// delays are those of its tag in key order, the attempts those on its component, the shutdowns those of its
-/// process unit in order. A delay entered after the due day that those before it give is ignored (our own rule).
+/// The due day of the repair of a leak detected on this day (40 CFR 60.482-7a(d)(1), 60.482-9a). The delays are those
+/// of its tag in key order, the attempts those on its component, and the shutdowns those of its process unit in order.
+/// A delay that was entered after the due day set by those before it is ignored (our own rule).
 pub fn repair_due(detected: Day, delays: &[DelayEntry], attempts: &[Day], stops: &[Stop]) -> Until
     ensures value { result ≡ law.repair_due detected attempts.now stops.now delays.now }
 {
     walked(detected, delays, attempts, stops).due
 }
 
-/// The place, counted from 0, of the last delay that is not ignored; `None` where each is past the due day that those
-/// before it give. The arguments are those of `repair_due`.
+/// The place, from 0, of the last delay that is not ignored; `None` if each is past the due day set by those before it.
+/// The arguments are those of `repair_due`.
 pub fn counted(
     detected: Day,
     delays: &[DelayEntry],

@@ -9,7 +9,7 @@ use ldar_law::{
     GROUND_DUAL_SEAL, GROUND_ISOLATED, GROUND_PURGING, GROUND_SHUTDOWN, GROUND_WITHDRAWN, Until,
 };
 
-/// The due day that a delay of this ground gives, entered on this day.
+/// The due day set by a delay of this ground that was entered on this day.
 pub fn due_by(ends: &Ends, why: u8, day: Day) -> Until
     ensures value { (detected : ℕ) (attempts : List ℕ) (stops : List SomeStop) → AreEnds detected attempts stops ends.now
         → result ≡ law.due_by detected attempts stops why day }

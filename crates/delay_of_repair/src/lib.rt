@@ -1,4 +1,6 @@
-//! Until when a leak must be repaired where its repair is delayed (40 CFR 60.482-9a).
+//! The due day of a leak whose repair is delayed (40 CFR 60.482-9a).
+//!
+//! Tests: `rule_tests::delays`.
 #![tactic(auto)]
 
 mod delays;

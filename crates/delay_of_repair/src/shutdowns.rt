@@ -5,7 +5,7 @@ ghost use Rattle.delay_of_repair.specs.Ends.{AreEnds};
 use ldar_days::Day;
 use ldar_law::{Stop, Until, VERIFICATION_DAYS, repair_by};
 
-/// Whether an attempt lies on a day of the shutdown.
+/// Whether an attempt was made on a day of the shutdown.
 fn has_attempt_in(attempts: &[Day], stop: &Stop) -> bool
     ensures value { result ≡ law.has_attempt_in attempts.now stop.now }
 {
@@ -19,14 +19,14 @@ fn end_of(attempts: &[Day], stop: &Stop) -> Day
     ensures value { result ≡ law.end_of attempts.now stop.now }
 {
     if has_attempt_in(attempts, stop) {
-        // The startup is on the day after the last, and from then on the verification has fifteen days.
+        // The startup is on the day after the last one; the verification then has fifteen days.
         stop.last.plus_days(VERIFICATION_DAYS)
     } else {
         stop.last
     }
 }
 
-/// The shutdown at this place, counted from 0, among those that begin after the detection.
+/// The shutdown at this place, from 0, among those that begin after the detection.
 fn stop_after(detected: Day, stops: &[Stop], place: usize) -> Option<Stop>
     ensures value { result ≡ slice_get (law.stops_after detected stops.now) place }
 {
@@ -43,7 +43,7 @@ fn stop_after(detected: Day, stops: &[Stop], place: usize) -> Option<Stop>
     None
 }
 
-/// The end of the shutdown at this place among those that begin after the detection, once it is known.
+/// The end of the shutdown at this place among those that begin after the detection, if it was entered.
 fn end_at(detected: Day, attempts: &[Day], stops: &[Stop], place: usize) -> Until
     ensures value { result ≡ law.end_of_first attempts.now (drop place (law.stops_after detected stops.now)) }
 {
@@ -53,15 +53,15 @@ fn end_at(detected: Day, attempts: &[Day], stops: &[Stop], place: usize) -> Unti
     }
 }
 
-/// The end of the first shutdown that begins after the detection, once it is known.
+/// The end of the first shutdown that begins after the detection, if it was entered.
 fn end_of_first(detected: Day, attempts: &[Day], stops: &[Stop]) -> Until
     ensures value { result ≡ law.end_of_first attempts.now (law.stops_after detected stops.now) }
 {
     end_at(detected, attempts, stops, 0)
 }
 
-/// The end of the second shutdown that begins after the detection, or of the third where the second begins
-/// sooner than six months after the first began, once it is known.
+/// The end of the second shutdown that begins after the detection, or of the third if the second begins less than six
+/// months after the first began; if it was entered.
 fn end_of_second(detected: Day, attempts: &[Day], stops: &[Stop]) -> Until
     ensures value { result ≡ law.end_of_second attempts.now (law.stops_after detected stops.now) }
 {
@@ -78,21 +78,21 @@ fn end_of_second(detected: Day, attempts: &[Day], stops: &[Stop]) -> Until
     }
 }
 
-/// The days on which a delay may end, each found once.
+/// The days on which a delay can end, each computed once.
 #[derive(Clone, Copy)]
 pub struct Ends {
     /// The day by which the repair is due without a delay (40 CFR 60.482-7a(d)(1)).
     pub repair_by: Day,
     /// The day six months after the detection (40 CFR 60.482-9a(d)).
     pub half_year: Day,
-    /// That of the first shutdown after the detection (40 CFR 60.482-9a(a)).
+    /// The end of the first shutdown after the detection (40 CFR 60.482-9a(a)).
     pub first: Until,
-    /// That of the second, or of the third where the second comes too soon (40 CFR 60.482-9a(e)).
+    /// The end of the second one, or of the third if the second is too soon (40 CFR 60.482-9a(e)).
     pub second: Until,
 }
 
 impl Ends {
-    /// The ends after a detection.
+    /// The possible ends after a detection.
     pub fn after(detected: Day, attempts: &[Day], stops: &[Stop]) -> Ends
         ensures value { AreEnds detected attempts.now stops.now result }
     {

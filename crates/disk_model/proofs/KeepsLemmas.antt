@@ -1,8 +1,8 @@
--- What calls keep, over none and over several.
+-- `Keeps` over no call and over several.
 use Rattle.std.proofs.Common.{ℕ, refl, ◌∙◌, arith}
 use Rattle.disk_model.specs.Keeps.{Keeps}
 
--- where nothing is called, all stays
+-- without a call, everything is kept
 pub Keeps-stays : {D : Type 0} (clock_of name_of faults_of : D → ℕ) (d : D) → Keeps clock_of name_of faults_of d d
 Keeps-stays clock_of name_of faults_of d = record { time = omega arith; name = refl; count = omega arith }
 

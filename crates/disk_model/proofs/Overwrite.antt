@@ -1,4 +1,4 @@
--- What stands after bytes are put into a content that was filled up with zeros to their end.
+-- The bytes after a write into a content that was extended with zeros.
 use Rattle.std.proofs.Common.{◌≡◌, ◌<◌, ◌≤◌, ◌+◌, ◌-◌, ℕ, List, ◌++◌, length, take, drop, replicate, refl, sym, ap, ◌∙◌, arith, inl, inr}
 use Rattle.std.proofs.Math.ListN.{drop_of_length-le}
 use Rattle.std.proofs.Math.Seq.{take-append-add}
@@ -8,7 +8,7 @@ use Rattle.disk_model.specs.Disk.{Holds}
 use Rattle.disk_model.specs.Writes.{written, filled_to}
 use Rattle.disk_model.proofs.WriteLemmas.{written-some}
 
--- a content filled up with zeros to a place has at that place what it had before
+-- a content extended with zeros has its old bytes from a place on
 drop-filled : (end : ℕ) (old : List ℕ) → drop end (old ++ replicate (end - length old) 0) ≡ drop end old
 drop-filled end old =
     elim (cases_lt (length old) end) [
@@ -22,7 +22,7 @@ drop-filled end old =
           rw (none, append-nil old) refl
     ]
 
--- the same before a place past the end: zeros stand up to it
+-- the bytes before a place past the end are the old ones and zeros
 take-filled : (at end : ℕ) (old : List ℕ) → length old < at → at ≤ end → take at (old ++ replicate (end - length old) 0) ≡ old ++ replicate (at - length old) 0
 take-filled at end old past le =
     let split : at ≡ length old + (at - length old) = omega arith in
@@ -31,7 +31,7 @@ take-filled at end old past le =
     ∙ take-append-add old (replicate (end - length old) 0) (at - length old)
     ∙ ap (λ zeros. old ++ zeros) (take-replicate (at - length old) (end - length old) 0 fits)
 
--- bytes put into a content that was filled up to their end are held by it
+-- bytes written into a content that was extended to their end are a complete write
 pub filled_holds : (at end : ℕ) (bytes old filled new : List ℕ) → 0 < length bytes
     → end ≡ at + length bytes
     → filled ≡ old ++ replicate (end - length old) 0
@@ -49,7 +49,7 @@ filled_holds at end bytes old filled new some is_end is_filled is_new =
       nothing = λ none. absurd (omega arith);
     }
 
--- the same before any place: zeros that are needed stand up to it
+-- the bytes before any place are the old ones and the zeros needed
 take-filled_to : (at end : ℕ) (old : List ℕ) → at ≤ end → take at (old ++ replicate (end - length old) 0) ≡ take at (filled_to at old)
 take-filled_to at end old le =
     elim (cases_lt (length old) at) [
@@ -61,7 +61,7 @@ take-filled_to at end old le =
           take-append-le at old (replicate (end - length old) 0) within ∙ sym (take-append-le at old (replicate (at - length old) 0) within)
     ]
 
--- bytes put into a content that was filled up to their end are the bytes after the write
+-- bytes written into a content that was extended to their end are the bytes after the write
 pub filled_written : (at end : ℕ) (bytes old filled new : List ℕ) → 0 < length bytes
     → end ≡ at + length bytes
     → filled ≡ old ++ replicate (end - length old) 0

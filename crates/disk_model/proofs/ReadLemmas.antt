@@ -1,10 +1,10 @@
--- Reading in pieces to the end.
+-- Reading in pieces up to the end.
 use Rattle.std.proofs.Common.{◌≡◌, ◌<◌, ◌≤◌, ◌+◌, ℕ, List, ◌++◌, length, take, drop, refl, sym, ap, ◌∙◌, arith}
 use Rattle.std.proofs.Math.Seq.{take-add, take-append_seam}
 use Rattle.std.proofs.lemmas.List.{length-take-le, length-drop, take_all}
 use Rattle.disk_model.specs.Disk.{Reads}
 
--- what a read put into the slice is what stands at its place
+-- the bytes that a read copied into the slice are those at its place
 pub Reads-piece : (at n : ℕ) (bytes old new : List ℕ) → Reads at bytes old new n → take n new ≡ take n (drop at bytes)
 Reads-piece at n bytes old new reads =
     let piece = take n (drop at bytes) in
@@ -12,11 +12,11 @@ Reads-piece at n bytes old new reads =
     let len : length piece ≡ n = length-take-le n (drop at bytes) fits in
     ap (take n) reads.value ∙ ap (λ k. take k (piece ++ drop n old)) (sym len) ∙ take-append_seam piece (drop n old)
 
--- what was read before a place, and what a read there put into the slice, is what stands before the next place
+-- the bytes read before a place, with those of a read there, are the bytes before the next place
 pub Reads-more : (at n : ℕ) (bytes old new : List ℕ) → Reads at bytes old new n → take at bytes ++ take n new ≡ take (at + n) bytes
 Reads-more at n bytes old new reads = rw (Reads-piece at n bytes old new reads) (sym (take-add at n bytes))
 
--- a read that put nothing into a slice with room has met the end: what was read before it is all
+-- a read of no bytes into a non-empty slice is at the end: the bytes read before it are all
 pub Reads-all : (at : ℕ) (bytes old new : List ℕ) → 0 < length old → Reads at bytes old new 0 → take at bytes ≡ bytes
 Reads-all at bytes old new room reads =
     let at_end : length bytes ≤ at = reads.at_end refl room in

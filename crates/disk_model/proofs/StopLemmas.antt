@@ -18,7 +18,7 @@ length_changes : (start : List ℕ) (past : List Noted) → length (changes star
 length_changes start [] = refl
 length_changes start (noted ∷ past) = let others = length_changes start past in omega arith
 
--- the clock before a call that did something counts the calls before it
+-- the clock before a call that changed something counts the calls before it
 pub clock_before_it : (start : List ℕ) (call : ℕ) (past up_to_it earlier : List Noted) (it : Noted) → reverse up_to_it ≡ up_to call past
     → up_to_it ≡ earlier ++ it ∷ [] → it.call ≡ call
     → length earlier ≡ length (changes start (without call (up_to call past)))
@@ -27,7 +27,7 @@ clock_before_it start call past up_to_it earlier it are split is_it =
     let same : eqb it.call call ≡ true = eq-eqb it.call call is_it in
     rw (latest, same, length_changes start (reverse earlier), length-reverse earlier) refl
 
--- the clock before a call that did nothing counts the calls up to it
+-- the clock before a call that changed nothing counts the calls up to it
 pub clock_before_other : (start : List ℕ) (call : ℕ) (past up_to_it earlier : List Noted) (other : Noted) → reverse up_to_it ≡ up_to call past
     → up_to_it ≡ earlier ++ other ∷ [] → (other.call ≡ call → ⊥)
     → length up_to_it ≡ length (changes start (without call (up_to call past)))
@@ -37,7 +37,7 @@ clock_before_other start call past up_to_it earlier other are split is_other =
     let size : length up_to_it ≡ length (other ∷ reverse earlier) = sym (length-reverse up_to_it) ∙ ap length (are ∙ latest) in
     size ∙ rw (latest, differs, length_changes start (other ∷ reverse earlier)) refl
 
--- what came through of a call was left since the clock before it
+-- the result of a partial call was possible since the clock before it
 part_is_left : (start : List ℕ) (past : List Noted) (event : Event) (left : List ℕ)
     → Left start (change_of event (bytes_after start past) ∷ changes start past) (length (changes start past))
     (after_part event left (bytes_after start past))
@@ -48,7 +48,7 @@ part_is_left start past (Wrote write) left =
     inl (omega arith, (bytes, bytes_are_image start past, written_torn write.at count (take count left) bytes part))
 part_is_left start past Synced left = inr (left_counts_now start (changes start past) _ _ (omega arith) (bytes_are_image start past))
 
--- a crash inside a call may have left what a stop in it leaves, where the call is the latest of these
+-- a crash inside the latest of these calls may have left the bytes after a stop in it
 stopped_in_is_left : (call : ℕ) (start : List ℕ) (past : List Noted) (left : List ℕ)
     → Left start (changes start past) (length (changes start (without call past))) (stopped_in call start past left)
 stopped_in_is_left call start [] left = (omega arith, refl)
@@ -58,7 +58,7 @@ stopped_in_is_left call start (noted ∷ past) left =
       | inr is_not ↦ rw is_not (inl (omega arith, bytes_are_image start (noted ∷ past)))
     ]
 
--- a crash inside a call may have left what a stop in it leaves
+-- a crash inside a call may have left the bytes after a stop in it
 pub stopped_is_left : {E : Type 0} (disk : DiskState) (call : ℕ) (left bytes : List ℕ) (result : Result DiskState E)
     → bytes ≡ stopped_bytes disk call left → IfOk result (λ new. new ≡ new_disk bytes [])
     → IfOk result (λ new. IsLeftIn disk call new.start)

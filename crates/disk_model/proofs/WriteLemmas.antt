@@ -1,4 +1,4 @@
--- What a write makes of bytes.
+-- The effect of a write on bytes.
 use Rattle.std.proofs.Common.{◌⊎◌, ◌≡◌, ◌<◌, ◌≤◌, ◌+◌, ◌-◌, ℕ, List, [], ◌∷◌, ◌++◌, length, take, drop, min, replicate, refl, sym, ap, ◌∙◌, arith, inl, inr}
 use Rattle.std.proofs.lemmas.Bool.{cases_lt}
 use Rattle.std.proofs.lemmas.List.{take-append-le, take-take, take_all, length-append, length-replicate, length-take-le, length-drop}
@@ -7,7 +7,7 @@ use Rattle.disk_model.specs.Disk.{Torn}
 use Rattle.disk_model.specs.Images.{Tears, Same}
 use Rattle.disk_model.specs.Writes.{written, filled_to}
 
--- as many bytes as there are, up to a place, are the bytes before this place
+-- the first min(place, length) bytes are the bytes before the place
 take-min : (at : ℕ) (old : List ℕ) → take (min at (length old)) old ≡ take at old
 take-min at old =
     elim (cases_lt (length old) at) [
@@ -21,11 +21,11 @@ take-min at old =
           ap (λ n. take n old) some
     ]
 
--- bytes that are filled up to a place are no shorter
+-- bytes extended to a place are at least that long
 length-filled_to : (at : ℕ) (old : List ℕ) → at ≤ length (filled_to at old)
 length-filled_to at old = omega (arith, length-append old (replicate (at - length old) 0), length-replicate {A = ℕ} (at - length old) 0)
 
--- bytes put at a place, and what stood behind a range there
+-- bytes at a place, and the old ones after a range there
 torn_of : (at n : ℕ) (put old : List ℕ) → length put ≤ n
     → Torn at n old (take at (filled_to at old) ++ put ++ drop (at + length put) old)
 torn_of at n put old within =
@@ -57,12 +57,12 @@ torn_of at n put old within =
 pub torn_none : (at n : ℕ) (old : List ℕ) → Torn at n old old
 torn_none at n old = record { before = take-min at old; after = refl; no_shorter = omega arith; no_longer = omega arith }
 
--- a write of some bytes of a range, from its front on, is what a torn write of the range may leave
+-- a write of some bytes at the front of a range is a possible result of a torn write of the range
 pub written_torn : (at n : ℕ) (bytes old : List ℕ) → length bytes ≤ n → Torn at n old (written at bytes old)
 written_torn at n [] old within = torn_none at n old
 written_torn at n (byte ∷ bytes) old within = torn_of at n (byte ∷ bytes) old within
 
--- a write of no byte changes none
+-- a write of no bytes changes nothing
 pub written-none : (at : ℕ) (bytes old : List ℕ) → length bytes ≡ 0 → written at bytes old ≡ old
 written-none at [] old none = refl
 written-none at (byte ∷ bytes) old none = absurd (omega arith)
@@ -73,10 +73,10 @@ pub written-some : (at : ℕ) (bytes old : List ℕ) → 0 < length bytes
 written-some at [] old some = absurd (omega arith)
 written-some at (byte ∷ bytes) old some = refl
 
--- where a crash may leave anything, it may after a write
+-- if a crash may leave anything, it may leave anything after a write
 pub tears_any : (at n : ℕ) → Tears at n (λ _. Unit {0}) (λ _. Unit {0})
 tears_any at n = record { only = λ c any. (c, tt, torn_none at n c); all = λ c d any torn. tt }
 
--- the same of a write that failed
+-- the same for a write that failed
 pub tears_or_stays_any : (at n : ℕ) → Tears at n (λ _. Unit {0}) (λ _. Unit {0}) ⊎ Same (λ _. Unit {0}) (λ _. Unit {0})
 tears_or_stays_any at n = inl (tears_any at n)

@@ -1,10 +1,10 @@
--- Counts of faults.
+-- Counts of errors.
 use Rattle.std.specs.Prelude.{◌+◌, min, ◌≡◌, ◌<◌, ◌-◌, ◌^◌, ◌⊎◌, ℕ}
 
--- a count rose in a call: it is greater after it, or stands at the greatest number
+-- a count rose in a call: it is greater than before, or at its maximum
 abbrev pub Rose : ℕ → ℕ → Type 0
 Rose before after = (before < after) ⊎ (after ≡ 2 ^ 64 - 1)
 
--- the count after this one: it stays at the greatest number
+-- the count after one more error; it stays at its maximum
 abbrev pub count_after : ℕ → ℕ
 count_after n = min (n + 1) (2 ^ 64 - 1)

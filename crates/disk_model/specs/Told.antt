@@ -1,12 +1,13 @@
--- What an object may tell of itself, or keep to itself.
+-- Properties of an object that it may expose or hide.
 use Rattle.std.specs.Prelude.{Option, Some, None}
 
--- what is told has P; nothing is said where nothing is told
+-- P holds of the exposed value; nothing is said if it is hidden
 abbrev pub Told : {T : Type 0} → Option T → (T → Type 0) → Type 0
 Told None P = Unit {0}
 Told (Some now) P = P now
 
--- An object tells always or never: what told before tells after, and the two stand in P; what told nothing tells nothing.
+-- An object exposes a value always or never: if it exposed the old value, it exposes the new one, and P holds of the two; if it hid the old
+-- one, it hides the new one.
 abbrev pub BothTold : {T : Type 0} → Option T → Option T → (T → T → Type 0) → Type 0
 BothTold None None P = Unit {0}
 BothTold None (Some new) P = ⊥

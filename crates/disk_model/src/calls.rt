@@ -6,8 +6,8 @@ use crate::Memory;
 use std::alloc::Global;
 use std::marker::Model;
 
-/// The calls of an object in memory, numbered from 0, some of which are to fail. The counts stay
-/// at 2^64 - 1 once they are there.
+/// The calls of an object in memory, numbered from 0. Some of them fail, as given. The counts stay at 2^64 - 1 once
+/// they reach it.
 #[derive(Drop)]
 pub struct Calls {
     failing: Vec<u64>,
@@ -24,7 +24,7 @@ impl Model for Calls {
 }
 
 impl Calls {
-    /// No calls yet; those with these numbers will fail.
+    /// No calls yet; the calls with these numbers will fail.
     pub fn new(alloc: Global, failing: &[u64]) -> Result<Calls, Memory>
         ensures value { IfOk result (λ calls. calls
             ≡ record { failing = failing.now; made = 0; faults = 0 }) }
@@ -36,35 +36,35 @@ impl Calls {
         })
     }
 
-    /// How many calls were made, those that failed among them.
+    /// The number of calls made, including those that failed.
     pub fn made(&self) -> u64
         ensures value { result ≡ self.now.made }
     {
         self.made
     }
 
-    /// How many calls failed.
+    /// The number of calls that failed.
     pub fn faults(&self) -> u64
         ensures value { result ≡ self.now.faults }
     {
         self.faults
     }
 
-    /// Whether the call that comes now is to fail.
+    /// Whether the next call will fail.
     pub fn is_failing(&self) -> bool
         ensures value { IsTrue result ↔ IsFailing self.now }
     {
         self.failing.contains(&self.made)
     }
 
-    /// Counts a call that goes through.
+    /// Counts a successful call.
     pub fn pass(&mut self)
         ensures value { self.new ≡ after_pass self.old }
     {
         self.made = self.made.saturating_add(1);
     }
 
-    /// Counts a call that fails.
+    /// Counts a failed call.
     pub fn fail(&mut self)
         ensures value { self.new ≡ after_fault self.old }
         ensures count { self.old.faults ≤ self.new.faults }

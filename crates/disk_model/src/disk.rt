@@ -8,7 +8,7 @@ ghost use Rattle.disk_model.specs.Disk.{Reads, Torn, Holds};
 use std::error::Error;
 use std::fmt;
 
-/// A call of a disk failed. The disk has counted it.
+/// A call of a disk failed, and the disk counted the error.
 #[derive(Clone, Copy, Debug, PartialEq, Eq)]
 pub struct DiskFault;
 
@@ -22,31 +22,31 @@ impl fmt::Display for DiskFault {
 
 impl Error for DiskFault {}
 
-/// One file of bytes, with a clock and a count of faults. Places are counted from 0.
+/// A file of bytes, with a clock and a count of errors. Places are counted from 0.
 pub trait Disk: Drop {
-    /// The bytes as a read gives them, where the disk tells them.
+    /// The bytes that a read returns, if the disk exposes them.
     ghost content: { Self → Option (List ℕ) };
 
-    /// How often a call of the disk failed. The count stays at 2^64 - 1 once it is there.
+    /// The number of failed calls. It stays at 2^64 - 1 once it reaches it.
     ghost faults: { Self → ℕ };
 
     /// A number that never falls.
     ghost clock: { Self → ℕ };
 
-    /// Which reference this is, for a `&mut`, and else 0.
+    /// The identity of the reference, for a `&mut`; otherwise 0.
     ghost name: { Self → ℕ };
 
-    /// What a crash now may leave.
+    /// The images that a crash now may leave.
     ghost images: { Self → List ℕ → Type 0 };
 
-    /// What a crash at some moment since this clock may have left.
+    /// The images that a crash since this clock may have left.
     ghost left: { Self → ℕ → List ℕ → Type 0 };
 
-    /// Up to which end a write never fails, where the disk tells it.
+    /// The room: a write that ends within it never fails. `None` if the disk does not expose it.
     ghost room: { Self → Option ℕ };
 
-    /// Reads bytes from a place on, and says how many. Near the end, and wherever the disk
-    /// likes, it may read less than asked for, but no less than one byte that is there.
+    /// Reads bytes from a place on, and returns how many. It may read fewer than asked for, but at least one if a byte
+    /// is there.
     fn read_at(&mut self, at: u64, into: &mut [u8]) -> Result<usize, DiskFault>
         ensures within { IfOk result (λ n. n ≤ length into.old) }
         ensures read { BothTold (content self.old) (content self.new)
@@ -57,9 +57,9 @@ pub trait Disk: Drop {
         ensures keeps { Keeps clock name faults self.old self.new }
         ensures cause { OnErr result (Rose (faults self.old) (faults self.new)) };
 
-    /// Writes bytes over what is there, and past the end. After a fault its range, and what lies
-    /// past the old end, may hold any bytes; so they may after a crash, until a sync went through.
-    /// At the last clock, 2^64 - 1, it fails and changes nothing but the count.
+    /// Writes bytes over the old ones and past the end. After a disk error, its range and everything past the old end
+    /// may have any bytes; the same holds after a crash until the next successful sync. If the clock is at its maximum,
+    /// 2^64 - 1, it fails and changes only the count.
     fn write_at(&mut self, at: u64, bytes: &[u8]) -> Result<(), DiskFault>
         ensures written { BothTold (content self.old) (content self.new)
             (λ old new. Torn at (length bytes.now) old new × OnOk result (Holds at bytes.now old new)) }
@@ -75,9 +75,8 @@ pub trait Disk: Drop {
         ensures keeps { Keeps clock name faults self.old self.new }
         ensures cause { OnErr result (Rose (faults self.old) (faults self.new)) };
 
-    /// Makes the content stable: a crash then leaves just what a read gives. After a fault a crash
-    /// leaves what it might have left before. At the last clock it fails and changes nothing but
-    /// the count.
+    /// Makes the content stable: a crash then leaves exactly what a read returns. After a disk error, a crash leaves
+    /// what it might have left before. If the clock is at its maximum, it fails and changes only the count.
     fn sync(&mut self) -> Result<(), DiskFault>
         ensures same { BothTold (content self.old) (content self.new) (λ old new. new ≡ old) }
         ensures durable { OnOk result
@@ -98,13 +97,13 @@ pub trait Disk: Drop {
         ensures time { result ≡ clock self.now }
         ensures image { Told (content self.now) (images self.now) };
 
-    /// What a crash may leave now counts since each clock up to now.
+    /// An image that a crash now may leave is possible since each clock up to now.
     ghost counts_now: { (d : Self) (t : ℕ) (c : List ℕ) → t ≤ clock d → images d c → left d t c };
 
-    /// Since now a crash may have left just what it may leave.
+    /// A crash since now may have left only what it may leave now.
     ghost only_now: { (d : Self) (c : List ℕ) → left d (clock d) c → images d c };
 
-    /// What a crash may have left since a clock, it may have left since an earlier one.
+    /// An image that a crash may have left since a clock, it may have left since an earlier one.
     ghost since_earlier: { (d : Self) (s t : ℕ) (c : List ℕ) → s ≤ t → left d t c → left d s c };
 }
 

@@ -1,4 +1,7 @@
-//! A disk as the office sees it: what a call reads, writes and keeps, what a crash may leave, its clock and its faults.
+//! A disk as the office sees it: its reads, writes and syncs, what a crash may leave, its clock, and its count of
+//! errors.
+//!
+//! Tests: `office_tests::disks`.
 #![tactic(auto)]
 
 mod calls;
@@ -15,6 +18,6 @@ pub use calls::Calls;
 pub use disk::{Disk, DiskFault};
 pub use memory_disk::MemoryDisk;
 pub use no_disk::NoDisk;
-/// Memory ran out.
+/// Out of memory.
 pub use std::alloc::AllocError as Memory;
 pub use sure_disk::SureDisk;

@@ -16,9 +16,8 @@ use crate::{Calls, Disk, DiskFault, Memory};
 use std::alloc::Global;
 use std::marker::Model;
 
-/// A disk in memory, for tests. Its calls of reading, writing and syncing are numbered from 0
-/// together; the calls with given numbers fail. It notes what its writes and syncs did, so that
-/// it can tell how a stop inside a call would have left it.
+/// A disk in memory, for tests. Its reads, writes and syncs are numbered together from 0; the calls with given numbers
+/// fail. It notes its writes and syncs, so that it can show what a stop inside a call would have left.
 #[derive(Drop)]
 pub struct MemoryDisk {
     alloc: Global,
@@ -46,7 +45,7 @@ impl Model for MemoryDisk {
 }
 
 impl MemoryDisk {
-    /// A disk with these bytes, all stable, whose calls with these numbers will fail.
+    /// A disk with these bytes, all stable, on which the calls with these numbers will fail.
     pub fn new(alloc: Global, bytes: &[u8], failing: &[u64]) -> Result<MemoryDisk, Memory>
         ensures value { IfOk result (λ disk. disk ≡ new_disk bytes.now failing.now) }
     {
@@ -67,23 +66,23 @@ impl MemoryDisk {
         &self.bytes
     }
 
-    /// How many calls were made, those that failed among them.
+    /// The number of calls made, including those that failed.
     pub fn calls(&self) -> u64
         ensures value { result ≡ self.now.calls.made }
     {
         self.calls.made()
     }
 
-    /// How many calls failed.
+    /// The number of calls that failed.
     pub fn faults(&self) -> u64
         ensures value { result ≡ self.now.calls.faults }
     {
         self.calls.faults()
     }
 
-    /// A new disk as a stop inside a call left this one: what the calls before wrote is there, and
-    /// of a write the first bytes of its range are these, as far as the range goes. A call that
-    /// failed had changed nothing. A write of no byte leaves the bytes as they were.
+    /// A new disk as a stop inside a call of this one would leave it. Everything that earlier calls wrote is there. If
+    /// the call is a write, the first bytes of its range are `left`, as far as the range goes. A call that failed
+    /// changed nothing. A write of no bytes changes nothing.
     pub fn stopped(&self, alloc: Global, call: u64, left: &[u8]) -> Result<MemoryDisk, Memory>
         requires in_range { call < self.now.calls.made }
         ensures value { IfOk result (λ disk. disk
@@ -94,7 +93,7 @@ impl MemoryDisk {
         MemoryDisk::new(alloc, &bytes, &[])
     }
 
-    // The bytes that a stop inside a call leaves.
+    // The bytes after a stop inside a call.
     fn stopped_bytes(&self, alloc: Global, call: u64, left: &[u8]) -> Result<Vec<u8>, Memory>
         ensures value { IfOk result (λ bytes. bytes.items ≡ stopped_bytes self.now call left.now) }
     {
@@ -124,7 +123,7 @@ impl MemoryDisk {
     }
 }
 
-// Writes, and notes it. It gives up only where it can't grow, and then it changes nothing.
+// Writes, and notes the write. It fails only if it runs out of memory, and then changes nothing.
 fn write_noted(
     alloc: Global,
     content: &mut Vec<u8>,
@@ -142,7 +141,7 @@ fn write_noted(
 {
     past.push(Noted::write(alloc, call, at, bytes)?)?;
     if let Err(memory) = overwrite(content, at as usize, bytes) {
-        // The write did not go through, so it may not stay noted.
+        // The write failed, so it must not be noted.
         let _ = past.pop();
         return Err(memory);
     }
@@ -176,7 +175,7 @@ impl Disk for MemoryDisk {
         ensures after { MatchResult result
             (λ _. self.new ≡ after_read self.old) (λ _. self.new ≡ after_failing self.old) }
 
-        // It fails at the calls that were to fail, and at no other.
+        // It fails exactly at the calls that were given.
         ensures fails { IsFailing self.old.calls → IsErr result }
         ensures only_failing { OnErr result (IsFailing self.old.calls) }
 
@@ -198,7 +197,7 @@ impl Disk for MemoryDisk {
             (λ _. self.new ≡ after_write self.old at bytes.now)
             (λ _. self.new ≡ after_failing self.old) }
 
-        // It fails at the calls that were to fail, at the end of its clock, and where it can't grow.
+        // It fails exactly at the calls that were given, at the maximum of its clock, and when it runs out of memory.
         ensures fails { IsFailing self.old.calls → IsErr result }
         ensures clock_at_end { clock_of self.old ≡ 2 ^ 64 - 1 → IsErr result }
 
@@ -223,7 +222,7 @@ impl Disk for MemoryDisk {
         ensures after { MatchResult result
             (λ _. self.new ≡ after_sync self.old) (λ _. self.new ≡ after_failing self.old) }
 
-        // It fails at the calls that were to fail, at the end of its clock, and where it can't grow.
+        // It fails exactly at the calls that were given, at the maximum of its clock, and when it runs out of memory.
         ensures fails { IsFailing self.old.calls → IsErr result }
         ensures clock_at_end { clock_of self.old ≡ 2 ^ 64 - 1 → IsErr result }
 

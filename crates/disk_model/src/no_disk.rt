@@ -2,8 +2,7 @@ ghost use Rattle.std.specs.Prelude.{◌≡◌, ◌^◌, ◌-◌, [], Some, None,
 
 use crate::{Disk, DiskFault};
 
-/// No disk: it holds nothing and takes nothing. Its count of faults stands at the greatest
-/// number, and its clock at 0.
+/// No disk: it has no bytes and accepts none. Its count of errors is at its maximum, and its clock at 0.
 #[derive(Clone, Copy, Debug, PartialEq, Eq)]
 pub struct NoDisk;
 
@@ -32,7 +31,7 @@ impl Disk for NoDisk {
         ensures value { IsOk result × IfOk result (λ n. n ≡ 0) }
         ensures unchanged { into.new ≡ into.old }
     {
-        // Nothing stands here, so nothing is put into the slice.
+        // There are no bytes to copy into the slice.
         let _ = into;
         Ok(0)
     }

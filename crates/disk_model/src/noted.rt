@@ -3,7 +3,7 @@ use crate::places::overwrite;
 use std::alloc::Global;
 use std::marker::Model;
 
-// A write that went through.
+// A successful write.
 #[derive(Drop)]
 pub struct NotedWrite {
     at: u64,
@@ -18,14 +18,14 @@ impl Model for NotedWrite {
     ghost view = { λ w. record { at = w.at; bytes = w.bytes.items } };
 }
 
-// What a call did that changed what a crash may leave.
+// A call's change of what a crash may leave.
 #[derive(Drop)]
 pub enum Event {
     Wrote(NotedWrite),
     Synced,
 }
 
-// A call of a disk that went through, with its number.
+// A successful call of a disk, with its number.
 #[derive(Drop)]
 pub struct Noted {
     pub call: u64,
@@ -37,7 +37,7 @@ impl Noted {
     ghost use Rattle.disk_model.specs.MemoryDisk.{noted_write, noted_sync, after_event};
     ghost use Rattle.disk_model.specs.Stopped.{after_part};
 
-    // The write that the call of this number made.
+    // The write made by the call with this number.
     pub fn write(alloc: Global, call: u64, at: u64, bytes: &[u8]) -> Result<Noted, Memory>
         ensures value { IfOk result (λ noted. noted ≡ noted_write call at bytes.now) }
     {
@@ -48,7 +48,7 @@ impl Noted {
         })
     }
 
-    // The sync that the call of this number made.
+    // The sync made by the call with this number.
     pub fn sync(call: u64) -> Noted
         ensures value { result ≡ noted_sync call }
     {
@@ -58,7 +58,7 @@ impl Noted {
         }
     }
 
-    // Does the call again, on these bytes.
+    // Repeats the call on these bytes.
     pub fn redo(&self, content: &mut Vec<u8>) -> Result<(), Memory>
         ensures value { OnOk result
             (content.new.items ≡ after_event self.now.event content.old.items) }
@@ -69,7 +69,7 @@ impl Noted {
         }
     }
 
-    // Does the call again in part: of a write, these bytes come first in its range.
+    // Repeats a part of the call: a write puts these bytes at the front of its range.
     pub fn redo_part(&self, left: &[u8], content: &mut Vec<u8>) -> Result<(), Memory>
         ensures value { OnOk result
             (content.new.items ≡ after_part self.now.event left.now content.old.items) }

@@ -4,15 +4,15 @@ ghost use Rattle.disk_model.specs.Moments.{WroteAt, SyncedAs};
 use http_server::Log;
 use std::marker::Model;
 
-// What a call of a disk did to what a crash may leave.
+// A call's change of what a crash may leave.
 #[derive(Drop)]
 pub enum Step {
     Wrote { at: u64, count: usize },
     Synced,
 }
 
-// What the calls of a disk did to what a crash may leave, the latest first, for proofs alone: it
-// takes no memory, and its calls do nothing when they run.
+// The changes of what a crash may leave by a disk's calls, latest first, for proofs only: it takes no memory, and its
+// calls do nothing at run time.
 #[derive(Drop)]
 pub struct Past {
     steps: Log<Step, Vec<u8>>,
@@ -36,14 +36,14 @@ impl Past {
         Past { steps: Log::new() }
     }
 
-    // A write of so many bytes at this place came, and left this content.
+    // Adds a write of this many bytes at this place, with the content after it.
     pub fn wrote(&mut self, at: u64, count: usize, content: &Vec<u8>)
         ensures value { self.new ≡ WroteAt at count ∷ self.old }
     {
         self.steps = self.steps.and(&Step::Wrote { at, count }, content);
     }
 
-    // A sync of this content came.
+    // Adds a sync of this content.
     pub fn synced(&mut self, content: &Vec<u8>)
         ensures value { self.new ≡ SyncedAs content.now.items ∷ self.old }
     {
@@ -51,7 +51,7 @@ impl Past {
     }
 }
 
-// The bytes that a disk was made with, for proofs alone: it takes no memory.
+// The initial bytes of a disk, for proofs only: it takes no memory.
 #[derive(Drop)]
 pub struct Start {
     content: Log<Vec<u8>, ()>,
@@ -67,7 +67,7 @@ impl Model for Start {
 }
 
 impl Start {
-    // A disk was made with these bytes.
+    // The start of a disk with these bytes.
     pub fn of(content: &Vec<u8>) -> Start
         ensures value { result ≡ content.now.items }
     {

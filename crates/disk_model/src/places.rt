@@ -4,7 +4,7 @@ ghost use Rattle.disk_model.specs.Writes.{written};
 
 use std::alloc::AllocError;
 
-// Copies what stands at this place, as far as it and the slice go.
+// Copies the bytes at this place, as far as they and the slice go.
 pub fn copy_from(bytes: &[u8], at: usize, into: &mut [u8]) -> usize
     ensures value { result ≡ min (length into.old) (length bytes.now - at) }
     ensures copied { into.new ≡ take result (drop at bytes.now) ++ drop result into.old }
@@ -18,7 +18,7 @@ pub fn copy_from(bytes: &[u8], at: usize, into: &mut [u8]) -> usize
     n
 }
 
-// Puts bytes over what is there and past the end. It gives up only where it would have to grow past the capacity.
+// Writes bytes over the old ones and past the end. It fails only if it would have to grow past the capacity.
 pub fn overwrite(content: &mut Vec<u8>, at: usize, bytes: &[u8]) -> Result<(), AllocError>
     ensures value { OnOk result (content.new.items ≡ written at bytes.now content.old.items) }
     ensures torn { OnOk result (Torn at (length bytes.now) content.old.items content.new.items) }
@@ -38,7 +38,7 @@ pub fn overwrite(content: &mut Vec<u8>, at: usize, bytes: &[u8]) -> Result<(), A
     Ok(())
 }
 
-// Fills up with zeros to this length, where that is longer.
+// Appends zeros up to this length, if the content is shorter.
 fn reach(content: &mut Vec<u8>, end: usize) -> Result<(), AllocError>
     ensures value { OnOk result
         (content.new.items ≡ content.old.items ++ replicate (end - length content.old.items) 0) }

@@ -6,7 +6,7 @@ use crate::Memory;
 use crate::noted::Noted;
 use std::alloc::Global;
 
-// What the calls with numbers up to this one did, the first first.
+// The calls with numbers up to this one, earliest first.
 pub fn up_to(past: &[Noted], call: u64) -> &[Noted]
     ensures value { reverse result.now ≡ up_to call (reverse past.now) }
 {
@@ -17,7 +17,7 @@ pub fn up_to(past: &[Noted], call: u64) -> &[Noted]
     &past[..n]
 }
 
-// The bytes after calls, the first first.
+// The bytes after these calls, earliest first.
 pub fn redone(alloc: Global, start: &[u8], past: &[Noted]) -> Result<Vec<u8>, Memory>
     ensures value { IfOk result (λ bytes. bytes.items ≡ bytes_after start.now (reverse past.now)) }
 {

@@ -11,8 +11,8 @@ use crate::{Disk, DiskFault, Memory};
 use std::alloc::Global;
 use std::marker::Model;
 
-/// A disk in memory that takes its room when it is made, and fails only where a write would end
-/// past it, or a write or sync comes at the last clock. Its room is counted in bytes.
+/// A disk in memory that allocates its room when it is created. It fails only if a write would end past the room, or if
+/// a write or a sync comes when the clock is at its maximum. The room is counted in bytes.
 #[derive(Drop)]
 pub struct SureDisk {
     bytes: Vec<u8>,
@@ -74,21 +74,21 @@ impl SureDisk {
         &self.bytes
     }
 
-    /// Up to which end a write does not fail.
+    /// The room: a write that ends within it does not fail.
     pub fn room(&self) -> usize
         ensures value { result ≡ self.now.room }
     {
         self.room
     }
 
-    /// How many calls failed.
+    /// The number of calls that failed.
     pub fn faults(&self) -> u64
         ensures value { result ≡ self.now.faults }
     {
         self.faults
     }
 
-    // Whether a write of so many bytes at this place ends within the room.
+    // Whether a write of this many bytes at this place ends within the room.
     fn has_room(&self, at: u64, count: usize) -> bool
         ensures value { IsTrue result ↔ (at + count ≤ self.now.room) }
     {
@@ -156,7 +156,7 @@ impl Disk for SureDisk {
         ensures count { self.old.faults ≤ self.new.faults }
         ensures cause { OnErr result (Rose self.old.faults self.new.faults) }
 
-        // What a read gives is one of the images.
+        // The bytes that a read returns are one of the images.
         ensures image { Images self.old.start self.old.past self.old.bytes }
     {
         if self.clock == u64::MAX {

@@ -20,7 +20,7 @@ pub use fact::Fact;
 pub use identity::Identity;
 pub use key::Key;
 pub use ldar_days::Day;
-pub use limits::{FRAME_BATCHES, LONGEST_SHUTDOWN, MOST_FACTS};
+pub use limits::{BATCH_FACTS, FRAME_BATCHES, LONGEST_SHUTDOWN, MOST_FACTS};
 pub use name::Name;
 pub use order::precedes;
 pub use std::alloc::AllocError as Memory;

@@ -1,4 +1,6 @@
 //! Accepted facts, listed by component, process unit and instrument in key order. Each read of a fact is counted.
+//!
+//! Tests: `register_tests::stores`.
 #![tactic(auto)]
 
 mod arrivals;

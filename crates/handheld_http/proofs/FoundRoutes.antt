@@ -1,4 +1,4 @@
--- What the route takes of a path that `matchit` finds: it is one of the rows, and its tokens take the path.
+-- The route that `matchit` finds for a path is one of the rows, and its tokens match the path.
 use Rattle.std.proofs.Common.{◌≡◌, ℕ, zero, suc, ◌+◌, ◌-◌, ◌<◌, ◌≤◌, ◌⊎◌, inl, inr, Bool, true, false, cond, ◌&&◌, ◌==◌, ltb, List, [], ◌∷◌, ◌++◌, length}
 use Rattle.std.proofs.Common.{take, drop, Option, Some, None, sym, ap, ap₂, subst, ◌∙◌, refl, arith}
 use Rattle.std.specs.List.{ends_with}
@@ -10,7 +10,7 @@ use Rattle.matchit.specs.Seek.{param_step}
 use Rattle.matchit.proofs.ConflictLemmas.{and-cases}
 use Rattle.matchit.proofs.CountLemmas.{some-segment}
 
--- the tokens of a row take the path: each byte its own, and a parameter what has no slash
+-- the tokens of a row match the path: each byte itself, and a parameter a part without a slash
 abbrev pub Takes : List ℕ → List ℕ → Type 0
 Takes [] path = path ≡ []
 Takes (x ∷ tokens) path =
@@ -18,7 +18,7 @@ Takes (x ∷ tokens) path =
     ⊎ (((x ≡ param_token) × ((a : List ℕ) × (more : List ℕ) × (path ≡ a ++ more) × (has_slash a ≡ false) × Takes tokens more))
     ⊎ (x ≡ catch_all_token))
 
--- what is shorter than a segment has no slash
+-- a prefix that is shorter than the segment has no slash
 no_slash_behind : (n b : ℕ) (path : List ℕ) → (n < length (segment path) → has_slash (take n path) ≡ false) → (slashed : Bool)
     → suc n < length (cond slashed (b ∷ []) (b ∷ segment path)) → cond slashed true (has_slash (take n path)) ≡ false
 no_slash_behind n b path behind true short = absurd (omega (arith, short))
@@ -43,7 +43,7 @@ longest_short seg best ((t, k) ∷ rows) short =
         ltb-true (length (segment t)) (length seg) (and-cases (ltb (length (segment t)) (length seg)) (ends_with _ seg (segment t)) cut).0
 
 module _ {K : Type 0} where
-  -- a row stands among these
+  -- the row is one of these
   abbrev pub Stands : List ℕ → K → RowsOf K → Type 0
   Stands tokens key [] = ⊥
   Stands tokens key ((t, k) ∷ rows) = ((t ≡ tokens) × (k ≡ key)) ⊎ Stands tokens key rows
@@ -54,7 +54,7 @@ module _ {K : Type 0} where
   own_stands (([], k) ∷ rows) key e = inl (refl, cc)
   own_stands ((x ∷ t, k) ∷ rows) key e = inr (own_stands rows key e)
 
-  -- where a row's first token is the byte, or is not
+  -- the first token of a row is the byte, or not
   step_one : (b x : ℕ) (t : List ℕ) (k : K) (rows : RowsOf K) (tokens : List ℕ) (key : K)
       → (Stands tokens key (step b rows) → Stands (b ∷ tokens) key rows) → (same : Bool) → (x == b) ≡ same
       → Stands tokens key (cond same ((t, k) ∷ step b rows) (step b rows)) → Stands (b ∷ tokens) key ((x ∷ t, k) ∷ rows)
@@ -62,14 +62,14 @@ module _ {K : Type 0} where
   step_one b x t k rows tokens key later true e (inr stands) = inr (later stands)
   step_one b x t k rows tokens key later false e stands = inr (later stands)
 
-  -- a row that goes on with the byte is one that begins with it
+  -- a row that continues after the byte is one that begins with it
   step_stands : (b : ℕ) (rows : RowsOf K) (tokens : List ℕ) (key : K) → Stands tokens key (step b rows) → Stands (b ∷ tokens) key rows
   step_stands b [] tokens key stands = stands
   step_stands b (([], k) ∷ rows) tokens key stands = inr (step_stands b rows tokens key stands)
   step_stands b ((x ∷ t, k) ∷ rows) tokens key stands =
       step_one b x t k rows tokens key (λ later. step_stands b rows tokens key later) (x == b) refl stands
 
-  -- where a row has the suffix, or has not
+  -- a row has the suffix, or not
   suffix_one : (suffix t : List ℕ) (k : K) (rows : RowsOf K) (tokens : List ℕ) (key : K)
       → (Stands tokens key (with_suffix suffix rows) → Stands tokens key rows) → (same : Bool)
       → Stands tokens key (cond same ((t, k) ∷ with_suffix suffix rows) (with_suffix suffix rows)) → Stands tokens key ((t, k) ∷ rows)
@@ -84,13 +84,13 @@ module _ {K : Type 0} where
   suffix_stands suffix ((t, k) ∷ rows) tokens key stands =
       suffix_one suffix t k rows tokens key (λ later. suffix_stands suffix rows tokens key later) (same_text (segment t) suffix) stands
 
-  -- what a parameter takes
+  -- the part that a parameter matches
   pub record IsTaken (rows : RowsOf K) (path : List ℕ) (tokens : List ℕ) (key : K) (n : ℕ) : Type 0 where
     pub some : 0 < n
     pub plain : has_slash (take n path) ≡ false
     pub stands : Stands tokens key rows
 
-  -- the step of a parameter, by what is asked of the segment and of the path
+  -- the step of a parameter, from tests of the segment and of the path
   abbrev step_by : Bool → Bool → RowsOf K → List ℕ → ℕ × RowsOf K
   step_by long slashed rows path =
       cond long (
@@ -99,7 +99,7 @@ module _ {K : Type 0} where
       )
       (cond slashed (0, []) (length path, rows))
 
-  -- a parameter takes some bytes without a slash, and what goes on is a row
+  -- a parameter matches some bytes without a slash, and a row continues after it
   taken_by : (rows : RowsOf K) (b : ℕ) (path : List ℕ) (tokens : List ℕ) (key : K) (long : Bool)
       → ltb 0 (length (longest_suffix (segment (b ∷ path)) rows)) ≡ long → (slashed : Bool) → has_slash (b ∷ path) ≡ slashed
       → Stands tokens key (step_by long slashed rows (b ∷ path)).1 → IsTaken rows (b ∷ path) tokens key (step_by long slashed rows (b ∷ path)).0
@@ -120,7 +120,7 @@ module _ {K : Type 0} where
     stands = stands;
   }
 
-  -- .. as the walk steps
+  -- the same, as the walk steps
   taken : (rows : RowsOf K) (b : ℕ) (path : List ℕ) (tokens : List ℕ) (key : K) → Stands tokens key (param_step rows (b ∷ path)).1
       → IsTaken rows (b ∷ path) tokens key (param_step rows (b ∷ path)).0
   unfolding param_step
@@ -133,7 +133,7 @@ module _ {K : Type 0} where
     pub stands : Stands tokens key rows
     pub takes : Takes tokens path
 
-  -- found behind a byte
+  -- found after a byte
   by_byte : (rows : RowsOf K) (b : ℕ) (path : List ℕ) (key : K) → IsFound (step b rows) path key → IsFound rows (b ∷ path) key
   by_byte rows b path key found = record {
     tokens = b ∷ found.tokens;
@@ -141,7 +141,7 @@ module _ {K : Type 0} where
     takes = inl (path, refl, found.takes);
   }
 
-  -- found behind what a parameter takes
+  -- found after a parameter
   by_param : (rows : RowsOf K) (b : ℕ) (path : List ℕ) (key : K)
       → IsFound (param_step (step param_token rows) (b ∷ path)).1 (drop ((param_step (step param_token rows) (b ∷ path)).0 - 1) path) key
       → IsFound rows (b ∷ path) key
@@ -165,7 +165,7 @@ module _ {K : Type 0} where
         ));
       }
 
-  -- found by what takes all that is left
+  -- found by a catch-all parameter
   by_catch : (rows : RowsOf K) (b : ℕ) (path : List ℕ) (key : K) → own (step catch_all_token rows) ≡ Some key → IsFound rows (b ∷ path) key
   by_catch rows b path key e = record {
     tokens = catch_all_token ∷ [];
@@ -173,7 +173,7 @@ module _ {K : Type 0} where
     takes = inr (inr refl);
   }
 
-  -- a route is found by the byte, by a parameter, or by what takes all
+  -- a route is found by the byte, by a parameter, or by a catch-all parameter
   found_one : (rows : RowsOf K) (b : ℕ) (path : List ℕ) (key : K)
       → (seek 0 (step b rows) path ≡ Some key → IsFound (step b rows) path key)
       → (seek ((param_step (step param_token rows) (b ∷ path)).0 - 1) (param_step (step param_token rows) (b ∷ path)).1 path ≡ Some key
@@ -185,13 +185,13 @@ module _ {K : Type 0} where
   found_one rows b path key byte param (inr (inl e)) = by_param rows b path key (param e)
   found_one rows b path key byte param (inr (inr e)) = by_catch rows b path key e
 
-  -- the first answer of three is one of them
+  -- the first result of three is one of them
   three_cases : (x y z : Option K) (key : K) → or_else x (or_else y z) ≡ Some key → (x ≡ Some key) ⊎ ((y ≡ Some key) ⊎ (z ≡ Some key))
   three_cases (Some k) y z key e = inl e
   three_cases None (Some k) z key e = inr (inl e)
   three_cases None None z key e = inr (inr e)
 
-  -- what the walk finds is a row whose tokens take the path
+  -- the walk finds a row whose tokens match the path
   pub found_route : (skip : ℕ) (rows : RowsOf K) (path : List ℕ) (key : K) → seek skip rows path ≡ Some key → IsFound rows (drop skip path) key
   unfolding seek
   found_route zero rows [] key e = record { tokens = []; stands = own_stands rows key e; takes = refl }

@@ -17,38 +17,41 @@ use Rattle.handheld_http.proofs.Places.{SameBefore, OccursAt-same, EndsHead-same
 
 -- ---- where a head ends
 
--- bytes and what begins with them have the same numbers in front
+-- bytes, and the same bytes with more after them, have the same beginning
 pub SameBefore-append : (bytes more : List ℕ) → SameBefore (length bytes) bytes (bytes ++ more)
 SameBefore-append bytes more j lt = sym (get_or_append_left bytes more 0 j lt)
 
--- a head ends inside its bytes
+-- a head ends within its bytes
 pub ends_inside : (bytes : List ℕ) (n : ℕ) → EndsHead bytes n → n ≤ length bytes
 ends_inside bytes n ends =
     let fits : n - 4 + 4 ≤ length bytes = ends.there.fits in
     omega (arith, ends.in_range.0)
 
+-- a head ends at the same place when more bytes follow
 pub EndsHead-append : (bytes more : List ℕ) (n : ℕ) → EndsHead bytes n → EndsHead (bytes ++ more) n
 EndsHead-append bytes more n ends =
     let inside = ends_inside bytes n ends in
     EndsHead-same bytes (bytes ++ more) n (length bytes) (SameBefore-append bytes more) inside (rw length-append (omega arith)) ends
 
+-- a head that ends within a prefix ends there in the prefix
 pub EndsHead-front : (bytes more : List ℕ) (n : ℕ) → n ≤ length bytes → EndsHead (bytes ++ more) n → EndsHead bytes n
 EndsHead-front bytes more n inside ends =
     EndsHead-same (bytes ++ more) bytes n (length bytes) (λ j h. sym (SameBefore-append bytes more j h)) inside inside ends
 
--- a head ends in one place
+-- a head ends at only one place
 pub EndsHead-unique : (bytes : List ℕ) (n m : ℕ) → EndsHead bytes n → EndsHead bytes m → n ≡ m
 EndsHead-unique bytes n m a b =
     let early : ¬ (n < m) = λ lt. b.first (n - 4) (omega (arith, a.in_range.0)) a.there in
     let late : ¬ (m < n) = λ lt. a.first (m - 4) (omega (arith, b.in_range.0)) b.there in
     omega arith
 
--- where none ends, none does
+-- if no head ends, none ends at any place
 pub no_end : (bytes : List ℕ) (n : ℕ) → HasNoEnd bytes → EndsHead bytes n → ⊥
 no_end bytes n none ends = none (n - 4) (omega (arith, ends.in_range.0, ends.in_range.1)) ends.there
 
--- ---- what begins with a head
+-- ---- bytes that begin with a head
 
+-- bytes begin with the same head when more bytes follow
 pub Begins-append : (bytes more : List ℕ) (head body : ℕ) (closing : Bool) (h : RequestHead)
     → Begins bytes head body closing h → Begins (bytes ++ more) head body closing h
 Begins-append bytes more head body closing h begins =
@@ -60,6 +63,7 @@ Begins-append bytes more head body closing h begins =
       closing_is = begins.closing_is;
     }
 
+-- a prefix with the whole head begins with it
 pub Begins-front : (bytes more : List ℕ) (head body : ℕ) (closing : Bool) (h : RequestHead) → head ≤ length bytes
     → Begins (bytes ++ more) head body closing h → Begins bytes head body closing h
 Begins-front bytes more head body closing h inside begins = record {
@@ -69,11 +73,11 @@ Begins-front bytes more head body closing h inside begins = record {
   closing_is = begins.closing_is;
 }
 
--- the same bytes are one head
+-- bytes are only one head
 pub IsHead-unique : (bytes : List ℕ) (h k : RequestHead) → IsHead bytes h → IsHead bytes k → h ≡ k
 IsHead-unique bytes h k a b = (request_unique bytes h k [] [] a.0 b.0).0
 
--- what is said of one beginning is said of each
+-- any two beginnings of the same bytes are equal
 pub Begins-unique : (bytes : List ℕ) (head body : ℕ) (closing : Bool) (h : RequestHead) (n m : ℕ) (c : Bool) (k : RequestHead)
     → Begins bytes head body closing h → Begins bytes n m c k → (head ≡ n) × (body ≡ m) × (closing ≡ c)
 Begins-unique bytes head body closing h n m c k a b =
@@ -86,7 +90,7 @@ Begins-unique bytes head body closing h n m c k a b =
     subst (λ (l : RequestHead). closes l.minor (pairs_of l) ≡ c) (sym head_is) b.closing_is in
     (same, cc (a.length, length_is), sym a.closing_is ∙ closing_is)
 
--- what is refused begins with no head
+-- refused bytes begin with no head
 pub refused_begins : (bytes : List ℕ) (status head body : ℕ) (closing : Bool) (h : RequestHead)
     → Refuses bytes status → Begins bytes head body closing h → ⊥
 refused_begins bytes status head body closing h (inl long) begins = no_end bytes head long.endless begins.ends
@@ -101,14 +105,14 @@ refused_begins bytes status head body closing h (inr (inr barred)) begins =
     subst (λ (l : RequestHead). body_length l.method (pairs_of l) ≡ Err status) (sym head_is) barred.length in
     cc (begins.length, length_is)
 
--- what has no end of a head yet begins with none
+-- bytes without the end of a head begin with none
 pub unended_begins : (bytes : List ℕ) (head body : ℕ) (closing : Bool) (h : RequestHead)
     → HasNoHeadYet bytes → Begins bytes head body closing h → ⊥
 unended_begins bytes head body closing h unended begins = no_end bytes head unended.endless begins.ends
 
 -- ---- bodies
 
--- past a test that refuses
+-- a test that does not refuse
 passed : (b : Bool) (status body : ℕ) (r : Result ℕ ℕ) → cond b (Err status) r ≡ Ok body → (b ≡ false) × (r ≡ Ok body)
 passed true status body r e = absurd cc
 passed false status body r e = (refl, e)
@@ -128,7 +132,7 @@ length_by_le method None body e =
     subst (λ (n : ℕ). n ≤ longest_body) same (omega arith)
 length_by_le method (Some value) body e = stated_le value body e
 
--- a body is not longer than the longest
+-- a body is at most as long as the maximum
 pub body_length_le : (method : List ℕ) (fields : List Pair) (body : ℕ) → body_length method fields ≡ Ok body → body ≤ longest_body
 body_length_le method fields body e =
     let plain = (passed (nat_lt 0 (count_named (codes "Transfer-Encoding") fields)) 501 body _ e).1 in
@@ -137,21 +141,21 @@ body_length_le method fields body e =
 
 -- ---- items
 
--- a front begins with what all begin with
+-- a prefix begins with the same head as the whole
 pub Begins-take : (bytes : List ℕ) (n head body : ℕ) (closing : Bool) (h : RequestHead)
     → Begins (take n bytes) head body closing h → Begins bytes head body closing h
 Begins-take bytes n head body closing h begins =
     subst (λ (l : List ℕ). Begins l head body closing h) (take-append-drop n bytes)
     (Begins-append (take n bytes) (drop n bytes) head body closing h begins)
 
--- bytes that begin with no head have no request in front
+-- bytes that begin with no head have no request as a prefix
 pub none_begins : (bytes : List ℕ)
     → ((head body : ℕ) (closing : Bool) (h : RequestHead) → Begins bytes head body closing h → ⊥) → HasNoItem bytes
 unfolding IsItem
 none_begins bytes none n inside (closing, item) =
     none item.head item.body closing item.begins.0 (Begins-take bytes n item.head item.body closing item.begins.0 item.begins.1)
 
--- two heads that are barred are one
+-- any two heads that do not allow a body are equal
 barred_unique : (bytes : List ℕ) (status other : ℕ) → HasNoBody bytes status → HasNoBody bytes other → status ≡ other
 barred_unique bytes status other a b =
     let same = EndsHead-unique bytes a.head b.head a.ends b.ends in
@@ -161,13 +165,13 @@ barred_unique bytes status other a b =
     subst (λ (l : RequestHead). body_length l.method (pairs_of l) ≡ Err other) (sym head_is) b.length in
     cc (a.length, length_is)
 
--- what is a head is not none
+-- bytes that are no head are not a head
 head_or_none : (bytes : List ℕ) (status other : ℕ) → IsNoHead bytes status → HasNoBody bytes other → ⊥
 head_or_none bytes status other none barred =
     let same = EndsHead-unique bytes barred.head none.head barred.ends none.ends in
     none.none barred.h (subst (λ (i : ℕ). IsHead (take i bytes) barred.h) same barred.reads)
 
--- bytes are refused with one status
+-- bytes are refused with only one status
 pub refused_unique : (bytes : List ℕ) (status other : ℕ) → Refuses bytes status → Refuses bytes other → status ≡ other
 refused_unique bytes status other (inl a) (inl b) = a.status_is ∙ sym b.status_is
 refused_unique bytes status other (inl a) (inr (inl b)) = absurd (no_end bytes b.head a.endless b.ends)
@@ -179,7 +183,7 @@ refused_unique bytes status other (inr (inr a)) (inl b) = absurd (no_end bytes a
 refused_unique bytes status other (inr (inr a)) (inr (inl b)) = absurd (head_or_none bytes other status b a)
 refused_unique bytes status other (inr (inr a)) (inr (inr b)) = barred_unique bytes status other a b
 
--- what is refused is not awaited
+-- refused bytes do not await more
 refused_awaits : (bytes : List ℕ) (status : ℕ) → Refuses bytes status → HasNoHeadYet bytes ⊎ LacksBody bytes → ⊥
 refused_awaits bytes status (inl long) (inl unended) = omega (arith, long.long, unended.short)
 refused_awaits bytes status (inr (inl none)) (inl unended) = no_end bytes none.head unended.endless none.ends
@@ -187,7 +191,7 @@ refused_awaits bytes status (inr (inr barred)) (inl unended) = no_end bytes barr
 refused_awaits bytes status refused (inr lacks) =
     refused_begins bytes status lacks.head lacks.body lacks.closing lacks.begins.0 refused lacks.begins.1
 
--- a whole request is not awaited
+-- a whole request does not await more
 whole_awaits : (bytes : List ℕ) (head body : ℕ) (closing : Bool) (h : RequestHead) → Begins bytes head body closing h
     → head + body ≤ length bytes → HasNoHeadYet bytes ⊎ LacksBody bytes → ⊥
 whole_awaits bytes head body closing h begins whole (inl unended) = unended_begins bytes head body closing h unended begins
@@ -212,7 +216,7 @@ one_cut_with bytes (Refused status) (Whole head body closing) refused (begins, w
 one_cut_with bytes (Refused status) More refused awaits = absurd (refused_awaits bytes status refused awaits)
 one_cut_with bytes (Refused status) (Refused other) a b = ap (λ n. Refused n) (refused_unique bytes status other a b)
 
--- nothing stands behind what is as long
+-- nothing follows a list of the same length
 no_more : (bytes more : List ℕ) → length (bytes ++ more) ≡ length bytes → more ≡ []
 no_more bytes [] e = refl
 no_more bytes (x ∷ more) e =
@@ -244,7 +248,7 @@ head_tells_cut_with bytes more head body closing begins =
       λ short. inr (record { head = head; body = body; closing = closing; begins = stays; short = short }),
     )
 
--- .. with the places in it
+-- the places in the extent do not change either
 pub extent_stays : (bytes more : List ℕ) (extent : Extent) → IsExtent bytes extent → IsExtent (bytes ++ more) extent
 extent_stays bytes more extent is = record {
   h = is.h;

@@ -23,12 +23,12 @@ body_number-in_range (Delay _ _ _ _) = (omega arith, omega arith)
 body_number-in_range (Release _) = (omega arith, omega arith)
 body_number-in_range (Indication _ _ _) = (omega arith, omega arith)
 
--- what is read of an object that has other keys
+-- an object that has other keys is no fact
 pub other_keys : (b : Bool) (read : Option FactBody) → false ≡ b → None ≡ (if b then read else None)
 other_keys true read e = absurd cc
 other_keys false read e = refl
 
--- .. and of one that has not
+-- an object that has no other keys
 pub known_keys : (b : Bool) (read said : Option FactBody) → true ≡ b → said ≡ read → said ≡ (if b then read else None)
 known_keys true read said e is = is
 known_keys false read said e is = absurd cc

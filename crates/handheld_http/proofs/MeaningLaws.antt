@@ -1,4 +1,4 @@
--- Each request asks one thing.
+-- Each request asks for only one thing.
 use Rattle.std.proofs.Common.{◌≡◌, ℕ, Bool, true, false, List, take, drop, Option, Some, None, sym, ap, subst, ◌∙◌, refl}
 use Rattle.std.specs.Option.{option_and_then}
 use Rattle.std.specs.Str.{IsUtf8, is_utf8}
@@ -20,26 +20,26 @@ use Rattle.handheld_http.specs.declared.routes.Resource.{Resource}
 use Rattle.handheld_http.specs.declared.routes.Resource.TheVariants.{Sync, View}
 use Rattle.handheld_http.proofs.ItemLaws.{IsHead-unique, Begins-unique}
 
--- a body is one batch, or none
+-- a body is only one batch, or none
 one_batch : (body : List ℕ) (batch other : Option Batch) → Says body batch → Says body other → batch ≡ other
 one_batch body None None none nor = refl
 one_batch body None (Some other) none says = absurd (none other says)
 one_batch body (Some batch) None says none = absurd (none batch says)
 one_batch body (Some batch) (Some other) says says_too = sym says.says ∙ says_too.says
 
--- the intake asks one thing
+-- a request to the path for batches asks for only one thing
 one_sync : (posted : Bool) (body : List ℕ) (asked other : Asked) → SyncAsks posted body asked → SyncAsks posted body other → asked ≡ other
 one_sync false body asked other is is_too = is ∙ sym is_too
 one_sync true body asked other (batch, says, is) (same, says_too, is_too) =
     is ∙ ap asked_sync (one_batch body batch same says says_too) ∙ sym is_too
 
--- .. and a view
+-- a request for a view asks for only one thing
 one_view : (got : Bool) (page : Page) (path : List ℕ) (asked other : Asked) → ViewAsks got page path asked → ViewAsks got page path other
     → asked ≡ other
 one_view false page path asked other is is_too = is ∙ sym is_too
 one_view true page path asked other is is_too = is ∙ sym is_too
 
--- .. and whatever a path names
+-- a request to any path asks for only one thing
 one_asked : (resource : Option Resource) (method path body : List ℕ) (asked other : Asked) → ResourceAsks resource method path body asked
     → ResourceAsks resource method path body other → asked ≡ other
 one_asked None method path body asked other is is_too = is ∙ sym is_too
@@ -72,17 +72,17 @@ says_something body false e = (None, λ batch is. absurd (not_both (sym e ∙ is
     not_both : false ≡ true → ⊥
     not_both e = absurd cc
 
--- the intake asks something
+-- a request to the path for batches asks for something
 sync_asks : (posted : Bool) (body : List ℕ) → (asked : Asked) × SyncAsks posted body asked
 sync_asks false body = (Not (NoMethod true), refl)
 sync_asks true body = let said = says_something body (is_utf8 body) refl in (asked_sync said.0, (said.0, said.1, refl))
 
--- .. and a view
+-- a request for a view asks for something
 view_asks : (got : Bool) (page : Page) (path : List ℕ) → (asked : Asked) × ViewAsks got page path asked
 view_asks false page path = (Not (NoMethod false), refl)
 view_asks true page path = (asked_view (view_of page (parts_of path)), refl)
 
--- each request asks something
+-- each request asks for something
 resource_asks : (resource : Option Resource) (method path body : List ℕ) → (asked : Asked) × ResourceAsks resource method path body asked
 resource_asks None method path body = (Not NoPath, refl)
 resource_asks (Some Sync) method path body = sync_asks (is_post method) body

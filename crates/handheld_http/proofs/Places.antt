@@ -1,13 +1,14 @@
--- Where an empty line stands, in bytes and in a front of them.
+-- The place of an empty line, in bytes and in a prefix of them.
 use Rattle.std.proofs.Common.{◌≡◌, ℕ, ◌+◌, ◌-◌, ◌<◌, ◌≤◌, List, length, take, get_or, sym, ◌∙◌, arith, length-take, min, subst}
 use Rattle.std.proofs.lemmas.List.{get_or-take}
 use Rattle.memchr.specs.Find.{OccursAt, Nowhere, NoneBefore}
 use Rattle.handheld_http.specs.Heads.{empty_line, EndsHead, HasNoEnd}
 
--- the lists have the same numbers in front of a place
+-- the lists have the same elements before a place
 abbrev pub SameBefore : ℕ → List ℕ → List ℕ → Type 0
 SameBefore m a b = (j : ℕ) → j < m → get_or a j 0 ≡ get_or b j 0
 
+-- a word occurs in lists with the same elements before a place
 pub OccursAt-same : (a b needle : List ℕ) (k m : ℕ) → SameBefore m a b → k + length needle ≤ m → k + length needle ≤ length b
     → OccursAt a needle k → OccursAt b needle k
 OccursAt-same a b needle k m same fits long there = record {
@@ -18,6 +19,7 @@ OccursAt-same a b needle k m same fits long there = record {
 pub SameBefore-take : (m : ℕ) (bytes : List ℕ) → SameBefore m (take m bytes) bytes
 SameBefore-take m bytes j lt = get_or-take m bytes j 0 lt
 
+-- a head ends in lists with the same elements before a place
 pub EndsHead-same : (a b : List ℕ) (n m : ℕ) → SameBefore m a b → n ≤ m → n ≤ length b → EndsHead a n → EndsHead b n
 EndsHead-same a b n m same fits long ends =
     let within : 4 ≤ n = ends.in_range.0 in
@@ -29,7 +31,7 @@ EndsHead-same a b n m same fits long ends =
           (OccursAt-same b a empty_line k m (λ j h. sym (same j h)) (omega arith) (omega arith) there);
     }
 
--- a front has the same numbers as the whole
+-- a prefix has the same elements as the whole
 pub OccursAt-take : (m : ℕ) (bytes : List ℕ) (k : ℕ) → OccursAt (take m bytes) empty_line k → (k + 4 ≤ m) × OccursAt bytes empty_line k
 OccursAt-take m bytes k there =
     let fits : k + 4 ≤ length (take m bytes) = there.fits in
@@ -42,7 +44,7 @@ take-OccursAt m bytes k fits there =
     let longer : k + 4 ≤ length (take m bytes) = rw length-take (omega arith) in
     OccursAt-same bytes (take m bytes) empty_line k m (λ j h. sym (SameBefore-take m bytes j h)) fits longer there
 
--- what the search of a front found
+-- the search in a prefix found an empty line
 pub ends_found : (bytes : List ℕ) (at : ℕ)
     → NoneBefore (OccursAt (take 8_192 bytes) empty_line) 0 (length (take 8_192 bytes) + 1) at → OccursAt (take 8_192 bytes) empty_line at
     → EndsHead bytes (at + 4)
@@ -54,7 +56,7 @@ ends_found bytes at none there =
       first = λ k lt other. none.before k (omega arith) (omega arith) (take-OccursAt 8_192 bytes k (omega (arith, whole.0)) other);
     }
 
--- and what it says where it found nothing
+-- the search in a prefix found no empty line
 pub none_found : (bytes : List ℕ) → Nowhere (OccursAt (take 8_192 bytes) empty_line) 0 (length (take 8_192 bytes) + 1)
     → HasNoEnd bytes
 none_found bytes nowhere k fits there =
@@ -62,7 +64,7 @@ none_found bytes nowhere k fits there =
     let inside : k + 4 ≤ length (take 8_192 bytes) = front.fits in
     nowhere k (omega arith) (omega arith) front
 
--- the same of a front that is given by an equation
+-- the same for a prefix given by an equation
 pub ends_in_front : (bytes front : List ℕ) (at : ℕ) → front ≡ take 8_192 bytes
     → NoneBefore (OccursAt front empty_line) 0 (length front + 1) at × OccursAt front empty_line at → EndsHead bytes (at + 4)
 ends_in_front bytes front at same found =

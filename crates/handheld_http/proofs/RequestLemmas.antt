@@ -1,4 +1,4 @@
--- What the request asks that was cut.
+-- What a request that was cut asks for.
 use Rattle.std.proofs.Common.{◌≡◌, ℕ, ◌+◌, ◌-◌, ◌≤◌, Bool, List, ◌++◌, length, take, drop, Ok, Err, inl, inr, sym, ap, subst, ◌∙◌, refl, arith, length-take}
 use Rattle.std.specs.List.{slice_range}
 use Rattle.std.proofs.lemmas.List.{drop-take, take-append-drop}
@@ -12,7 +12,7 @@ use Rattle.handheld_http.specs.declared.outcome.Extent.{Extent}
 use Rattle.handheld_http.specs.declared.answer.Asked.{Asked}
 use Rattle.handheld_http.proofs.ItemLaws.{IsHead-unique, Begins-unique, Begins-front, ends_inside}
 
--- a head that is accepted is at the front, where it ends
+-- an accepted head is at the front, up to its end
 pub accepted_extent : (bytes : List ℕ) (head : ℕ) (extent : Extent) (h : RequestHead) → EndsHead bytes head → IsAccepted (take head bytes) extent h
     → (extent.head ≡ head) × IsExtent bytes extent
 accepted_extent bytes head extent h ends accepted =
@@ -31,7 +31,7 @@ accepted_extent bytes head extent h ends accepted =
       },
     )
 
--- a head of which a body is read is not refused
+-- a head with a body that is read is not refused
 pub judged : (bytes : List ℕ) (status body : ℕ) (h : RequestHead) → IsHead bytes h → body_length h.method (pairs_of h) ≡ Ok body
     → Judges bytes (Err status) → ⊥
 judged bytes status body h reads length (inl none) = none.0 h reads
@@ -54,7 +54,7 @@ body_of_item bytes head body =
     let long : head + body - head ≡ body = omega arith in
     ap (λ (n : ℕ). take n (drop head bytes)) long ∙ sym (drop-take head body bytes)
 
--- what is asked by the line and the body is what the request asks
+-- the method, the target and the body decide what the request asks for
 pub line_means : (bytes : List ℕ) (head body : ℕ) (closing : Bool) (h : RequestHead) → Begins bytes head body closing h
     → head + body ≤ length bytes → (asked : Asked) → RequestAsks h.method h.target (slice_range bytes head (head + body)) asked
     → Means (take (head + body) bytes) asked
@@ -73,7 +73,7 @@ line_means bytes head body closing h begins inside asked asks =
       asks = subst (λ (l : List ℕ). RequestAsks h.method h.target l asked) (body_of_item bytes head body) asks;
     }
 
--- .. whichever way it was cut
+-- the same, in whichever way it was cut
 pub extent_asks : (bytes : List ℕ) (head : ℕ) (extent : Extent) → extent.head ≡ head → IsExtent bytes extent → (asked : Asked)
     → Means (take (extent.head + extent.body) bytes) asked → IsAsked bytes head asked
 extent_asks bytes head extent same is asked means body closing cut =

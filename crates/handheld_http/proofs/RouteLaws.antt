@@ -1,4 +1,4 @@
--- The parts of a path of a view are what its route's parameters take of it.
+-- The parts of a view's path are the values of its route's parameters.
 use Rattle.std.proofs.Common.{◌≡◌, ℕ, ◌<◌, ◌⊎◌, inl, inr, true, List, [], ◌∷◌, ◌++◌, length, codes, sym, ap, subst, ◌∙◌, refl, arith}
 use Rattle.matchit.proofs.OnLiterals.{matchit_on_literals}
 use Rattle.matchit.specs.Router.{RouteOf}
@@ -14,11 +14,11 @@ use Rattle.handheld_http.specs.Routes.{office_routes, with_route}
 use Rattle.handheld_http.proofs.FoundRoutes.{Takes, Stands, IsFound, found_route}
 use Rattle.handheld_http.proofs.WalkLemmas.{are_bytes, two_parts, three_parts}
 
--- one view, one page
+-- a view has only one page
 same_page : (page other : Page) → View page ≡ View other → page ≡ other
 same_page page other same = cc
 
--- a row with two parameters behind a word
+-- a row with a word and two parameters
 view_two : (w text : List ℕ) (one two : ℕ × ℕ) (page : Page) → are_bytes w ≡ true → length w < 90
     → ((q : List ℕ) → parts_of (w ++ q) ≡ q)
     → ((q : List ℕ) → named_parts page q ≡ (part_of text one.0 one.1, part q) ∷ (part_of text two.0 two.1, second_part q) ∷ [])
@@ -33,7 +33,7 @@ view_two w text one two page bytes short parts named path tokens route row is ta
     subst (λ (r : RouteOf Resource). HasParts path r) is
     (λ other same. walked ∙ ap (λ (p : Page). named_parts p (parts_of path)) (same_page page other same))
 
--- .. and with three
+-- a row with a word and three parameters
 view_three : (w text : List ℕ) (one two three : ℕ × ℕ) (page : Page) → are_bytes w ≡ true → length w < 90
     → ((q : List ℕ) → parts_of (w ++ q) ≡ q)
     → ((q : List ℕ) → named_parts page q
@@ -49,11 +49,11 @@ view_three w text one two three page bytes short parts named path tokens route r
     subst (λ (r : RouteOf Resource). HasParts path r) is
     (λ other same. walked ∙ ap (λ (p : Page). named_parts p (parts_of path)) (same_page page other same))
 
--- the row of the intake is no view
+-- the row of the path for batches is no view
 no_view : (path : List ℕ) (row route : RouteOf Resource) → row.value ≡ Sync → row ≡ route → HasParts path route
 no_view path row route sync is = subst (λ (r : RouteOf Resource). HasParts path r) is (λ page same. absurd cc)
 
--- each row of the office takes the parts of its paths
+-- each row of the office has the parts of its paths as values
 by_row : (path tokens : List ℕ) (route : RouteOf Resource) → Stands tokens route office_routes → Takes tokens path → HasParts path route
 unfolding matchit_on_literals with_route
 by_row path tokens route (inl row) takes =

@@ -1,4 +1,4 @@
--- What the parameters of a route take of a path: the parts between its slashes.
+-- The values of a route's parameters in a path: the parts between its slashes.
 use Rattle.std.proofs.Common.{◌≡◌, ℕ, ◌+◌, ◌-◌, ◌<◌, ◌≤◌, ◌⊎◌, inl, inr, Bool, true, false, cond, not, ◌&&◌, ◌==◌, ltb, leb, min, List, [], ◌∷◌, ◌++◌, length}
 use Rattle.std.proofs.Common.{take, drop, get_or, sym, ap, ap₂, subst, ◌∙◌, refl, arith, length-append, length-drop}
 use Rattle.std.specs.List.{list_all, before_first, after_first, position_or_len}
@@ -10,13 +10,13 @@ use Rattle.matchit.specs.Params.{walk, wild_from, wild_stop, part_of, after_toke
 use Rattle.matchit.proofs.ConflictLemmas.{and-cases}
 use Rattle.handheld_http.proofs.FoundRoutes.{Takes}
 
--- each is a byte
+-- each element is a byte
 abbrev pub are_bytes : List ℕ → Bool
 are_bytes w = list_all (λ x. ltb x 256) w
 
--- ---- what a row takes
+-- ---- what a row matches
 
--- a word of bytes takes itself
+-- a word of bytes matches itself
 takes_word : (w t path : List ℕ) → are_bytes w ≡ true → Takes (w ++ t) path → (more : List ℕ) × (path ≡ w ++ more) × Takes t more
 takes_word [] t path bytes takes = (path, refl, takes)
 takes_word (x ∷ w) t path bytes (inl (more, is, takes)) =
@@ -29,7 +29,7 @@ takes_word (x ∷ w) t path bytes (inr (inr is)) =
     let small = ltb-true x 256 (and-cases (ltb x 256) (are_bytes w) bytes).0 in
     absurd (omega (arith, small, is))
 
--- a parameter takes what has no slash
+-- a parameter matches a part without a slash
 takes_param : (t path : List ℕ) → Takes (256 ∷ t) path
     → (a : List ℕ) × (more : List ℕ) × (path ≡ a ++ more) × (has_slash a ≡ false) × Takes t more
 takes_param t path (inl (more, is, takes)) = (256 ∷ [], more, is, refl, takes)
@@ -38,32 +38,32 @@ takes_param t path (inr (inr is)) = absurd (omega (arith, is))
 
 -- ---- lists
 
--- what stands behind a front
+-- the rest after a prefix
 drop_front : (a q : List ℕ) → drop (length a) (a ++ q) ≡ q
 drop_front [] q = refl
 drop_front (x ∷ a) q = drop_front a q
 
--- .. and the front
+-- the prefix before a rest
 take_front : (a q : List ℕ) → take (length a) (a ++ q) ≡ a
 take_front [] q = refl
 take_front (x ∷ a) q = ap (λ (l : List ℕ). x ∷ l) (take_front a q)
 
--- what follows a front, further on
+-- the rest after a prefix, further on
 drop_on : (n : ℕ) (path a q : List ℕ) → drop n path ≡ a ++ q → drop (n + length a) path ≡ q
 drop_on n path a q is = sym (drop-drop (length a) n path) ∙ ap (drop (length a)) is ∙ drop_front a q
 
--- how long what was passed is
+-- the length of what was passed
 passed_le : (n : ℕ) (path rest : List ℕ) → n ≤ length path → drop n path ≡ rest → length path ≡ n + length rest
 passed_le n path rest within is =
     let long : length path - n ≡ length rest = sym (length-drop n path) ∙ ap length is in
     omega (arith, long, within)
 
--- past a test that is not passed
+-- a test that is not passed
 plain_head : (slashed more : Bool) → cond slashed true more ≡ false → (slashed ≡ false) × (more ≡ false)
 plain_head true more e = absurd cc
 plain_head false more e = (refl, e)
 
--- a segment ends with its slash
+-- a segment ends at its slash
 segment_plain : (a q : List ℕ) → has_slash a ≡ false → segment (a ++ 47 ∷ q) ≡ a ++ 47 ∷ []
 segment_plain [] q plain = refl
 segment_plain (x ∷ a) q plain =
@@ -72,7 +72,7 @@ segment_plain (x ∷ a) q plain =
 
 -- ---- the parts of a path
 
--- the first slash stands behind a part
+-- the first slash is after a part
 slash_behind : (a q : List ℕ) → has_slash a ≡ false → position_or_len (λ b. b == 47) (a ++ 47 ∷ q) ≡ length a
 slash_behind [] q plain = refl
 slash_behind (x ∷ a) q plain =
@@ -80,7 +80,7 @@ slash_behind (x ∷ a) q plain =
     let one : 1 + length a ≡ length (x ∷ a) = omega arith in
     rw head.0 (ap (λ (n : ℕ). 1 + n) (slash_behind a q head.1) ∙ one)
 
--- where no slash stands, the first is at the end
+-- without a slash, the position is the length
 no_slash_in : (a : List ℕ) → has_slash a ≡ false → position_or_len (λ b. b == 47) a ≡ length a
 no_slash_in [] plain = refl
 no_slash_in (x ∷ a) plain =
@@ -88,7 +88,7 @@ no_slash_in (x ∷ a) plain =
     let one : 1 + length a ≡ length (x ∷ a) = omega arith in
     rw head.0 (ap (λ (n : ℕ). 1 + n) (no_slash_in a head.1) ∙ one)
 
--- a part, and what follows its slash
+-- a part, and the rest after its slash
 pub part_is : (a q : List ℕ) → has_slash a ≡ false → before_first (λ b. b == 47) (a ++ 47 ∷ q) ≡ a
 part_is a q plain = ap (λ (n : ℕ). take n (a ++ 47 ∷ q)) (slash_behind a q plain) ∙ take_front a (47 ∷ q)
 
@@ -97,7 +97,7 @@ rest_is a q plain =
     ap (λ (n : ℕ). drop (n + 1) (a ++ 47 ∷ q)) (slash_behind a q plain)
     ∙ sym (drop-drop 1 (length a) (a ++ 47 ∷ q)) ∙ ap (drop 1) (drop_front a (47 ∷ q))
 
--- a last part
+-- the last part
 pub last_part_is : (a : List ℕ) → has_slash a ≡ false → before_first (λ b. b == 47) a ≡ a
 last_part_is a plain =
     ap (λ (n : ℕ). take n a) (no_slash_in a plain) ∙ ap (take (length a)) (sym (append-nil a)) ∙ take_front a []
@@ -114,7 +114,7 @@ wild_word (x ∷ w) t len token at bytes fits =
     let behind = wild_word w t len (token + 1) (at + 1) both.1 (omega (arith, fits)) in
     rw (both.0, inside) (behind ∙ ap₂ (λ (m n : ℕ). wild_from t len m n) (omega arith) (omega arith))
 
--- where a parameter stands, behind a word
+-- the next parameter is after a word
 wild_at : (p path w t more : List ℕ) (token at : ℕ) → are_bytes w ≡ true → drop token p ≡ w ++ 256 ∷ t → at ≤ length path
     → drop at path ≡ w ++ more → wild_from (drop token p) (length path) token at ≡ (token + length w, at + length w)
 wild_at p path w t more token at bytes tokens within is =
@@ -122,7 +122,7 @@ wild_at p path w t more token at bytes tokens within is =
     ap (λ (l : List ℕ). wild_from l (length path) token at) tokens
     ∙ wild_word w (256 ∷ t) (length path) token at bytes (omega (arith, long, length-append w more))
 
--- a part of the path is cut out by its places
+-- a part of the path, from its places
 part_at : (path a q : List ℕ) (at : ℕ) → at ≤ length path → drop at path ≡ a ++ q → part_of path at (at + length a) ≡ a
 part_at path a q at within is =
     let long = passed_le at path (a ++ q) within is in
@@ -131,7 +131,7 @@ part_at path a q at within is =
     let size : at + length a - at ≡ length a = omega arith in
     rw (first, second) (ap₂ (λ (n : ℕ) (l : List ℕ). take n l) size is ∙ take_front a q)
 
--- where a parameter ends that a slash follows
+-- the end of a parameter before a slash
 stop_at_slash : (p path t a q : List ℕ) (token at : ℕ) → token ≤ length p → drop token p ≡ 256 ∷ 47 ∷ t → at ≤ length path
     → drop at path ≡ a ++ 47 ∷ q → has_slash a ≡ false → wild_stop p token path at ≡ at + length a
 stop_at_slash p path t a q token at known tokens within is plain =
@@ -145,7 +145,7 @@ stop_at_slash p path t a q token at known tokens within is plain =
     let size : length (segment (drop at path)) ≡ length a + 1 = ap length seg ∙ length-append a (47 ∷ []) in
     rw (inside, here, more, next) (omega (arith, size))
 
--- where the last parameter ends
+-- the end of the last parameter
 stop_at_end : (p path : List ℕ) (token at : ℕ) → token ≤ length p → drop token p ≡ 256 ∷ [] → wild_stop p token path at ≡ length path
 stop_at_end p path token at known tokens =
     let long = passed_le token p (256 ∷ []) known tokens in
@@ -162,7 +162,7 @@ stop_at_end p path token at known tokens =
         both true false = refl
         both false y = refl
 
--- the first parameter of those that are left, with a slash behind it
+-- the first of the remaining parameters, with a slash after it
 walk_next : (p text path w t a q : List ℕ) (name : ℕ × ℕ) (names : List (ℕ × ℕ)) (token at : ℕ) → are_bytes w ≡ true
     → token ≤ length p → length p < 100 → drop token p ≡ w ++ (256 ∷ 47 ∷ t) → at ≤ length path → drop at path ≡ w ++ (a ++ 47 ∷ q)
     → has_slash a ≡ false
@@ -203,21 +203,21 @@ walk_last p text path w a name token at bytes known tokens within is =
 
 -- ---- two parameters, and three
 
--- a part of a path, up to the next slash, and what follows that
+-- a part of a path, up to the next slash, and the rest after it
 abbrev part : List ℕ → List ℕ
 part q = before_first (λ b. b == 47) q
 
 abbrev rest : List ℕ → List ℕ
 rest q = after_first (λ b. b == 47) q
 
--- what follows a word, and what two parameters take of it
+-- the rest after a word, and the values of two parameters
 pub record AreTwo (w text path : List ℕ) (one two : ℕ × ℕ) : Type 0 where
   pub q : List ℕ
   pub is : path ≡ w ++ q
   pub walked : walk (w ++ (256 ∷ 47 ∷ 256 ∷ [])) text path (one ∷ two ∷ []) 0 0
       ≡ (part_of text one.0 one.1, part q) ∷ (part_of text two.0 two.1, part (rest q)) ∷ []
 
--- two parameters take the two parts behind a word
+-- two parameters have the two parts after a word as values
 pub two_parts : (w text path : List ℕ) (one two : ℕ × ℕ) → are_bytes w ≡ true → length w < 90
     → Takes (w ++ (256 ∷ 47 ∷ 256 ∷ [])) path → AreTwo w text path one two
 two_parts w text path one two bytes short takes =
@@ -250,19 +250,19 @@ two_parts w text path one two bytes short takes =
           ∙ ap₂ (λ (x y : List ℕ). (part_of text one.0 one.1, x) ∷ (part_of text two.0 two.1, y) ∷ []) first_is second_is;
     }
 
--- the same of three
+-- the rest after a word, and the values of three parameters
 pub record AreThree (w text path : List ℕ) (one two three : ℕ × ℕ) : Type 0 where
   pub q : List ℕ
   pub is : path ≡ w ++ q
   pub walked : walk (w ++ (256 ∷ 47 ∷ 256 ∷ 47 ∷ 256 ∷ [])) text path (one ∷ two ∷ three ∷ []) 0 0
       ≡ (part_of text one.0 one.1, part q) ∷ (part_of text two.0 two.1, part (rest q)) ∷ (part_of text three.0 three.1, part (rest (rest q))) ∷ []
 
--- three names, each with the same text
+-- three names, each with an equal text
 other_texts : (one two three : List ℕ) {a b c x y z : List ℕ} → a ≡ x → b ≡ y → c ≡ z
     → ◌≡◌ {A = List (List ℕ × List ℕ)} ((one, a) ∷ (two, b) ∷ (three, c) ∷ []) ((one, x) ∷ (two, y) ∷ (three, z) ∷ [])
 other_texts one two three first second third = (λ i. (one, first i) ∷ (two, second i) ∷ (three, third i) ∷ [])
 
--- three take three
+-- three parameters have the three parts after a word as values
 pub three_parts : (w text path : List ℕ) (one two three : ℕ × ℕ) → are_bytes w ≡ true → length w < 90
     → Takes (w ++ (256 ∷ 47 ∷ 256 ∷ 47 ∷ 256 ∷ [])) path → AreThree w text path one two three
 three_parts w text path one two three bytes short takes =

@@ -1,4 +1,4 @@
--- The bytes of each answer: a status line, the fields, an empty line and the body.
+-- The bytes of each response: a status line, the fields, an empty line and the body.
 use Rattle.std.specs.Prelude.{◌≡◌, ℕ, ◌⊎◌, Bool, true, ◌==◌, List, [], ◌∷◌, ◌++◌, length, codes, if◌then◌else◌, unwrap_or, ⊤}
 use Rattle.std.specs.Fmt.{decimal}
 use Rattle.http.specs.StatusCode.{reason_phrase}
@@ -11,7 +11,7 @@ use Rattle.handheld_http.specs.declared.answer.Refusal.TheVariants.{BadBatch, No
 use Rattle.handheld_http.specs.declared.answer.Answer.{Answer}
 use Rattle.handheld_http.specs.declared.answer.Answer.TheVariants.{Reply as ToRequest, Not, Status}
 
--- ---- codes of status (RFC 9110, section 15)
+-- ---- status codes (RFC 9110, section 15)
 
 abbrev pub reply_status : Reply → ℕ
 reply_status (Receipt handheld number position) = 200
@@ -42,7 +42,7 @@ refusal_text NoPath = codes "no such path" ++ end_of_line
 refusal_text (NoMethod post) = codes "no such method" ++ end_of_line
 refusal_text (NoneSuch what) = codes "no such " ++ what_text what ++ end_of_line
 
--- the line of a status with which bytes are refused
+-- the body of a response with which bytes are refused
 abbrev pub status_line : ℕ → List ℕ
 status_line status =
     if status == 400 then codes "bad request" ++ end_of_line
@@ -64,7 +64,7 @@ crlf = 13 ∷ 10 ∷ []
 abbrev pub allow_post : Bool → List ℕ
 allow_post post = if post then codes "Allow: POST\r\n" else codes "Allow: GET\r\n"
 
--- which method a path has, where it has not that of the request
+-- the method of a path, if the request used another one
 abbrev pub allow_of : Answer → List ℕ
 allow_of (ToRequest reply) = []
 allow_of (Not BadBatch) = []
@@ -73,7 +73,7 @@ allow_of (Not (NoMethod post)) = allow_post post
 allow_of (Not (NoneSuch what)) = []
 allow_of (Status status) = []
 
--- behind refused bytes nothing more is read
+-- after refused bytes nothing more is read
 abbrev pub is_last : Answer → Bool → Bool
 is_last (ToRequest reply) closing = closing
 is_last (Not refusal) closing = closing
@@ -92,7 +92,7 @@ common_head status length =
     codes "HTTP/1.1 " ++ decimal status ++ codes " " ++ phrase_of status ++ codes "\r\nContent-Type: text/plain\r\nContent-Length: "
     ++ decimal length ++ crlf
 
--- a response up to and with its empty line, for a body of so many bytes
+-- a response up to and including its empty line, for a body of this length
 abbrev pub response_head : ℕ → List ℕ → Bool → ℕ → List ℕ
 response_head status allow last length = common_head status length ++ allow ++ connection_of last ++ crlf
 
@@ -100,17 +100,17 @@ response_head status allow last length = common_head status length ++ allow ++ c
 unfoldable pub response : ℕ → List ℕ → Bool → List ℕ → List ℕ
 response status allow last body = response_head status allow last (length body) ++ body
 
--- the bytes of an answer to a request that closes the connection or not
+-- the bytes of an answer to a request, which may close the connection
 abbrev pub answer_bytes : Answer → Bool → List ℕ
 answer_bytes answer closing = response (status_of answer) (allow_of answer) (is_last answer closing) (body_of answer)
 
--- ---- what is answered
+-- ---- which answers are sent
 
--- bytes are refused with these
+-- bytes are refused with one of these statuses
 abbrev pub IsRefusalStatus : ℕ → Type 0
 IsRefusalStatus status = (status ≡ 400) ⊎ ((status ≡ 411) ⊎ ((status ≡ 413) ⊎ ((status ≡ 431) ⊎ (status ≡ 501))))
 
--- a denial is by one of the rules 1 to 21; a status is one with which bytes are refused
+-- a denial is by a rule from 1 to 21; a status is one with which bytes are refused
 abbrev pub IsSent : Answer → Type 0
 IsSent (ToRequest reply) = HasRule reply
 IsSent (Not refusal) = ⊤

@@ -1,4 +1,4 @@
--- The batch that the body of a request is: a JSON text, read as `serde_json` reads it, with its members in any order.
+-- The batch in the body of a request: a JSON text, read as `serde_json` reads it, with its members in any order.
 use Rattle.std.specs.Prelude.{◌≡◌, ℕ, ◌&&◌, nat_lt, nat_le, List, [], ◌∷◌, length, codes, Option, Some, None, option_and_then, if◌then◌else◌}
 use Rattle.std.specs.Str.{IsUtf8}
 use Rattle.serde_json.specs.Data.{Data, Items, no_items, item}
@@ -8,8 +8,9 @@ use Rattle.fact_kinds.specs.declared.batch.Batch.{Batch}
 use Rattle.fact_kinds.specs.Stated.{Stated}
 use Rattle.handheld_http.specs.Members.{◌>>=◌, has_only, number, word, day}
 use Rattle.handheld_http.specs.FactJson.{kind_words, body}
+use Rattle.fact_kinds.specs.declared.limits.TheConstants.{BATCH_FACTS}
 
--- the fact that an object says
+-- the fact in an object
 unfoldable pub fact_of : Data → Option Stated
 fact_of d = do
   kind ← word kind_words (get (codes "kind") d)
@@ -18,7 +19,7 @@ fact_of d = do
   body ← body kind d
   Some (record { day = day; minute = minute; body = body })
 
--- the facts of an array, each of which says one
+-- the facts in an array, each of which must be one
 abbrev pub facts_of : Items → Option (List Stated)
 facts_of no_items = Some []
 facts_of (item d items) = do
@@ -29,11 +30,11 @@ facts_of (item d items) = do
 -- a batch of 1 to 512 facts
 unfoldable pub batch : ℕ → ℕ → List Stated → Option Batch
 batch handheld number facts =
-    if nat_lt 0 (length facts) && nat_le (length facts) 512
+    if nat_lt 0 (length facts) && nat_le (length facts) BATCH_FACTS
     then Some (record { handheld = handheld; number = number; facts = facts })
     else None
 
--- the batch that an object says
+-- the batch in an object
 unfoldable pub batch_of : Data → Option Batch
 batch_of d =
     if has_only (codes "handheld" ∷ codes "number" ∷ codes "facts" ∷ []) d then (do
@@ -49,7 +50,7 @@ pub record IsBatchText (body : List ℕ) (batch : Batch) : Type 0 where
   pub text : IsUtf8 body
   pub says : option_and_then batch_of (read body) ≡ Some batch
 
--- what a body says: a batch, or that it is none
+-- the body is a batch, or none
 abbrev pub Says : List ℕ → Option Batch → Type 0
 Says body None = (batch : Batch) → ¬ (IsBatchText body batch)
 Says body (Some batch) = IsBatchText body batch

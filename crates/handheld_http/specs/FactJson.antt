@@ -1,4 +1,4 @@
--- What a JSON object says of a fact, by the table of keys: a kind's own keys stand with those of every fact, in any order.
+-- The fact in a JSON object, by the table of keys: the kind's own keys and those of every fact, in any order.
 use Rattle.std.specs.Prelude.{ℕ, ◌==◌, List, [], ◌∷◌, codes, Option, Some, None, option_map, is_none, if◌then◌else◌}
 use Rattle.serde_json.specs.Data.{Data}
 use Rattle.serde_json.specs.Find.{get, at}
@@ -21,7 +21,7 @@ use Rattle.fact_kinds.specs.declared.body.FactBody.TheVariants.{Unit as UnitFact
 use Rattle.fact_kinds.specs.declared.body.FactBody.TheVariants.{Calibration, Precision, Drift, Reading, Visual, Attempt, Delay, Release, Indication}
 use Rattle.handheld_http.specs.Members.{◌>>=◌, has_only, number, flag, word, day, name, number_or_none, day_or_none}
 
--- ---- words, by their places
+-- ---- words, by place
 
 abbrev pub kind_words : List (List ℕ)
 kind_words =
@@ -59,7 +59,7 @@ state_words = codes "dry" ∷ codes "drips" ∷ codes "leak" ∷ []
 abbrev pub state_at : ℕ → VisualState
 state_at n = if n == 0 then Dry else (if n == 1 then Drips else Designated)
 
--- the place of a ground of delay is its number: withdrawn, or (a) to (e)
+-- the words for grounds of delay, by number: withdrawn, or (a) to (e)
 abbrev pub ground_words : List (List ℕ)
 ground_words = codes "none" ∷ codes "a" ∷ codes "b" ∷ codes "c" ∷ codes "d" ∷ codes "e" ∷ []
 
@@ -71,14 +71,14 @@ sort_at n = if n == 0 then Sensor else Evidence
 
 -- ---- several members
 
--- the months of a plan, as the designation allows
+-- the months of a plan, which depend on the designation
 abbrev pub plan : Designation → Option Data → Option ℕ
 plan Plain d = number 0 0 d
 plan Nde d = number 0 0 d
 plan Unsafe d = number 1 60 d
 plan Difficult d = number 0 0 d
 
--- the class of a component, by four members of its fact
+-- the class of a component, from four members of its fact
 unfoldable pub class : Data → Option Class
 class d = do
   service ← option_map service_at (word service_words (get (codes "service") d))
@@ -100,7 +100,7 @@ three d =
 abbrev pub readings : Option Data → Option (ℕ × ℕ × ℕ)
 readings d = d >>= three
 
--- the programmes of skip periods: none, 1 and 3
+-- the skip period programs: none, 1 and 3
 unfoldable pub mode : Option Data → Option ℕ
 mode d = do
   n ← number 0 3 d
@@ -252,7 +252,7 @@ indication d =
       Some (Indication component sort present))
     else None
 
--- what a fact of the kind at a place in the table says
+-- a fact of the kind at a place in the table
 unfoldable pub body : ℕ → Data → Option FactBody
 body kind d =
     if kind == 0 then unit_fact d else (if kind == 1 then component_fact d else (if kind == 2 then class_fact d else (if kind == 3 then retire d else (

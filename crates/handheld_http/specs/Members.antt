@@ -1,4 +1,4 @@
--- How the members of a JSON object are read: each gives a value, or nothing where it has another form.
+-- The members of a JSON object: each reader returns a value, or nothing if the member has another form.
 use Rattle.std.specs.Prelude.{ℕ, Bool, false, ◌&&◌, ◌==◌, not, nat_eq, nat_le, List, [], ◌∷◌}
 use Rattle.std.specs.Prelude.{length, Option, Some, None, option_and_then, position, if◌then◌else◌}
 use Rattle.std.specs.List.{list_all, list_any}
@@ -8,7 +8,7 @@ use Rattle.serde_json.specs.Find.{as_number, as_u64, as_str, as_bool, as_object}
 use Rattle.ldar_days.specs.Texts.{day_of}
 use Rattle.fact_kinds.specs.Name.{is_name_byte}
 
--- one reading behind another
+-- one reader after another
 infixl 10 ◌>>=◌
 abbrev pub ◌>>=◌ : {A B : Type 0} → Option A → (A → Option B) → Option B
 o >>= f = option_and_then f o
@@ -26,13 +26,13 @@ abbrev pub has_only_members : List (List ℕ) → Option Members → Bool
 has_only_members keys None = false
 has_only_members keys (Some members) = list_all (is_among keys) (keys_of members)
 
--- the value is an object that has no other keys than these
+-- the value is an object with no keys other than these
 unfoldable pub has_only : List (List ℕ) → Data → Bool
 has_only keys d = has_only_members keys (as_object d)
 
--- ---- members, each of which may be absent
+-- ---- members, each of which may be missing
 
--- a whole number that is not below the one and not above the other
+-- a whole number from `low` to `high`
 unfoldable pub number : ℕ → ℕ → Option Data → Option ℕ
 number low high d = do
   n ← d >>= as_number >>= as_u64
@@ -62,12 +62,12 @@ name d = do
   text ← d >>= as_str
   if is_name text then Some text else None
 
--- a number of an instrument or a person: absent is none, which is 0
+-- the number of an instrument or a person; a missing one is 0, for none
 abbrev pub number_or_none : Option Data → Option ℕ
 number_or_none None = Some 0
 number_or_none (Some d) = number 0 65_535 (Some d)
 
--- a day that may be absent
+-- a day that may be missing
 abbrev pub day_or_none : Option Data → Option (Option ℕ)
 day_or_none None = Some None
 day_or_none (Some d) = do

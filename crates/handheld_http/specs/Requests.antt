@@ -1,4 +1,4 @@
--- What a request asks: by its method, its target and its body.
+-- What a request asks for, from its method, its target and its body.
 use Rattle.std.specs.Prelude.{◌≡◌, ◌↔◌, ℕ, ◌+◌, Bool, true, false, ◌&&◌, ◌==◌, not, nat_eq, nat_le, nat_lt, List, get_or}
 use Rattle.std.specs.Prelude.{length, take, drop, codes, Option, Some, None, ok_or, Result, Ok, Err, if◌then◌else◌}
 use Rattle.std.specs.List.{before_first, after_first}
@@ -28,18 +28,19 @@ use Rattle.handheld_http.specs.Routes.{resource_of}
 
 -- ---- a target, and the parts of its path
 
--- the path of a target: what stands up to the first question mark
+-- the path of a target: everything before the first question mark
 abbrev pub path_of : List ℕ → List ℕ
 path_of target = before_first (λ b. b == 63) target
 
--- a part of a path, up to the next slash, and what follows that
+-- a part of a path, up to the next slash
 abbrev pub part : List ℕ → List ℕ
 part text = before_first (λ b. b == 47) text
 
+-- what follows the next slash
 abbrev pub rest : List ℕ → List ℕ
 rest text = after_first (λ b. b == 47) text
 
--- what follows the name of a view: its parts
+-- the parts of a view, after its name
 abbrev pub parts_of : List ℕ → List ℕ
 parts_of path = rest (rest path)
 
@@ -51,18 +52,18 @@ third_part parts = part (rest (rest parts))
 
 -- ---- numbers and days
 
--- a zero stands in front of other digits
+-- a zero is before other digits
 abbrev pub has_leading_zero : List ℕ → Bool
 has_leading_zero text = nat_lt 1 (length text) && get_or text 0 0 == 48
 
--- a decimal without leading zeros, of a number that is not above the greatest
+-- a decimal without leading zeros, for a number of at most `greatest`
 abbrev pub is_decimal : ℕ → List ℕ → Bool
 is_decimal greatest text = is_number text && not (has_leading_zero text) && nat_le (digits_value 10 text) greatest
 
 unfoldable pub decimal_in : ℕ → List ℕ → Option ℕ
 decimal_in greatest text = if is_decimal greatest text then Some (digits_value 10 text) else None
 
--- each names nothing where it has another form
+-- the unit in a part, or that there is none if the part has another form
 abbrev pub unit_in : List ℕ → Result ℕ What
 unit_in text = ok_or (decimal_in 255 text) NoUnit
 
@@ -74,13 +75,13 @@ day_in text = ok_or (day_of text) NoDay
 
 -- ---- views
 
--- one part behind another
+-- one part after another
 infixl 10 ◌>>=◌
 abbrev pub ◌>>=◌ : {A B : Type 0} → Result A What → (A → Result B What) → Result B What
 Ok a >>= f = f a
 Err what >>= f = Err what
 
--- the request that the parts of a view make, behind that for its unit
+-- the request of a view, from its parts after the unit
 unfoldable pub view_on : Page → ℕ → List ℕ → Result Request What
 view_on Due unit parts = do
   day ← day_in (second_part parts)
@@ -104,7 +105,7 @@ view_on Report unit parts = do
   day ← day_in (third_part parts)
   Ok (ReportRequest unit half day)
 
--- the request that the parts of a view make, or the first of them that names nothing
+-- the request of a view, from its parts, or the first part that names nothing
 unfoldable pub view_of : Page → List ℕ → Result Request What
 view_of page parts = do
   unit ← unit_in (part parts)
@@ -119,30 +120,32 @@ asked_view (Err what) = Not (NoSuch what)
 abbrev pub is_get : List ℕ → Bool
 is_get method = pointwise nat_eq method (codes "GET")
 
--- what is asked where batches are taken in
+-- the request that the path for batches makes
 abbrev pub asked_sync : Option Batch → Asked
 asked_sync None = Not BadBatch
 asked_sync (Some batch) = Asks (SyncRequest batch)
 
+-- the request of a body sent to the path for batches; it must be posted
 abbrev pub SyncAsks : Bool → List ℕ → Asked → Type 0
 SyncAsks false body asked = asked ≡ Not (NoMethod true)
 SyncAsks true body asked = (batch : Option Batch) × Says body batch × (asked ≡ asked_sync batch)
 
+-- the request for a view; its method must be GET
 abbrev pub ViewAsks : Bool → Page → List ℕ → Asked → Type 0
 ViewAsks false page path asked = asked ≡ Not (NoMethod false)
 ViewAsks true page path asked = asked ≡ asked_view (view_of page (parts_of path))
 
--- what is asked of what a path names, by this method and with this body
+-- the request for what a path names, with this method and this body
 abbrev pub ResourceAsks : Option Resource → List ℕ → List ℕ → List ℕ → Asked → Type 0
 ResourceAsks None method path body asked = asked ≡ Not NoPath
 ResourceAsks (Some Sync) method path body asked = SyncAsks (is_post method) body asked
 ResourceAsks (Some (View page)) method path body asked = ViewAsks (is_get method) page path asked
 
--- what is asked by this method of this target, with this body
+-- the request with this method, this target and this body
 abbrev pub RequestAsks : List ℕ → List ℕ → List ℕ → Asked → Type 0
 RequestAsks method target body asked = ResourceAsks (resource_of (path_of target)) method (path_of target) body asked
 
--- the bytes are one request, and this is what it asks
+-- the bytes are one request, and it asks for this
 pub record Means (item : List ℕ) (asked : Asked) : Type 0 where
   pub head : ℕ
   pub body : ℕ
@@ -152,21 +155,21 @@ pub record Means (item : List ℕ) (asked : Asked) : Type 0 where
   pub whole : length item ≡ head + body
   pub asks : RequestAsks h.method h.target (drop head item) asked
 
--- a request was cut, with a head of so many bytes
+-- a request with a head of this length was cut
 abbrev pub WasCut : List ℕ → ℕ → Type 0
 WasCut bytes head = (body : ℕ) × (closing : Bool) × IsCut bytes (Whole head body closing)
 
--- what the request asks that was cut
+-- the request that was cut asks for this
 abbrev pub IsAsked : List ℕ → ℕ → Asked → Type 0
 IsAsked bytes head asked =
     (body : ℕ) (closing : Bool) → IsCut bytes (Whole head body closing) → Means (take (head + body) bytes) asked
 
 -- ---- laws
 
--- a request asks one thing
+-- a request asks for only one thing
 abbrev pub OneMeaning : Type 0
 OneMeaning = (item : List ℕ) (asked other : Asked) → Means item asked → Means item other → asked ≡ other
 
--- each request asks something, and nothing else does
+-- each request asks for something, and nothing else does
 abbrev pub ItemsMean : Type 0
 ItemsMean = (item : List ℕ) → IsItem item ↔ ((asked : Asked) × Means item asked)

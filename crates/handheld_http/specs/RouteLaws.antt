@@ -1,4 +1,4 @@
--- The parts of a path of a view are what its route's parameters take of it.
+-- The parts of a view's path are the values of its route's parameters.
 use Rattle.std.specs.Prelude.{◌≡◌, ℕ, List, [], ◌∷◌, codes, Some}
 use Rattle.matchit.specs.Router.{RouteOf}
 use Rattle.matchit.specs.Seek.{first}
@@ -10,7 +10,7 @@ use Rattle.handheld_http.specs.declared.routes.Resource.TheVariants.{View}
 use Rattle.handheld_http.specs.Requests.{part, second_part, third_part, parts_of}
 use Rattle.handheld_http.specs.Routes.{office_routes}
 
--- the parts of a view, each with the name that its route gives it
+-- the parts of a view, each with its name in the route
 abbrev pub named_parts : Page → List ℕ → List (List ℕ × List ℕ)
 named_parts Due parts = (codes "unit", part parts) ∷ (codes "day", second_part parts) ∷ []
 named_parts Tags parts = (codes "unit", part parts) ∷ (codes "day", second_part parts) ∷ []
@@ -19,11 +19,11 @@ named_parts Route parts = (codes "unit", part parts) ∷ (codes "day", second_pa
 named_parts Percent parts = (codes "unit", part parts) ∷ (codes "quarter", second_part parts) ∷ (codes "day", third_part parts) ∷ []
 named_parts Report parts = (codes "unit", part parts) ∷ (codes "half", second_part parts) ∷ (codes "day", third_part parts) ∷ []
 
--- the parameters of a route take the parts of the path
+-- the parameters of a route have the parts of the path as values
 abbrev pub HasParts : List ℕ → RouteOf Resource → Type 0
 HasParts path route =
     (page : Page) → route.value ≡ View page → walk route.pattern route.text path route.names 0 0 ≡ named_parts page (parts_of path)
 
--- .. of each that is found
+-- this holds for each route that is found
 abbrev pub PartsAreParameters : Type 0
 PartsAreParameters = (path : List ℕ) (route : RouteOf Resource) → first office_routes path ≡ Some route → HasParts path route

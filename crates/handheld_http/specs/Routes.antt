@@ -1,4 +1,4 @@
--- What a path names: the routes of the office, as `matchit` finds them.
+-- What a path names: the office's routes, found as `matchit` finds them.
 use Rattle.std.specs.Prelude.{ℕ, List, [], codes, Option, option_map, Result, Ok, Err}
 use Rattle.matchit.specs.Route.{Scan, parse_route}
 use Rattle.matchit.specs.Rows.{RowsOf}
@@ -13,7 +13,7 @@ use Rattle.handheld_http.specs.declared.routes.Resource.TheVariants.{Sync, View}
 abbrev pub Routes : Type 0
 Routes = RowsOf (RouteOf Resource)
 
--- the routes with one more, where its text is one
+-- the routes with one more, if its text is a route
 abbrev pub with_read : Result Scan InsertError → Resource → Routes → Routes
 with_read (Ok read) resource routes = placed (read.pattern, route_from read resource) routes
 with_read (Err e) resource routes = routes
@@ -21,7 +21,7 @@ with_read (Err e) resource routes = routes
 unfoldable pub with_route : List ℕ → Resource → Routes → Routes
 with_route text resource routes = with_read (parse_route text) resource routes
 
--- the intake of batches, and the six views
+-- the path for batches, and the six views
 abbrev pub office_routes : Routes
 office_routes =
     with_route (codes "/report/{unit}/{half}/{day}") (View Report)

@@ -11,7 +11,7 @@ use fact_kinds::{Batch, Fact, Memory};
 use serde_json::Value;
 use std::alloc::Global;
 
-/// The kind of a fact, by its place in the table.
+/// The kind of a fact, as its place in the table.
 fn kind_place(value: Option<&Value>) -> Option<usize>
     ensures value { result ≡ members.word kind_words (option_map (λ v. view v.now) value.entry) }
     ensures in_range { IfSome result (λ n. n < 15) }
@@ -38,7 +38,7 @@ fn kind_place(value: Option<&Value>) -> Option<usize>
     )
 }
 
-/// The fact that an object says.
+/// The fact in an object.
 #[tactic(auto, unfolding(crate::specs::BatchJson::fact_of))]
 fn fact_of(object: &Value) -> Option<Fact>
     ensures { result ≡ spec.fact_of (view object.now) }
@@ -50,7 +50,7 @@ fn fact_of(object: &Value) -> Option<Fact>
     Some(Fact { day, minute, body })
 }
 
-/// The facts of an array, if each says one.
+/// The facts in an array, if each one is a fact.
 fn facts_of(alloc: Global, items: &Vec<Value>) -> Result<Option<Vec<Fact>>, Memory>
     ensures { IfOk result (λ facts. option_map (λ v. v.items) facts ≡ spec.facts_of (items_view items.now.items)) }
 {
@@ -72,7 +72,7 @@ fn batch(handheld: u16, number: u32, facts: Vec<Fact>) -> Option<Batch>
     Batch::new(handheld, number, facts)
 }
 
-/// The batch that an object says.
+/// The batch in an object.
 #[tactic(auto, unfolding(crate::specs::BatchJson::batch_of))]
 fn batch_of(alloc: Global, object: &Value) -> Result<Option<Batch>, Memory>
     ensures { IfOk result (λ batch. batch ≡ spec.batch_of (view object.now)) }
@@ -95,7 +95,7 @@ fn batch_of(alloc: Global, object: &Value) -> Result<Option<Batch>, Memory>
     Ok(batch(handheld as u16, count as u32, facts))
 }
 
-/// The batch that the body of a request is, if it is one: a JSON object with `handheld`, `number` and `facts`.
+/// The batch in the body of a request, if there is one: a JSON object with `handheld`, `number` and `facts`.
 pub(crate) fn batch_in(alloc: Global, body: &[u8]) -> Result<Option<Batch>, Memory>
     ensures value { IfOk result (Says body.now) }
 {

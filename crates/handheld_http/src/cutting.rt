@@ -6,10 +6,10 @@ use crate::heads::{LONGEST_HEAD, judge};
 use crate::outcome::{Cut, Extent, Front};
 use memchr::memmem;
 
-/// The end of a line, and an empty line after it.
+/// The end of a line, followed by an empty line.
 pub const EMPTY_LINE: &[u8] = &[13, 10, 13, 10];
 
-/// The bytes among which a head ends.
+/// The bytes within which a head must end.
 fn front(bytes: &[u8]) -> &[u8]
     ensures { result.now ≡ take 8192 bytes.now }
 {
@@ -19,7 +19,7 @@ fn front(bytes: &[u8]) -> &[u8]
     &bytes[..LONGEST_HEAD]
 }
 
-/// Where the head at the front ends, if it ends.
+/// The end of the head at the front, if it ends.
 fn end_of_head(bytes: &[u8]) -> Option<usize>
     ensures found { IfSome result (EndsHead bytes.now) }
     ensures none { IfNone result (HasNoEnd bytes.now) }
@@ -30,7 +30,7 @@ fn end_of_head(bytes: &[u8]) -> Option<usize>
     Some(at + EMPTY_LINE.len())
 }
 
-/// What is known of the request at the front by its head alone.
+/// What the head at the front says about the request.
 pub fn head_of(bytes: &[u8]) -> Front
     ensures value { IsFront bytes.now result }
 {
@@ -43,7 +43,7 @@ pub fn head_of(bytes: &[u8]) -> Front
     }
 }
 
-/// What is known where no head ends.
+/// What is known if no head ends.
 fn unended(bytes: &[u8]) -> Front
     requires { HasNoEnd bytes.now }
     ensures { IsFront bytes.now result }
@@ -54,7 +54,7 @@ fn unended(bytes: &[u8]) -> Front
     Front::Refused { status: 431 }
 }
 
-/// Whether the body is there, of a request whose head is at the front.
+/// Whether the body of the request at the front is complete.
 pub fn has_body(bytes: &[u8], extent: Extent) -> bool
     requires begins { IsExtent bytes.now extent }
     ensures value { IsTrue result ↔ (extent.head + extent.body ≤ length bytes.now) }
@@ -62,7 +62,7 @@ pub fn has_body(bytes: &[u8], extent: Extent) -> bool
     extent.body <= bytes.len() - extent.head
 }
 
-/// What stands at the front of the bytes that came: a request, the beginning of one, or what is refused.
+/// Decides what is at the front of the received bytes: a request, the beginning of one, or bytes to refuse.
 pub fn cut(bytes: &[u8]) -> Cut
     ensures value { IsCut bytes.now result }
 {

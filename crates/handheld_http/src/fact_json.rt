@@ -9,7 +9,7 @@ use crate::members::{day, day_or_none, flag, has_only, name, number, number_or_n
 use fact_kinds::{FactBody, LONGEST_SHUTDOWN};
 use serde_json::Value;
 
-/// What a fact of the kind at this place in the table says.
+/// A fact of the kind at this place in the table, from its object.
 #[tactic(auto, unfolding(crate::specs::FactJson::body))]
 pub(crate) fn body(kind: usize, object: &Value) -> Option<FactBody>
     requires { kind < 15 }

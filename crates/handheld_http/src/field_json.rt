@@ -9,7 +9,7 @@ use crate::members::{number, word};
 use fact_kinds::{Class, Designation, Kind, Purpose, Service, Sort, VisualState};
 use serde_json::Value;
 
-/// What a component is.
+/// The type of a component.
 pub(crate) fn type_of(value: Option<&Value>) -> Option<Kind>
     ensures { result ≡ option_map spec.type_at (members.word spec.type_words (option_map (λ v. view v.now) value.entry)) }
 {
@@ -53,7 +53,7 @@ fn designation_at(place: usize) -> Designation
     }
 }
 
-/// Why a reading was taken.
+/// The purpose of a reading.
 pub(crate) fn purpose(value: Option<&Value>) -> Option<Purpose>
     ensures { result ≡ option_map spec.purpose_at (members.word spec.purpose_words (option_map (λ v. view v.now) value.entry)) }
 {
@@ -65,7 +65,7 @@ pub(crate) fn purpose(value: Option<&Value>) -> Option<Purpose>
     })
 }
 
-/// What a visual inspection found.
+/// The result of a visual inspection.
 pub(crate) fn state(value: Option<&Value>) -> Option<VisualState>
     ensures { result ≡ option_map spec.state_at (members.word spec.state_words (option_map (λ v. view v.now) value.entry)) }
 {
@@ -83,7 +83,7 @@ fn state_at(place: usize) -> VisualState
     }
 }
 
-/// What an indication speaks of.
+/// The kind of an indication.
 pub(crate) fn sort(value: Option<&Value>) -> Option<Sort>
     ensures { result ≡ option_map spec.sort_at (members.word spec.sort_words (option_map (λ v. view v.now) value.entry)) }
 {
@@ -95,7 +95,7 @@ pub(crate) fn sort(value: Option<&Value>) -> Option<Sort>
     })
 }
 
-/// The months of a plan, as the designation allows.
+/// The months of a plan, which depend on the designation.
 fn plan(designation: Designation, value: Option<&Value>) -> Option<u64>
     ensures value { result ≡ spec.plan designation (option_map (λ v. view v.now) value.entry) }
     ensures among { IfSome result (λ n. IsAmong n (plans designation)) }
@@ -109,7 +109,7 @@ fn plan(designation: Designation, value: Option<&Value>) -> Option<u64>
     }
 }
 
-/// What flows through a component.
+/// The service of a component.
 fn service(value: Option<&Value>) -> Option<Service>
     ensures value { result ≡ option_map spec.service_at (members.word spec.service_words (option_map (λ v. view v.now) value.entry)) }
     ensures in_range { IfSome result (λ s. (1 ≤ service_number s) × (service_number s ≤ 5)) }
@@ -118,14 +118,14 @@ fn service(value: Option<&Value>) -> Option<Service>
     Some(service_at(place))
 }
 
-/// The place of the word for what flows through a component.
+/// The place of the word for a component's service.
 fn service_place(value: Option<&Value>) -> Option<usize>
     ensures { result ≡ members.word spec.service_words (option_map (λ v. view v.now) value.entry) }
 {
     word(value, &["gas", "light", "heavy", "vacuum", "under300"])
 }
 
-/// How a component is designated.
+/// The designation of a component.
 fn designation(value: Option<&Value>) -> Option<Designation>
     ensures value { result ≡ option_map spec.designation_at (members.word spec.designation_words (option_map (λ v. view v.now) value.entry)) }
     ensures in_range { IfSome result (λ d. (0 ≤ designation_number d) × (designation_number d ≤ 3)) }
@@ -134,7 +134,7 @@ fn designation(value: Option<&Value>) -> Option<Designation>
     Some(designation_at(place))
 }
 
-/// The class of a component, by four members of its fact.
+/// The class of a component, from four members of its fact.
 #[tactic(auto, unfolding(crate::specs::FactJson::class))]
 pub(crate) fn class(object: &Value) -> Option<Class>
     ensures value { result ≡ spec.class (view object.now) }
@@ -175,7 +175,7 @@ pub(crate) fn readings(value: Option<&Value>) -> Option<(u32, u32, u32)>
     three(value?)
 }
 
-/// A programme of skip periods: none, 1 or 3.
+/// A skip period program: none, 1 or 3.
 #[tactic(auto, unfolding(crate::specs::FactJson::mode))]
 pub(crate) fn mode(value: Option<&Value>) -> Option<u8>
     ensures value { result ≡ spec.mode (option_map (λ v. view v.now) value.entry) }

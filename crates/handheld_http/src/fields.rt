@@ -12,7 +12,7 @@ const CONTENT_LENGTH: &[u8] = b"Content-Length";
 
 const TRANSFER_ENCODING: &[u8] = b"Transfer-Encoding";
 
-/// Whether the texts are the same but for the case of ASCII letters.
+/// Whether the texts are equal except for the case of ASCII letters.
 fn is_same_but_case(text: &[u8], other: &[u8]) -> bool
     ensures { result ≡ heads.same_but_case text.now other.now }
 {
@@ -27,7 +27,7 @@ fn is_named(head: &[u8], field: &HeaderSpan, name: &[u8]) -> bool
     is_same_but_case(field.name.of(head), name)
 }
 
-/// How many fields of the head have the name.
+/// The number of fields of the head with the name.
 fn count_named(head: &[u8], fields: &[HeaderSpan], name: &[u8]) -> usize
     requires { All (IsHeaderWithin (length head.now)) fields.now }
     ensures { result ≡ heads.count_named name.now (map (header_bytes head.now) fields.now) }
@@ -35,7 +35,7 @@ fn count_named(head: &[u8], fields: &[HeaderSpan], name: &[u8]) -> usize
     count_here(head, fields, name)
 }
 
-/// The same, over the places of the fields.
+/// The number of fields of the head with the name, by a loop over their places.
 fn count_here(head: &[u8], fields: &[HeaderSpan], name: &[u8]) -> usize
     requires { All (IsHeaderWithin (length head.now)) fields.now }
     ensures { result ≡ count_by (λ field. heads.is_named name.now (header_bytes head.now field)) fields.now }
@@ -46,7 +46,7 @@ fn count_here(head: &[u8], fields: &[HeaderSpan], name: &[u8]) -> usize
         .count()
 }
 
-/// The value of the first field of the head that has the name.
+/// The value of the first field of the head with the name.
 fn value_of<'h>(head: &'h [u8], fields: &[HeaderSpan], name: &[u8]) -> Option<&'h [u8]>
     requires { All (IsHeaderWithin (length head.now)) fields.now }
     ensures { option_map (λ v. v.now) result ≡ heads.value_of name.now (map (header_bytes head.now) fields.now) }
@@ -73,7 +73,7 @@ fn are_digits(value: &[u8]) -> bool
     value.iter().all(|b| b.is_ascii_digit())
 }
 
-/// The number that digits write, or the least that is too long for a body, where it is longer.
+/// The number that digits spell; if it is greater than the maximum length of a body, the maximum plus one.
 pub(crate) fn number_of(digits: &[u8]) -> usize
     requires { IsTrue (list_all is_ascii_digit digits.now) }
     ensures { result ≡ min 262_145 (digits_value 10 digits.now) }
@@ -85,7 +85,7 @@ pub(crate) fn number_of(digits: &[u8]) -> usize
     number
 }
 
-/// Whether the field asks that the connection be closed.
+/// Whether the field asks to close the connection.
 fn asks_to_close(head: &[u8], field: &HeaderSpan) -> bool
     requires { IsHeaderWithin (length head.now) field.now }
     ensures { result ≡ heads.asks_to_close (header_bytes head.now field.now) }
@@ -93,7 +93,7 @@ fn asks_to_close(head: &[u8], field: &HeaderSpan) -> bool
     is_named(head, field, b"Connection") && is_same_but_case(field.value.of(head), b"close")
 }
 
-/// Whether some field asks that the connection be closed.
+/// Whether some field asks to close the connection.
 fn any_closes(head: &[u8], fields: &[HeaderSpan]) -> bool
     requires { All (IsHeaderWithin (length head.now)) fields.now }
     ensures { result ≡ list_any heads.asks_to_close (map (header_bytes head.now) fields.now) }
@@ -101,7 +101,7 @@ fn any_closes(head: &[u8], fields: &[HeaderSpan]) -> bool
     any_closes_here(head, fields)
 }
 
-/// The same, over the places of the fields.
+/// Whether some field asks to close the connection, by a loop over their places.
 fn any_closes_here(head: &[u8], fields: &[HeaderSpan]) -> bool
     requires { All (IsHeaderWithin (length head.now)) fields.now }
     ensures { result ≡ list_any (λ field. heads.asks_to_close (header_bytes head.now field)) fields.now }
@@ -109,7 +109,7 @@ fn any_closes_here(head: &[u8], fields: &[HeaderSpan]) -> bool
     fields.iter().any(|field| asks_to_close(head, field))
 }
 
-/// Whether the connection is closed behind a request of that minor version with these fields.
+/// Whether the connection is closed after a request of that minor version with these fields.
 pub(crate) fn closes(minor: u8, head: &[u8], fields: &[HeaderSpan]) -> bool
     requires { All (IsHeaderWithin (length head.now)) fields.now }
     ensures { result ≡ heads.closes minor (map (header_bytes head.now) fields.now) }
@@ -120,7 +120,7 @@ pub(crate) fn closes(minor: u8, head: &[u8], fields: &[HeaderSpan]) -> bool
     any_closes(head, fields)
 }
 
-/// The length of a body that a field states, or the status that refuses it.
+/// The length of a body that a field states, or the status with which the request is refused.
 fn stated_length(value: &[u8]) -> Result<usize, u16>
     ensures { result ≡ heads.stated_length value.now }
 {
@@ -141,7 +141,7 @@ pub(crate) fn is_post(method: &[u8]) -> bool
     method == b"POST".as_slice()
 }
 
-/// The length of a body that no field states, or the status that refuses it.
+/// The length of a body if no field states one, or the status with which the request is refused.
 fn unstated_length(method: &[u8]) -> Result<usize, u16>
     ensures { result ≡ heads.unstated_length method.now }
 {
@@ -151,7 +151,8 @@ fn unstated_length(method: &[u8]) -> Result<usize, u16>
     Ok(0)
 }
 
-/// How many bytes of body follow a head with this method and these fields, or the status that refuses the request.
+/// The length of the body after a head with this method and these fields, or the status with which the request is
+/// refused.
 pub(crate) fn body_length(method: &[u8], head: &[u8], fields: &[HeaderSpan]) -> Result<usize, u16>
     requires { All (IsHeaderWithin (length head.now)) fields.now }
     ensures { result ≡ heads.body_length method.now (map (header_bytes head.now) fields.now) }

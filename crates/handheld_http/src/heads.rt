@@ -7,16 +7,16 @@ use crate::outcome::Extent;
 use httparse::Status;
 use httparse::spans::{EMPTY_HEADER_SPAN, HeaderSpan, RequestSpans, parse_request};
 
-/// How many bytes a head has at most.
+/// The maximum length of a head, in bytes.
 pub const LONGEST_HEAD: usize = 8_192;
 
-/// How many bytes a body has at most.
+/// The maximum length of a body, in bytes.
 pub const LONGEST_BODY: usize = 262_144;
 
-/// How many fields a head has at most.
+/// The maximum number of fields in a head.
 pub(crate) const MOST_FIELDS: usize = 64;
 
-/// Where the parts of a head are, if the bytes are one whole head of at most 64 fields.
+/// The offsets of a head's parts, if the bytes are one whole head of at most 64 fields.
 pub(crate) fn whole_head(bytes: &[u8], spans: &mut [HeaderSpan]) -> Option<RequestSpans>
     requires { length spans.old ≡ 64 }
     ensures found { MatchOption result (IsNoHeadAtAll bytes.now) (λ parts. HasHead bytes.now spans.new parts) }
@@ -28,7 +28,7 @@ pub(crate) fn whole_head(bytes: &[u8], spans: &mut [HeaderSpan]) -> Option<Reque
     }
 }
 
-/// What the bytes of a head say, or the status that refuses them.
+/// The extent of a head, or the status with which it is refused.
 pub(crate) fn judge(head: &[u8]) -> Result<Extent, u16>
     ensures { Judges head.now result }
 {

@@ -1,16 +1,16 @@
-//! Laws of the requests of a connection. Each function has an empty body, and its clause says the law.
+//! Laws about the requests of a connection: empty functions whose contracts are the laws.
 
 ghost use Rattle.handheld_http.specs.Items.{OneCut, NoProperFront, ItemsAreInRange, HeadStays, HeadTellsCut};
 ghost use Rattle.handheld_http.specs.Items.{RefusalStays, WholeIsItem, MoreIsNone, RefusedIsNone, ItemIsCut};
 ghost use Rattle.handheld_http.specs.Requests.{ItemsMean, OneMeaning};
 ghost use Rattle.handheld_http.specs.RouteLaws.{PartsAreParameters};
 
-/// Some bytes are cut in one way.
+/// Bytes are cut in only one way.
 pub fn one_cut()
     ensures law { OneCut }
 {}
 
-/// No request is a proper front of another.
+/// No request is a proper prefix of another.
 pub fn no_proper_front()
     ensures law { NoProperFront }
 {}
@@ -20,52 +20,53 @@ pub fn items_are_in_range()
     ensures law { ItemsAreInRange }
 {}
 
-/// What a head says stays as more bytes come, so it is read once.
+/// The extent of a head does not change as more bytes arrive, so it is read once.
 pub fn head_stays()
     ensures law { HeadStays }
 {}
 
-/// A head tells how all that came is cut, so that a body that comes in pieces is awaited by its length alone.
+/// The head's extent decides how all received bytes are cut. So a body that arrives in pieces is awaited only by its
+/// length.
 pub fn head_tells_cut()
     ensures law { HeadTellsCut }
 {}
 
-/// What is refused stays refused.
+/// Refused bytes are still refused when more arrive.
 pub fn refusal_stays()
     ensures law { RefusalStays }
 {}
 
-/// A whole request that was cut is a request, closing or not as the cut says.
+/// A whole request that was cut is a request, and closes the connection if the cut says so.
 pub fn whole_is_item()
     ensures law { WholeIsItem }
 {}
 
-/// Where more is awaited, no front is a request, and nothing is refused.
+/// If more bytes are awaited, no prefix is a request, and nothing is refused.
 pub fn more_is_none()
     ensures law { MoreIsNone }
 {}
 
-/// Where the bytes are refused, no front is a request, whatever follows.
+/// If bytes are refused, no prefix is a request, whatever follows.
 pub fn refused_is_none()
     ensures law { RefusedIsNone }
 {}
 
-/// A request is cut from what begins with it.
+/// A request is cut from bytes that begin with it.
 pub fn item_is_cut()
     ensures law { ItemIsCut }
 {}
 
-/// A request asks one thing.
+/// A request asks for only one thing.
 pub fn one_meaning()
     ensures law { OneMeaning }
 {}
 
-/// Each request asks something, and nothing else does.
+/// Each request asks for something, and nothing else does.
 pub fn items_mean()
     ensures law { ItemsMean }
 {}
 
-/// The parts of a path of a view are what the parameters of its route take.
+/// The parts of a view's path are the values of its route's parameters.
 pub fn parts_are_parameters()
     ensures law { PartsAreParameters }
 {}

@@ -1,4 +1,6 @@
-//! HTTP requests with batches as JSON: where a request ends, what it asks, and the bytes of each answer.
+//! HTTP requests with batches as JSON: where a request ends, what it asks for, and the bytes of each response.
+//!
+//! Tests: `text_tests::handheld`.
 #![tactic(auto)]
 
 mod answer;

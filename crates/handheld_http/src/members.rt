@@ -9,7 +9,7 @@ ghost use Rattle.handheld_http.specs.Members as spec;
 use fact_kinds::{Day, Name};
 use serde_json::{Map, Value};
 
-/// Whether the value is an object that has no other keys than these.
+/// Whether the value is an object with no keys other than these.
 #[tactic(auto, unfolding(crate::specs::Members::has_only))]
 pub(crate) fn has_only(value: &Value, keys: &[&str]) -> bool
     ensures { result ≡ spec.has_only (map (λ k. k.now) keys.now) (view value.now) }
@@ -27,7 +27,7 @@ fn are_known(members: &Map<String, Value>, keys: &[&str]) -> bool
     are_among(members, keys)
 }
 
-/// The same, as the members stand.
+/// Whether each key of a list of members is among these.
 fn are_among(members: &Map<String, Value>, keys: &[&str]) -> bool
     ensures { result ≡ list_all (λ e. list_any (λ k. pointwise nat_eq k.now (string_bytes e.0)) keys.now) members.now.entries }
 {
@@ -40,7 +40,7 @@ fn is_among(keys: &[&str], key: &str) -> bool
     keys.iter().any(|k| *k == key)
 }
 
-/// A whole number that is not below the one and not above the other.
+/// A whole number from `low` to `high`.
 #[tactic(auto, unfolding(crate::specs::Members::number))]
 pub(crate) fn number(value: Option<&Value>, low: u64, high: u64) -> Option<u64>
     ensures value { result ≡ spec.number low high (option_map (λ v. view v.now) value.entry) }
@@ -54,7 +54,7 @@ pub(crate) fn number(value: Option<&Value>, low: u64, high: u64) -> Option<u64>
     }
 }
 
-/// A truth value.
+/// A Boolean.
 #[tactic(auto, unfolding(crate::specs::Members::flag))]
 pub(crate) fn flag(value: Option<&Value>) -> Option<bool>
     ensures { result ≡ spec.flag (option_map (λ v. view v.now) value.entry) }
@@ -106,7 +106,7 @@ pub(crate) fn name(value: Option<&Value>) -> Option<Name>
     Name::new(text.as_bytes())
 }
 
-/// A number of an instrument or a person: absent is none, which is 0.
+/// The number of an instrument or a person; a missing one is 0, for none.
 pub(crate) fn number_or_none(value: Option<&Value>) -> Option<u16>
     ensures value { result ≡ spec.number_or_none (option_map (λ v. view v.now) value.entry) }
 {
@@ -117,7 +117,7 @@ pub(crate) fn number_or_none(value: Option<&Value>) -> Option<u16>
     Some(number as u16)
 }
 
-/// A day that may be absent.
+/// A day that may be missing.
 pub(crate) fn day_or_none(value: Option<&Value>) -> Option<Option<Day>>
     ensures value { result ≡ spec.day_or_none (option_map (λ v. view v.now) value.entry) }
     ensures in_range { IfSome result (λ o. IfSome o IsDay) }

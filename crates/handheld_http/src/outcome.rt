@@ -1,7 +1,7 @@
 use httparse::spans::Span;
 
-/// What a head says of its request: its length and that of the body, whether it is the last request that is answered, and
-/// where in the head its method and its target are.
+/// The extent of a request, from its head: the lengths of the head and of the body, whether it is the last request that
+/// is answered, and where the method and the target are in the head.
 #[derive(Clone, Copy, Debug, PartialEq, Eq)]
 pub struct Extent {
     pub head: usize,
@@ -11,31 +11,31 @@ pub struct Extent {
     pub target: Span,
 }
 
-/// What stands at the front of the bytes that came.
+/// What is at the front of the received bytes.
 #[derive(Clone, Copy, Debug, PartialEq, Eq)]
 pub enum Cut {
-    /// A request: a head of so many bytes, and so many bytes of body behind it. A closing request is the last that is
+    /// A request: a head of this length, followed by a body of this length. A closing request is the last one that is
     /// answered.
     Whole {
         head: usize,
         body: usize,
         closing: bool,
     },
-    /// A request may stand here once more bytes have come.
+    /// Possibly the beginning of a request; more bytes are needed.
     More,
-    /// No request stands here, whatever follows.
+    /// No request, whatever follows.
     Refused {
         status: u16,
     },
 }
 
-/// What is known of a request by its head alone.
+/// What the head of a request says about it.
 #[derive(Clone, Copy, Debug, PartialEq, Eq)]
 pub enum Front {
-    /// The head is whole, and says this.
+    /// The head is complete and has this extent.
     Head(Extent),
     /// The head has not ended yet.
     Unended,
-    /// No request stands here, whatever follows.
+    /// No request, whatever follows.
     Refused { status: u16 },
 }

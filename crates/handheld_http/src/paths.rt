@@ -7,7 +7,7 @@ use crate::routes::Page;
 use ldar_days::Day;
 use ldar_law::{Request, What};
 
-/// A text up to the first such mark, and what follows the mark.
+/// The text before the first such mark, and the text after it.
 fn split(text: &str, mark: char) -> (&str, &str)
     requires { mark < 128 }
     ensures front { result.0.now ≡ before_first (λ b. b == mark) text.now }
@@ -16,14 +16,14 @@ fn split(text: &str, mark: char) -> (&str, &str)
     text.split_once(mark).unwrap_or((text, ""))
 }
 
-/// The path of a target: what stands up to the first question mark.
+/// The path of a target: everything before the first question mark.
 pub(crate) fn path_of(target: &str) -> &str
     ensures { result.now ≡ spec.path_of target.now }
 {
     split(target, '?').0
 }
 
-/// The next part of a path, and what follows its slash.
+/// The next part of a path, and the text after its slash.
 fn next_part(text: &str) -> (&str, &str)
     ensures part { result.0.now ≡ spec.part text.now }
     ensures rest { result.1.now ≡ spec.rest text.now }
@@ -31,21 +31,21 @@ fn next_part(text: &str) -> (&str, &str)
     split(text, '/')
 }
 
-/// What follows the name of a view in a path.
+/// The parts of a view's path, after the view's name.
 pub(crate) fn parts_of(path: &str) -> &str
     ensures { result.now ≡ spec.parts_of path.now }
 {
     next_part(next_part(path).1).1
 }
 
-/// Whether a zero stands in front of other digits.
+/// Whether a zero is before other digits.
 fn has_leading_zero(text: &[u8]) -> bool
     ensures { result ≡ spec.has_leading_zero text.now }
 {
     text.len() > 1 && text[0] == b'0'
 }
 
-/// The number that a decimal without leading zeros spells, if it is not above the greatest.
+/// The number that a decimal without leading zeros spells, if it is at most `greatest`.
 #[tactic(auto, unfolding(crate::specs::Requests::decimal_in))]
 fn decimal_in(greatest: u16, text: &str) -> Option<u16>
     ensures { result ≡ spec.decimal_in greatest text.now }
@@ -67,7 +67,7 @@ fn unit_in(text: &str) -> Result<u16, What>
     decimal_in(255, text).ok_or(What::Unit)
 }
 
-/// A number of another kind.
+/// A number, or `what` if the text is no number from 0 to 65,535.
 fn number_in(what: What, text: &str) -> Result<u16, What>
     ensures { result ≡ spec.number_in what text.now }
 {
@@ -80,7 +80,7 @@ fn day_in(text: &str) -> Result<Day, What>
     Day::read(text.as_bytes()).ok_or(What::Day)
 }
 
-/// The request that the parts of a view make, behind that for its unit.
+/// The request of a view, from its parts after the unit.
 #[tactic(auto, unfolding(crate::specs::Requests::view_on))]
 fn view_on(page: Page, unit: u16, parts: &str) -> Result<Request, What>
     ensures { result ≡ spec.view_on page unit parts.now }
@@ -118,7 +118,7 @@ fn view_on(page: Page, unit: u16, parts: &str) -> Result<Request, What>
     }
 }
 
-/// The request that the parts of a view make, or the first of them that names nothing.
+/// The request of a view, from its parts, or the first part that names nothing.
 #[tactic(auto, unfolding(crate::specs::Requests::view_of))]
 pub(crate) fn view_of(page: Page, parts: &str) -> Result<Request, What>
     ensures { result ≡ spec.view_of page parts.now }

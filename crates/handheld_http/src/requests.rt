@@ -23,7 +23,7 @@ fn is_get(method: &[u8]) -> bool
     method == b"GET".as_slice()
 }
 
-/// What a body asks that is sent to where batches are taken in.
+/// The request that a body sent to the path for batches makes.
 fn asked_sync(alloc: Global, method: &[u8], body: &[u8]) -> Result<Asked, Memory>
     ensures { IfOk result (SyncAsks (heads.is_post method.now) body.now) }
 {
@@ -36,7 +36,7 @@ fn asked_sync(alloc: Global, method: &[u8], body: &[u8]) -> Result<Asked, Memory
     })
 }
 
-/// What is asked of a view.
+/// The request for a view.
 fn asked_view(page: Page, method: &[u8], path: &str) -> Asked
     ensures { spec.ViewAsks (spec.is_get method.now) page path.now result }
 {
@@ -49,7 +49,7 @@ fn asked_view(page: Page, method: &[u8], path: &str) -> Asked
     }
 }
 
-/// What is asked by this method of this target, with this body.
+/// The request with this method, this target and this body.
 fn asked_of(alloc: Global, method: &[u8], target: &str, body: &[u8]) -> Result<Asked, Memory>
     ensures { IfOk result (RequestAsks method.now target.now body.now) }
 {
@@ -61,7 +61,7 @@ fn asked_of(alloc: Global, method: &[u8], target: &str, body: &[u8]) -> Result<A
     }
 }
 
-/// A text of bytes that are one.
+/// The text of bytes that are UTF-8.
 fn text_of(bytes: &[u8]) -> &str
     requires { IsUtf8 bytes.now }
     ensures { result.now ≡ bytes.now }
@@ -72,8 +72,8 @@ fn text_of(bytes: &[u8]) -> &str
     }
 }
 
-/// What the request at the front asks, whose head says this, and whose body is there: a batch or a view, or why it asks
-/// nothing.
+/// What the request at the front asks for, from its extent: a batch or a view, or why it is not passed to the office.
+/// Its body must be complete.
 pub fn asked_by(alloc: Global, bytes: &[u8], extent: Extent) -> Result<Asked, Memory>
     requires begins { IsExtent bytes.now extent }
     requires whole { extent.head + extent.body ≤ length bytes.now }
@@ -85,7 +85,7 @@ pub fn asked_by(alloc: Global, bytes: &[u8], extent: Extent) -> Result<Asked, Me
     asked_of(alloc, extent.method.of(head), target, body)
 }
 
-/// What the request asks that `cut` found at the front of these bytes, with a head of so many bytes.
+/// What the request that `cut` found at the front of these bytes asks for; `head` is the length of its head.
 pub fn request_of(alloc: Global, bytes: &[u8], head: usize) -> Result<Asked, Memory>
     requires was_cut { WasCut bytes.now head }
     ensures value { IfOk result (IsAsked bytes.now head) }

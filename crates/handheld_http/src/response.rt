@@ -10,7 +10,7 @@ use http::StatusCode;
 use ldar_law::{Reply, What};
 use std::alloc::Global;
 
-/// Appends the head and the body of a response, or nothing where memory is wanting.
+/// Appends the head and the body of a response, or nothing if it is out of memory.
 fn put_both(head: &str, body: &[u8], out: &mut Vec<u8>) -> Result<(), Memory>
     ensures value { OnOk result (out.new.items ≡ out.old.items ++ (head.now ++ body.now)) }
     ensures unchanged { OnErr result (out.new.items ≡ out.old.items) }
@@ -24,7 +24,7 @@ fn put_both(head: &str, body: &[u8], out: &mut Vec<u8>) -> Result<(), Memory>
     Ok(())
 }
 
-/// The field that says whether the connection is closed.
+/// The `Connection` field.
 fn connection(last: bool) -> &'static str
     ensures { result.now ≡ connection_of last }
 {
@@ -39,7 +39,7 @@ fn phrase_of(status: StatusCode) -> &'static str
     status.canonical_reason().unwrap_or("")
 }
 
-/// The status line of a response, but for its end.
+/// The status line of a response, without its end.
 fn status_line(alloc: Global, status: u16, phrase: &str) -> Result<String, Memory>
     ensures { IfOk result (λ line. string_bytes line ≡ codes "HTTP/1.1 " ++ decimal status ++ codes " " ++ phrase.now) }
 {
@@ -53,7 +53,7 @@ fn digits(alloc: Global, number: usize) -> Result<String, Memory>
     format!(in alloc; "{number}")
 }
 
-/// The status line of a response and the fields that each response has.
+/// The status line of a response and the fields of each response.
 fn common_head(alloc: Global, status: StatusCode, length: usize) -> Result<String, Memory>
     ensures { IfOk result (λ head. string_bytes head ≡ spec.common_head status length) }
 {
@@ -64,7 +64,7 @@ fn common_head(alloc: Global, status: StatusCode, length: usize) -> Result<Strin
     Ok(head)
 }
 
-/// The head of a response, for a body of so many bytes.
+/// The head of a response, for a body of this length.
 fn response_head(
     alloc: Global,
     status: StatusCode,
@@ -133,7 +133,7 @@ fn put_reply(alloc: Global, reply: &Reply, closing: bool, out: &mut Vec<u8>) -> 
     )
 }
 
-/// The field that says which method a path has.
+/// The `Allow` field of a path.
 fn allow(post: bool) -> &'static str
     ensures { result.now ≡ allow_post post }
 {
@@ -144,7 +144,7 @@ fn allow(post: bool) -> &'static str
     }
 }
 
-/// Appends the response to a request of which a part names nothing.
+/// Appends the response to a request with a part that names nothing.
 fn put_no_such(alloc: Global, what: What, closing: bool, out: &mut Vec<u8>) -> Result<(), Memory>
     ensures value { OnOk result (out.new.items ≡ out.old.items ++ answer_bytes (Answer.Not (Refusal.NoSuch what)) closing) }
     ensures unchanged { OnErr result (out.new.items ≡ out.old.items) }
@@ -161,7 +161,7 @@ fn put_no_such(alloc: Global, what: What, closing: bool, out: &mut Vec<u8>) -> R
     )
 }
 
-/// Appends the response to a request that asks the office nothing.
+/// Appends the response to a request that is not passed to the office.
 fn put_refusal(
     alloc: Global,
     refusal: Refusal,
@@ -202,7 +202,7 @@ fn put_refusal(
     }
 }
 
-/// The status with which bytes are refused, and the line that says so.
+/// The status with which bytes are refused, and the body of the response.
 fn refused_line(status: u16) -> (StatusCode, &'static [u8])
     requires { IsRefusalStatus status }
     ensures status { result.0 ≡ status }
@@ -220,7 +220,7 @@ fn refused_line(status: u16) -> (StatusCode, &'static [u8])
     }
 }
 
-/// Appends the response to bytes that are refused, behind which nothing more is read.
+/// Appends the response to refused bytes, after which nothing more is read.
 fn put_status(alloc: Global, status: u16, out: &mut Vec<u8>) -> Result<(), Memory>
     requires { IsRefusalStatus status }
     ensures value { OnOk result (out.new.items ≡ out.old.items ++ response status [] true (spec.status_line status)) }
@@ -231,7 +231,7 @@ fn put_status(alloc: Global, status: u16, out: &mut Vec<u8>) -> Result<(), Memor
 }
 
 /// Appends the bytes of one answer: its status line, its fields and its body. A denial is by a rule from 1 to 21; a status is
-/// one with which `cut` refuses. `closing` says that the request closes the connection.
+/// one with which `cut` refuses. `closing` is whether the request closes the connection.
 pub fn reply_bytes(
     alloc: Global,
     answer: &Answer,

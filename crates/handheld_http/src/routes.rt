@@ -16,7 +16,7 @@ pub(crate) enum Page {
     Report,
 }
 
-/// What a path names: the intake of batches, or a view.
+/// What a path names: the path for batches, or a view.
 #[derive(Clone, Copy)]
 pub(crate) enum Resource {
     Sync,
@@ -69,7 +69,7 @@ fn office_routes(alloc: Global) -> Result<Router<Resource>, Memory>
     Ok(routes)
 }
 
-/// What a path names, if it has a route. Most requests send a batch, and for those no routes are made.
+/// What a path names, if it has a route. Most requests send a batch; for those no routes are built.
 pub(crate) fn resource_of(alloc: Global, path: &str) -> Result<Option<Resource>, Memory>
     ensures { IfOk result (λ resource. resource ≡ spec.resource_of path.now) }
 {
@@ -79,7 +79,7 @@ pub(crate) fn resource_of(alloc: Global, path: &str) -> Result<Option<Resource>,
     routed(alloc, path)
 }
 
-/// What a path names by the routes of the office, if it has one.
+/// What a path names by the office's routes, if it has one.
 fn routed(alloc: Global, path: &str) -> Result<Option<Resource>, Memory>
     ensures { IfOk result (λ resource. resource ≡ spec.resource_of path.now) }
 {

@@ -19,7 +19,7 @@ use Rattle.history_laws.proofs.Passing.{is_something, something, let_pass, Came,
 use Rattle.history_laws.proofs.Origins.{origin}
 use Rattle.history_laws.proofs.OnceLemmas.{entered_there, unit_there}
 
--- ---- what facts ask for
+-- ---- what facts need
 
 -- rule 17
 abbrev unknown_unit_rule : Rule
@@ -29,7 +29,7 @@ unknown_unit_rule = numbered 17 (codes "P2") denials.unit_unknown
 abbrev unknown_component_rule : Rule
 unknown_component_rule = numbered 1 (codes "60.486a(e)(1)") denials.component_unknown
 
--- what the rule on units asks for is known
+-- the unit that rule 17 needs was entered
 known_unit : (asked : Option ℕ) (known : Register) (number : ℕ) → asked ≡ Some number
     → (elim asked [ None ↦ false | Some unit ↦ is_none (unit_entry_of unit known.entered) ]) ≡ false → is_some (unit_entry_of number known.entered) ≡ true
 known_unit None known number e h = absurd cc
@@ -37,7 +37,7 @@ known_unit (Some unit) known number e h =
     let same : unit ≡ number = cc in
     subst (λ n. is_some (unit_entry_of n known.entered) ≡ true) same (is_something (unit_entry_of unit known.entered) h)
 
--- .. and what that on components asks for
+-- the component that rule 1 needs was entered
 known_component : (asked : Option ℕ) (known : Register) (number : ℕ) → asked ≡ Some number
     → (elim asked [ None ↦ false | Some c ↦ is_none (first_entry c known.entered) ]) ≡ false → is_some (first_entry number known.entered) ≡ true
 known_component None known number e h = absurd cc
@@ -46,7 +46,7 @@ known_component (Some c) known number e h =
     subst (λ n. is_some (first_entry n known.entered) ≡ true) same (is_something (first_entry c known.entered) h)
 
 module _ (history : List Batch) (entry : Entry) (c : Came history entry) (number : ℕ) where
-  -- the process unit that a fact of a ruly history asks for was entered before it
+  -- the process unit that a fact of a ruly history needs was entered before it
   unit_entered_before : unit_asked entry.1.body ≡ Some number → list_any (λ e. enters_unit number e.1.body) (facts_of c.earlier ++ c.before) ≡ true
   unfolding register_with
   unit_entered_before asked =
@@ -54,7 +54,7 @@ module _ (history : List Batch) (entry : Entry) (c : Came history entry) (number
       ∙ known_unit (unit_asked entry.1.body) (register_with (facts_of c.earlier) c.before) number asked
       (let_pass c.earlier c.batch c.passes c.before entry c.after c.stands unknown_unit_rule (16, omega arith, refl))
 
-  -- .. and so the component
+  -- the component that a fact of a ruly history needs was entered before it
   component_entered_before : component_asked entry.1.body ≡ Some number
       → list_any (λ e. enters_component number e.1.body) (facts_of c.earlier ++ c.before) ≡ true
   unfolding register_with
@@ -63,7 +63,7 @@ module _ (history : List Batch) (entry : Entry) (c : Came history entry) (number
       ∙ known_component (component_asked entry.1.body) (register_with (facts_of c.earlier) c.before) number asked
       (let_pass c.earlier c.batch c.passes c.before entry c.after c.stands unknown_component_rule (0, omega arith, refl))
 
-  -- what passes before a fact, passes in the end
+  -- what some earlier fact passes, some fact of the history passes
   entered_at_last : (p : Entry → Bool) → list_any p (facts_of c.earlier ++ c.before) ≡ true → list_any p (facts_of history) ≡ true
   entered_at_last p some =
       let found = any_among p (facts_of c.earlier ++ c.before) some in

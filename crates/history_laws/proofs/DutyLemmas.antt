@@ -18,23 +18,23 @@ use Rattle.history_laws.proofs.EventsUpTo.{early}
 use Rattle.history_laws.proofs.RegisterUpTo.{standing_forgets_later_days}
 use Rattle.history_laws.proofs.KnownLemmas.{all_of_each, given_alike}
 
--- what agrees on each element where it stands gives the same
+-- functions that agree on each element in its place give the same list
 each_alike : {X Y : Type 0} (f g : List X → X → List X → Option Y) (front xs : List X)
     → AllByRecursion (λ x. (before after : List X) → f before x after ≡ g before x after) xs → each_from f front xs ≡ each_from g front xs
 each_alike f g front [] all = refl
 each_alike f g front (x ∷ xs) all = rw (all.0 front xs, each_alike f g (front ++ x ∷ []) xs all.1) refl
 
--- the lesser of two days
+-- the minimum of two days is at most the second
 least_within : (a t : ℕ) → min a t ≤ t
 least_within a t = omega arith
 
 module _ (t : ℕ) (item : Equipment) (classes : List (Key × Class)) (startup : ℕ) (events : List Event) where
-  -- how the component stands on a day
+  -- the component has the same class and service on a day
   stands : (day : ℕ) → day ≤ t → StandsAlike t day item classes
   stands day within = standing_forgets_later_days t day item classes within
 
   module _ (begun : item.begin ≤ t) where
-    -- a first monitoring is owed alike
+    -- a first monitoring is owed by both or by neither
     first_owed_alike : (day : ℕ) → day ≤ t → is_first_owed (item_on t item) (early t classes) startup day ≡ is_first_owed item classes startup day
     first_owed_alike day within =
         let s = stands day within in
@@ -95,11 +95,11 @@ module _ (t : ℕ) (item : Equipment) (classes : List (Key × Class)) (startup :
       unfolding evidence
       evidence_alike e within before after = let s = stands e.key.day within in rw (s.class, s.service) refl
 
-      -- the duties of periods
+      -- the duties of periods are the same
       periods_alike : (f g : ℕ → Option Duty) → ((n : ℕ) → f n ≡ g n) → (ns : List ℕ) → filter_map f ns ≡ filter_map g ns
       periods_alike f g same ns = given_alike f g ns (all_of_each (λ n. f n ≡ g n) same ns)
 
-      -- the duties after events
+      -- the duties after events are the same
       after_alike : (f g : List Event → Event → List Event → Option Duty)
           → ((e : Event) → e.key.day ≤ t → (before after : List Event) → f before e after ≡ g before e after)
           → AllByRecursion (λ e. e.key.day ≤ t) events → each_where f events ≡ each_where g events
@@ -107,7 +107,7 @@ module _ (t : ℕ) (item : Equipment) (classes : List (Key × Class)) (startup :
           each_alike f g [] events
           (all_weaker (λ e. e.key.day ≤ t) (λ e. (before after : List Event) → f before e after ≡ g before e after) same events within)
 
-      -- all duties
+      -- all duties are the same
       pub duties_alike : AllByRecursion (λ e. e.key.day ≤ t) events
           → duties_of (item_on t item) (early t classes) startup events skipped t ≡ duties_of item classes startup events skipped t
       unfolding duties_of
@@ -126,7 +126,7 @@ module _ (t : ℕ) (item : Equipment) (classes : List (Key × Class)) (startup :
           ) refl
 
     module _ (delayed : Bool) (quarter : ℕ) where
-      -- what is added to a quarter
+      -- what is added to a quarter is the same
       pub marks_alike : mark_of (item_on t item) (early t classes) startup events delayed quarter t ≡ mark_of item classes startup events delayed quarter t
       unfolding mark_of
       marks_alike =

@@ -37,7 +37,7 @@ use Rattle.history_laws.proofs.RegisterUpTo.{classes_up_to, stop_is, day_within,
 
 -- ---- readings
 
--- two tests of which the last part is asked only where the others pass
+-- two conjunctions that differ only in their last test, which agrees if the others pass
 pub last_asked : (a b c d e : Bool) → (b ≡ true → d ≡ e) → (((a && b) && c) && d) ≡ (((a && b) && c) && e)
 last_asked true true true d e same = same refl
 last_asked true true false d e same = refl
@@ -45,31 +45,31 @@ last_asked true false c d e same = refl
 last_asked false b c d e same = refl
 
 module _ (t : ℕ) (facts : List Entry) (key : Key) (instrument : ℕ) (within : key.day ≤ t) where
-  -- what is earlier than a key of the days is of the days
+  -- a fact earlier than a key up to the day is up to the day
   earlier_within : (e : Entry) (later : Key) → later.day ≤ t → is_earlier e.0 later ≡ true → nat_le e.0.day t ≡ true
   earlier_within e later fits first = day_within e.0.day later.day t (earlier_day e.0 later first) fits
 
-  -- the same calibration is found
+  -- the same calibration exists
   calibrated_same : is_calibrated (up_to t facts) key instrument ≡ is_calibrated facts key instrument
   calibrated_same = list_any_narrowed _ (λ e. nat_le e.0.day t) (λ e passes. earlier_within e key within (both passes).1) facts
 
-  -- .. within so much gas
+  -- the same calibration with a gas of at most this concentration exists
   within_same : (most : ℕ) → is_calibrated_within (up_to t facts) key instrument most ≡ is_calibrated_within facts key instrument most
   within_same most = list_any_narrowed _ (λ e. nat_le e.0.day t) (λ e passes. earlier_within e key within (both passes).1) facts
 
-  -- the same precision test
+  -- the same precision test exists
   tested_same : is_tested (up_to t facts) key instrument ≡ is_tested facts key instrument
   tested_same = list_any_narrowed _ (λ e. nat_le e.0.day t) (λ e passes. earlier_within e key within (both (both passes).0).1) facts
 
-  -- a calibration between the reading and a later fact of the days
+  -- the same calibration exists between the reading and a later fact up to the day
   before_same : (later : Key) → later.day ≤ t → is_calibrated_before (up_to t facts) key instrument later ≡ is_calibrated_before facts key instrument later
   before_same later fits = list_any_narrowed _ (λ e. nat_le e.0.day t) (λ e passes. earlier_within e later fits (both passes).1) facts
 
-  -- a fact of the reading's day is of the days
+  -- a fact of the reading's day is up to the day
   of_the_day : (day : ℕ) → nat_eq day key.day ≡ true → day ≤ t
   of_the_day day same = let is : day ≡ key.day = grind (arith, nat_tests) in omega (arith, is, within)
 
-  -- each fact voids the reading or does not, by both
+  -- a fact voids the reading by both lists or by neither
   voids_same : (limit ppm : ℕ) (e : Entry) → is_voided_by (up_to t facts) key instrument limit ppm e ≡ is_voided_by facts key instrument limit ppm e
   voids_same limit ppm e = last_asked _ (nat_eq e.0.day key.day) _ _ _ (λ same. ap not (before_same e.0 (of_the_day e.0.day same)))
 
@@ -98,12 +98,12 @@ event_keyed key None x e = absurd cc
 event_keyed key (Some what) x e = let is : Some (record { key = key; what = what }) ≡ Some x = e in cc
 
 module _ (t : ℕ) (item : Equipment) (classes : List (Key × Class)) (limit : ℕ → ℕ) (facts : List Entry) where
-  -- a reading of the days is judged alike
+  -- a reading up to the day has the same fitness
   fitness_same : (key : Key) (body : FactBody) → key.day ≤ t → fitness_at limit (up_to t facts) key body ≡ fitness_at limit facts key body
   fitness_same key (Reading c instrument operator purpose ppm background) within = fitness_forgets_later_days t facts _ key instrument ppm within
   fitness_same key _ within = refl
 
-  -- the events by the facts up to a day
+  -- the events from the facts up to a day
   pub events_up_to : events_in item classes limit (up_to t facts) ≡ events_to t (events_in item classes limit facts)
   unfolding events_in
   events_up_to =
@@ -122,9 +122,9 @@ events_up_to_a_day t item classes limit facts = events_up_to t item classes limi
 abbrev pub early : ℕ → List (Key × Class) → List (Key × Class)
 early t classes = filter (λ entered. nat_le entered.0.day t) classes
 
--- what happens on a day, by the register up to the view day and a leak definition that agrees up to it
+-- events on a day, by the register up to the view day and a leak definition that agrees up to it
 module _ (t : ℕ) (item : Equipment) (classes : List (Key × Class)) (limit other : ℕ → ℕ) (agree : AgreeUpTo t other limit) where
-  -- a fact of the days is judged alike by both registers
+  -- a fact up to the day is judged the same by both registers
   happening_same : (day : ℕ) (fitness : Fitness) (body : FactBody) → day ≤ t
       → happening (item_on t item) (early t classes) other day fitness body ≡ happening item classes limit day fitness body
   happening_same day fitness (Reading c instrument operator purpose ppm background) within =
@@ -136,13 +136,13 @@ module _ (t : ℕ) (item : Equipment) (classes : List (Key × Class)) (limit oth
   happening_same day fitness (Indication c EvidenceSort present) within = refl
   happening_same day fitness _ within = refl
 
-  -- .. and the fitness of a reading
+  -- a reading up to the day has the same fitness by both leak definitions
   judged_same : (facts : List Entry) (key : Key) (body : FactBody) → key.day ≤ t → fitness_at other facts key body ≡ fitness_at limit facts key body
   judged_same facts key (Reading c instrument operator purpose ppm background) within =
       ap (λ l. fitness_of facts l key instrument ppm) (agree key.day within)
   judged_same facts key _ within = refl
 
-  -- .. and so is the event
+  -- a fact up to the day is the same event by both registers
   event_same : (facts : List Entry) (e : Entry) → e.0.day ≤ t
       → event_of (item_on t item) (early t classes) other e (fitness_among other facts e) ≡ event_of item classes limit e (fitness_among limit facts e)
   event_same facts e within =
@@ -150,7 +150,7 @@ module _ (t : ℕ) (item : Equipment) (classes : List (Key × Class)) (limit oth
       (ap (λ fitness. happening (item_on t item) (early t classes) other e.0.day fitness e.1.body) (judged_same facts e.0 e.1.body within)
       ∙ happening_same e.0.day (fitness_among limit facts e) e.1.body within)
 
-  -- the events up to a day, by the register up to it as by the register of all facts
+  -- the events up to a day, by the register up to it and by the register of all facts
   events_same : (facts : List Entry) → events_in (item_on t item) (early t classes) other (up_to t facts) ≡ events_in item classes limit (up_to t facts)
   unfolding events_in
   events_same facts =
@@ -188,18 +188,18 @@ known_up_to_a_day t item facts =
 -- ---- the cut
 
 module _ (t : ℕ) where
-  -- the event with the earlier key goes first
+  -- the event with the earlier key is first
   abbrev is_first : Event → Event → Bool
   is_first a b = is_earlier a.key b.key
 
-  -- behind an event of a later day all are of later days
+  -- after an event of a later day, all events are of later days
   late_behind : (x : Event) (xs : List Event) → nat_le x.key.day t ≡ false → AllByRecursion (λ y. is_first x y ≡ true) xs
       → AllByRecursion (λ y. nat_le y.key.day t ≡ false) xs
   late_behind x xs out all =
       all_weaker (λ y. is_first x y ≡ true) (λ y. nat_le y.key.day t ≡ false)
       (λ y first. past_day t x.key.day y.key.day (earlier_day x.key y.key first) out) xs all
 
-  -- the front and the rest are the whole
+  -- the prefix and the rest are the whole list
   whole_again : (xs : List Event) → Ascends is_first xs → events_to t xs ++ filter (λ e. not (nat_le e.key.day t)) xs ≡ xs
   whole_again [] up = refl
   whole_again (x ∷ xs) up =

@@ -25,25 +25,25 @@ use Rattle.ldar_law.specs.Stirred.{matters}
 use Rattle.history_laws.specs.KnownLaws.{known_in_unit, ComponentsByTheirLists, fitness_by}
 use Rattle.history_laws.specs.KnownLaws.{events_by, KnownByItsLists, HasSameFacts, SameFactsJudgeAlike, SameListsKnowAlike}
 
--- what agrees on each element gives the same
+-- functions that agree on each element give the same list
 pub given_alike : {X Y : Type 0} (f g : X → Option Y) (xs : List X) → AllByRecursion (λ x. f x ≡ g x) xs → filter_map f xs ≡ filter_map g xs
 given_alike f g [] all = refl
 given_alike f g (x ∷ xs) all = rw (all.0, given_alike f g xs all.1) refl
 
--- what holds of every element holds of each of a list
+-- a property of every element, for each element of a list
 pub all_of_each : {X : Type 0} (P : X → Type 0) → ((x : X) → P x) → (xs : List X) → AllByRecursion P xs
 all_of_each P each [] = tt
 all_of_each P each (x ∷ xs) = (each x, all_of_each P each xs)
 
 module _ (limit : ℕ → ℕ) where
-  -- the tests of its instrument judge a reading as all facts do
+  -- the tests of its instrument give a reading the same fitness as all facts
   fitness_by_tests : (facts : List Entry) (key : Key) (body : FactBody)
       → fitness_by limit (λ instrument. facts_of_instrument instrument facts) key body ≡ fitness_at limit facts key body
   fitness_by_tests facts key (Reading c instrument operator purpose ppm background) =
       fitness_is_of_instrument facts (limit key.day) key instrument ppm
   fitness_by_tests facts key _ = refl
 
-  -- two lists of facts in which the same matter to a reading judge it alike
+  -- two lists of facts with the same facts that matter to a reading give it the same fitness
   fitness_alike : (facts other : List Entry) (key : Key) (body : FactBody)
       → ((instrument : ℕ) → reading_instrument body ≡ Some instrument
       → filter (matters instrument key.day) other ≡ filter (matters instrument key.day) facts)
@@ -55,7 +55,7 @@ module _ (limit : ℕ → ℕ) where
   fitness_alike facts other key _ same = refl
 
 module _ (item : Equipment) (classes : List (Key × Class)) (limit : ℕ → ℕ) where
-  -- the events by the tests of each instrument
+  -- the events, by the tests of each instrument
   events_by_tests : (facts : List Entry)
       → events_by item classes limit (facts_of_component item.component facts) (λ instrument. facts_of_instrument instrument facts)
       ≡ events_in item classes limit facts
@@ -64,7 +64,7 @@ module _ (item : Equipment) (classes : List (Key × Class)) (limit : ℕ → ℕ
       given_alike _ _ (facts_of_component item.component facts)
       (all_of_each _ (λ e. ap (event_of item classes limit e) (fitness_by_tests limit facts e.0 e.1.body)) (facts_of_component item.component facts))
 
-  -- .. and of two lists of facts
+  -- the events, by two lists of facts
   events_alike : (facts other : List Entry) → HasSameFacts item.component facts other
       → events_in item classes limit other ≡ events_in item classes limit facts
   unfolding events_in
@@ -94,7 +94,7 @@ known_by_its_lists item facts =
       known = rw (own.classes, stops, events_by_tests item classes (limit_on item classes) facts) refl;
     }
 
--- what is known of a member of a process unit, by the lists
+-- a member of a process unit, from the lists
 known_member : (unit : ℕ) (facts : List Entry) (number : ℕ) (item : Equipment) → item.component ≡ number → item.unit ≡ unit
     → known_of facts item ≡ known_in_unit unit number facts item
 known_member unit facts number item named stands =

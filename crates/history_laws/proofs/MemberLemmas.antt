@@ -23,7 +23,7 @@ use Rattle.history_laws.proofs.Origins.{origin}
 
 -- ---- members
 
--- the component that a fact enters in a process unit, by the fact
+-- the component that a fact enters in a process unit is the one that the fact names
 pub joined_is : (unit number : ℕ) (retired : Option ℕ) (day : ℕ) (body : FactBody) → member_entered unit body ≡ Some number
     → (item : Equipment) × (component_entered number retired day body ≡ Some item) × (item.component ≡ number) × (item.unit ≡ unit)
 joined_is unit number retired day (ComponentFact other u kind monomer replaces class) e =
@@ -41,7 +41,7 @@ joined_is unit number retired day (ComponentFact other u kind monomer replaces c
     ]
 joined_is unit number retired day _ e = absurd cc
 
--- .. is entered by it
+-- a fact that enters a member enters the component
 pub member_is_entered : (unit number : ℕ) (body : FactBody) → member_entered unit body ≡ Some number → enters_component number body ≡ true
 member_is_entered unit number (ComponentFact other u kind monomer replaces class) e =
     elim (cases_Bool (nat_eq u unit)) [
@@ -50,13 +50,13 @@ member_is_entered unit number (ComponentFact other u kind monomer replaces class
     ]
 member_is_entered unit number _ e = absurd cc
 
--- a fact that does not enter the component gives none
+-- a fact that does not enter the component has no entry of it
 enters_nothing : (number : ℕ) (retired : Option ℕ) (day : ℕ) (body : FactBody) → enters_component number body ≡ false
     → component_entered number retired day body ≡ None
 enters_nothing number retired day (ComponentFact other unit kind monomer replaces class) e = rw e refl
 enters_nothing number retired day _ e = refl
 
--- no two numbers that facts enter in a process unit are one, where each component is entered once
+-- the numbers entered in a process unit are all different if each component is entered only once
 pub apart_numbers : (unit : ℕ) (es : List Entry) → ((number : ℕ) → count_by (λ e. enters_component number e.1.body) es ≤ 1)
     → AllApart nat_lt (filter_map (λ e. member_entered unit e.1.body) es)
 apart_numbers unit [] few = tt
@@ -85,7 +85,7 @@ pub members_are_few : MembersAreFew
 members_are_few facts unit most once all =
     let few = few_from 1 most (members_of unit facts) (members_ascend facts unit once) all (omega arith) in omega (arith, few)
 
--- of facts of which one enters a component, its entry is the first
+-- if only one fact enters a component, its entry is the first
 pub entry_is_first : (number : ℕ) (retired : Option ℕ) (es : List Entry) (e : Entry) (item : Equipment)
     → count_by (λ x. enters_component number x.1.body) es ≤ 1 → Among es e → enters_component number e.1.body ≡ true
     → component_entered number retired e.0.day e.1.body ≡ Some item

@@ -38,7 +38,7 @@ use Rattle.history_laws.proofs.UpTo.{all_of_part, filter_swap}
 -- ---- a part of more facts
 
 module _ (test : Entry → Bool) where
-  -- a part of facts with more of them
+  -- a part of facts with more of them inserted
   part_of_more : (more facts : List Entry) → InOrder goes_first facts
       → filter test (put_each goes_first more facts) ≡ put_each goes_first (filter test more) (filter test facts)
   part_of_more [] facts o = refl
@@ -47,7 +47,7 @@ module _ (test : Entry → Bool) where
       ∙ ap (put_each goes_first (filter test more)) (put_filter goes_first weak_goes_first test e facts o)
       ∙ elim (cases_Bool (test e)) [ inl t ↦ rw t refl | inr f ↦ rw f refl ]
 
-  -- where the batch has nothing of it
+  -- a part is unchanged if the batch has nothing of it
   none_of_it : (more : List Entry) → list_any test more ≡ false → filter test more ≡ []
   none_of_it [] none = refl
   none_of_it (e ∷ more) none = let parts = or_parts (test e) (list_any test more) none in rw parts.0 (none_of_it more parts.1)
@@ -71,14 +71,14 @@ lists_grow history batch differ = record {
   register = part_of_more_facts (λ e. is_registered e.1.body) history batch differ;
 }
 
--- ---- what facts give with their keys
+-- ---- values of facts with their keys
 
 module _ {X : Type 0} (key : X → Key) (f : Entry → Option X) (keyed : (e : Entry) (y : X) → f e ≡ Some y → key y ≡ e.0) where
-  -- what has the earlier key goes first
+  -- the value with the earlier key is first
   abbrev pub first_given : X → X → Bool
   first_given a b = is_earlier (key a) (key b)
 
-  -- what is given behind a fact has later keys
+  -- the values of later facts have later keys
   given_all : (x : Entry) (y : X) → key y ≡ x.0 → (es : List Entry) → AllByRecursion (λ e. goes_first x e ≡ true) es
       → AllByRecursion (λ z. first_given y z ≡ true) (filter_map f es)
   given_all x y same [] later = tt
@@ -88,7 +88,7 @@ module _ {X : Type 0} (key : X → Key) (f : Entry → Option X) (keyed : (e : E
         | Some z ↦ λ is. (rw (same, keyed e z is) later.0, given_all x y same es later.1)
       ] refl
 
-  -- one more fact that gives nothing
+  -- one more fact without a value
   put_none : (x : Entry) → f x ≡ None → (es : List Entry) → filter_map f (put_in_order goes_first x es) ≡ filter_map f es
   put_none x none [] = rw none refl
   put_none x none (e ∷ es) =
@@ -97,13 +97,13 @@ module _ {X : Type 0} (key : X → Key) (f : Entry → Option X) (keyed : (e : E
         | inr t ↦ rw t (ap (λ ys. cons_option (f e) ys) (put_none x none es))
       ]
 
-  -- what is given is put behind what is not later
+  -- a value is inserted after one that is not later
   put_behind : (y : X) (o : Option X) (ys : List X) → ((z : X) → o ≡ Some z → first_given y z ≡ false)
       → cons_option o (put_in_order first_given y ys) ≡ put_in_order first_given y (cons_option o ys)
   put_behind y None ys behind = refl
   put_behind y (Some z) ys behind = rw (behind z refl) refl
 
-  -- one more fact that gives something
+  -- one more fact with a value
   put_some : (x : Entry) (y : X) → f x ≡ Some y → (es : List Entry) → InOrder goes_first es
       → filter_map f (put_in_order goes_first x es) ≡ put_in_order first_given y (filter_map f es)
   put_some x y some [] o = rw some refl
@@ -121,13 +121,13 @@ module _ {X : Type 0} (key : X → Key) (f : Entry → Option X) (keyed : (e : E
   one_given x es None is o = put_none x is es
   one_given x es (Some y) is o = put_some x y is es o
 
-  -- what the first gives, and what the others give
+  -- the value of the first fact, and the values of the others
   one_first : (o : Option X) (xs ys : List X)
       → put_each first_given xs (put_each first_given (cons_option o []) ys) ≡ put_each first_given (cons_option o xs) ys
   one_first None xs ys = refl
   one_first (Some x) xs ys = refl
 
-  -- what facts give with more of them
+  -- the values of facts with more of them inserted
   given_of_more : (more facts : List Entry) → InOrder goes_first facts
       → filter_map f (put_each goes_first more facts) ≡ put_each first_given (filter_map f more) (filter_map f facts)
   given_of_more [] facts o = refl
@@ -136,7 +136,7 @@ module _ {X : Type 0} (key : X → Key) (f : Entry → Option X) (keyed : (e : E
       ∙ ap (put_each first_given (filter_map f more)) (one_given e facts (f e) refl o)
       ∙ one_first (f e) (filter_map f more) (filter_map f facts)
 
-  -- .. with one batch more
+  -- the values of facts with one more batch
   pub given_with_batch : (history : List Batch) (batch : Batch) → IsTrue (identities_differ (with_batch history batch))
       → filter_map f (facts_of (with_batch history batch)) ≡ put_each first_given (filter_map f (entries_of batch)) (filter_map f (facts_of history))
   given_with_batch history batch differ =
@@ -152,14 +152,14 @@ register_grows history batch differ = record {
 
 -- ---- members
 
--- a fact put among others
+-- a fact is in a list with one more inserted
 among_put : (x : Entry) (ys : List Entry) (e : Entry) → Among (put_in_order goes_first x ys) e ↔ Among (x ∷ ys) e
 among_put x ys e =
     let moved = put_permutes goes_first x ys in
     let same = among_permutation (x ∷ ys) (put_in_order goes_first x ys) e moved in
     (same.1, same.0)
 
--- the facts that are put among others, and the others
+-- a fact is in a list with more inserted
 among_put_each : (more facts : List Entry) (e : Entry) → Among (put_each goes_first more facts) e ↔ (Among facts e ⊎ Among more e)
 among_put_each [] facts e = (λ h. inl h, λ h. elim h [ inl held ↦ held | inr none ↦ absurd none ])
 among_put_each (x ∷ more) facts e =
@@ -175,13 +175,13 @@ among_put_each (x ∷ more) facts e =
       ],
     )
 
--- the members that facts enter, of the facts that are put and the others
+-- the members that facts enter, from the old facts and the inserted ones
 module _ (unit : ℕ) (more facts : List Entry) where
   -- the numbers that facts enter
   abbrev entered : List Entry → List ℕ
   entered es = filter_map (λ e. member_entered unit e.1.body) es
 
-  -- the numbers that all facts enter
+  -- the numbers that all facts enter are the same
   entered_alike : (number : ℕ) → Among (entered (put_each goes_first more facts)) number ↔ Among (entered facts ++ entered more) number
   entered_alike number = (
     λ h.
@@ -202,7 +202,7 @@ module _ (unit : ℕ) (more facts : List Entry) where
     ],
   )
 
--- how many facts pass, of those that are put and the others
+-- the number of facts that pass, among the old facts and the inserted ones
 count_put_each : (p : Entry → Bool) (more facts : List Entry) → count_by p (put_each goes_first more facts) ≡ count_by p (facts ++ more)
 count_put_each p [] facts = ap (count_by p) (sym (append-nil facts))
 count_put_each p (x ∷ more) facts =
@@ -214,7 +214,7 @@ count_put_each p (x ∷ more) facts =
     let two = count_cons p x more in
     count_put_each p more (put_in_order goes_first x facts) ∙ omega (arith, put, one, left, right, two)
 
--- elements behind others, in another order
+-- the tail of a list in another order
 moved_behind : (xs ys zs : List ℕ) → IsPermutation ys zs → IsPermutation (xs ++ ys) (xs ++ zs)
 moved_behind xs ys zs moved =
     IsPermutation-trans (xs ++ ys) (ys ++ xs) (xs ++ zs) (IsPermutation-append_comm xs ys)
@@ -242,12 +242,12 @@ members_grow history batch unit differ once =
 
 -- ---- a component that is left alone
 
--- what is no shutdown of the unit enters none
+-- a fact that is no shutdown of the unit enters none
 not_shut : (number day : ℕ) (body : FactBody) → is_shutdown number body ≡ false → stop_entered number day body ≡ None
 not_shut number day (Shutdown other days) out = rw out refl
 not_shut number day _ out = refl
 
--- the shutdowns of facts are given by those facts alone
+-- the shutdowns of a unit come only from its shutdown facts
 stops_by_shutdowns : (number : ℕ) (facts : List Entry) → stops_of number (filter (λ e. is_shutdown number e.1.body) facts) ≡ stops_of number facts
 stops_by_shutdowns number facts =
     filter_map_narrowed (λ e. stop_entered number e.0.day e.1.body) (λ e. is_shutdown number e.1.body) (λ e out. not_shut number e.0.day e.1.body out) facts

@@ -33,9 +33,9 @@ use Rattle.history_laws.specs.RulyLaws.{EachIsEnteredOnce, PartHasEachOnce, Have
 use Rattle.history_laws.proofs.Counting.{any_among, among_any, list_any-append, count_filtered, once_behind}
 use Rattle.history_laws.proofs.Passing.{some_mapped, is_nothing, let_pass}
 
--- ---- each is entered once
+-- ---- each is entered only once
 
--- the first entries of the register are there where facts enter them
+-- the register has a first entry if a fact enters the component
 pub entered_there : (number : ℕ) (facts : List Entry)
     → is_some (first_entry number (register_facts facts)) ≡ list_any (λ e. enters_component number e.1.body) facts
 entered_there number facts =
@@ -44,7 +44,7 @@ entered_there number facts =
     ∙ some_mapped unretired (equipment_of number facts)
     ∙ (component_where_entered number facts).0
 
--- .. and so the process units
+-- the register has a process unit if a fact enters it
 pub unit_there : (number : ℕ) (facts : List Entry) → is_some (unit_entry_of number (register_facts facts)) ≡ list_any (λ e. enters_unit number e.1.body) facts
 unit_there number facts = ap is_some ((register_facts_suffice number facts).1.entry) ∙ unit_where_entered number facts
 
@@ -52,7 +52,7 @@ unit_there number facts = ap is_some ((register_facts_suffice number facts).1.en
 abbrev twice_rule : Rule
 twice_rule = numbered 18 (codes "P3") denials.entered_twice
 
--- what the rule on numbers lets pass, no fact before has entered: a component
+-- by rule 18, no earlier fact has entered the component
 twice_component : (number : ℕ) (key : Key) (day minute : ℕ) (body : FactBody) (known whole : Register)
     → denials.entered_twice (record { entry = (key, record { day = day; minute = minute; body = body }); known = known; whole = whole }) ≡ false
     → enters_component number body ≡ true → is_some (first_entry number known.entered) ≡ false
@@ -61,7 +61,7 @@ twice_component number key day minute (ComponentFact other unit kind monomer rep
     subst (λ n. is_some (first_entry n known.entered) ≡ false) same once
 twice_component number key day minute _ known whole once enters = absurd (false≢true enters)
 
--- .. a process unit
+-- by rule 18, no earlier fact has entered the process unit
 twice_unit : (number : ℕ) (key : Key) (day minute : ℕ) (body : FactBody) (known whole : Register)
     → denials.entered_twice (record { entry = (key, record { day = day; minute = minute; body = body }); known = known; whole = whole }) ≡ false
     → enters_unit number body ≡ true → is_some (unit_entry_of number known.entered) ≡ false
@@ -70,10 +70,10 @@ twice_unit number key day minute (UnitFact other older name) known whole once en
     subst (λ n. is_some (unit_entry_of n known.entered) ≡ false) same once
 twice_unit number key day minute _ known whole once enters = absurd (false≢true enters)
 
--- of a batch that passes
+-- a batch that passes
 module _ (history : List Batch) (batch : Batch) (passes : verdict_on history batch ≡ Pass) (before : List Entry) (entry : Entry) (after : List Entry)
     (stands : entries_of batch ≡ before ++ entry ∷ after) (number : ℕ) where
-  -- a component that a fact enters, no fact before it does
+  -- no earlier fact enters the component that a fact enters
   pub no_component_before : enters_component number entry.1.body ≡ true → list_any (λ e. enters_component number e.1.body) (facts_of history ++ before) ≡ false
   unfolding register_with
   no_component_before enters =
@@ -82,7 +82,7 @@ module _ (history : List Batch) (batch : Batch) (passes : verdict_on history bat
       (register_with (facts_of history) (before ++ entry ∷ after))
       (let_pass history batch passes before entry after stands twice_rule (17, omega arith, refl)) enters
 
-  -- .. and so a process unit
+  -- no earlier fact enters the process unit that a fact enters
   pub no_unit_before : enters_unit number entry.1.body ≡ true → list_any (λ e. enters_unit number e.1.body) (facts_of history ++ before) ≡ false
   unfolding register_with
   no_unit_before enters =
@@ -91,16 +91,16 @@ module _ (history : List Batch) (batch : Batch) (passes : verdict_on history bat
       (register_with (facts_of history) (before ++ entry ∷ after))
       (let_pass history batch passes before entry after stands twice_rule (17, omega arith, refl)) enters
 
--- of a ruly history, where what passes passes first
+-- a ruly history, in which a passing fact is the first one that passes
 module _ (p : Entry → Bool) where
-  -- facts in order and as they came pass alike
+  -- a test passes on facts in order exactly if it passes on them in order of arrival
   as_they_came : (history : List Batch) (more : List Entry) → list_any p (facts_of history ++ more) ≡ list_any p (flat_map entries_of history ++ more)
   as_they_came history more =
       list_any-append p (facts_of history) more
       ∙ ap (λ b. b || list_any p more) (list_any-in_order p (flat_map entries_of history))
       ∙ sym (list_any-append p (flat_map entries_of history) more)
 
-  -- one passes at most, of the facts of batches behind a front
+  -- at most one of the facts of later batches passes
   once_in : (front rest : List Batch)
       → ((before : List Batch) (batch : Batch) (after : List Batch) → front ++ rest ≡ before ++ batch ∷ after
       → (b : List Entry) (e : Entry) (a : List Entry) → entries_of batch ≡ b ++ e ∷ a → p e ≡ true → list_any p (flat_map entries_of before ++ b) ≡ false)
@@ -118,7 +118,7 @@ module _ (p : Entry → Bool) where
       (once_in (front ++ batch ∷ []) rest (λ before b after stands. first before b after (sym moved ∙ stands))
       (subst (λ l. count_by p l ≤ 1) (sym joined) one))
 
-  -- .. of all facts in key order
+  -- at most one of all facts in key order passes
   once_of : (history : List Batch)
       → ((before : List Batch) (batch : Batch) (after : List Batch) → history ≡ before ++ batch ∷ after
       → (b : List Entry) (e : Entry) (a : List Entry) → entries_of batch ≡ b ++ e ∷ a → p e ≡ true → list_any p (facts_of before ++ b) ≡ false)
@@ -130,7 +130,7 @@ module _ (p : Entry → Bool) where
       subst (λ n. n ≤ 1) (sym same)
       (once_in [] history (λ before batch after stands b e a here t. sym (as_they_came before b) ∙ first before batch after stands b e a here t) (omega arith))
 
--- what none that came enters, none of some of them does
+-- some of the facts that arrived enter nothing if none of them does
 pub nothing_of : (p : Entry → Bool) (history : List Batch) (before facts : List Entry) → list_any p (facts_of history ++ before) ≡ false
     → HaveCome history before facts → list_any p facts ≡ false
 nothing_of p history before facts none of =

@@ -27,7 +27,7 @@ use Rattle.history_laws.proofs.Passing.{let_pass, came}
 abbrev late_rule : Rule
 late_rule = numbered 19 (codes "P4") denials.day_too_late
 
--- a day that the rule lets pass
+-- a day that rule 19 lets pass
 in_time : (day : ℕ) → nat_lt 46_751 day ≡ false → day ≤ 46_751
 in_time day e = grind (arith, nat_tests)
 
@@ -46,7 +46,7 @@ startup_is number day (UnitFact other older name) unit e =
     ]
 startup_is number day _ unit e = absurd cc
 
--- .. which enters it
+-- that fact enters the process unit
 startup_enters : (number day : ℕ) (body : FactBody) (unit : UnitEntry) → unit_entered number day body ≡ Some unit → enters_unit number body ≡ true
 startup_enters number day (UnitFact other older name) unit e =
     elim (cases_Bool (nat_eq other number)) [
@@ -71,7 +71,7 @@ startups_are_in_bound facts number last unit all e =
     let found = among_given f facts unit (first_among (filter_map f facts) unit e) in
     subst (λ day. day ≤ last) (sym (startup_is number found.0.0.day found.0.1.body unit found.2)) (all_at (λ x. x.0.day ≤ last) facts found.0 all found.1)
 
--- what a component is by the fact that enters it
+-- a component, in terms of the fact that enters it
 pub record Begins (number day : ℕ) (body : FactBody) (item : Equipment) : Type 0 where
   pub component : item.component ≡ number
   pub begin : item.begin ≡ day
@@ -79,7 +79,7 @@ pub record Begins (number day : ℕ) (body : FactBody) (item : Equipment) : Type
   pub joins : member_entered item.unit body ≡ Some number
   pub asks : unit_asked body ≡ Some item.unit
 
--- what a component is, it is by the fact that enters it
+-- a component is what the fact that enters it says
 pub begins : (number : ℕ) (retired : Option ℕ) (day : ℕ) (body : FactBody) (item : Equipment) → component_entered number retired day body ≡ Some item
     → Begins number day body item
 begins number retired day (ComponentFact other unit kind monomer replaces class) item e =
@@ -110,7 +110,7 @@ begins number retired day (ComponentFact other unit kind monomer replaces class)
     ]
 begins number retired day _ item e = absurd cc
 
--- .. of a component of some facts
+-- a component of some facts, in terms of the fact that enters it
 pub record Origin (number : ℕ) (facts : List Entry) (item : Equipment) : Type 0 where
   pub entry : Entry
   pub held : Among facts entry

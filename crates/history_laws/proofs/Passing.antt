@@ -19,27 +19,27 @@ use Rattle.history_laws.proofs.Counting.{cut_at}
 
 -- ---- a fact of a batch that passes
 
--- what is mapped to nothing is nothing
+-- an option is `None` if its mapped value is
 pub none_mapped : {X Y : Type 0} (f : X → Y) (o : Option X) → option_map f o ≡ None → o ≡ None
 none_mapped f None e = refl
 none_mapped f (Some x) e = absurd cc
 
--- mapping keeps whether there is something
+-- mapping does not change whether an option is `Some`
 pub some_mapped : {X Y : Type 0} (f : X → Y) (o : Option X) → is_some (option_map f o) ≡ is_some o
 some_mapped f None = refl
 some_mapped f (Some x) = refl
 
--- there is nothing
+-- an option that is not `Some` is `None`
 pub is_nothing : {X : Type 0} (o : Option X) → is_some o ≡ false → o ≡ None
 is_nothing None e = refl
 is_nothing (Some x) e = absurd (false≢true (sym e))
 
--- there is something
+-- an option that is not `None` is `Some`
 pub is_something : {X : Type 0} (o : Option X) → is_none o ≡ false → is_some o ≡ true
 is_something None e = absurd (false≢true (sym e))
 is_something (Some x) e = refl
 
--- .. and this is it
+-- an option that is `Some` has a value
 pub something : {X : Type 0} (o : Option X) → is_some o ≡ true → (x : X) × (o ≡ Some x)
 something None e = absurd (false≢true e)
 something (Some x) e = (x, refl)
@@ -53,7 +53,7 @@ let_pass history batch passes before entry after stands rule among =
     let placed : ℕ → ℕ × ℕ = λ number. (length before + 1, number) in
     no_rule_denies case (none_mapped placed (least_rule case) (((passes_undenied history batch).0 passes).0 before entry after stands)) rule among
 
--- where a fact of a ruly history came: in a batch that passes after those before it
+-- the origin of a fact of a ruly history: a batch that passes after those before it
 pub record Came (history : List Batch) (entry : Entry) : Type 0 where
   pub earlier : List Batch
   pub batch : Batch
@@ -64,7 +64,7 @@ pub record Came (history : List Batch) (entry : Entry) : Type 0 where
   pub after : List Entry
   pub stands : entries_of batch ≡ before ++ entry ∷ after
 
--- each fact came so
+-- each fact has such an origin
 pub came : (history : List Batch) → IsTrue (is_ruly history) → (entry : Entry) → Among (facts_of history) entry → Came history entry
 came history ruly entry among =
     let found = among_flat_map entries_of history entry ((among_in_order goes_first (flat_map entries_of history) entry).1 among) in
@@ -81,7 +81,7 @@ came history ruly entry among =
       stands = spot.2;
     }
 
--- what came before it is of the history too
+-- the facts before it are facts of the history
 pub came_before : (history : List Batch) (entry other : Entry) (c : Came history entry) → Among (facts_of c.earlier ++ c.before) other
     → Among (facts_of history) other
 came_before history entry other c among =
@@ -98,9 +98,9 @@ came_before history entry other c among =
     ] in
     (among_in_order goes_first (flat_map entries_of history) other).0 held
 
--- ---- one batch more
+-- ---- one more batch
 
--- the test of the verdict
+-- the verdict is `Pass` if the test passes
 passes_from : (verdict : Verdict) → is_pass verdict ≡ true → verdict ≡ Pass
 passes_from Pass e = refl
 passes_from (Denied fact number) e = absurd (false≢true e)

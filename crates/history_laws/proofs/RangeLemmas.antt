@@ -20,12 +20,12 @@ use Rattle.history_laws.proofs.Origins.{origin, startup_is_of_fact}
 use Rattle.history_laws.proofs.MemberLemmas.{member_is_entered, members_are_few}
 use Rattle.history_laws.proofs.UpTo.{all_of_part}
 
--- the facts of a batch with their keys
+-- the facts of a batch with their keys are in range
 entries_in_range : (batch : Batch) (index : ℕ) (facts : List Stated) → AllByRecursion IsFact facts → AllByRecursion IsInRange (entries_from batch index facts)
 entries_in_range batch index [] all = tt
 entries_in_range batch index (fact ∷ facts) all = (record { fact = all.0; day = refl }, entries_in_range batch (index + 1) facts all.1)
 
--- .. of some batches
+-- the facts of some batches with their keys are in range
 batches_in_range : (history : List Batch) → AllByRecursion (λ batch. AllByRecursion IsFact batch.facts) history
     → AllByRecursion IsInRange (flat_map entries_of history)
 batches_in_range [] all = tt
@@ -42,20 +42,20 @@ part_is_in_range facts test all = all_of_part IsInRange test facts all
 keyed_day : (e : Entry) → IsInRange e → IsDay e.0.day
 keyed_day e kept = subst IsDay (sym kept.day) kept.fact.1.0
 
--- the number of a process unit that a fact enters
+-- the number of a process unit that a fact enters is in range
 unit_in_range : (number : ℕ) (body : FactBody) → AllByRecursion IsFilled (body_fields body) → enters_unit number body ≡ true → IsUnitNumber number
 unit_in_range number (UnitFact other older name) filled enters =
     let same : other ≡ number = grind (arith, nat_tests) in subst IsUnitNumber same filled.0
 unit_in_range number _ filled enters = absurd (false≢true enters)
 
--- .. of a component
+-- the number of a component that a fact enters is in range
 component_in_range : (number : ℕ) (body : FactBody) → AllByRecursion IsFilled (body_fields body) → enters_component number body ≡ true
     → IsComponentNumber number
 component_in_range number (ComponentFact other unit kind monomer replaces class) filled enters =
     let same : other ≡ number = grind (arith, nat_tests) in subst IsComponentNumber same filled.0
 component_in_range number _ filled enters = absurd (false≢true enters)
 
--- .. of the process unit that a component joins
+-- the number of the process unit of a component that a fact enters is in range
 joined_in_range : (unit number : ℕ) (body : FactBody) → AllByRecursion IsFilled (body_fields body) → member_entered unit body ≡ Some number → IsUnitNumber unit
 joined_in_range unit number (ComponentFact other u kind monomer replaces class) filled joins =
     elim (cases_Bool (nat_eq u unit)) [

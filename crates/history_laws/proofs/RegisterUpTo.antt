@@ -32,7 +32,7 @@ use Rattle.history_laws.proofs.UpTo.{given_where, first_up_to, given_up_to, foun
 
 -- ---- a component
 
--- the day of the first retirement, if it has come
+-- the day of the first retirement, if it is not after t
 retired_up_to : (t : ℕ) (o : Option Entry)
     → option_map (λ e. e.0.day) (option_and_then (λ e. cond (nat_le e.0.day t) (Some e) None) o) ≡ if_come t (option_map (λ e. e.0.day) o)
 retired_up_to t None = refl
@@ -97,7 +97,7 @@ units_up_to_a_day t number facts order = record {
 
 -- ---- a day up to the view day
 
--- a day up to one that is up to the view day
+-- a day up to another one that is up to the view day
 pub day_within : (a b t : ℕ) → a ≤ b → b ≤ t → nat_le a t ≡ true
 day_within a b t first second = le-leb a t (omega (arith, first, second))
 
@@ -145,7 +145,7 @@ module _ (t unit : ℕ) (facts : List Entry) (once : IsEachOnce facts) where
 pub members_up_to_a_day : MembersUpToADay
 members_up_to_a_day t unit facts once = members_up_to t unit facts once
 
--- what has not begun is not there
+-- a component that has not begun does not exist yet
 unbegun : (t : ℕ) (o : Option Equipment)
     → (elim o as (λ x. Bool) [ None ↦ false | Some item ↦ nat_le item.begin t ]) ≡ false → option_and_then (if_begun t) o ≡ None
 unbegun t None out = refl

@@ -16,13 +16,13 @@ use Rattle.history_laws.specs.DayLaws.{if_come, events_to}
 use Rattle.history_laws.specs.SpanLaws.{if_closed, span_on, detected_by, SpansUpToADay, SpansByFactsUpToADay}
 use Rattle.history_laws.proofs.EventsUpTo.{cut_of, events_by_own_register}
 
--- the events of a front are of days up to one, and those behind it of later days
+-- a prefix of events up to a day, followed by events of later days
 module _ (t : ℕ) where
-  -- all are of days up to the day
+  -- all events are up to the day
   abbrev Within : List Event → Type 0
   Within xs = AllByRecursion (λ e. nat_le e.key.day t ≡ true) xs
 
-  -- all are of later days
+  -- all events are of later days
   abbrev Late : List Event → Type 0
   Late xs = AllByRecursion (λ e. nat_le e.key.day t ≡ false) xs
 
@@ -31,19 +31,19 @@ module _ (t : ℕ) where
   front_within [] = tt
   front_within (x ∷ xs) = elim (cases_Bool (nat_le x.key.day t)) [ inl in_time ↦ rw in_time (in_time, front_within xs) | inr out ↦ rw out (front_within xs) ]
 
-  -- .. and the others
+  -- the events after the day
   rest_late : (xs : List Event) → Late (filter (λ e. not (nat_le e.key.day t)) xs)
   rest_late [] = tt
   rest_late (x ∷ xs) = elim (cases_Bool (nat_le x.key.day t)) [ inl in_time ↦ rw in_time (rest_late xs) | inr out ↦ rw out (out, rest_late xs) ]
 
-  -- the first that passes, of a front: it, if its day has come
+  -- the first event that passes, of a prefix, if it is up to the day
   module _ {Y : Type 0} (give : Event → Y) (due : Y → Option Y) (yes : (e : Event) → nat_le e.key.day t ≡ true → due (give e) ≡ Some (give e))
       (no : (e : Event) → nat_le e.key.day t ≡ false → due (give e) ≡ None) (p : List Event → Event → Bool) where
-    -- the first that passes
+    -- the first event that passes
     abbrev first_passing : List Event → List Event → Option Event
     first_passing front xs = first_from (λ f e _. p f e) front xs
 
-    -- what passes of later days has not come
+    -- an event that passes on a later day does not count
     none_come : (front late : List Event) → Late late → option_and_then due (option_map give (first_passing front late)) ≡ None
     none_come front [] all = refl
     none_come front (x ∷ xs) all =
@@ -52,7 +52,7 @@ module _ (t : ℕ) where
           | inr fails ↦ rw fails (none_come (front ++ x ∷ []) xs all.1)
         ]
 
-    -- the first that passes of all, if its day has come, is the first of the front
+    -- the first event of all that passes, if it is up to the day, is the first of the prefix
     first_of_front : (front xs late : List Event) → Within xs → Late late
         → option_and_then due (option_map give (first_passing front (xs ++ late))) ≡ option_map give (first_passing front xs)
     first_of_front front [] late within all = none_come front late all
@@ -62,29 +62,29 @@ module _ (t : ℕ) where
           | inr fails ↦ rw fails (first_of_front (front ++ x ∷ []) xs late within.1 all)
         ]
 
-  -- a day that has come
+  -- the day of an event up to the day
   day_yes : (e : Event) → nat_le e.key.day t ≡ true → (cond (nat_le e.key.day t) (Some e.key.day) None) ≡ Some e.key.day
   day_yes e within = rw within refl
 
-  -- .. and one that has not
+  -- the day of a later event
   day_no : (e : Event) → nat_le e.key.day t ≡ false → (cond (nat_le e.key.day t) (Some e.key.day) None) ≡ None
   day_no e out = rw out refl
 
-  -- a key whose day has come
+  -- the key of an event up to the day
   key_yes : (e : Event) → nat_le e.key.day t ≡ true → (cond (nat_le e.key.day t) (Some e.key) None) ≡ Some e.key
   key_yes e within = rw within refl
 
-  -- .. and one whose day has not
+  -- the key of a later event
   key_no : (e : Event) → nat_le e.key.day t ≡ false → (cond (nat_le e.key.day t) (Some e.key) None) ≡ None
   key_no e out = rw out refl
 
-  -- the closing of a tag, and its first attempt, by the front
+  -- the closing of a tag and its first attempt, by the prefix
   closing_on : (kind : Kind) (before : List Event) (leak : Event) (xs late : List Event) → Within xs → Late late
       → if_closed t (closing_of kind before leak (xs ++ late)) ≡ closing_of kind before leak xs
   closing_on kind before leak xs late within all =
       first_of_front (λ e. e.key) (λ key. cond (nat_le key.day t) (Some key) None) key_yes key_no (closes kind) (before ++ leak ∷ []) xs late within all
 
-  -- an attempt of a later day is not known
+  -- an attempt on a later day is not known
   none_attempted : (late : List Event) → Late late → if_come t (attempt_after late) ≡ None
   none_attempted [] all = refl
   none_attempted (x ∷ xs) all =
@@ -93,7 +93,7 @@ module _ (t : ℕ) where
         | inr fails ↦ rw fails (none_attempted xs all.1)
       ]
 
-  -- the first attempt, if its day has come
+  -- the first attempt, if it is up to the day
   attempt_on : (xs late : List Event) → Within xs → Late late → if_come t (attempt_after (xs ++ late)) ≡ attempt_after xs
   attempt_on [] late within all = none_attempted late all
   attempt_on (x ∷ xs) late within all =
@@ -103,7 +103,7 @@ module _ (t : ℕ) where
       ]
 
   module _ (kind : Kind) (front whole : List Event) where
-    -- what is detected after the day is not known on it
+    -- a tag detected after the day is not known on it
     none_detected : (before late : List Event) → Late late → detected_by t (each_from (span_at kind whole) before late) ≡ []
     none_detected before [] all = refl
     none_detected before (x ∷ xs) all =
@@ -112,12 +112,12 @@ module _ (t : ℕ) where
           | inr never ↦ rw never (none_detected (before ++ x ∷ []) xs all.1)
         ]
 
-    -- a tag as it is known, by its parts
+    -- a tag as known, from its parts
     abbrev tag_with : Key → Option ℕ → Option Key → Span
     tag_with detected attempted closed =
         record { detected = detected; attempted = attempted; closed = closed; removable = is_removable kind front closed }
 
-    -- a tag as it is known on the day
+    -- a tag as known on the day
     known_span : (before : List Event) (x : Event) (xs late : List Event) → Within xs → Late late
         → span_on t kind front (record {
           detected = x.key;
@@ -129,7 +129,7 @@ module _ (t : ℕ) where
         ap (λ attempted. tag_with x.key attempted (if_closed t (closing_of kind before x (xs ++ late)))) (attempt_on xs late within all)
         ∙ ap (tag_with x.key (attempt_after xs)) (closing_on kind before x xs late within all)
 
-    -- the tags that open behind a front
+    -- the tags that open after a prefix
     spans_on : (before xs late : List Event) → Within xs → Late late
         → each_from (span_at kind front) before xs ≡ map (span_on t kind front) (detected_by t (each_from (span_at kind whole) before (xs ++ late)))
     spans_on before [] late within all = ap (map (span_on t kind front)) (sym (none_detected before late all))

@@ -1,4 +1,4 @@
--- What new facts touch: a component that is not touched, one that stays touched, and a process unit that no new fact names.
+-- What new facts touch: components that are not touched, components that stay touched, and process units that no new fact names.
 use Rattle.std.proofs.Common.{◌≡◌, ℕ, Bool, true, false, ◌||◌, IsTrue, Some, List, [], ◌∷◌, ◌++◌, filter, refl, sym, ap, ◌∙◌, subst, inl, inr}
 use Rattle.std.specs.List.{AllByRecursion, list_any}
 use Rattle.std.specs.Option.{option_map_or}
@@ -21,11 +21,12 @@ use Rattle.history_laws.proofs.MoreLemmas.{lists_grow, part_stays}
 
 -- ---- tests of a list
 
--- parts of a test
+-- a disjunction whose second part passes
 or_right : (a : Bool) {b : Bool} → b ≡ true → (a || b) ≡ true
 or_right true is = refl
 or_right false is = is
 
+-- a disjunction still holds with one more part
 past_one : (a b c : Bool) → (a || c) ≡ true → (a || (b || c)) ≡ true
 past_one true b c is = refl
 past_one false b c is = or_right b is
@@ -34,11 +35,12 @@ or_left : (a b : Bool) → a ≡ true → (a || b) ≡ true
 or_left true b is = refl
 or_left false b is = absurd (false≢true is)
 
+-- a disjunction still holds with a weaker second part
 in_second : (a : Bool) {b c : Bool} → (b ≡ true → c ≡ true) → (a || b) ≡ true → (a || c) ≡ true
 in_second true weaker is = refl
 in_second false weaker is = weaker is
 
--- what is true of some element is true of it by a weaker test
+-- an element that passes a test passes a weaker one
 some_weaker : {X : Type 0} (p q : X → Bool) → ((x : X) → p x ≡ true → q x ≡ true) → (xs : List X) → list_any p xs ≡ true → list_any q xs ≡ true
 some_weaker p q weaker [] some = absurd (false≢true some)
 some_weaker p q weaker (x ∷ xs) some =
@@ -47,7 +49,7 @@ some_weaker p q weaker (x ∷ xs) some =
       | inr f ↦ let rest : list_any p xs ≡ true = rw f at some in or_right (q x) (some_weaker p q weaker xs rest)
     ]
 
--- .. so where the weaker test fails, both do
+-- if the weaker test fails on all elements, so does the stronger one
 none_weaker : {X : Type 0} (p q : X → Bool) → ((x : X) → p x ≡ true → q x ≡ true) → (xs : List X) → list_any q xs ≡ false → list_any p xs ≡ false
 none_weaker p q weaker xs none =
     elim (cases_Bool (list_any p xs)) [
@@ -55,7 +57,7 @@ none_weaker p q weaker xs none =
       | inr f ↦ f
     ]
 
--- some element that was put among others passes, or one of these
+-- if some element passes, some element still passes after more are inserted
 list_any-put_each : {X : Type 0} (p : X → Bool) (before : X → X → Bool) (new xs : List X) → list_any p xs ≡ true → list_any p (put_each before new xs) ≡ true
 list_any-put_each p before [] xs some = some
 list_any-put_each p before (x ∷ new) xs some =
@@ -63,7 +65,7 @@ list_any-put_each p before (x ∷ new) xs some =
 
 -- ---- components
 
--- where nothing matters to any of some facts, nothing matters to each
+-- if no new fact matters to any of some facts, none matters to each of them
 untested : (q : Entry → Bool) (news own : List Entry) → list_any (λ e. q e || list_any (λ r. matters_to r e) own) news ≡ false
     → AllByRecursion (λ r. list_any (matters_to r) news ≡ false) own
 untested q news [] none = tt

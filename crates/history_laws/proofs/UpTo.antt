@@ -15,12 +15,12 @@ use Rattle.history_laws.specs.DayLaws.{up_to, AreInOrder, HistoryIsInOrder, Asce
 
 -- ---- facts in order
 
--- the order of the laws below, from that of the law
+-- the order of `ldar_law` implies the order of these laws
 pub from_in_order : (facts : List Entry) → InOrder goes_first facts → AreInOrder facts
 from_in_order [] o = tt
 from_in_order (e ∷ es) o = (o.0, from_in_order es o.1)
 
--- .. and back
+-- the order of these laws implies the order of `ldar_law`
 pub to_in_order : (facts : List Entry) → AreInOrder facts → InOrder goes_first facts
 to_in_order [] o = tt
 to_in_order (e ∷ es) o = (o.0, to_in_order es o.1)
@@ -35,7 +35,7 @@ ascending_are_in_order (e ∷ es) up = (
   ascending_are_in_order es up.1,
 )
 
--- what holds of each element holds of each of a part
+-- a property of all elements, for a part of them
 pub all_of_part : {X : Type 0} (P : X → Type 0) (q : X → Bool) (xs : List X) → AllByRecursion P xs → AllByRecursion P (filter q xs)
 all_of_part P q [] all = tt
 all_of_part P q (x ∷ xs) all =
@@ -51,7 +51,7 @@ part_is_in_order (e ∷ es) q o =
 
 -- ---- parts of parts
 
--- two tests of a list, in either order
+-- two tests of a list can be swapped
 pub filter_swap : {X : Type 0} (p q : X → Bool) (xs : List X) → filter p (filter q xs) ≡ filter q (filter p xs)
 filter_swap p q [] = refl
 filter_swap p q (x ∷ xs) =
@@ -66,19 +66,19 @@ filter_swap p q (x ∷ xs) =
       ]
     ]
 
--- what is given of what passes, where a test of what is given says the same
+-- values of the elements that pass, if a test of the value agrees with the test of the element
 module _ {X : Type 0} (f : Entry → Option X) (q : Entry → Bool) (d : X → Bool) where
-  -- what is given of what passes
+  -- the value of an element that passes
   kept : (o : Option X) (xs ys : List X) → ((x : X) → o ≡ Some x → d x ≡ true) → xs ≡ filter d ys → cons_option o xs ≡ filter d (cons_option o ys)
   kept None xs ys h e = e
   kept (Some x) xs ys h e = rw (h x refl) (ap (λ zs. x ∷ zs) e)
 
-  -- .. and of what does not
+  -- the value of an element that fails
   left_out : (o : Option X) (xs ys : List X) → ((x : X) → o ≡ Some x → d x ≡ false) → xs ≡ filter d ys → xs ≡ filter d (cons_option o ys)
   left_out None xs ys h e = e
   left_out (Some x) xs ys h e = rw (h x refl) e
 
-  -- all that is given of what passes
+  -- all values of the elements that pass
   pub given_where : (es : List Entry) → AllByRecursion (λ e. (x : X) → f e ≡ Some x → d x ≡ q e) es → filter_map f (filter q es) ≡ filter d (filter_map f es)
   given_where [] all = refl
   given_where (e ∷ es) all =
@@ -87,7 +87,7 @@ module _ {X : Type 0} (f : Entry → Option X) (q : Entry → Bool) (d : X → B
         | inr u ↦ rw u (left_out (f e) (filter_map f (filter q es)) (filter_map f es) (λ x is. all.0 x is ∙ u) (given_where es all.1))
       ]
 
--- what agrees on what passes gives the same of it
+-- functions that agree on elements that pass give the same values of them
 pub given_alike_where : {X Y : Type 0} (f g : X → Option Y) (q : X → Bool) → ((x : X) → q x ≡ true → f x ≡ g x) → (xs : List X)
     → filter_map f (filter q xs) ≡ filter_map g (filter q xs)
 given_alike_where f g q same [] = refl
@@ -97,49 +97,49 @@ given_alike_where f g q same (x ∷ xs) =
       | inr u ↦ rw u (given_alike_where f g q same xs)
     ]
 
--- ---- the first of facts in order, and that of those up to a day
+-- ---- the first of facts in order, and the first of those up to a day
 
--- a day behind one that has not come
+-- a day after one that is after t is after t
 pub past_day : (t a b : ℕ) → a ≤ b → nat_le a t ≡ false → nat_le b t ≡ false
 past_day t a b no_later out = elim (cases_Bool (nat_le b t)) [
   | inl e ↦ absurd (false≢true (sym out ∙ le-leb a t (omega (arith, no_later, leb-true b t e))))
   | inr e ↦ e
 ]
 
--- behind a fact of a later day stand facts of later days
+-- after a fact of a later day, all facts are of later days
 all_late : (t : ℕ) (e : Entry) (es : List Entry) → nat_le e.0.day t ≡ false → AllByRecursion (λ x. goes_first x e ≡ false) es
     → AllByRecursion (λ x. nat_le x.0.day t ≡ false) es
 all_late t e es out later =
     all_weaker (λ x. goes_first x e ≡ false) (λ x. nat_le x.0.day t ≡ false)
     (λ x h. past_day t e.0.day x.0.day (day_of_later x.0 e.0 h) out) es later
 
--- .. and none of the days
+-- after a fact of a later day, no fact is up to the day
 none_up_to : (t : ℕ) (e : Entry) (es : List Entry) → nat_le e.0.day t ≡ false → AllByRecursion (λ x. goes_first x e ≡ false) es → up_to t es ≡ []
 none_up_to t e es out later = filter_none (λ x. nat_le x.0.day t) es (all_late t e es out later)
 
 module _ {X : Type 0} (f : Entry → Option X) (day : X → ℕ) (dated : (e : Entry) (x : X) → f e ≡ Some x → day x ≡ e.0.day) (t : ℕ) where
-  -- what is given, if its day has come
+  -- the value, if its day is not after t
   abbrev pub if_due : X → Option X
   if_due x = cond (nat_le (day x) t) (Some x) None
 
-  -- what is given by facts of later days is not due
+  -- the value of a fact of a later day is not up to the day
   first_late : (o : Option X) (e : Entry) (rest : List X) → ((x : X) → o ≡ Some x → day x ≡ e.0.day) → nat_le e.0.day t ≡ false
       → option_and_then if_due (slice_get rest 0) ≡ None → option_and_then if_due (slice_get (cons_option o rest) 0) ≡ None
   first_late None e rest is out none = none
   first_late (Some x) e rest is out none = rw (is x refl, out) refl
 
-  -- .. by all of them
+  -- no value of facts of later days is up to the day
   none_in_time : (es : List Entry) → AllByRecursion (λ x. nat_le x.0.day t ≡ false) es → option_and_then if_due (slice_get (filter_map f es) 0) ≡ None
   none_in_time [] all = refl
   none_in_time (e ∷ es) all = first_late (f e) e (filter_map f es) (dated e) all.0 (none_in_time es all.1)
 
-  -- what the first gives
+  -- the value of the first fact
   first_in_time : (o : Option X) (e : Entry) (xs ys : List X) → ((x : X) → o ≡ Some x → day x ≡ e.0.day) → nat_le e.0.day t ≡ true
       → slice_get xs 0 ≡ option_and_then if_due (slice_get ys 0) → slice_get (cons_option o xs) 0 ≡ option_and_then if_due (slice_get (cons_option o ys) 0)
   first_in_time None e xs ys is within same = same
   first_in_time (Some x) e xs ys is within same = rw (is x refl, within) refl
 
-  -- the first that is given by facts up to a day
+  -- the first value of the facts up to a day
   pub first_up_to : (es : List Entry) → AreInOrder es → slice_get (filter_map f (up_to t es)) 0 ≡ option_and_then if_due (slice_get (filter_map f es) 0)
   first_up_to [] o = refl
   first_up_to (e ∷ es) o =
@@ -148,21 +148,21 @@ module _ {X : Type 0} (f : Entry → Option X) (day : X → ℕ) (dated : (e : E
         | inr out ↦ rw (out, none_up_to t e es out o.0) (sym (none_in_time (e ∷ es) (out, all_late t e es out o.0)))
       ]
 
-  -- what is given has the day of its fact
+  -- a value has the day of its fact
   each_dated : (es : List Entry) → AllByRecursion (λ e. (x : X) → f e ≡ Some x → nat_le (day x) t ≡ nat_le e.0.day t) es
   each_dated [] = tt
   each_dated (e ∷ es) = (λ x is. ap (λ n. nat_le n t) (dated e x is), each_dated es)
 
-  -- all that is given by facts up to a day
+  -- all values of the facts up to a day
   pub given_up_to : (es : List Entry) → filter_map f (up_to t es) ≡ filter (λ x. nat_le (day x) t) (filter_map f es)
   given_up_to es = given_where f (λ e. nat_le e.0.day t) (λ x. nat_le (day x) t) es (each_dated es)
 
 module _ (p : Entry → Bool) (t : ℕ) where
-  -- a fact, if its day has come
+  -- a fact, if its day is not after t
   abbrev fact_due : Entry → Option Entry
   fact_due e = cond (nat_le e.0.day t) (Some e) None
 
-  -- what passes of later days is not due
+  -- a fact that passes on a later day is not up to the day
   none_found : (es : List Entry) → AllByRecursion (λ x. nat_le x.0.day t ≡ false) es → option_and_then fact_due (find p es) ≡ None
   none_found [] all = refl
   none_found (e ∷ es) all =
@@ -171,7 +171,7 @@ module _ (p : Entry → Bool) (t : ℕ) where
         | inr other ↦ rw other (none_found es all.1)
       ]
 
-  -- the first that passes
+  -- the first fact that passes
   pub found_up_to : (es : List Entry) → AreInOrder es → find p (up_to t es) ≡ option_and_then fact_due (find p es)
   found_up_to [] o = refl
   found_up_to (e ∷ es) o =

@@ -1,4 +1,4 @@
--- Duties and marks by the register of all facts beside those by the register up to the view day: the statements of `duties`.
+-- Laws about duties and marks by the register of all facts and by the register up to the view day: the statements of `duties`.
 use Rattle.std.specs.Prelude.{◌≡◌, ℕ, ◌≤◌, Bool, nat_le, List, filter}
 use Rattle.std.specs.List.{AllByRecursion}
 use Rattle.fact_kinds.specs.declared.class.Class.{Class}
@@ -9,7 +9,7 @@ use Rattle.ldar_law.specs.Duties.{duties_of}
 use Rattle.ldar_law.specs.Percent.{mark_of}
 use Rattle.history_laws.specs.DayLaws.{item_on}
 
--- a component that has begun by the view day owes the same by the classes and the retirement that are known on the day as by all
+-- a component that has begun by the view day owes the same duties by the classes and the retirement known on the day as by all
 abbrev pub DutiesForgetLaterRegister : Type 0
 DutiesForgetLaterRegister =
     (t : ℕ) (item : Equipment) (classes : List (Key × Class)) (startup : ℕ) (events : List Event) (skipped : List Bool)
@@ -17,7 +17,7 @@ DutiesForgetLaterRegister =
     → duties_of (item_on t item) (filter (λ entered. nat_le entered.0.day t) classes) startup events skipped t
     ≡ duties_of item classes startup events skipped t
 
--- .. and adds the same to the counts of a quarter
+-- such a component adds the same to the counts of a quarter
 abbrev pub MarksForgetLaterRegister : Type 0
 MarksForgetLaterRegister =
     (t : ℕ) (item : Equipment) (classes : List (Key × Class)) (startup : ℕ) (events : List Event) (delayed : Bool) (quarter : ℕ)

@@ -1,4 +1,4 @@
--- The facts of a history and of one batch more: the statements of `batches`.
+-- Laws about the facts of a history and of one more batch: the statements of `batches`.
 use Rattle.std.specs.Prelude.{◌≡◌, ℕ, Bool, false, nat_eq, nat_lt, IsTrue, Some, List, [], ◌∷◌, ◌++◌, filter}
 use Rattle.std.specs.List.{AllByRecursion, list_any}
 use Rattle.list_words.specs.Order.{put_each}
@@ -17,23 +17,23 @@ use Rattle.ldar_law.specs.Stirred.{matters}
 use Rattle.history_laws.specs.KnownLaws.{IsKnownAlike}
 use Rattle.history_laws.specs.RulyLaws.{IsEachOnce}
 
--- the history with one batch more
+-- the history with one more batch
 abbrev pub with_batch : List Batch → Batch → List Batch
 with_batch history batch = history ++ batch ∷ []
 
--- where some facts are put among others, each in its place, a part of them is that part of these, put in its places
+-- a part of the facts after one more batch is the old part with the same part of the batch inserted in key order
 abbrev pub PartOfMoreFacts : Type 0
 PartOfMoreFacts =
     (test : Entry → Bool) (history : List Batch) (batch : Batch) → IsTrue (identities_differ (with_batch history batch))
     → filter test (facts_of (with_batch history batch)) ≡ put_each goes_first (filter test (entries_of batch)) (filter test (facts_of history))
 
--- .. and stays as it is where the batch has nothing of it
+-- a part stays the same if the batch has nothing of it
 abbrev pub PartStays : Type 0
 PartStays =
     (test : Entry → Bool) (history : List Batch) (batch : Batch) → IsTrue (identities_differ (with_batch history batch))
     → list_any test (entries_of batch) ≡ false → filter test (facts_of (with_batch history batch)) ≡ filter test (facts_of history)
 
--- each list of a store with one batch more is the list before, with the batch's facts for it put in their places
+-- after one more batch, each list of a store is the old list with the batch's facts for it inserted in key order
 pub record ListsWithBatch (history : List Batch) (batch : Batch) : Type 0 where
   pub component : (number : ℕ) → facts_of_component number (facts_of (with_batch history batch))
       ≡ put_each goes_first (facts_of_component number (entries_of batch)) (facts_of_component number (facts_of history))
@@ -49,11 +49,11 @@ pub record ListsWithBatch (history : List Batch) (batch : Batch) : Type 0 where
 abbrev pub ListsGrow : Type 0
 ListsGrow = (history : List Batch) (batch : Batch) → IsTrue (identities_differ (with_batch history batch)) → ListsWithBatch history batch
 
--- the earlier election goes first
+-- the election with the earlier key is first
 abbrev pub election_first : ElectionEntry → ElectionEntry → Bool
 election_first a b = is_earlier a.key b.key
 
--- .. and so what the register lists by key: a component's classes and a process unit's elections
+-- after one more batch, a component's classes and a process unit's elections are the old ones with the batch's inserted in key order
 pub record RegisterWithBatch (history : List Batch) (batch : Batch) : Type 0 where
   pub classes : (number : ℕ) → classes_of number (facts_of (with_batch history batch))
       ≡ put_each class_first (classes_of number (entries_of batch)) (classes_of number (facts_of history))
@@ -63,7 +63,7 @@ pub record RegisterWithBatch (history : List Batch) (batch : Batch) : Type 0 whe
 abbrev pub RegisterGrows : Type 0
 RegisterGrows = (history : List Batch) (batch : Batch) → IsTrue (identities_differ (with_batch history batch)) → RegisterWithBatch history batch
 
--- .. and a process unit's members, where no component is entered twice
+-- after one more batch, a process unit's members are the old ones with the batch's, if no component is entered twice
 abbrev pub MembersGrow : Type 0
 MembersGrow =
     (history : List Batch) (batch : Batch) (unit : ℕ) → IsTrue (identities_differ (with_batch history batch))
@@ -75,15 +75,14 @@ abbrev pub is_shutdown : ℕ → FactBody → Bool
 is_shutdown number (Shutdown other _) = nat_eq other number
 is_shutdown number _ = false
 
--- a batch leaves a component alone: no fact of it names the component, none matters to a reading of the component, and none shuts its
--- process unit down
+-- a batch leaves a component alone: no fact of it names the component, matters to a reading of it, or shuts down its process unit
 pub record LeavesAlone (number unit : ℕ) (history : List Batch) (batch : Batch) : Type 0 where
   pub component : list_any (λ e. is_numbered (component_of e.1.body) number) (entries_of batch) ≡ false
   pub tests : AllByRecursion (λ e. (instrument : ℕ) → reading_instrument e.1.body ≡ Some instrument
       → list_any (matters instrument e.0.day) (entries_of batch) ≡ false) (facts_of_component number (facts_of history))
   pub shutdowns : list_any (λ e. is_shutdown unit e.1.body) (entries_of batch) ≡ false
 
--- what is known on a day of a component that a batch leaves alone is known with the batch as without it
+-- a component that a batch leaves alone is the same on a day with the batch and without it
 abbrev pub LeftAloneIsKnownAlike : Type 0
 LeftAloneIsKnownAlike =
     (t : ℕ) (item : Equipment) (history : List Batch) (batch : Batch) → IsTrue (identities_differ (with_batch history batch))

@@ -1,4 +1,4 @@
--- What holds of a register whose facts are each in their ranges: the statements of `ranges`.
+-- Laws about a register whose facts have all fields in range: the statements of `ranges`.
 use Rattle.std.specs.Prelude.{◌≡◌, ℕ, ◌≤◌, Bool, Some, List, length, filter}
 use Rattle.std.specs.List.{AllByRecursion}
 use Rattle.ldar_days.specs.Calendar.{IsDay}
@@ -16,11 +16,11 @@ pub record IsInRange (e : Entry) : Type 0 where
   pub fact : IsFact e.1
   pub day : e.0.day ≡ e.1.day
 
--- the facts of batches whose facts are in their ranges
+-- the facts of batches are in range if the facts in each batch are
 abbrev pub FactsAreInRange : Type 0
 FactsAreInRange = (history : List Batch) → AllByRecursion (λ batch. AllByRecursion IsFact batch.facts) history → AllByRecursion IsInRange (facts_of history)
 
--- .. and so a part of them
+-- a part of facts in range is in range
 abbrev pub PartIsInRange : Type 0
 PartIsInRange = (facts : List Entry) (test : Entry → Bool) → AllByRecursion IsInRange facts → AllByRecursion IsInRange (filter test facts)
 
@@ -38,7 +38,7 @@ StartupsAreDays =
     (facts : List Entry) (number : ℕ) (unit : UnitEntry) → AllByRecursion IsInRange facts → unit_entry_of number facts ≡ Some unit
     → IsDay unit.startup × IsUnitNumber number
 
--- a component begins on a day of the calendar; its number and that of its process unit are in their ranges
+-- a component begins on a day of the calendar, and its number and its unit's are in range
 pub record StandsInRange (number : ℕ) (item : Equipment) : Type 0 where
   pub begin : IsDay item.begin
   pub component : IsComponentNumber number
@@ -49,11 +49,11 @@ ComponentsStandInRange =
     (facts : List Entry) (number : ℕ) (item : Equipment) → AllByRecursion IsInRange facts → equipment_of number facts ≡ Some item
     → StandsInRange number item
 
--- the members of a process unit have numbers of components
+-- the members of a process unit are numbers of components
 abbrev pub MembersAreInRange : Type 0
 MembersAreInRange = (facts : List Entry) (unit : ℕ) → AllByRecursion IsInRange facts → AllByRecursion IsComponentNumber (members_of unit facts)
 
--- .. and are 60,000 at most, where each component is entered once
+-- a process unit has at most 60,000 members if each component is entered only once
 abbrev pub MembersFit : Type 0
 MembersFit =
     (facts : List Entry) (unit : ℕ) → AllByRecursion IsInRange facts → IsEachOnce facts → length (members_of unit facts) ≤ MOST_COMPONENTS

@@ -1,4 +1,4 @@
--- What new facts touch, as a history grows: the statements of `touches`.
+-- Laws about what new facts touch when a history grows: the statements of `touches`.
 use Rattle.std.specs.Prelude.{◌≡◌, ℕ, Bool, false, IsTrue, Some, List, ◌++◌}
 use Rattle.std.specs.List.{AllByRecursion, list_any}
 use Rattle.fact_kinds.specs.declared.batch.Batch.{Batch}
@@ -21,22 +21,21 @@ pub record IsUntouched (number : ℕ) (facts news : List Entry) : Type 0 where
 abbrev pub NotTouchedIsUntouched : Type 0
 NotTouchedIsUntouched = (number : ℕ) (facts news : List Entry) → is_touched facts news number ≡ false → IsUntouched number facts news
 
--- .. and its own facts and what matters to its readings stay as they are
+-- the facts of a component and the facts that matter to its readings do not change if it is untouched
 abbrev pub UntouchedStays : Type 0
 UntouchedStays =
     (number : ℕ) (history : List Batch) (batch : Batch) → IsTrue (identities_differ (with_batch history batch))
     → is_touched (facts_of history) (entries_of batch) number ≡ false
     → HasSameFacts number (facts_of history) (facts_of (with_batch history batch))
 
--- a component that is touched stays touched as more facts come
+-- a component that is touched stays touched when more facts arrive
 abbrev pub TouchedStays : Type 0
 TouchedStays =
     (number : ℕ) (history : List Batch) (batch : Batch) (news : List Entry) → IsTrue (identities_differ (with_batch history batch))
     → IsTrue (is_touched (facts_of history) news number)
     → IsTrue (is_touched (facts_of (with_batch history batch)) (news ++ entries_of batch) number)
 
--- what is entered for a process unit that no fact of a batch names stays as it is: its entry, its members and elections, and what its
--- components are judged by
+-- what is entered for a process unit does not change: its entry, members and elections, and what decides on its components
 pub record UnitStays (number : ℕ) (facts other : List Entry) : Type 0 where
   pub entry : unit_entry_of number other ≡ unit_entry_of number facts
   pub members : members_of number other ≡ members_of number facts

@@ -1,4 +1,4 @@
--- Small histories and lists of facts, for examples of the laws and of what their premises are for.
+-- Small histories and lists of facts, for examples of the laws and of their premises.
 use Rattle.std.specs.Prelude.{ℕ, Bool, false, Option, Some, List, [], ◌∷◌, map, option_map}
 use Rattle.fact_kinds.specs.declared.batch.Batch.{Batch}
 use Rattle.fact_kinds.specs.declared.body.FactBody.TheVariants.{Component as ComponentFact, Class as ClassFact, Retire, Shutdown, Attempt, Delay}
@@ -50,7 +50,7 @@ abbrev pub in_two_units : List Batch
 in_two_units =
     enters 1 (on (date 2024 1 15) (component 1 Valve false Gas) ∷ on (date 2024 5 1) (ComponentFact 1 2 Valve false false (class Gas Plain)) ∷ []) ∷ []
 
--- the process unit in which valve 1 stands
+-- the process unit of valve 1
 abbrev pub unit_of_1 : List Entry → Option ℕ
 unit_of_1 facts = option_map (λ item. item.unit) (equipment_of 1 facts)
 
@@ -58,11 +58,11 @@ unit_of_1 facts = option_map (λ item. item.unit) (equipment_of 1 facts)
 abbrev pub without_its_unit : List Batch
 without_its_unit = enters 1 (on (date 2024 1 15) (component 1 Valve false Gas) ∷ []) ∷ []
 
--- valve 1 begins before its process unit starts up, which was entered first
+-- valve 1 begins before the startup of its process unit, which was entered first
 abbrev pub before_its_unit : List Batch
 before_its_unit = enters 1 (on (date 2024 3 1) crude ∷ on (date 2024 1 15) (component 1 Valve false Gas) ∷ []) ∷ []
 
--- valve 1 again
+-- valve 1 is entered again
 abbrev pub entered_again : Batch
 entered_again = enters 2 (on (date 2024 5 1) (component 1 Valve false Gas) ∷ [])
 
@@ -72,17 +72,17 @@ too_late = enters 1 (on (date 2098 1 1) crude ∷ []) ∷ []
 
 -- ---- readings
 
--- a leak of valve 1 on 2024-02-20, with the tests of instrument 1, a delay for want of a shutdown, and the shutdown
+-- a leak of valve 1 on 2024-02-20, with the tests of instrument 1, a delay until a shutdown, and the shutdown
 abbrev pub delayed_leak : List Entry
 delayed_leak =
     precise (date 2024 1 2) ∷ calibrated (date 2024 2 20) 300 500 ∷ measured (date 2024 2 20) 1 620
     ∷ fact (date 2024 3 1) 600 (Delay 1 1 9 (Some (date 2024 6 10))) ∷ fact (date 2024 6 1) 600 (Shutdown 1 14) ∷ []
 
--- .. without the facts behind the second
+-- the leak without the calibration, the delay and the shutdown
 abbrev pub leak_without_tests : List Entry
 leak_without_tests = precise (date 2024 1 2) ∷ measured (date 2024 2 20) 1 620 ∷ []
 
--- .. without the shutdown
+-- the leak without the shutdown
 abbrev pub leak_without_shutdown : List Entry
 leak_without_shutdown =
     precise (date 2024 1 2) ∷ calibrated (date 2024 2 20) 300 500 ∷ measured (date 2024 2 20) 1 620
@@ -100,11 +100,11 @@ heavy_from day = entered_on day (class Heavy Plain) ∷ []
 abbrev pub leaks_in : List Event → List Bool
 leaks_in events = map (λ e. is_leak e.what) events
 
--- .. of valve 1 by some facts
+-- which events of valve 1 are leaks, by some facts
 abbrev pub leaks_of_1 : List Entry → List Bool
 leaks_of_1 facts = leaks_in (events_in valve_1 (classes_of 1 facts) (limit_on valve_1 (classes_of 1 facts)) facts)
 
--- the due days of its tags
+-- the due days of the tags of valve 1
 abbrev pub due_days_of_1 : List Entry → List Until
 due_days_of_1 facts = map (λ tag. tag.repair_due) (known_of facts valve_1).tags
 
@@ -124,9 +124,10 @@ leaks_again =
 
 -- ---- batches
 
--- two batches of one identity, with facts of one key
+-- two batches with the same identity, and facts with the same key
 abbrev pub first_of_identity : Batch
 first_of_identity = sends 1 (on (date 2024 2 22) (Attempt 1 false) ∷ [])
 
+-- the second of these batches
 abbrev pub second_of_identity : Batch
 second_of_identity = sends 1 (on (date 2024 2 22) (Attempt 2 false) ∷ [])

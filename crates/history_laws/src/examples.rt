@@ -1,4 +1,4 @@
-//! The laws at work, and what their premises are for: contracts of functions with nothing to do.
+//! Examples of the laws, and of what their premises are for: the contracts of empty functions.
 #![tactic(auto, unfolding(ldar_days::specs::Calendar::first_day, ldar_days::specs::Calendar::month_of, ldar_days::specs::Calendar::month_length, ldar_law::specs::Judged::register_with, ldar_law::specs::Events::events_in, ldar_law::specs::Spans::spans_of, ldar_law::specs::Tags::tag_of, ldar_law::specs::Months::is_clean, ldar_law::specs::Months::has_leak_in, ldar_law::specs::Months::is_clean_twice_from, ldar_law::specs::Months::is_quarterly, ldar_days::specs::Quarters::last_whole, ldar_days::specs::Quarters::first_quarter, list_words::specs::Ranges::until, ldar_law::specs::Duties::duties_of, ldar_law::specs::Duties::first_monitoring, ldar_law::specs::Duties::monthly, ldar_law::specs::Duties::quarterly, ldar_law::specs::Duties::yearly, ldar_law::specs::Duties::planned, ldar_law::specs::Duties::weekly, ldar_law::specs::Duties::drip, ldar_law::specs::Duties::release, ldar_law::specs::Duties::evidence))]
 
 ghost use Rattle.std.specs.Prelude.{◌≡◌, None, Some, [], false, is_none, is_some, length, map, nat_le, take_while, true, ◌++◌, ◌∷◌};
@@ -31,15 +31,15 @@ ghost use Rattle.history_laws.specs.Witnesses.{entered_twice, first_of_identity,
 ghost use Rattle.history_laws.specs.Witnesses.{leak_without_tests, leaks_again, leaks_in, leaks_of_1, one_retires_one_begins, out_of_order};
 ghost use Rattle.history_laws.specs.Witnesses.{retirement_of_1, second_of_identity, too_late, unit_of_1, valve_1, without_its_unit};
 
-/// Where a component was entered twice, a process unit has it twice; the history is not ruly.
+/// If a component was entered twice, its process unit has it twice; the history is not ruly.
 pub fn entered_twice_is_twice_a_member()
     ensures unruly { is_ruly entered_twice ≡ false }
     ensures members { members_of 1 (facts_of entered_twice) ≡ 1 ∷ 1 ∷ [] }
-    // The members by the facts up to April are not those of all that have begun.
+    // The members by the facts up to April are not the members that have begun by then.
     ensures up_to_april { members_of 1 (facts_to (date 2024 4 1) entered_twice) ≡ 1 ∷ [] }
 {}
 
-/// A component of no known process unit, and a startup after 2097: the histories are not ruly.
+/// A component of an unknown process unit, and a startup after 2097: the histories are not ruly.
 pub fn unruly_registers()
     ensures no_unit { is_ruly without_its_unit ≡ false }
     ensures not_entered { is_none (unit_entry_of 1 (facts_of without_its_unit)) ≡ true }
@@ -47,14 +47,15 @@ pub fn unruly_registers()
     ensures started { is_some (unit_entry_of 1 (facts_of too_late)) ≡ true }
 {}
 
-/// Of a ruly history the facts up to a day can have a component whose process unit has not started up by then.
+/// In a ruly history, the facts up to a day can have a component whose process unit has not started up by then.
 pub fn a_component_before_its_unit()
     ensures ruly { is_ruly before_its_unit ≡ true }
     ensures component { beginning_of_1 (facts_to (date 2024 2 1) before_its_unit) ≡ Some (date 2024 1 15) }
     ensures no_unit { is_none (unit_entry_of 1 (facts_to (date 2024 2 1) before_its_unit)) ≡ true }
 {}
 
-/// The register by all facts is not that by the facts up to a day: one valve retires later, and one begins later.
+/// The register by all facts is not the register by the facts up to a day: one valve retires later, and one begins
+/// later.
 pub fn the_register_changes_later()
     ensures retired { retirement_of_1 (facts_of one_retires_one_begins) ≡ Some (Some (date 2024 5 1)) }
     ensures not_yet_retired { retirement_of_1 (facts_to (date 2024 4 1) one_retires_one_begins) ≡ Some None }
@@ -62,13 +63,13 @@ pub fn the_register_changes_later()
     ensures not_yet_begun { members_of 1 (facts_to (date 2024 4 1) one_retires_one_begins) ≡ 1 ∷ [] }
 {}
 
-/// Of facts out of order the first that enters a component need not be of the earliest day.
+/// If facts are out of order, the first one that enters a component need not have the earliest day.
 pub fn the_first_entry_out_of_order()
     ensures by_all { beginning_of_1 out_of_order ≡ Some (date 2024 5 1) }
     ensures up_to_april { beginning_of_1 (up_to (date 2024 4 1) out_of_order) ≡ Some (date 2024 1 15) }
 {}
 
-/// The facts that name a component alone do not judge its readings, and without a shutdown its due day is another.
+/// The facts that name a component are not enough to judge its readings; without a shutdown its due day is different.
 pub fn each_list_is_needed()
     ensures leak { leaks_of_1 delayed_leak ≡ true ∷ false ∷ [] }
     ensures without_tests { leaks_of_1 leak_without_tests ≡ false ∷ [] }
@@ -76,62 +77,62 @@ pub fn each_list_is_needed()
     ensures without_shutdown { due_days_of_1 leak_without_shutdown ≡ Shutdown ∷ [] }
 {}
 
-/// A reading after the day is not judged by the facts up to the day as by all.
+/// A reading after the day is not judged the same by the facts up to the day as by all.
 pub fn a_reading_after_the_day()
     ensures by_all { fitness_of changing_valve 500 (key (date 2024 5 20) 600) 1 620 ≡ Fit }
     ensures up_to_april { fitness_of (up_to (date 2024 4 1) changing_valve) 500 (key (date 2024 5 20) 600) 1 620 ≡ NoCalibration }
     ensures of_the_day { fitness_of (up_to (date 2024 2 20) changing_valve) 500 (key (date 2024 2 20) 600) 1 620 ≡ Fit }
 {}
 
-/// The events up to a day are the front of all events, though the class changes and the valve retires later.
+/// The events up to a day are a prefix of all events, even if the class changes and the valve retires later.
 pub fn events_before_a_change()
     ensures by_all { leaks_in (events_in valve_1 (classes_of 1 changing_valve) (limit_on valve_1 (classes_of 1 changing_valve)) changing_valve) ≡ true ∷ false ∷ false ∷ [] }
     ensures up_to_april { leaks_of_1 (up_to (date 2024 4 1) changing_valve) ≡ true ∷ [] }
     ensures front { leaks_in (events_to (date 2024 4 1) (events_in valve_1 (classes_of 1 changing_valve) (limit_on valve_1 (classes_of 1 changing_valve)) changing_valve)) ≡ true ∷ [] }
 {}
 
-/// A tag that is removable by the events up to a day, and not by all: a leak takes its second clean month away.
+/// A tag that is removable by the events up to a day, but not by all: a leak makes its second clean month not clean.
 pub fn a_tag_removable_for_a_while()
     ensures on_the_day { spans_of Valve (events_to (date 2024 4 2) leaks_again)
         ≡ span (date 2024 2 20) (Some (date 2024 2 22)) (Some (key (date 2024 3 6) 600)) true ∷ [] }
     ensures by_all { spans_of Valve leaks_again
         ≡ span (date 2024 2 20) (Some (date 2024 2 22)) (Some (key (date 2024 3 6) 600)) false
         ∷ span (date 2024 4 20) None None false ∷ [] }
-    // Before the reading of March the tag is open, and on its first day it has no attempt.
+    // Before the reading in March the tag is open, and on its first day it has no attempt.
     ensures still_open { spans_of Valve (events_to (date 2024 3 5) leaks_again) ≡ span (date 2024 2 20) (Some (date 2024 2 22)) None false ∷ [] }
     ensures first_day { spans_of Valve (events_to (date 2024 2 20) leaks_again) ≡ span (date 2024 2 20) None None false ∷ [] }
     ensures law { map (span_on (date 2024 3 5) Valve (events_to (date 2024 3 5) leaks_again)) (detected_by (date 2024 3 5) (spans_of Valve leaks_again))
         ≡ span (date 2024 2 20) (Some (date 2024 2 22)) None false ∷ [] }
 {}
 
-/// Where two batches have one identity, the facts of both are not those of one with the others put in their places.
+/// If two batches have one identity, the facts of both are not those of one with the others inserted.
 pub fn batches_of_one_identity()
     ensures both { map (λ e. component_of e.1.body) (facts_of (first_of_identity ∷ second_of_identity ∷ [])) ≡ Some 2 ∷ Some 1 ∷ [] }
     ensures put { map (λ e. component_of e.1.body) (put_each goes_first (entries_of second_of_identity) (facts_of (first_of_identity ∷ [])))
         ≡ Some 1 ∷ Some 2 ∷ [] }
 {}
 
-/// A batch that names no component still changes what is known of one, by a calibration of its instrument.
+/// A batch that names no component can still change one, by a calibration of its instrument.
 pub fn a_calibration_leaves_no_component_alone()
     ensures before { leaks_of_1 (facts_of (base ++ leak_found ∷ [])) ≡ false ∷ [] }
     ensures after { leaks_of_1 (facts_of leaking) ≡ true ∷ [] }
 {}
 
-/// A component that was entered in two process units is a member of both, and stands in the first.
+/// A component that was entered in two process units is a member of both, but its unit is the first one.
 pub fn a_member_of_two_units()
     ensures first { members_of 1 (facts_of in_two_units) ≡ 1 ∷ [] }
     ensures second { members_of 2 (facts_of in_two_units) ≡ 1 ∷ [] }
     ensures stands { unit_of_1 (facts_of in_two_units) ≡ Some 1 }
 {}
 
-/// A batch after which the history is not ruly: it enters a component again.
+/// A batch after which the history is not ruly: it enters a component a second time.
 pub fn a_component_again()
     ensures before { is_ruly before_its_unit ≡ true }
     ensures after { is_ruly (before_its_unit ++ entered_again ∷ []) ≡ false }
     ensures verdict { verdict_on before_its_unit entered_again ≡ Denied 1 18 }
 {}
 
-/// Of facts out of order those up to a day are not a front.
+/// If facts are out of order, those up to a day are not a prefix.
 pub fn a_cut_out_of_order()
     ensures part { length (up_to (date 2024 4 1) out_of_order) ≡ 1 }
     ensures front { length (take_while (λ e. nat_le e.0.day (date 2024 4 1)) out_of_order) ≡ 0 }
@@ -144,25 +145,25 @@ pub fn a_shutdown_after_the_day()
     ensures first_day { stops_of 1 (up_to (date 2024 6 1) delayed_leak) ≡ stop (date 2024 6 1) (date 2024 6 14) ∷ [] }
 {}
 
-/// A class that is entered after the day is in force on later days by all facts alone.
+/// A class that is entered after the day is in force on later days only by all facts.
 pub fn a_class_after_the_day()
     ensures later { (class_on valve_1 (heavy_from (date 2024 5 2)) (date 2024 5 20)).service ≡ Heavy }
     ensures not_known { (class_on valve_1 (classes_of 1 (up_to (date 2024 4 1) changing_valve)) (date 2024 5 20)).service ≡ Gas }
     ensures on_the_day { (class_on valve_1 (heavy_from (date 2024 5 2)) (date 2024 4 1)).service ≡ Gas }
 {}
 
-/// The duties of a day are the same with a class that is entered later, also within the month.
+/// The duties of a day are the same if a class is entered later, even within the same month.
 pub fn duties_before_a_change()
     ensures changes { duties_with (date 2020 4 20) (valve 1 (date 2020 1 15)) (heavy_from (date 2020 4 25)) []
         ≡ owes 1 2 (date 2020 2 29) ∷ owes 1 2 (date 2020 3 31) ∷ owes 1 2 (date 2020 4 30) ∷ [] }
     ensures unchanged { duties_on (date 2020 4 20) (valve 1 (date 2020 1 15)) []
         ≡ owes 1 2 (date 2020 2 29) ∷ owes 1 2 (date 2020 3 31) ∷ owes 1 2 (date 2020 4 30) ∷ [] }
-    // On the day of the change the month is none of a valve under the rules for valves.
+    // On the day of the change, the valve has no monthly duty, since it is no longer under the rules for valves.
     ensures changed { duties_with (date 2020 4 25) (valve 1 (date 2020 1 15)) (heavy_from (date 2020 4 25)) []
         ≡ owes 1 2 (date 2020 2 29) ∷ owes 1 2 (date 2020 3 31) ∷ [] }
 {}
 
-/// To a reading of 2024-02-20 matter the calibrations and drift assessments of that day, and the precision tests from
+/// For a reading of 2024-02-20, the calibrations and drift assessments of that day matter, and the precision tests from
 /// 2023-11-20 to that day.
 pub fn what_matters_to_a_reading()
     ensures calibration { map (λ day. is_of_matter 1 (date 2024 2 20) day (Calibration 1 500)) (date 2024 2 19 ∷ date 2024 2 20 ∷ date 2024 2 21 ∷ [])

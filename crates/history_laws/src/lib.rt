@@ -1,4 +1,6 @@
-//! What is true of whole histories, as the views need it: functions with nothing to do, whose contracts are the laws.
+//! Laws about whole histories that the views need: empty functions whose contracts are the laws.
+//!
+//! `examples` has worked examples of each law, and of what its premises are for.
 #![tactic(auto)]
 
 pub mod batches;

@@ -1,8 +1,8 @@
-//! What holds of a register whose facts are each in their ranges, as every fact keeps its fields.
+//! Laws about a register whose facts have all fields in range, as every fact has.
 
 ghost use Rattle.history_laws.specs.RangeLaws.{FactsAreInRange, PartIsInRange, StartupsAreDays, ComponentsStandInRange, MembersAreInRange, MembersFit};
 
-/// The facts of batches whose facts are in their ranges are so with their keys, and so is a part of them.
+/// If the facts of batches are in range, so are the history's facts with their keys, and a part of them.
 pub fn facts_in_range()
     ensures law { FactsAreInRange }
     ensures part { PartIsInRange }
@@ -14,7 +14,7 @@ pub fn register_in_range()
     ensures components { ComponentsStandInRange }
 {}
 
-/// The members of a process unit are numbers of components, 60,000 at most.
+/// The members of a process unit are numbers of components, at most 60,000.
 pub fn members_in_range()
     ensures law { MembersAreInRange }
     ensures few { MembersFit }

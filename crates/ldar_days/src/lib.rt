@@ -1,4 +1,6 @@
 //! Days from 2008-01-01 to 2099-12-31, their months, and the quarters of a process unit.
+//!
+//! Tests: `register_tests::calendar`.
 #![tactic(auto)]
 
 mod day;

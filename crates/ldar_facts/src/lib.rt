@@ -1,4 +1,6 @@
 //! Batches of facts: reading them from the bytes that a handheld sends, and writing them.
+//!
+//! Tests: `register_tests::batch_bytes`.
 #![tactic(auto)]
 
 mod add_fact;

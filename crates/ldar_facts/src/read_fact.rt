@@ -2,6 +2,7 @@ ghost use Rattle.std.specs.Prelude.{◌≡◌, ◌+◌, ◌<◌, ◌≤◌, ◌-
 ghost use Rattle.ldar_facts.specs.Form.{Takes};
 ghost use Rattle.ldar_facts.specs.FactForms as forms;
 ghost use Rattle.ldar_facts.specs.Places.{TakesFact, stop_before};
+ghost use Rattle.fact_kinds.specs.declared.limits.TheConstants.{BATCH_FACTS};
 
 use crate::add_fact::add_fact;
 use crate::body_at::LONGEST_FACT;
@@ -34,7 +35,7 @@ impl Cursor<'_> {
 
     /// Takes `count` facts, for which `room` has capacity.
     pub(crate) fn facts(&mut self, count: u16, room: Vec<Fact>) -> Result<FactList, ReadEnd>
-        requires some { (1 ≤ count) × (count ≤ 512) }
+        requires some { (1 ≤ count) × (count ≤ BATCH_FACTS) }
         requires empty { vec_len room ≡ 0 }
         requires fits { count ≤ vec_capacity room }
         ensures { Takes (forms.facts count).read result self.old self.new }

@@ -1,4 +1,4 @@
--- What a crash may leave over calls of a disk that follow each other.
+-- What a crash may leave over several calls of a disk.
 use Rattle.std.proofs.Common.{◌≡◌, ◌⊎◌, inl, inr, ℕ, ◌+◌, ◌<◌, ◌≤◌, ◌^◌, ◌-◌, Option, Some, None, Result, Ok, Err, is_err, is_ok, true, false, IsOk}
 use Rattle.std.proofs.Common.{MatchResult, List, length, refl, sym, ◌∙◌, ap, subst, arith}
 use Rattle.std.proofs.lemmas.Bool.{false≢true}
@@ -8,7 +8,7 @@ use Rattle.disk_model.specs.Told.{Told, BothTold}
 use Rattle.disk_model.proofs.WriteLemmas.{torn_none}
 use Rattle.ldar_journal.specs.Crash.{OnDisk, ComesFrom, LeavesOnly, AnswersInRoom, AnswersOverRoom}
 
--- after a write that went through, or may have, a crash leaves what it left before, torn in the range
+-- after a write, whether it succeeded or not, a crash leaves what it left before, possibly torn in the range
 pub torn_images : {T E : Type 0} (at n : ℕ) (old new : List ℕ → Type 0) (r : Result T E)
     → MatchResult r (λ _. Tears at n old new) (λ _. Tears at n old new ⊎ Same old new)
     → (image : List ℕ) → new image → ComesFrom (Torn at n) old image
@@ -16,24 +16,24 @@ torn_images at n old new (Ok v) tears image now = tears.only image now
 torn_images at n old new (Err e) (inl tears) image now = tears.only image now
 torn_images at n old new (Err e) (inr same) image now = (image, (same image).1 now, torn_none at n image)
 
--- after a sync a crash leaves nothing that it could not leave before
+-- after a sync, a crash leaves nothing that it could not leave before
 pub synced_images : {T E : Type 0} (old new : List ℕ → Type 0) (r : Result T E)
     → MatchResult r (λ _. (c : List ℕ) → new c → old c) (λ _. Same old new) → (image : List ℕ) → new image → old image
 synced_images old new (Ok v) fewer image now = fewer image now
 synced_images old new (Err e) same image now = (same image).1 now
 
--- what each step of one kind is, a step of another kind is too
+-- the images after a step are images after a weaker step
 pub ComesFrom-weaker : (P Q : List ℕ → List ℕ → Type 0) (images : List ℕ → Type 0) → ((a b : List ℕ) → P a b → Q a b)
     → (image : List ℕ) → ComesFrom P images image → ComesFrom Q images image
 ComesFrom-weaker P Q images weaker image from = (from.0, from.1, weaker from.0 image from.2)
 
--- fewer images come from fewer
+-- fewer images before a step give fewer after it
 pub ComesFrom-fewer : (P : List ℕ → List ℕ → Type 0) (some all : List ℕ → Type 0) → ((c : List ℕ) → some c → all c)
     → (image : List ℕ) → ComesFrom P some image → ComesFrom P all image
 ComesFrom-fewer P some all fewer image from = (from.0, fewer from.0 from.1, from.2)
 
 module _ {D : Type 0} (clock_of : D → ℕ) (left_of : D → ℕ → List ℕ → Type 0) where
-  -- no call leaves anything
+  -- without a call, nothing is left
   pub LeavesOnly-stays : (d : D) (P : List ℕ → Type 0) → LeavesOnly clock_of left_of d d P
   LeavesOnly-stays d P = record { since = λ t image le left. inl left }
 
@@ -43,7 +43,7 @@ module _ {D : Type 0} (clock_of : D → ℕ) (left_of : D → ℕ → List ℕ �
     since = λ t image le left. elim (leaves.since t image le left) [ inl before ↦ inl before | inr may ↦ inr (weaker image may) ];
   }
 
-  -- two stretches are one
+  -- two stretches of calls are one
   pub LeavesOnly-joins : (a b c : D) (P : List ℕ → Type 0) → clock_of a ≤ clock_of b
       → LeavesOnly clock_of left_of a b P → LeavesOnly clock_of left_of b c P → LeavesOnly clock_of left_of a c P
   LeavesOnly-joins a b c P time first second = record {
@@ -51,7 +51,7 @@ module _ {D : Type 0} (clock_of : D → ℕ) (left_of : D → ℕ → List ℕ �
         elim (second.since t image (omega arith) left) [ inl before ↦ first.since t image le before | inr may ↦ inr may ];
   }
 
-  -- a call of the disk leaves what a crash may leave when it ends
+  -- a call of the disk leaves what a crash may leave at its end
   pub LeavesOnly-call : (images_of : D → List ℕ → Type 0) (old new : D) (P : List ℕ → Type 0)
       → Elapses clock_of images_of left_of old new → ((image : List ℕ) → images_of new image → P image)
       → LeavesOnly clock_of left_of old new P
@@ -74,7 +74,7 @@ module _ {D : Type 0} (room_of : D → Option ℕ) (clock_of : D → ℕ) where
     answers = λ room told below. keeps room below (roomy.answers room told);
   }
 
-  -- calls one after the other
+  -- several calls
   pub AnswersInRoom-joins : (m n : ℕ) (a b c : D) (P Q R : ℕ → Type 0) → ((room : ℕ) → P room → Q room → R room)
       → AnswersInRoom room_of clock_of m a b P → AnswersInRoom room_of clock_of n b c Q → AnswersInRoom room_of clock_of (m + n) a c R
   AnswersInRoom-joins m n a b c P Q R both first second = record {
@@ -98,7 +98,7 @@ module _ {D : Type 0} (room_of : D → Option ℕ) (clock_of : D → ℕ) where
   }
 
 module _ {D : Type 0} (room_of : D → Option ℕ) where
-  -- no call
+  -- without a call
   pub AnswersOverRoom-stays : (d : D) (P : Type 0) → P → AnswersOverRoom room_of d d P
   AnswersOverRoom-stays d P kept = record { stays = refl; answers = λ room told. kept }
 
@@ -108,7 +108,7 @@ module _ {D : Type 0} (room_of : D → Option ℕ) where
   AnswersOverRoom-call clock_of old new P Q keeps roomy =
       record { stays = roomy.stays; answers = λ room told. keeps room (roomy.answers room told) }
 
-  -- calls one after the other
+  -- several calls
   pub AnswersOverRoom-joins : (a b c : D) (P Q R : Type 0) → (P → Q → R)
       → AnswersOverRoom room_of a b P → AnswersOverRoom room_of b c Q → AnswersOverRoom room_of a c R
   AnswersOverRoom-joins a b c P Q R both first second = record {
@@ -121,31 +121,31 @@ module _ {D : Type 0} (room_of : D → Option ℕ) where
   AnswersOverRoom-weaker old new P Q weaker answers =
       record { stays = answers.stays; answers = λ room told. weaker (answers.answers room told) }
 
--- an answer that is Ok is no error
+-- a result that is `Ok` is no error
 pub not_err : {T E : Type 0} (r : Result T E) → is_err r ≡ true → IsOk r → ⊥
 not_err (Ok v) err ok = absurd (false≢true err)
 not_err (Err e) err ok = absurd (false≢true ok)
 
--- ---- what stands on a disk
+-- ---- properties of a disk's bytes and images
 
--- what follows from what stands
+-- a weaker property
 pub OnDisk-weaker : (P Q : List ℕ → Type 0) → ((image : List ℕ) → P image → Q image)
     → (content : Option (List ℕ)) (images : List ℕ → Type 0) → OnDisk content images P → OnDisk content images Q
 OnDisk-weaker P Q weaker None images stands = tt
 OnDisk-weaker P Q weaker (Some bytes) images stands = (weaker bytes stands.0, λ image now. weaker image (stands.1 image now))
 
--- where the bytes are stable, what they have stands
+-- if the bytes are stable, a property of the bytes holds on the disk
 pub OnDisk-stable : (P : List ℕ → Type 0) → (content : Option (List ℕ)) (images : List ℕ → Type 0)
     → Told content P → Told content (λ bytes. Only bytes images) → OnDisk content images P
 OnDisk-stable P None images told stable = tt
 OnDisk-stable P (Some bytes) images told stable = (told, λ image now. subst P (sym (stable.no_other image now)) told)
 
--- what is told of the bytes
+-- a property on the disk holds for the bytes
 pub OnDisk-content : (P : List ℕ → Type 0) → (content : Option (List ℕ)) (images : List ℕ → Type 0) → OnDisk content images P → Told content P
 OnDisk-content P None images stands = tt
 OnDisk-content P (Some bytes) images stands = stands.0
 
--- what stands after a step of the bytes and of each image
+-- a property after a step of the bytes and of each image
 pub OnDisk-after : (P Q : List ℕ → Type 0) (step : List ℕ → List ℕ → Type 0) → ((a b : List ℕ) → P a → step a b → Q b)
     → (old new : Option (List ℕ)) (images images' : List ℕ → Type 0) → OnDisk old images P → BothTold old new step
     → ((image : List ℕ) → images' image → ComesFrom step images image) → OnDisk new images' Q
@@ -157,7 +157,7 @@ OnDisk-after P Q step after (Some old) (Some new) images images' stands steps fr
   λ image now. let source = from image now in after source.0 image (stands.1 source.0 source.1) source.2,
 )
 
--- what stands stays where the bytes stay and a crash leaves no more
+-- a property still holds if the bytes do not change and a crash leaves no more
 pub OnDisk-fewer : (P : List ℕ → Type 0) → (old new : Option (List ℕ)) (images images' : List ℕ → Type 0) → OnDisk old images P
     → BothTold old new (λ old new. new ≡ old) → ((image : List ℕ) → images' image → images image) → OnDisk new images' P
 OnDisk-fewer P None None images images' stands same fewer = tt
@@ -166,20 +166,20 @@ OnDisk-fewer P (Some old) None images images' stands same fewer = absurd same
 OnDisk-fewer P (Some old) (Some new) images images' stands same fewer =
     (subst P (sym same) stands.0, λ image now. stands.1 image (fewer image now))
 
--- an image that comes from one on a disk whose images have P, where the disk tells its bytes
+-- an image after a step from one on a disk whose images have P, if the disk exposes its bytes
 pub told_image : (P Q : List ℕ → Type 0) (step : List ℕ → List ℕ → Type 0) → ((a b : List ℕ) → P a → step a b → Q b)
     → (content : Option (List ℕ)) (images : List ℕ → Type 0) → OnDisk content images P
     → (image : List ℕ) → ComesFrom step images image → Told content (λ _. Q image)
 told_image P Q step after None images stands image from = tt
 told_image P Q step after (Some bytes) images stands image from = after from.0 image (stands.1 from.0 from.1) from.2
 
--- what is said where a disk told its bytes later is said where it told them before
+-- a property under the condition that the disk exposes its bytes, before and after a step
 pub told_before : (P : Type 0) (step : List ℕ → List ℕ → Type 0) (old new : Option (List ℕ)) → BothTold old new step → Told new (λ _. P) → Told old (λ _. P)
 told_before P step None new steps told = tt
 told_before P step (Some old) None steps told = absurd steps
 told_before P step (Some old) (Some new) steps told = told
 
--- stable bytes stay so over reads
+-- stable bytes are still stable after reads
 pub Only-stays : (old new : Option (List ℕ)) (images images' : List ℕ → Type 0) → BothTold old new (λ old new. new ≡ old) → Same images images'
     → Told old (λ bytes. Only bytes images) → Told new (λ bytes. Only bytes images')
 Only-stays None None images images' same_bytes same stable = tt

@@ -1,4 +1,4 @@
--- What a reader of one frame has found at each of its exits.
+-- The results of a reader of one frame, at each of its exits.
 use Rattle.std.proofs.Common.{◌≡◌, ℕ, zero, suc, ◌+◌, ◌/◌, ◌<◌, ◌≤◌, List, [], ◌∷◌, ◌++◌, length, take, drop, get_or, refl, sym, ◌∙◌, ap, ap₂, subst, arith}
 use Rattle.std.proofs.Common.{append_assoc, length-append}
 use Rattle.std.specs.List.{AllByRecursion}
@@ -14,7 +14,7 @@ use Rattle.ldar_journal.specs.Image.{IsBatch, spelling, payload, frame, IsFrame}
 use Rattle.ldar_journal.specs.FrameAt.{IsPayloadAt, IsFrameOf, HasNoFrame}
 use Rattle.ldar_journal.proofs.Frames.{length-payload, payload_goes_on, PayloadGoesOn, big_endian-one, fronts}
 
--- a payload of one more batch
+-- a payload with one more batch
 pub payload-push : (bs : List Batch) (b : Batch) → payload (bs ++ b ∷ []) ≡ payload bs ++ spelling b
 payload-push bs b = flat_map-append spelling bs (b ∷ []) ∙ ap (λ (l : List ℕ). payload bs ++ l) (append-nil (spelling b))
 
@@ -22,7 +22,7 @@ pub AllByRecursion-push : {X : Type 0} (P : X → Type 0) (xs : List X) (y : X) 
 AllByRecursion-push P [] y are is = (is, tt)
 AllByRecursion-push P (x ∷ xs) y are is = (are.0, AllByRecursion-push P xs y are.1 is)
 
--- the bytes that are a batch are its bytes
+-- bytes that spell a batch are its spelling
 pub Spells-is : (bytes : List ℕ) (batch : Batch) → Spells bytes batch → IsBatch batch × (bytes ≡ spelling batch)
 unfolding IsBatch spelling
 Spells-is bytes batch spells = (spells.filled, spells.spells)
@@ -31,7 +31,7 @@ pub is-Spells : (batch : Batch) → IsBatch batch → Spells (spelling batch) ba
 unfolding IsBatch spelling
 is-Spells batch is = record { filled = is; spells = refl }
 
--- what is left behind some batches of a frame begins with another, where it is not empty
+-- the rest after some batches of a frame, if it is not empty, begins with another batch
 left_of : (front whole : List Batch) (rest : List ℕ) → PayloadGoesOn front whole rest → 0 < length rest
     → (b : Batch) × (more : List Batch) × IsBatch b × (whole ≡ front ++ b ∷ more) × (rest ≡ spelling b ++ payload more)
 left_of front whole rest goes_on some = at goes_on.more goes_on.batches goes_on.bytes goes_on.each
@@ -41,7 +41,7 @@ left_of front whole rest goes_on some = at goes_on.more goes_on.batches goes_on.
     at [] batches bytes each = absurd (omega (arith, ap length bytes))
     at (b ∷ more) batches bytes each = (b, more, each.0, batches, bytes)
 
--- sixteen batches and a rest are no payload
+-- sixteen batches followed by more bytes are no payload
 pub too_many : (bytes rest : List ℕ) (front : List Batch) → bytes ≡ payload front ++ rest → AllByRecursion IsBatch front → length front ≡ 16 → 0 < length rest
     → (batches : List Batch) → IsFrame batches → ¬ (payload batches ≡ bytes)
 too_many bytes rest front whole each sixteen some batches is same =
@@ -49,7 +49,7 @@ too_many bytes rest front whole each sixteen some batches is same =
     let more = left_of front batches rest goes_on some in
     omega (arith, is.fits, ap length more.3, length-append front (more.0 ∷ more.1))
 
--- batches and a rest that begins with none are no payload
+-- batches followed by bytes that begin with none are no payload
 pub no_batch : (bytes rest : List ℕ) (front : List Batch) → bytes ≡ payload front ++ rest → AllByRecursion IsBatch front → HasNoBatch rest → 0 < length rest
     → (batches : List Batch) → IsFrame batches → ¬ (payload batches ≡ bytes)
 no_batch bytes rest front whole each none some batches is same =
@@ -59,7 +59,7 @@ no_batch bytes rest front whole each none some batches is same =
     ∙ take-append_seam (spelling more.0) (payload more.1) in
     none (length (spelling more.0)) more.0 (subst (λ (l : List ℕ). Spells l more.0) (sym front_is) (is-Spells more.0 more.2))
 
--- no bytes are no payload
+-- the empty list is no payload
 pub nothing : (bytes : List ℕ) → length bytes ≡ 0 → (batches : List Batch) → IsFrame batches → ¬ (payload batches ≡ bytes)
 nothing bytes none batches is same = omega (arith, is.some, (length-payload batches is.each).0, ap length same)
 
@@ -73,13 +73,13 @@ one_more bytes rest after items b used whole spells left =
     whole ∙ ap (λ (l : List ℕ). payload items ++ l) parts ∙ sym (append_assoc (payload items) (spelling b) after)
     ∙ ap (λ (l : List ℕ). l ++ after) (sym (payload-push items b))
 
--- nothing was read, and nothing is left
+-- nothing was read, and no bytes are left
 pub nothing_left : (bytes rest : List ℕ) (items : List Batch) → bytes ≡ payload items ++ rest → length rest ≡ 0 → length items ≡ 0 → (batches : List Batch)
     → IsFrame batches → ¬ (payload batches ≡ bytes)
 nothing_left bytes rest [] whole none read = nothing bytes (ap length whole ∙ none)
 nothing_left bytes rest (b ∷ items) whole none read = absurd (omega arith)
 
--- four bytes are those that std gives a number
+-- four bytes of a number are those of `to_be_bytes`
 pub big_endian-bytes : (n : ℕ) → big_endian 4 n ≡ to_be_bytes w32 n
 big_endian-bytes n = let whole : n / 1 ≡ n = omega arith in rw whole refl
 
@@ -125,7 +125,7 @@ payload_of_frame bytes rest batches is stands =
       stands = stands;
     }
 
--- one payload stands at the front
+-- at most one payload is at the front
 pub one_payload_at : (bytes one other : List ℕ) → IsPayloadAt bytes one → IsPayloadAt bytes other → one ≡ other
 one_payload_at bytes one other is is_too =
     let same = sym is.stands ∙ is_too.stands in
@@ -148,7 +148,7 @@ frame_stands bytes found batches stands is same =
       stands = whole ∙ ap (λ (l : List ℕ). frame batches ++ l) (sym after);
     }
 
--- the length that stands in front of a payload
+-- the length before a payload
 wanted_payload : (bytes more : List ℕ) (len : ℕ) → 5 ≤ length bytes → ((i : ℕ) → get_or bytes i 0 < 256)
     → len ≡ from_be_bytes w32 (get_or bytes 1 0 ∷ get_or bytes 2 0 ∷ get_or bytes 3 0 ∷ get_or bytes 4 0 ∷ []) → len < 4_294_967_296
     → (found : List ℕ) → IsPayloadAt (bytes ++ more) found → length found ≡ len
@@ -164,13 +164,13 @@ wanted_payload (a ∷ b ∷ c ∷ d ∷ e ∷ tail) more len long are_bytes len_
     let head : big_endian 4 (length found) ≡ b ∷ c ∷ d ∷ e ∷ [] = cc in
     big_endian-one (length found) len (omega (arith, stands.fits)) fits (head ∙ sym bytes_are)
 
--- a front that is as long as another is the front of it
+-- a prefix that is at least as long as another one contains it
 front_of : (a b x y : List ℕ) → a ++ x ≡ b ++ y → length b ≤ length a → a ≡ b ++ drop (length b) a
 front_of a b x y same within =
     let first : take (length b) a ≡ b = sym (take-append-le (length b) a x within) ∙ ap (take (length b)) same ∙ take-append_seam b y in
     sym (take-append-drop (length b) a) ∙ ap (λ (l : List ℕ). l ++ drop (length b) a) first
 
--- with as many bytes as a frame takes, no frame stands in more of them where none stands in these
+-- if the bytes have the length of a frame and no frame is at their front, none is at the front with more bytes
 pub wanted_enough : (bytes more rest : List ℕ) (len wanted : ℕ) → 5 ≤ length bytes → ((i : ℕ) → get_or bytes i 0 < 256)
     → len ≡ from_be_bytes w32 (get_or bytes 1 0 ∷ get_or bytes 2 0 ∷ get_or bytes 3 0 ∷ get_or bytes 4 0 ∷ []) → len < 4_294_967_296
     → (len ≤ 188_560 → 5 + len ≤ wanted) → wanted ≤ length (bytes ++ more) → HasNoFrame (bytes ++ more) → HasNoFrame ((bytes ++ more) ++ rest)
@@ -183,7 +183,7 @@ wanted_enough bytes more rest len wanted long are_bytes len_is fits reaches with
     let size : length (frame others) ≡ 5 + length (payload others) = omega arith in
     none others (drop (length (frame others)) (bytes ++ more)) is (front_of (bytes ++ more) (frame others) rest after stands (omega arith))
 
--- a frame in a front stands in the whole
+-- a frame at the front of a prefix is at the front of the whole
 pub IsFrameOf-longer : (front rest : List ℕ) (batches : List Batch) (used : ℕ) → IsFrameOf front batches used → IsFrameOf (front ++ rest) batches used
 IsFrameOf-longer front rest batches used is = record {
   is = is.is;

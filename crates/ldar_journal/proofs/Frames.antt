@@ -1,4 +1,4 @@
--- Frames one after the other can be read in one way only.
+-- The bytes of frames can be read in only one way.
 use Rattle.std.proofs.Common.{◌≡◌, ℕ, ◌*◌, ◌/◌, ◌%◌, ◌<◌, ◌≤◌, List, [], ◌∷◌, ◌++◌, length, refl, sym, ◌∙◌, arith, append_assoc, length-append}
 use Rattle.std.specs.List.{AllByRecursion}
 use Rattle.fact_kinds.specs.declared.batch.Batch.{Batch}
@@ -7,12 +7,12 @@ use Rattle.std.proofs.lemmas.List.Sums.{sum_by-append}
 use Rattle.ldar_journal.specs.Image.{IsBatch, spelling, payload, frame, IsFrame, fact_count}
 use Rattle.ldar_journal.proofs.GrammarLaws.{one_batch, length-spelling, facts-batch}
 
--- a list that has something in front is not empty
+-- a list with a non-empty prefix is not empty
 longer : (x y : List ℕ) → x ++ y ≡ [] → length x ≡ 0
 longer [] y same = refl
 longer (a ∷ x) y same = cc
 
--- one list of batches has this payload
+-- at most one list of batches has this payload
 pub one_payload : (old new : List Batch) → AllByRecursion IsBatch old → AllByRecursion IsBatch new → payload old ≡ payload new → old ≡ new
 one_payload [] [] old_are new_are same = refl
 one_payload [] (b ∷ new) old_are new_are same = absurd (omega (arith, length-spelling b new_are.0, longer (spelling b) (payload new) (sym same)))
@@ -22,7 +22,7 @@ one_payload (a ∷ old) (b ∷ new) old_are new_are same =
     let rest = one_payload old new old_are.1 new_are.1 front.1 in
     cc
 
--- a payload has at most 11,785 bytes for each batch, and at least 16
+-- a payload has between 16 and 11,785 bytes for each batch
 pub length-payload : (bs : List Batch) → AllByRecursion IsBatch bs → (16 * length bs ≤ length (payload bs)) × (length (payload bs) ≤ 11_785 * length bs)
 length-payload [] bs_are = (omega arith, omega arith)
 length-payload (b ∷ bs) bs_are =
@@ -31,7 +31,7 @@ length-payload (b ∷ bs) bs_are =
     let both = length-append (spelling b) (payload bs) in
     (omega arith, omega arith)
 
--- numbers of four bytes are told apart by their bytes
+-- different numbers of four bytes have different bytes
 pub big_endian-one : (m n : ℕ) → m < 4_294_967_296 → n < 4_294_967_296 → big_endian 4 m ≡ big_endian 4 n → m ≡ n
 big_endian-one m n m_fits n_fits same =
     let a : m / 16777216 % 256 ≡ n / 16777216 % 256 = cc in
@@ -40,7 +40,7 @@ big_endian-one m n m_fits n_fits same =
     let d : m / 1 % 256 ≡ n / 1 % 256 = cc in
     omega arith
 
--- fronts of one length of one list are one
+-- prefixes of the same length of one list are equal
 pub fronts : (a b x y : List ℕ) → length a ≡ length b → a ++ x ≡ b ++ y → (a ≡ b) × (x ≡ y)
 fronts [] [] x y long same = (refl, same)
 fronts [] (c ∷ b) x y long same = absurd (omega arith)
@@ -51,7 +51,7 @@ fronts (c ∷ a) (d ∷ b) x y long same =
     let rest = fronts a b x y (omega arith) tails in
     (cc, rest.1)
 
--- one frame stands at the front of some bytes
+-- at most one frame is at the front of some bytes
 pub one_frame : (old new : List Batch) (x y : List ℕ) → IsFrame old → IsFrame new → frame old ++ x ≡ frame new ++ y → (old ≡ new) × (x ≡ y)
 one_frame old new x y old_is new_is same =
     let old_long = length-payload old old_is.each in
@@ -61,13 +61,14 @@ one_frame old new x y old_is new_is same =
     let parts = fronts (payload old) (payload new) x y long heads.1 in
     (one_payload old new old_is.each new_is.each parts.0, parts.1)
 
--- batches whose bytes go on with a rest, as the bytes of these batches do
+-- batches followed by a rest, whose bytes are the bytes of these batches
 pub record PayloadGoesOn (front whole : List Batch) (rest : List ℕ) : Type 0 where
   pub more : List Batch
   pub batches : whole ≡ front ++ more
   pub bytes : rest ≡ payload more
   pub each : AllByRecursion IsBatch more
 
+-- a prefix of batches with the same bytes is followed by the other batches
 pub payload_goes_on : (front whole : List Batch) (rest : List ℕ) → AllByRecursion IsBatch front → AllByRecursion IsBatch whole
     → payload whole ≡ payload front ++ rest → PayloadGoesOn front whole rest
 payload_goes_on [] whole rest front_are whole_are same = record { more = whole; batches = refl; bytes = sym same; each = whole_are }

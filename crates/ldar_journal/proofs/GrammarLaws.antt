@@ -1,4 +1,4 @@
--- What the grammar of batches says of batches one after the other.
+-- What the grammar of batches implies for several batches in a row.
 use Rattle.std.proofs.Common.{◌≡◌, ℕ, ◌≤◌, List, ◌++◌, length, refl, sym, ◌∙◌, ap, arith}
 use Rattle.fact_kinds.specs.declared.batch.Batch.{Batch}
 use Rattle.ldar_facts.specs.FactForms.{batch}
@@ -12,7 +12,7 @@ spells : (a : Batch) → IsBatch a → Spells (spelling a) a
 unfolding IsBatch spelling
 spells a a_is = record { filled = a_is; spells = refl }
 
--- a front of some bytes that is a batch says which, and what follows it
+-- a batch at the front of some bytes, and the bytes after it, are determined by the bytes
 pub one_batch : (a b : Batch) (x y : List ℕ) → IsBatch a → IsBatch b → spelling a ++ x ≡ spelling b ++ y → (a ≡ b) × (x ≡ y)
 one_batch a b x y a_is b_is same =
     let read_a = read_again (spelling a) a x (spells a a_is) in

@@ -1,4 +1,4 @@
--- What stands at a place, judged by a window that is ahead of it.
+-- What is at a place, judged by a window with the bytes from there on.
 use Rattle.std.proofs.Common.{◌≡◌, ◌≢◌, ◌⊎◌, inl, inr, ℕ, zero, suc, ◌+◌, ◌-◌, ◌<◌, ◌≤◌, Bool, true, false, List, [], ◌∷◌, ◌++◌, length, take, drop, get_or}
 use Rattle.std.proofs.Common.{Option, Some, None, refl, sym, ◌∙◌, ap, subst, arith, length-append, length-drop, slice_index}
 use Rattle.std.proofs.lemmas.List.{take-append-drop}
@@ -11,12 +11,12 @@ use Rattle.ldar_journal.specs.Opening.{IsBadAt}
 use Rattle.ldar_journal.specs.Window.{IsAhead}
 use Rattle.ldar_journal.proofs.FrameLemmas.{IsFrameOf-longer}
 
--- what a window that is ahead shows, and what follows it
+-- the bytes in a window, and the bytes after them
 ahead_parts : (place : ℕ) (window bytes : List ℕ) → IsAhead place window bytes → drop place bytes ≡ window ++ drop (length window) (drop place bytes)
 ahead_parts place window bytes ahead =
     sym (take-append-drop (length window) (drop place bytes)) ∙ ap (λ (l : List ℕ). l ++ drop (length window) (drop place bytes)) (sym ahead)
 
--- two steps of reading, of which the first keeps a window ahead
+-- two reads, the first of which keeps the window at its place
 steps : (a b c : Option (List ℕ)) (place : ℕ) (first middle : List ℕ) (P : List ℕ → Type 0) → BothTold a b (λ old new. new ≡ old)
     → BothTold a b (λ old new. IsAhead place first old → IsAhead place middle old) → BothTold b c (λ old new. IsAhead place middle old → P old)
     → BothTold a c (λ old new. IsAhead place first old → P old)
@@ -28,7 +28,7 @@ steps (Some x) (Some y) None place first middle P same one two = absurd two
 steps (Some x) (Some y) (Some z) place first middle P same one two =
     λ ahead. subst P same (two (subst (λ (l : List ℕ). IsAhead place middle l) (sym same) (one ahead)))
 
--- what a reader has fetched is enough to judge a frame
+-- the bytes that were read are enough to judge a frame
 pub fetched : (a b c : Option (List ℕ)) (place wanted : ℕ) (w0 w1 w2 more : List ℕ) (full : Bool) → BothTold a b (λ old new. new ≡ old)
     → BothTold a b (λ old new. IsAhead place w0 old → IsAhead place w1 old) → BothTold b c (λ old new. IsAhead place w1 old → IsAhead place w2 old)
     → 5 ≤ length w1 → w2 ≡ w1 ++ more
@@ -45,11 +45,11 @@ fetched a b c place wanted w0 w1 w2 more false same one two long parts enough fu
     (BothTold-weaker (λ old new. IsAhead place w1 old → w2 ≡ drop place old) (λ old new. IsAhead place w1 old → HasNoFrame w2 → HasNoFrame (drop place old))
     (λ old new whole is none. subst HasNoFrame (whole is) none) b c (all refl))
 
--- no frame stands where no byte is
+-- no frame is at an empty rest
 no_frame : (bytes : List ℕ) → length bytes ≡ 0 → HasNoFrame bytes
 no_frame bytes none batches rest is stands = omega (arith, ap length stands, length-append (frame batches) rest)
 
--- no gate stands where nothing is left
+-- no gate is at an empty rest
 pub nothing_left : (a b : Option (List ℕ)) (place : ℕ) (w0 w1 : List ℕ) → BothTold a b (λ old new. IsAhead place w0 old → w1 ≡ drop place old) → length w1 < 1
     → BothTold a b (λ old new. IsAhead place w0 old → place ≤ length old → IsBadAt old place)
 nothing_left a b place w0 w1 all none =
@@ -58,7 +58,7 @@ nothing_left a b place w0 w1 all none =
     let long : length (drop place old) ≡ 0 = omega (arith, ap length (whole ahead)) in
     record { open_gate = inl (omega (arith, length-drop place old)); no_frame = no_frame (drop place old) long }) a b all
 
--- a frame at the front of a window stands at its place
+-- a frame at the front of a window is at its place
 pub frame_ahead : (a b c : Option (List ℕ)) (place : ℕ) (w0 w1 w2 : List ℕ) (batches : List Batch) (used : ℕ) → BothTold a b (λ old new. new ≡ old)
     → BothTold a b (λ old new. IsAhead place w0 old → IsAhead place w1 old) → BothTold b c (λ old new. IsAhead place w1 old → IsAhead place w2 old)
     → IsFrameOf w2 batches used
@@ -70,7 +70,7 @@ frame_ahead a b c place w0 w1 w2 batches used same one two is =
     (λ old new ahead is_ahead within. subst (λ (l : List ℕ). IsFrameOf l batches used) (sym (ahead_parts place w2 old (ahead is_ahead)))
     (IsFrameOf-longer w2 (drop (length w2) (drop place old)) batches used is)) b c two)
 
--- the byte at a place is the first of a window that is ahead of it
+-- the byte at a place is the first of a window from there on
 first_byte : (place : ℕ) (window bytes : List ℕ) → IsAhead place window bytes → 0 < length window → get_or window 0 0 ≡ get_or bytes place 0
 first_byte place window bytes ahead some =
     by window (drop place bytes) (ahead_parts place window bytes ahead) some ∙ get_or-drop place bytes
@@ -85,7 +85,7 @@ first_byte place window bytes ahead some =
     get_or-drop (suc n) [] = refl
     get_or-drop (suc n) (x ∷ xs) = get_or-drop n xs
 
--- an open gate stands, and no frame
+-- an open gate and no frame
 pub bad_ahead : (a b c : Option (List ℕ)) (place : ℕ) (w0 w1 w2 : List ℕ) → BothTold a b (λ old new. new ≡ old)
     → BothTold a b (λ old new. IsAhead place w0 old → IsAhead place w1 old)
     → BothTold b c (λ old new. IsAhead place w1 old → HasNoFrame w2 → HasNoFrame (drop place old))

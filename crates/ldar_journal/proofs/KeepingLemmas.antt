@@ -1,4 +1,4 @@
--- What is known of a history with one batch more.
+-- What is known about a history with one more batch.
 use Rattle.std.proofs.Common.{◌≡◌, ◌≢◌, ◌⊎◌, inl, inr, ℕ, ◌+◌, ◌-◌, ◌<◌, ◌≤◌, List, [], ◌∷◌, ◌++◌, length, take, drop, map, get_or, Option, Some, None}
 use Rattle.std.proofs.Common.{is_some, Bool, true, false, cond, refl, sym, ◌∙◌, ap, subst, arith, length-append, append_assoc, add-one}
 use Rattle.std.specs.List.{position_from}
@@ -21,7 +21,7 @@ position_from-is q i (x ∷ xs) = ap (cond (is_of q x) (Some i)) (position_from-
 pub position_of-is : (q : Identity) (xs : List Batch) → position_of q xs ≡ position_in q (map identity_of xs)
 position_of-is q xs = position_from-is q 1 xs
 
--- one batch more
+-- one more batch
 pub known_more : (history : List Batch) (identities identities' : List Identity) (facts more : ℕ) (batch : Batch) → IsKnown history identities facts
     → position_in (identity_of batch) identities ≡ None → identities' ≡ identities ++ identity_of batch ∷ [] → more ≡ facts + length batch.facts
     → more ≤ 8_000_000
@@ -35,7 +35,7 @@ known_more history identities identities' facts more batch known is_new added co
       kept = IsKept-push history batch new known.kept (omega (arith, known.counted));
     }
 
--- a batch that is refused can't be kept
+-- a batch that is refused cannot be kept
 pub refused : (history : List Batch) (identities : List Identity) (facts : ℕ) (batch : Batch) → IsKnown history identities facts
     → (position_in (identity_of batch) identities ≢ None) ⊎ (8_000_000 < facts + length batch.facts) → ¬ (IsKept (history ++ batch ∷ []))
 refused history identities facts batch known (inl there) kept =
@@ -48,11 +48,12 @@ refused history identities facts batch known (inl there) kept =
         kept
 refused history identities facts batch known (inr many) kept = omega (arith, fact_count-push history batch, known.counted, kept.fits)
 
--- a front of batches with the next one, and what follows it
+-- a prefix of batches with the next one, and the batches after it
 pub next_one : (batches : List Batch) (i : ℕ) (batch : Batch) → i < length batches → batch ≡ get_or batches i batch
     → take (i + 1) batches ≡ take i batches ++ batch ∷ []
 next_one batches i batch within is = rw (add-one, take-suc batches i batch within) (ap (λ (b : Batch). take i batches ++ b ∷ []) (sym is))
 
+-- if one batch of a frame cannot be kept, the frame cannot be
 pub not_all : (history batches : List Batch) (i : ℕ) (batch : Batch) → take (i + 1) batches ≡ take i batches ++ batch ∷ []
     → ¬ (IsKept ((history ++ take i batches) ++ batch ∷ [])) → ¬ (IsKept (history ++ batches))
 not_all history batches i batch next not_kept kept =
@@ -62,7 +63,7 @@ not_all history batches i batch next not_kept kept =
     ∙ sym (append_assoc history (take i batches) (batch ∷ []))) in
     not_kept (IsKept-front ((history ++ take i batches) ++ batch ∷ []) (drop (i + 1) batches) (subst IsKept parts kept))
 
--- the identities of a front, with those behind it taken out
+-- the identities of a prefix, after removing those that follow
 pub back_again : (history batches : List Batch) (i : ℕ) (entry identities after : List Identity) (facts count : ℕ) → IsKnown history entry facts
     → i ≤ length batches
     → IsKnown (history ++ take i batches) identities count → after ≡ take (length identities - i) identities → after ≡ entry
@@ -79,12 +80,13 @@ back_again history batches i entry identities after facts count known within mor
     taken ∙ ap (λ n. take n identities) long ∙ ap (take (length (map identity_of history))) all
     ∙ take-append_seam (map identity_of history) (map identity_of (take i batches)) ∙ sym known.in_order
 
--- identities are left while some are to be taken out
+-- there are identities as long as some have to be removed
 pub some_left : (entry now : List Identity) (count left : ℕ) → count ≤ length entry → left ≤ count → 0 < left
     → now ≡ take (length entry - (count - left)) entry → 0 < length now
 some_left entry now count left within fits some is =
     omega (arith, ap length is, length-take-le (length entry - (count - left)) entry (omega arith))
 
+-- the identities after one more is removed
 pub one_less : (entry now after : List Identity) (count left : ℕ) → count ≤ length entry → left ≤ count → 0 < left
     → now ≡ take (length entry - (count - left)) entry
     → after ≡ take (length now - 1) now → after ≡ take (length entry - (count - (left - 1))) entry

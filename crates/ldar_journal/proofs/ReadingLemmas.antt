@@ -1,4 +1,4 @@
--- A journal that is read frame by frame.
+-- A journal read frame by frame.
 use Rattle.std.proofs.Common.{◌≡◌, ◌≢◌, ◌⊎◌, inl, inr, ℕ, ◌+◌, ◌-◌, ◌<◌, ◌≤◌, Bool, true, false, List, [], ◌∷◌, ◌++◌, length, take, drop, Option, Some, None}
 use Rattle.std.proofs.Common.{refl, sym, ◌∙◌, ap, subst, arith, length-append, length-drop, length-take, slice_index}
 use Rattle.std.specs.List.{AllByRecursion}
@@ -21,7 +21,7 @@ use Rattle.ldar_journal.proofs.FrameLemmas.{AllByRecursion-push}
 use Rattle.ldar_journal.proofs.Frames.{length-payload, fact_count-some}
 use Rattle.ldar_journal.proofs.Histories.{at_place, batches_of-push, bad_frame, end_of-push, front_grows}
 
--- a window stays ahead of the place behind a frame
+-- a window is at the place after a frame
 ahead_behind : (place used : ℕ) (window bytes : List ℕ) → used ≤ length window → IsAhead place window bytes → IsAhead (place + used) (drop used window) bytes
 ahead_behind place used window bytes within ahead =
     let rest = length window - used in
@@ -31,7 +31,7 @@ ahead_behind place used window bytes within ahead =
     ∙ ap (take rest) (drop-drop used place bytes)
     ∙ ap (λ n. take n (drop (place + used) bytes)) (sym long)
 
--- what was read with a frame more
+-- the frames read so far, with one more
 behind_more : (place used : ℕ) (frames : List (List Batch)) (batches : List Batch) (window window' bytes : List ℕ) → IsBehind bytes place frames window
     → (IsAhead place window bytes → IsAhead place window' bytes)
     → (IsAhead place window bytes → place ≤ length bytes → IsFrameOf (drop place bytes) batches used) → used ≤ length window'
@@ -45,23 +45,25 @@ behind_more place used frames batches window window' bytes behind ahead found wi
       ahead = ahead_behind place used window' bytes within (ahead behind.ahead);
     }
 
--- what a disk's content tells stays where the content does
+-- a property of a disk's content holds as long as the content does not change
 told_same : (a b : Option (List ℕ)) (P : List ℕ → Type 0) → Told a P → BothTold a b (λ old new. new ≡ old) → Told b P
 told_same a b P = Told-after P P (λ old new. new ≡ old) (λ x y is same. subst P (sym same) is) a b
 
+-- a crash still leaves only these bytes if it leaves the same images
 only_same : (images images' : List ℕ → Type 0) (bytes : List ℕ) → Same images images' → Only bytes images → Only bytes images'
 only_same images images' bytes same only = record {
   itself = (same bytes).0 only.itself;
   no_other = λ c is. only.no_other c ((same c).1 is);
 }
 
+-- the disk is still stable if neither its bytes nor its images change
 pub durable_same : (a b : Option (List ℕ)) (images images' : List ℕ → Type 0) → Told a (λ bytes. Only bytes images) → BothTold a b (λ old new. new ≡ old)
     → Same images images' → Told b (λ bytes. Only bytes images')
 durable_same a b images images' durable same images_same =
     Told-weaker (λ bytes. Only bytes images) (λ bytes. Only bytes images') (λ bytes only. only_same images images' bytes images_same only) b
     (told_same a b (λ bytes. Only bytes images) durable same)
 
--- three facts of what is told
+-- three properties of a disk's content
 told_three : (a b : Option (List ℕ)) (P Q : List ℕ → Type 0) (R : List ℕ → List ℕ → Type 0) (S : List ℕ → List ℕ → Type 0)
     → ((x y : List ℕ) → P x → R x y → S x y → y ≡ x → Q y)
     → Told a P → BothTold a b R → BothTold a b S → BothTold a b (λ old new. new ≡ old) → Told b Q
@@ -70,7 +72,7 @@ told_three None (Some y) P Q R S gives p r s same = absurd r
 told_three (Some x) None P Q R S gives p r s same = absurd r
 told_three (Some x) (Some y) P Q R S gives p r s same = gives x y p r s same
 
--- a journal that is read with one frame more
+-- a journal that is being read, with one more frame
 pub reading_on : (content content' : Option (List ℕ)) (images images' : List ℕ → Type 0) (place used : ℕ) (frames : List (List Batch)) (batches : List Batch)
     (window window' : List ℕ)
     → IsReading content images place frames window → BothTold content content' (λ old new. new ≡ old) → Same images images'
@@ -106,7 +108,7 @@ gate_of_frame bytes place used batches inside stands =
     let same = sym (at_place bytes place place_in) ∙ stands.stands in
     cc
 
--- a frame that can't be kept is damage at its place
+-- a frame that cannot be kept is damage at its place
 pub not_kept_damaged : (a b : Option (List ℕ)) (place used : ℕ) (frames : List (List Batch)) (batches : List Batch) (window : List ℕ)
     → Told a (λ bytes. IsBehind bytes place frames window)
     → BothTold a b (λ old new. IsAhead place window old → place ≤ length old → IsFrameOf (drop place old) batches used) → IsKept (batches_of frames)
@@ -125,7 +127,7 @@ not_kept_damaged (Some bytes) (Some other) place used frames batches window behi
       bad = bad_frame bytes place used (batches_of frames) batches stands not_kept;
     }
 
--- a frame is short
+-- a frame has a bounded length
 pub frame_fits : (batches : List Batch) → IsFrame batches → length (frame batches) ≤ 188_565
 frame_fits batches is = let long = length-payload batches is.each in omega (arith, is.fits)
 
@@ -141,7 +143,7 @@ facts_grow frames batches is =
       is.some,
     )
 
--- there are no more batches than facts
+-- there are at most as many batches as facts
 pub few_batches : (frames : List (List Batch)) → AllByRecursion IsFrame frames → length (batches_of frames) ≤ fact_count (batches_of frames)
 few_batches [] each = omega arith
 few_batches (f ∷ frames) each =
@@ -153,26 +155,26 @@ few_batches (f ∷ frames) each =
       few_batches frames each.1,
     )
 
--- .. and so not too many, with one frame more that may be kept
+-- with one more frame that may be kept, too
 pub few_more : (frames : List (List Batch)) (batches : List Batch) → AllByRecursion IsFrame frames → IsFrame batches → IsKept (batches_of frames ++ batches)
     → length (batches_of (frames ++ batches ∷ [])) ≤ 8_000_000
 few_more frames batches each is kept =
     let together = ap fact_count (batches_of-push frames batches) in
     omega (arith, few_batches (frames ++ batches ∷ []) (AllByRecursion-push IsFrame frames batches each is), together, kept.fits)
 
--- what is known of the batches of one frame more
+-- what is known about the batches of one more frame
 pub known_frames : (frames : List (List Batch)) (batches : List Batch) (identities : List Identity) (facts : ℕ)
     → IsKnown (batches_of frames ++ batches) identities facts → IsKnown (batches_of (frames ++ batches ∷ [])) identities facts
 known_frames frames batches identities facts known = subst (λ (l : List Batch). IsKnown l identities facts) (sym (batches_of-push frames batches)) known
 
 -- ---- the header
 
--- a window at the beginning shows the first 16 bytes, if it has so many or all there are
+-- a window at the beginning has the first 16 bytes, if it has that many or all bytes
 header_front : (window bytes : List ℕ) → IsAhead 0 window bytes → (16 ≤ length window) ⊎ (window ≡ bytes) → take 16 window ≡ take 16 bytes
 header_front window bytes ahead (inl long) = ap (take 16) ahead ∙ take-take 16 (length window) bytes long
 header_front window bytes ahead (inr all) = ap (take 16) all
 
--- what the window shows once it was filled, or the bytes had come to an end
+-- the content of the window after it was filled, or the bytes ended
 pub shows_header : (a b : Option (List ℕ)) (window : List ℕ) (full : Bool) → BothTold a b (λ old new. IsAhead 0 [] old → IsAhead 0 window old)
     → (full ≡ true → 16 ≤ length window)
     → (full ≡ false → BothTold a b (λ old new. IsAhead 0 [] old → window ≡ drop 0 old))
@@ -190,7 +192,7 @@ shows_header a b window false ahead long all = both a b ahead (all refl)
     both (Some x) None one two = absurd one
     both (Some x) (Some y) one two = (header_front window x (one refl) (inr (two refl)), one refl)
 
--- other bytes than the header are no journal
+-- bytes without the header are no journal
 pub no_header_told : (a b c : Option (List ℕ)) (window : List ℕ) → BothTold a b (λ old new. new ≡ old)
     → BothTold b c (λ old new. (take 16 window ≡ take 16 old) × IsAhead 0 window old) → take 16 window ≢ header
     → Told a (λ bytes. take 16 bytes ≢ header)
@@ -199,7 +201,7 @@ no_header_told (Some x) None c window same shows no_header = absurd same
 no_header_told (Some x) (Some y) None window same shows no_header = absurd shows
 no_header_told (Some x) (Some y) (Some z) window same shows no_header = λ is. no_header (shows.0 ∙ ap (take 16) same ∙ is)
 
--- behind the header no frame was read yet
+-- after the header, no frame was read yet
 pub behind_header : (b c : Option (List ℕ)) (window : List ℕ) → BothTold b c (λ old new. (take 16 window ≡ take 16 old) × IsAhead 0 window old)
     → BothTold b c (λ old new. new ≡ old) → take 16 window ≡ header
     → Told c (λ bytes. IsBehind bytes 16 [] (drop 16 window))

@@ -1,4 +1,4 @@
--- What an append leaves of the bytes of a journal, step by step.
+-- What an append does to the bytes of a journal, step by step.
 use Rattle.std.proofs.Common.{◌≡◌, ◌≢◌, ◌⊎◌, inl, inr, ℕ, ◌+◌, ◌*◌, ◌-◌, ◌<◌, ◌≤◌, Option, Result, Ok, Err, OnOk, is_err, false, List, [], ◌∷◌, ◌++◌, length}
 use Rattle.std.proofs.Common.{take, drop, get_or, slice_index, refl, sym, ◌∙◌, ap, ap₂, subst, arith, append_assoc, length-append, length-drop}
 use Rattle.std.proofs.lemmas.Bool.{cases_eq, false≢true}
@@ -24,11 +24,11 @@ use Rattle.ldar_journal.proofs.GateLemmas.{Torn-behind, Torn-gate}
 use Rattle.ldar_journal.proofs.Frames.{length-payload}
 use Rattle.ldar_journal.proofs.Histories.{at_place, batches_of-push, front_grows, IsKept-front, damaged_opens_to_none, end_of-push, end_of-fits}
 
--- a frame and what stands behind its gate are of one length
+-- the length of the bytes after a frame's gate
 length-behind_gate : (batches : List Batch) → length (behind_gate batches) ≡ length (frame batches)
 length-behind_gate batches = omega (arith, length-append (payload batches) (0 ∷ []))
 
--- with the open gate the frame stands, and a closed gate behind it
+-- once the gate is open, the frame is kept, and a closed gate is after it
 pub opened : (bytes : List ℕ) (place : ℕ) (frames : List (List Batch)) (batches : List Batch) → IsInDoubt bytes place frames batches → get_or bytes place 0 ≡ 1
     → EndsAt bytes (place + length (behind_gate batches)) (frames ++ batches ∷ [])
 opened bytes place frames batches stands open_gate =
@@ -63,7 +63,7 @@ opened bytes place frames batches stands open_gate =
     zero_is_not_one : (n : ℕ) → n ≡ 0 → n ≡ 1 → ⊥
     zero_is_not_one n zero one = omega arith
 
--- what opens to frames, or stands in doubt behind them, opens to one of the two
+-- bytes that open to frames, or have a frame in doubt after them, open to one of the two
 pub Stands-opens : (bytes : List ℕ) (place : ℕ) (frames : List (List Batch)) (doubt : List Batch) → Stands bytes place frames doubt
     → OpensToEither bytes frames doubt
 Stands-opens bytes place frames [] ends = inl (place, ends)
@@ -82,7 +82,7 @@ Stands-opens bytes place frames (b ∷ doubt) stands = in_doubt (cases_eq (get_o
       },
     )
 
--- bytes behind the gate that ends a journal change nothing of its frames
+-- bytes after the gate that ends a journal do not change its frames
 pub put_behind_stays : (gate : ℕ) (frames : List (List Batch)) (old new : List ℕ) → EndsAt old gate frames → WritesBehind gate old new → EndsAt new gate frames
 put_behind_stays gate frames old new ends puts =
     let put = puts ends.within in
@@ -99,7 +99,7 @@ put_behind_stays gate frames old new ends puts =
     take_gate : (l : List ℕ) → take gate l ≡ take gate (take (gate + 1) l)
     take_gate l = sym (take-take gate (gate + 1) l (omega arith))
 
--- a frame behind a gate that is being opened is in doubt
+-- a frame whose gate is being opened is in doubt
 pub put_in_doubt : (gate : ℕ) (frames : List (List Batch)) (batches : List Batch) → IsFrame batches → IsKept (batches_of frames ++ batches) → (old new : List ℕ)
     → EndsAt old gate frames × HoldsBehind gate (behind_gate batches) old → WritesGate gate old new → IsInDoubt new gate frames batches
 put_in_doubt gate frames batches is kept old new both sames =
@@ -115,27 +115,27 @@ put_in_doubt gate frames batches is kept old new both sames =
       stands = same.behind ∙ holds.stands;
     }
 
--- a journal with a frame in doubt stands where its frame has a batch
+-- a frame in doubt has a batch
 pub Stands-doubt : (bytes : List ℕ) (place : ℕ) (frames : List (List Batch)) (batches : List Batch) → 0 < length batches
     → IsInDoubt bytes place frames batches → Stands bytes place frames batches
 Stands-doubt bytes place frames [] some stands = absurd (omega arith)
 Stands-doubt bytes place frames (b ∷ batches) some stands = stands
 
--- what stands as a journal says opens as it says
+-- bytes in a journal's state open as the journal describes
 pub Stands-as : (bytes : List ℕ) (place : ℕ) (frames : List (List Batch)) (doubt : List Batch) → Stands bytes place frames doubt → OpensAs bytes frames doubt
 Stands-as bytes place frames [] ends = (place, ends)
 Stands-as bytes place frames (b ∷ doubt) stands = Stands-opens bytes place frames (b ∷ doubt) stands
 
--- bytes that end at a closed gate stand with nothing in doubt
+-- bytes that end at a closed gate have nothing in doubt
 pub Stands-none : (bytes : List ℕ) (place : ℕ) (frames : List (List Batch)) (doubt : List Batch) → doubt ≡ [] → Stands bytes place frames doubt
     → EndsAt bytes place frames
 Stands-none bytes place frames doubt none stands = subst (λ (d : List Batch). Stands bytes place frames d) none stands
 
--- with nothing in doubt the bytes open to the frames alone
+-- with nothing in doubt, the bytes open only to the frames
 pub OpensAs-none : (bytes : List ℕ) (frames : List (List Batch)) (doubt : List Batch) → doubt ≡ [] → OpensAs bytes frames doubt → OpensTo bytes frames
 OpensAs-none bytes frames doubt none opens = subst (λ (d : List Batch). OpensAs bytes frames d) none opens
 
--- the place of the next gate, with a frame more
+-- the place of the next gate, after one more frame
 pub IsCounted-push : (place : ℕ) (frames : List (List Batch)) (batches : List Batch) → IsFrame batches → IsKept (batches_of frames ++ batches)
     → IsCounted place frames
     → IsCounted (place + length (behind_gate batches)) (frames ++ batches ∷ [])
@@ -145,14 +145,14 @@ IsCounted-push place frames batches is kept counted = record {
   at_end = omega (arith, counted.at_end, end_of-push frames batches, length-behind_gate batches);
 }
 
--- a gate stands far below 2^63, and so does what an append puts behind it
+-- a gate, and what an append writes after it, is far below 2^63
 pub IsCounted-fits : (place : ℕ) (frames : List (List Batch)) → IsCounted place frames → place ≤ 16 + 188_565 * 8_000_000
 IsCounted-fits place frames counted = let fits = end_of-fits frames counted.each in omega (arith, counted.at_end, counted.kept.fits)
 
 pub behind_gate-fits : (batches : List Batch) → IsFrame batches → length (behind_gate batches) ≤ 188_565
 behind_gate-fits batches is = let long = length-payload batches is.each in omega (arith, is.fits, length-append (payload batches) (0 ∷ []))
 
--- no frame is in doubt exactly where no bytes are
+-- no frame is in doubt exactly if `torn` is 0
 pub IsDoubt-none : (frames : List (List Batch)) (doubt : List Batch) (torn : ℕ) → IsDoubt frames doubt torn → torn ≡ 0 → doubt ≡ []
 IsDoubt-none frames [] torn is none = refl
 IsDoubt-none frames (b ∷ doubt) torn is none = absurd (omega (arith, is.long, length-append (payload (b ∷ doubt)) (0 ∷ [])))
@@ -171,7 +171,7 @@ pub IsDoubt-of : (frames : List (List Batch)) (batches : List Batch) (torn : ℕ
 IsDoubt-of frames [] torn is = let some = is.is.some in absurd (omega arith)
 IsDoubt-of frames (b ∷ batches) torn is = is
 
--- with nothing in doubt it is so behind any frames
+-- nothing is in doubt after any frames
 pub IsDoubt-anywhere : (frames others : List (List Batch)) (doubt : List Batch) (torn : ℕ) → doubt ≡ [] → IsDoubt frames doubt torn → IsDoubt others doubt torn
 IsDoubt-anywhere frames others [] torn none is = is
 IsDoubt-anywhere frames others (b ∷ doubt) torn none is = absurd cc
@@ -186,13 +186,14 @@ IsShelved-opened content images place frames ends stable counted = record {
   in_doubt = refl;
 }
 
--- the bytes and the images of a journal open as it says
+-- the bytes and the images of a journal open as the journal describes
 pub IsShelved-as : (content : Option (List ℕ)) (images : List ℕ → Type 0) (place : ℕ) (frames : List (List Batch)) (doubt : List Batch) (torn : ℕ)
     → IsShelved content images place frames doubt torn → OnDisk content images (λ image. OpensAs image frames doubt)
 IsShelved-as content images place frames doubt torn shelved =
     OnDisk-weaker (λ image. Stands image place frames doubt) (λ image. OpensAs image frames doubt) (λ image. Stands-as image place frames doubt) content
     images shelved.stands
 
+-- the bytes of a journal open to its frames, with or without the one in doubt
 pub IsShelved-opens : (content : Option (List ℕ)) (images : List ℕ → Type 0) (place : ℕ) (frames : List (List Batch)) (doubt : List Batch) (torn : ℕ)
     → IsShelved content images place frames doubt torn → Told content (λ bytes. OpensToEither bytes frames doubt)
 IsShelved-opens content images place frames doubt torn shelved =
@@ -210,11 +211,11 @@ pub record IsReady (content : Option (List ℕ)) (images : List ℕ → Type 0) 
   pub kept : IsKept (batches_of frames ++ batches)
   pub counted : IsCounted gate frames
 
--- a journal as contracts see it
+-- a journal in contracts
 abbrev seen : {D : Type 0} → D → List (List Batch) → List Batch → Shelf D
 seen disk frames doubt = record { disk = disk; frames = frames; doubt = doubt }
 
--- a journal that is seen as settled, with a frame that may be kept
+-- a settled journal in contracts, with a frame that may be kept
 pub ready : {D : Type 0} (content_of : D → Option (List ℕ)) (images_of : D → List ℕ → Type 0) (disk : D) (gate : ℕ) (frames : List (List Batch))
     (doubt batches : List Batch) (torn : ℕ) (as_seen : Shelf D)
     → seen disk frames doubt ≡ as_seen → IsShelved (content_of disk) (images_of disk) gate frames doubt torn → as_seen.doubt ≡ [] → IsFrame batches
@@ -233,7 +234,7 @@ ready content_of images_of disk gate frames doubt batches torn as_seen is_seen s
       counted = shelved.counted;
     }
 
--- what stands once the frame is put behind the gate, and while its gate is opened
+-- the bytes after the frame is written after the gate, and while its gate is opened
 abbrev IsPut : ℕ → List (List Batch) → List Batch → List ℕ → Type 0
 IsPut gate frames batches image = EndsAt image gate frames × HoldsBehind gate (behind_gate batches) image
 
@@ -252,14 +253,14 @@ module _ {D : Type 0} (clock_of : D → ℕ) (left_of : D → ℕ → List ℕ �
       (puts : BothTold (content_of old) (content_of middle) (WritesBehind gate))
       (from_old : (image : List ℕ) → images_of middle image → ComesFrom (Torn (gate + 1) n) (images_of old) image)
       (put_leaves : LeavesOnly clock_of left_of old middle (ComesFrom (Torn (gate + 1) n) (images_of old))) where
-    -- the frames stand, whatever was written behind their gate
+    -- the frames are unchanged, whatever was written after their gate
     stays : OnDisk (content_of middle) (images_of middle) (λ image. EndsAt image gate frames)
     stays =
         OnDisk-after (λ image. EndsAt image gate frames) (λ image. EndsAt image gate frames) (WritesBehind gate) (put_behind_stays gate frames)
         (content_of old) (content_of middle) (images_of old) (images_of middle) is_ready.ends puts
         (λ image now. ComesFrom-weaker (Torn (gate + 1) n) (WritesBehind gate) (images_of old) (Torn-behind gate n) image (from_old image now))
 
-    -- a fault behind the gate leaves the journal as it was
+    -- an error after the gate leaves the journal as it was
     pub IsShelved-shut : IsShelved (content_of middle) (images_of middle) gate frames doubt torn
     IsShelved-shut = record {
       stands =
@@ -269,7 +270,7 @@ module _ {D : Type 0} (clock_of : D → ℕ) (left_of : D → ℕ → List ℕ �
       in_doubt = is_ready.in_doubt;
     }
 
-    -- up to then a crash leaves the frames alone
+    -- until then a crash leaves only the frames
     pub put_leaves_frames : LeavesOnly clock_of left_of old middle (λ image. Told (content_of old) (λ _. OpensTo image frames))
     put_leaves_frames =
         LeavesOnly-weaker clock_of left_of old middle (ComesFrom (Torn (gate + 1) n) (images_of old))
@@ -278,7 +279,7 @@ module _ {D : Type 0} (clock_of : D → ℕ) (left_of : D → ℕ → List ℕ �
         (λ a b ends torn. (gate, put_behind_stays gate frames a b ends (Torn-behind gate n a b torn)))
         (content_of old) (images_of old) is_ready.ends) put_leaves
 
-    -- up to then a crash leaves the frames
+    -- until then a crash leaves the frames
     pub put_moments : LeavesOnly clock_of left_of old middle May
     put_moments =
         LeavesOnly-weaker clock_of left_of old middle (ComesFrom (Torn (gate + 1) n) (images_of old)) May
@@ -291,7 +292,7 @@ module _ {D : Type 0} (clock_of : D → ℕ) (left_of : D → ℕ → List ℕ �
         (stable : Told (content_of middle) (λ bytes. Only bytes (images_of middle)))
         (opens : BothTold (content_of middle) (content_of new) (WritesGate gate))
         (from_middle : (image : List ℕ) → images_of new image → ComesFrom (Torn gate 1) (images_of middle) image) where
-      -- the frame is there behind the gate in all that a crash may leave
+      -- the frame is after the gate in everything that a crash may leave
       put : OnDisk (content_of middle) (images_of middle) (IsPut gate frames batches)
       put =
           OnDisk-stable (IsPut gate frames batches) (content_of middle) (images_of middle)
@@ -303,14 +304,14 @@ module _ {D : Type 0} (clock_of : D → ℕ) (left_of : D → ℕ → List ℕ �
           (OnDisk-content (λ image. EndsAt image gate frames) (content_of old) (images_of old) is_ready.ends) holds))
           stable
 
-      -- so the frame is in doubt while its gate is opened
+      -- the frame is in doubt while its gate is opened
       in_doubt : OnDisk (content_of new) (images_of new) (λ image. IsInDoubt image gate frames batches)
       in_doubt =
           OnDisk-after (IsPut gate frames batches) (λ image. IsInDoubt image gate frames batches) (WritesGate gate)
           (put_in_doubt gate frames batches is_ready.is is_ready.kept) (content_of middle) (content_of new) (images_of middle) (images_of new) put opens
           (λ image now. ComesFrom-weaker (Torn gate 1) (WritesGate gate) (images_of middle) (Torn-gate gate) image (from_middle image now))
 
-      -- a fault at the gate leaves the frame in doubt
+      -- an error at the gate leaves the frame in doubt
       pub IsShelved-torn : IsShelved (content_of new) (images_of new) gate frames batches (length (behind_gate batches))
       IsShelved-torn = record {
         stands =
@@ -320,11 +321,11 @@ module _ {D : Type 0} (clock_of : D → ℕ) (left_of : D → ℕ → List ℕ �
         in_doubt = IsDoubt-of frames batches (length (behind_gate batches)) (record { is = is_ready.is; kept = is_ready.kept; long = refl });
       }
 
-      -- and the doubt is at the end of the frames
+      -- the frame in doubt is at the end of the frames
       pub doubt_at_end : OnDisk (content_of new) (images_of new) (λ image. IsInDoubt image (end_of frames) frames batches)
       doubt_at_end = subst (λ (n : ℕ). OnDisk (content_of new) (images_of new) (λ image. IsInDoubt image n frames batches)) is_ready.counted.at_end in_doubt
 
-      -- with the open gate stable the frame stands
+      -- once the open gate is stable, the frame is kept
       pub IsShelved-appended : BothTold (content_of middle) (content_of new) (λ old new. gate < length old → slice_index new gate ≡ 1)
           → Told (content_of new) (λ bytes. Only bytes (images_of new))
           → IsShelved (content_of new) (images_of new) (gate + length (behind_gate batches)) (frames ++ batches ∷ []) doubt torn
@@ -345,7 +346,7 @@ module _ {D : Type 0} (clock_of : D → ℕ) (left_of : D → ℕ → List ℕ �
             in_doubt = IsDoubt-anywhere frames (frames ++ batches ∷ []) doubt torn is_ready.none is_ready.in_doubt;
           }
 
-      -- at any moment of the whole a crash leaves the frames, or these and the frame
+      -- at any moment of the whole call a crash leaves the frames, or the frames and the new one
       pub append_moments : clock_of old ≤ clock_of middle → LeavesOnly clock_of left_of middle new (ComesFrom (Torn gate 1) (images_of middle))
           → LeavesOnly clock_of left_of old new May
       append_moments time open_leaves =
@@ -358,14 +359,14 @@ module _ {D : Type 0} (clock_of : D → ℕ) (left_of : D → ℕ → List ℕ �
           (put_in_doubt gate frames batches is_ready.is is_ready.kept a b is_put (Torn-gate gate a b torn))))
           (content_of middle) (images_of middle) put image from)) open_leaves)
 
--- where the frame takes its room, so do its parts
+-- if the frame fits into the room, so do its parts
 pub room_of_parts : (gate : ℕ) (frames : List (List Batch)) (batches : List Batch) → IsCounted gate frames
     → gate + 1 + length (behind_gate batches) ≡ end_of (frames ++ batches ∷ []) + 1
 room_of_parts gate frames batches counted = omega (arith, counted.at_end, end_of-push frames batches, length-behind_gate batches)
 
 -- ---- settling
 
--- a journal stays as it is where its bytes stay and a crash leaves no more
+-- a journal is unchanged if its bytes are and a crash leaves no more
 pub IsShelved-fewer : (old new : Option (List ℕ)) (images images' : List ℕ → Type 0) (place : ℕ) (frames : List (List Batch)) (doubt : List Batch) (torn : ℕ)
     → IsShelved old images place frames doubt torn → BothTold old new (λ old new. new ≡ old) → ((image : List ℕ) → images' image → images image)
     → IsShelved new images' place frames doubt torn
@@ -375,7 +376,7 @@ IsShelved-fewer old new images images' place frames doubt torn shelved same fewe
   in_doubt = shelved.in_doubt;
 }
 
--- a frame in doubt, where one is
+-- the frame in doubt, if there is one
 Stands-some : (bytes : List ℕ) (place : ℕ) (frames : List (List Batch)) (doubt : List Batch) → doubt ≢ [] → Stands bytes place frames doubt
     → IsInDoubt bytes place frames doubt
 Stands-some bytes place frames [] some stands = absurd (some refl)
@@ -391,7 +392,7 @@ module _ (content : Option (List ℕ)) (images : List ℕ → Type 0) (place : �
       (λ bytes. Stands-some bytes place frames doubt some) content
       (OnDisk-content (λ image. Stands image place frames doubt) content images shelved.stands)
 
-  -- behind an open gate the frame stands
+  -- the frame is kept if the gate is open
   pub IsShelved-stands : Told content (λ bytes. place < length bytes → slice_index bytes place ≡ 1)
       → IsShelved content images (place + torn) (frames ++ doubt ∷ []) [] 0
   IsShelved-stands open_gate = rw (is_torn.long) (record {
@@ -406,7 +407,7 @@ module _ (content : Option (List ℕ)) (images : List ℕ → Type 0) (place : �
     in_doubt = refl;
   })
 
-  -- behind a closed one it is gone
+  -- the frame is gone if the gate is closed
   pub IsShelved-gone : Told content (λ bytes. place < length bytes → slice_index bytes place ≢ 1) → IsShelved content images place frames [] 0
   IsShelved-gone shut = record {
     stands =
@@ -423,7 +424,7 @@ module _ (content : Option (List ℕ)) (images : List ℕ → Type 0) (place : �
     in_doubt = refl;
   }
 
--- what a crash leaves of a journal opens to its frames, or to these and the frame in doubt
+-- what a crash leaves of a journal opens to its frames, or to the frames and the one in doubt
 pub settle_moments : {D : Type 0} (clock_of : D → ℕ) (left_of : D → ℕ → List ℕ → Type 0) (old new : D) (content : Option (List ℕ)) (images : List ℕ → Type 0)
     (place : ℕ) (frames : List (List Batch)) (doubt : List Batch) (torn : ℕ) → IsShelved content images place frames doubt torn
     → LeavesOnly clock_of left_of old new images → LeavesOnly clock_of left_of old new (λ image. Told content (λ _. OpensToEither image frames doubt))
@@ -433,7 +434,7 @@ settle_moments clock_of left_of old new content images place frames doubt torn s
     (λ a b stands same. Stands-opens b place frames doubt (subst (λ (l : List ℕ). Stands l place frames doubt) same stands)) content images shelved.stands
     image (image, now, refl)) leaves
 
--- what opens to frames, or to one more, opens to their batches, or to these and its own
+-- bytes that open to frames, or to one more, open to their batches, with or without those of the last one
 pub either_history : (bytes : List ℕ) (frames : List (List Batch)) (history doubt : List Batch) → batches_of frames ≡ history
     → OpensToEither bytes frames doubt → OpensEither bytes history doubt
 either_history bytes frames history doubt are (inl opens) = inl (frames, are, opens)
@@ -447,7 +448,7 @@ either_not_damaged image place frames batches (inl opens) damaged = damaged_open
 either_not_damaged image place frames batches (inr opens) damaged =
     damaged_opens_to_none image place (batches_of (frames ++ batches ∷ [])) damaged (frames ++ batches ∷ [], refl, opens)
 
--- what a call that answered Ok promises
+-- the promise of a call that returned `Ok`
 pub from_ok : {T E : Type 0} (r : Result T E) {P : Type 0} → is_err r ≡ false → OnOk r P → P
 from_ok (Ok v) ok promised = promised
 from_ok (Err e) ok promised = absurd (false≢true (sym ok))

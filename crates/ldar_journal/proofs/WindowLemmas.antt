@@ -1,4 +1,4 @@
--- Bytes of a disk in a window, over one read more.
+-- Bytes of a disk in a window, after one more read.
 use Rattle.std.proofs.Common.{◌≡◌, ◌≤◌, ◌<◌, ◌+◌, ◌-◌, ℕ, List, [], ◌++◌, length, take, drop, Option, Some, None, refl, sym, ap, ◌∙◌, subst, arith}
 use Rattle.std.proofs.Common.{length-append}
 use Rattle.std.proofs.Math.Seq.{paste, take-add}
@@ -11,7 +11,7 @@ use Rattle.disk_model.proofs.ReadLemmas.{Reads-piece}
 use Rattle.disk_model.proofs.ToldLemmas.{BothTold-joins, BothTold-weaker}
 use Rattle.ldar_journal.specs.Window.{WindowState, IsAhead, OnlyReads}
 
--- what was copied from between two places to the front stands there
+-- the bytes between two places, copied to the front
 pub moved_to_front : (old new : List ℕ) (from end : ℕ) → from ≤ end → end ≤ length old → new ≡ paste old 0 (drop from old) (end - from)
     → take (end - from) new ≡ drop from (take end old)
 moved_to_front old new from end ordered in_range is_new =
@@ -26,11 +26,11 @@ moved_to_front old new from end ordered in_range is_new =
     ∙ sym (drop-take from count old)
     ∙ ap (λ n. drop from (take n old)) sum
 
--- the window with what stands between two places of a buffer
+-- a window with the bytes between two places of a buffer
 abbrev pub window_of : ℕ → ℕ → List ℕ → WindowState
 window_of start end buffer = record { bytes = drop start (take end buffer); size = length buffer }
 
--- what was read behind the bytes of a window, once there was room, stands behind them
+-- bytes that were read into the room after the window's bytes follow them
 pub window_of-more : (old moved new : List ℕ) (from to start end n : ℕ) (window : WindowState) → window_of from to old ≡ window
     → length moved ≡ length old → drop start (take end moved) ≡ drop from (take to old)
     → start ≤ end → end ≤ length moved
@@ -42,7 +42,7 @@ window_of-more old moved new from to start end n window is_window size same orde
     let P : WindowState → Type 0 = λ w. window_of start (end + n) new ≡ record { bytes = w.bytes ++ take n (drop end new); size = w.size } in
     subst P is_window (rw (take-add end n new, drop-append-le start (take end new) (take n (drop end new)) within, front, same, size', size) refl)
 
--- a window stays ahead with what a read put behind it
+-- a window is still at its place with the bytes of a read added
 pub IsAhead-more : (place at n : ℕ) (bytes old new window more : List ℕ) → Reads at bytes old new n → at ≡ place + length window → more ≡ take n new
     → n ≤ length new → IsAhead place window bytes
     → IsAhead place (window ++ more) bytes
@@ -55,7 +55,7 @@ IsAhead-more place at n bytes old new window more reads at_is more_is fits ahead
     ∙ sym (take-add (length window) n (drop place bytes))
     ∙ ap (λ k. take k (drop place bytes)) (sym long)
 
--- where a read found no more, the window is all that is left
+-- if a read found no more, the window has all bytes from its place on
 pub IsAhead-all : (place at : ℕ) (bytes old new window : List ℕ) → Reads at bytes old new 0 → at ≡ place + length window → 0 < length old
     → IsAhead place window bytes → window ≡ drop place bytes
 IsAhead-all place at bytes old new window reads at_is room ahead =
@@ -63,6 +63,7 @@ IsAhead-all place at bytes old new window reads at_is room ahead =
     let all : length (drop place bytes) ≤ length window = omega (arith, length-drop place bytes) in
     ahead ∙ take_all (length window) (drop place bytes) all
 
+-- several calls that only read are calls that only read
 pub OnlyReads-joins : {D : Type 0} (content_of : D → Option (List ℕ)) (images_of : D → List ℕ → Type 0) (left_of : D → ℕ → List ℕ → Type 0) (clock_of : D → ℕ)
     (a b c : D) → clock_of a ≤ clock_of b
     → OnlyReads content_of images_of left_of clock_of a b → OnlyReads content_of images_of left_of clock_of b c
@@ -77,6 +78,7 @@ OnlyReads-joins content_of images_of left_of clock_of a b c later first second =
       (λ is. two.0 (one.0 is), λ is. one.1 (two.1 is));
 }
 
+-- without a call, nothing changes
 pub OnlyReads-stays : {D : Type 0} (content_of : D → Option (List ℕ)) (images_of : D → List ℕ → Type 0) (left_of : D → ℕ → List ℕ → Type 0) (clock_of : D → ℕ)
     (a : D) → OnlyReads content_of images_of left_of clock_of a a
 OnlyReads-stays content_of images_of left_of clock_of a = record {
@@ -89,7 +91,7 @@ OnlyReads-stays content_of images_of left_of clock_of a = record {
     same None = tt
     same (Some bytes) = refl
 
--- what is ahead over two reads one after the other
+-- two reads one after the other
 pub ahead_joins : (a b c : Option (List ℕ)) (place : ℕ) (first middle last : List ℕ) → BothTold a b (λ old new. new ≡ old)
     → BothTold a b (λ old new. IsAhead place first old → IsAhead place middle old)
     → BothTold b c (λ old new. IsAhead place middle old → IsAhead place last old) → BothTold b c (λ old new. new ≡ old)
@@ -102,11 +104,12 @@ ahead_joins (Some x) (Some y) None place first middle last same one two same' = 
 ahead_joins (Some x) (Some y) (Some z) place first middle last same one two same' = λ ahead.
     subst (λ (l : List ℕ). IsAhead place last l) same (two (subst (λ (l : List ℕ). IsAhead place middle l) (sym same) (one ahead)))
 
+-- without a call, the window stays at its place
 pub ahead_stays : (a : Option (List ℕ)) (place : ℕ) (window : List ℕ) → BothTold a a (λ old new. IsAhead place window old → IsAhead place window old)
 ahead_stays None place window = tt
 ahead_stays (Some x) place window = λ ahead. ahead
 
--- .. and the window that is all there is at the end of both
+-- the window with all bytes, after both reads
 pub all_joins : (a b c : Option (List ℕ)) (place : ℕ) (first middle last : List ℕ) → BothTold a b (λ old new. new ≡ old)
     → BothTold a b (λ old new. IsAhead place first old → IsAhead place middle old) → BothTold b c (λ old new. IsAhead place middle old → last ≡ drop place old)
     → BothTold a c (λ old new. IsAhead place first old → last ≡ drop place old)
@@ -118,7 +121,7 @@ all_joins (Some x) (Some y) None place first middle last same one two = absurd t
 all_joins (Some x) (Some y) (Some z) place first middle last same one two = λ ahead.
     two (subst (λ (l : List ℕ). IsAhead place middle l) (sym same) (one ahead)) ∙ ap (drop place) same
 
--- a read behind the bytes of a window keeps it ahead
+-- a read after the bytes of a window keeps it at its place
 pub read_ahead : (old moved new : List ℕ) (from to start end n place : ℕ) (window : WindowState) → window_of from to old ≡ window
     → length moved ≡ length old → drop start (take end moved) ≡ drop from (take to old)
     → start ≤ end → end ≤ length moved

@@ -1,4 +1,4 @@
--- What stands at the front of some bytes of a journal.
+-- Frames at the front of some bytes.
 use Rattle.std.specs.Prelude.{◌≡◌, ℕ, ◌<◌, ◌≤◌, List, ◌∷◌, ◌++◌, length, drop}
 use Rattle.ldar_journal.specs.declared.frame.TheConstants.{MOST_PAYLOAD}
 use Rattle.fact_kinds.specs.declared.batch.Batch.{Batch}
@@ -12,13 +12,13 @@ pub record IsPayloadAt (bytes payload : List ℕ) : Type 0 where
   pub rest : List ℕ
   pub stands : bytes ≡ 1 ∷ (big_endian 4 (length payload) ++ payload ++ rest)
 
--- the frame of these batches stands at the front, and takes so many bytes
+-- the frame of these batches is at the front and takes this many bytes
 pub record IsFrameOf (bytes : List ℕ) (batches : List Batch) (used : ℕ) : Type 0 where
   pub is : IsFrame batches
   pub used_is : used ≡ length (frame batches)
   pub within : used ≤ length bytes
   pub stands : bytes ≡ frame batches ++ drop used bytes
 
--- no frame stands at the front
+-- no frame is at the front
 abbrev pub HasNoFrame : List ℕ → Type 0
 HasNoFrame bytes = (batches : List Batch) (rest : List ℕ) → IsFrame batches → ¬ (bytes ≡ frame batches ++ rest)

@@ -7,11 +7,11 @@ use Rattle.fact_kinds.specs.Fields.{IsFilled, big_endian}
 use Rattle.ldar_facts.specs.Grammar.{batch_fields, spelled}
 use Rattle.fact_kinds.specs.Identity.{identities_differ}
 
--- what a journal begins with: its name and version in letters, and eight zero bytes
+-- the first bytes of a journal: its name and version in letters, and eight zero bytes
 abbrev pub header : List ℕ
 header = codes "LDARJNL1" ++ replicate 8 0
 
--- each field of the batch is in its width and range
+-- each field of the batch has its width and range
 unfoldable pub IsBatch : Batch → Type 0
 IsBatch batch = AllByRecursion IsFilled (batch_fields batch)
 
@@ -27,7 +27,7 @@ payload batches = flat_map spelling batches
 abbrev pub frame : List Batch → List ℕ
 frame batches = 1 ∷ (big_endian 4 (length (payload batches)) ++ payload batches)
 
--- what a frame may hold: 1 to 16 batches
+-- the batches that a frame may contain: 1 to 16
 pub record IsFrame (batches : List Batch) : Type 0 where
   pub some : 0 < length batches
   pub fits : length batches ≤ FRAME_BATCHES
@@ -37,25 +37,25 @@ pub record IsFrame (batches : List Batch) : Type 0 where
 abbrev pub batches_of : List (List Batch) → List Batch
 batches_of frames = flat_map (λ batches. batches) frames
 
--- where the gate behind these frames stands: each takes its gate, four bytes of length and its payload
+-- the place of the gate after these frames; each frame takes its gate, four bytes of length, and its payload
 abbrev pub end_of : List (List Batch) → ℕ
 end_of frames = 16 + sum_by (λ batches. 5 + length (payload batches)) frames
 
--- these bytes are the header and these frames, whole and open, one after the other
+-- these bytes are the header and these frames, complete and open, one after the other
 pub record IsFront (front : List ℕ) (frames : List (List Batch)) : Type 0 where
   pub each : AllByRecursion IsFrame frames
   pub spells : front ≡ header ++ flat_map frame frames
 
--- how many facts the batches have
+-- the number of facts in the batches
 abbrev pub fact_count : List Batch → ℕ
 fact_count history = sum_by (λ batch. length batch.facts) history
 
--- what a journal may keep: each identity once, and at most 8,000,000 facts
+-- a history that a journal may keep: each identity only once, and at most 8,000,000 facts
 pub record IsKept (history : List Batch) : Type 0 where
   pub differ : IsTrue (identities_differ history)
   pub fits : fact_count history ≤ MOST_FACTS
 
--- the image opens to these frames, the last of which ends at this place, at which a closed gate stands; what follows it is free
+-- the image opens to these frames, and a closed gate follows at this place; the bytes after it are free
 pub record EndsAt (image : List ℕ) (place : ℕ) (frames : List (List Batch)) : Type 0 where
   pub within : place < length image
   pub front : IsFront (take place image) frames
@@ -66,6 +66,6 @@ pub record EndsAt (image : List ℕ) (place : ℕ) (frames : List (List Batch)) 
 abbrev pub OpensTo : List ℕ → List (List Batch) → Type 0
 OpensTo image frames = (place : ℕ) × EndsAt image place frames
 
--- the image opens to this history: frames whose batches in order it is
+-- the image opens to this history: frames with these batches in order
 abbrev pub Opens : List ℕ → List Batch → Type 0
 Opens image history = (frames : List (List Batch)) × (batches_of frames ≡ history) × OpensTo image frames

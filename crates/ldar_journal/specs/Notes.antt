@@ -1,7 +1,7 @@
--- What a log of one entry noted, for proofs alone.
+-- The entry of a log with one entry, for proofs only.
 use Rattle.std.specs.Prelude.{List, [], ◌∷◌}
 
--- the first list that was noted, and the empty list if none was
+-- the first list in the log, or the empty list if there is none
 abbrev pub noted : {A B : Type 0} → List (List A × B) → List A
 noted [] = []
 noted (entry ∷ log) = entry.0

@@ -18,7 +18,7 @@ use fact_kinds::Batch;
 use std::alloc::Global;
 
 /// Opens a journal and returns all of its batches in order. The first call of the disk is a sync. A caller that needs each
-/// frame only once uses `Opening`, which holds one frame at a time.
+/// frame only once uses `Opening`, which keeps one frame at a time.
 pub fn open_journal<D: Disk>(
     alloc: Global,
     disk: D,
@@ -27,15 +27,15 @@ pub fn open_journal<D: Disk>(
     ensures settled { IfOk result (λ r. r.0.doubt ≡ []) }
     ensures batches { IfOk result (λ r. r.1.items ≡ batches_of r.0.frames) }
 
-    // Why it was not opened; the bytes stay.
+    // The reason why it was not opened; the bytes are unchanged.
     ensures refused { IfErr result (λ e. IsRefused (D.content disk) (D.content e.disk) e.why) }
 
-    // Each image that a crash may leave of it was left before, or could have been left at entry; once it is opened, only the bytes.
+    // Each image that a crash may leave was possible before. If the journal was opened, a crash leaves exactly the bytes.
     ensures any_moment { MatchResult result (λ r. LeavesOnly D.clock D.left disk r.0.disk (D.images disk))
         (λ e. LeavesOnly D.clock D.left disk e.disk (D.images disk)) }
     ensures durable { IfOk result (λ r. Told (D.content r.0.disk) (λ bytes. Only bytes (D.images r.0.disk))) }
 
-    // Over a disk with told room that is not at its last clock.
+    // On a disk with a known room, if the clock is not at its maximum.
     ensures roomy { MatchResult result (λ r. AnswersOverRoom D.room disk r.0.disk (Unit {0}))
         (λ e. AnswersOverRoom D.room disk e.disk (D.clock disk < 2 ^ 64 - 1 → e.why ≢ OpenWhy.Disk)) }
 
@@ -73,7 +73,7 @@ fn read_batches<D: Disk>(alloc: Global, opening: &mut Opening<D>) -> Result<Vec<
     Ok(batches)
 }
 
-/// Reads the next frame, and moves its batches to the end of these. Returns false at the closed gate.
+/// Reads the next frame and appends its batches. Returns false at the closed gate.
 fn read_frame<D: Disk>(
     alloc: Global,
     opening: &mut Opening<D>,

@@ -13,12 +13,12 @@ use disk_model::{Disk, DiskFault};
 /// The bytes of an empty journal: the header and a closed gate.
 const EMPTY: [u8; 17] = *b"LDARJNL1\0\0\0\0\0\0\0\0\0";
 
-/// Why no journal was made.
+/// Why no journal was created.
 #[derive(Clone, Copy, Debug, PartialEq, Eq)]
 pub enum CreateError {
-    /// A byte stands on the disk already. Nothing was written.
+    /// The disk is not empty. Nothing was written.
     NotEmpty,
-    /// A call of the disk failed. It is as it was, or it was empty and holds the empty journal in part.
+    /// A disk error. The disk is unchanged, or it was empty and has part of the empty journal.
     Disk,
 }
 
@@ -33,9 +33,9 @@ impl From<DiskFault> for CreateError {
     }
 }
 
-/// Makes an empty journal on an empty disk: the header and a closed gate, in one write, and a sync.
+/// Creates an empty journal on an empty disk: the header and a closed gate, in one write, followed by a sync.
 pub fn create<D: Disk>(disk: &mut D) -> Result<(), CreateError>
-    // It is not empty exactly where a byte could be read.
+    // The disk is not empty exactly if a byte could be read.
     ensures value { OnOk result (BothTold (D.content disk.old) (D.content disk.new)
         (λ old new. (old ≡ []) × (new ≡ header ++ 0 ∷ []))) }
     ensures not_empty { result ≡ Err CreateError.NotEmpty → BothTold (D.content disk.old) (D.content disk.new)
@@ -43,7 +43,7 @@ pub fn create<D: Disk>(disk: &mut D) -> Result<(), CreateError>
     ensures after_fault { result ≡ Err CreateError.Disk → BothTold (D.content disk.old) (D.content disk.new)
         (λ old new. (new ≡ old) ⊎ ((old ≡ []) × (length new ≤ 17))) }
 
-    // A crash then leaves an empty journal. Where a byte stands already it leaves what it might have left at entry.
+    // A crash then leaves an empty journal. If the disk was not empty, a crash leaves what it might have left before.
     ensures images { OnOk result (OnDisk (D.content disk.new) (D.images disk.new) (λ image. OpensTo image [])) }
     ensures any_moment { result ≡ Err CreateError.NotEmpty
         → LeavesOnly D.clock D.left disk.old disk.new (D.images disk.old) }
@@ -63,7 +63,7 @@ pub fn create<D: Disk>(disk: &mut D) -> Result<(), CreateError>
     Ok(())
 }
 
-/// Writes the empty journal at the front of a disk, and makes it stable.
+/// Writes the empty journal at the front of a disk and syncs it.
 fn lay_down<D: Disk>(disk: &mut D) -> Result<(), DiskFault>
     ensures written { BothTold (D.content disk.old) (D.content disk.new)
         (λ old new. Torn 0 17 old new × OnOk result (Holds 0 (header ++ 0 ∷ []) old new)) }

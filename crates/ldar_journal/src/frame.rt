@@ -1,4 +1,4 @@
-//! A frame of a journal, in bytes. The first frame is behind the header, at place 16; each other one begins where the one
+//! A frame of a journal, in bytes. The first frame is after the header, at place 16; each other one begins where the one
 //! before it ends.
 //!
 //! | place | width | meaning |
@@ -8,8 +8,8 @@
 //! | 5 | length | the payload: 1 to 16 batches, each as its handheld spelled it, one after the other |
 //! | 5 + length | 1 | the next gate |
 //!
-//! A frame is valid if its gate is 1, its length is in range, all of its payload is there, and the payload is exactly 1 to
-//! 16 whole batches (`IsFrameOf`). Which batches may follow those before them is judged apart (`IsKept`).
+//! A frame is valid if its gate is 1, its length is in range, its payload is complete, and the payload is exactly 1 to 16
+//! whole batches (`IsFrameOf`). Which batches may follow earlier ones is decided separately (`IsKept`).
 
 ghost use Rattle.std.specs.Prelude.{◌≡◌, ℕ, ◌+◌, ◌≤◌, ◌<◌, List, [], ◌∷◌, ◌++◌, length, take, drop, true, false, IfOk, OnOk};
 ghost use Rattle.std.specs.Bool.{MatchBool};
@@ -22,11 +22,11 @@ use fact_kinds::{Batch, FRAME_BATCHES, Memory};
 use ldar_facts::{Read, read_batch};
 use std::alloc::Global;
 
-/// The most bytes that a frame's payload may have: 16 batches of 11,785 bytes.
+/// The maximum length of a frame's payload in bytes: 16 batches of 11,785 bytes.
 pub const MOST_PAYLOAD: u32 = 188_560;
 
-/// How many bytes have to be there to see whether a frame stands at their front, as far as they tell. With five bytes
-/// there it is the whole frame's length, if that is in range.
+/// The number of bytes needed to decide whether a frame is at the front, as far as these bytes show it. From five bytes
+/// on it is the length of the whole frame, if that is in range.
 pub fn bytes_wanted(bytes: &[u8]) -> usize
     ensures within { result ≤ MOST_PAYLOAD + 5 }
     ensures enough { 5 ≤ length bytes.now → (more rest : List ℕ) → result ≤ length (bytes.now ++ more)
@@ -39,7 +39,7 @@ pub fn bytes_wanted(bytes: &[u8]) -> usize
     5 + len.min(MOST_PAYLOAD) as usize
 }
 
-/// Reads the batches of the open frame at the front of these bytes, and says how many bytes it takes, if one stands there.
+/// Reads the batches of an open frame at the front of these bytes. Returns the number of bytes it takes, if there is one.
 pub fn frame_at(
     alloc: Global,
     bytes: &[u8],
@@ -56,7 +56,7 @@ pub fn frame_at(
     Ok(None)
 }
 
-/// The payload of the frame at the front of these bytes, as its gate and length have it.
+/// The payload of the frame at the front of these bytes, by its gate and its length.
 fn payload_at(bytes: &[u8]) -> Option<&[u8]>
     ensures { MatchOption result
         ((payload : List ℕ) → ¬ (IsPayloadAt bytes.now payload))
@@ -77,7 +77,7 @@ fn payload_at(bytes: &[u8]) -> Option<&[u8]>
     Some(payload)
 }
 
-/// Reads the batches of a payload, in place of what was among them, if it is 1 to 16 of them.
+/// Replaces the contents of `batches` with the batches of a payload, if there are 1 to 16.
 fn read_batches(alloc: Global, bytes: &[u8], batches: &mut Vec<Batch>) -> Result<bool, Memory>
     ensures { IfOk result (λ found. MatchBool found
         (IsFrame batches.new.items × (payload batches.new.items ≡ bytes.now))

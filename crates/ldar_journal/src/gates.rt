@@ -9,7 +9,7 @@ ghost use Rattle.ldar_journal.specs.Gates.{HoldsBehind, WritesBehind, WritesGate
 
 use disk_model::{Disk, DiskFault};
 
-/// Writes bytes, and makes them stable.
+/// Writes bytes and syncs them.
 pub(crate) fn write_stable<D: Disk>(disk: &mut D, at: u64, bytes: &[u8]) -> Result<(), DiskFault>
     ensures written { BothTold (D.content disk.old) (D.content disk.new)
         (λ old new. Torn at (length bytes.now) old new × OnOk result (Holds at bytes.now old new)) }
@@ -27,7 +27,7 @@ pub(crate) fn write_stable<D: Disk>(disk: &mut D, at: u64, bytes: &[u8]) -> Resu
     disk.sync()
 }
 
-/// Writes what stands behind a gate, and makes it stable.
+/// Writes the bytes after a gate and syncs them.
 pub(crate) fn put_behind<D: Disk>(disk: &mut D, gate: u64, bytes: &[u8]) -> Result<(), DiskFault>
     requires { gate < 2 ^ 63 }
     ensures front { BothTold (D.content disk.old) (D.content disk.new) (WritesBehind gate) }
@@ -47,7 +47,7 @@ pub(crate) fn put_behind<D: Disk>(disk: &mut D, gate: u64, bytes: &[u8]) -> Resu
     write_stable(disk, gate + 1, bytes)
 }
 
-/// Writes an open gate, and makes it stable.
+/// Writes an open gate and syncs it.
 pub(crate) fn open_gate<D: Disk>(disk: &mut D, gate: u64) -> Result<(), DiskFault>
     ensures others { BothTold (D.content disk.old) (D.content disk.new) (WritesGate gate) }
     ensures grows { BothTold (D.content disk.old) (D.content disk.new) (λ old new. length old ≤ length new) }

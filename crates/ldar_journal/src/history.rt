@@ -4,7 +4,7 @@ use fact_kinds::Batch;
 use http_server::Log;
 use std::marker::Model;
 
-/// Some batches, for proofs alone: it takes no memory, and its calls do nothing when they run.
+/// Some batches, for proofs only: it takes no memory, and its calls do nothing at run time.
 #[derive(Drop)]
 pub struct Chapter {
     batches: Log<Batch, ()>,
@@ -47,7 +47,7 @@ impl Chapter {
     }
 }
 
-/// The batches of a chapter, noted from behind a reference, for proofs alone.
+/// The batches of a chapter, noted through a reference, for proofs only.
 #[derive(Drop)]
 pub struct Note {
     chapter: Log<Chapter, ()>,
@@ -83,7 +83,7 @@ impl Note {
     }
 }
 
-/// Frames one after the other, each as its batches, for proofs alone.
+/// Frames one after the other, each as its batches, for proofs only.
 #[derive(Drop)]
 pub struct Frames {
     notes: Log<Note, ()>,
@@ -106,14 +106,14 @@ impl Frames {
         Frames { notes: Log::new() }
     }
 
-    /// Goes on with a frame of these batches.
+    /// Adds a frame of these batches.
     pub fn push(&mut self, chapter: &Chapter)
         ensures value { self.new ≡ self.old ++ chapter.now ∷ [] }
     {
         self.push_noted(&Note::of(chapter));
     }
 
-    /// Goes on with a frame of batches that were noted.
+    /// Adds a frame of noted batches.
     pub fn push_noted(&mut self, note: &Note)
         ensures value { self.new ≡ self.old ++ note.now ∷ [] }
     {

@@ -1,16 +1,17 @@
 //! A journal and its invariants (`IsShelved` carries 1 to 6):
 //!
-//! 1. The disk's bytes, if it tells them, begin with the header and the frames, whole and open, one after the other, and
-//!    `end` is the place behind the last of them (`stands`).
+//! 1. The disk's bytes, if it exposes them, begin with the header and the frames, complete and open, one after the
+//!    other, and `end` is the place after the last of them (`stands`).
 //! 2. So does each image that a crash may leave now (`stands`, for each image).
-//! 3. If no frame is in doubt, a closed gate is at `end`, and whatever follows it is ignored (`stands`: `EndsAt`).
-//! 4. If a frame is in doubt, the whole of it is behind the gate at `end`, whatever that gate holds (`stands`: `IsInDoubt`).
+//! 3. If no frame is in doubt, a closed gate is at `end`, and the bytes after it are ignored (`stands`: `EndsAt`).
+//! 4. If a frame is in doubt, the whole of it is after the gate at `end`, which may be open or closed (`stands`:
+//!    `IsInDoubt`).
 //! 5. The frames may be kept: each has 1 to 16 batches, no identity occurs twice, and there are at most 8,000,000 facts.
-//!    With the frame in doubt they may be kept too (`counted`, `in_doubt`).
-//! 6. `end` is the length of header and frames, also on a disk that tells no bytes; `torn` is the length of the frame in
-//!    doubt behind its gate, and 0 if there is none (`counted`, `in_doubt`).
-//! 7. Only `append` opens a gate, after all that is behind it is stable; so a crash leaves the whole frame or none of it
-//!    (`append`: `any_moment`; `settle`: `any_moment`).
+//!    This holds with the frame in doubt too (`counted`, `in_doubt`).
+//! 6. `end` is the length of header and frames, also on a disk that exposes no bytes; `torn` is the length of the frame
+//!    in doubt after its gate, and 0 if there is none (`counted`, `in_doubt`).
+//! 7. Only `append` opens a gate, after the bytes that follow it are stable, so a crash leaves the whole frame or none
+//!    of it (`append`: `any_moment`; `settle`: `any_moment`).
 
 ghost use Rattle.std.specs.Prelude.{◌≡◌, ◌≢◌, ◌+◌, ◌≤◌, [], ◌∷◌, ◌++◌, length, true, false, Ok, OnOk, OnErr, IsOk, IsErrOf};
 ghost use Rattle.disk_model.specs.Faults.{Rose};
@@ -29,23 +30,23 @@ use crate::settling::{Settled, is_open_for_good};
 use disk_model::{Disk, DiskFault};
 use std::marker::Model;
 
-/// An append failed. Behind an open gate the frame may stand or not.
+/// An append failed. If the gate was being opened, the frame may or may not be kept.
 #[derive(Clone, Copy, Debug, PartialEq, Eq)]
 pub struct Torn {
-    /// Whether the gate was being opened: if not, the frame does not stand.
+    /// Whether the gate was being opened; if not, the frame is not kept.
     pub gate: bool,
 }
 
-/// A journal on a disk. Contracts see the disk, the frames, and the batches of a frame in doubt.
+/// A journal on a disk. In contracts it is the disk, the frames, and the batches of a frame in doubt.
 #[derive(Drop)]
 pub struct Journal<D: Disk> {
     disk: D,
-    /// The place of the gate at which the next frame will stand.
+    /// The place of the gate of the next frame.
     end: u64,
     frames: Frames,
-    /// The batches of the frame in doubt, if one is.
+    /// The batches of the frame in doubt, if there is one.
     doubt: Note,
-    /// How many bytes the frame in doubt takes behind its gate, and 0 where none is in doubt.
+    /// How many bytes the frame in doubt takes after its gate; 0 if no frame is in doubt.
     torn: u64,
 }
 
@@ -60,7 +61,7 @@ impl<D: Disk> Model for Journal<D> {
 }
 
 impl<D: Disk> Journal<D> {
-    /// A journal whose bytes are stable, and end at a closed gate at this place, behind these frames.
+    /// A journal whose bytes are stable and end at a closed gate at this place, after these frames.
     pub(crate) fn at(disk: D, end: u64, frames: Frames) -> Journal<D>
         requires ends { Told (D.content disk) (λ bytes. EndsAt bytes end frames) }
         requires durable { Told (D.content disk) (λ bytes. Only bytes (D.images disk)) }
@@ -76,7 +77,7 @@ impl<D: Disk> Journal<D> {
         }
     }
 
-    /// Whether an append failed so that its frame may stand or not.
+    /// Whether an append failed and its frame may or may not be kept.
     pub fn settling(&self) -> bool
         ensures in_doubt { result ≡ true → self.now.doubt ≢ [] }
         ensures settled { result ≡ false → self.now.doubt ≡ [] }
@@ -96,7 +97,7 @@ impl<D: Disk> Journal<D> {
         &self.disk
     }
 
-    /// Gives the disk back.
+    /// Returns the disk.
     pub fn into_disk(self) -> D
         ensures value { result ≡ self.disk }
         ensures opens { Told (D.content result) (λ bytes. OpensToEither bytes self.frames self.doubt) }
@@ -112,25 +113,25 @@ impl<D: Disk> Journal<D> {
         disk
     }
 
-    /// Adds the batches of a frame: what stands behind its gate first, and once that is stable the open gate.
+    /// Adds a frame of batches: first the bytes after its gate and, once these are stable, the open gate.
     pub fn append(&mut self, frame: &Frame) -> Result<(), Torn>
         requires settled { self.old.doubt ≡ [] }
         requires kept { IsKept (batches_of self.old.frames ++ frame.now) }
         ensures value { OnOk result ((self.new.frames ≡ self.old.frames ++ frame.now ∷ []) × (self.new.doubt ≡ [])) }
 
-        // With the gate not touched the frames stay. Else this one is in doubt.
+        // If the gate was not touched, the frames are unchanged. Otherwise this one is in doubt.
         ensures not_added { OnErr result (self.new.frames ≡ self.old.frames) }
         ensures gate_shut { IsErrOf result (record { gate = false }) → self.new.doubt ≡ [] }
         ensures in_doubt { IsErrOf result (record { gate = true }) → self.new.doubt ≡ frame.now }
 
-        // A crash then leaves what the journal says: in doubt, all that follows the gate of the frame is there.
+        // A crash then leaves what the journal describes. If it is in doubt, the whole frame is after its gate.
         ensures opens { Told (D.content self.new.disk) (λ bytes. OpensToEither bytes self.new.frames self.new.doubt) }
         ensures images { OnDisk (D.content self.new.disk) (D.images self.new.disk)
             (λ image. OpensAs image self.new.frames self.new.doubt) }
         ensures behind { IsErrOf result (record { gate = true }) → OnDisk (D.content self.new.disk) (D.images self.new.disk)
             (λ image. IsInDoubt image (end_of self.new.frames) self.new.frames frame.now) }
 
-        // A crash at any moment of the call leaves all of the frame or nothing of it, and nothing where the gate is not touched.
+        // A crash at any moment of the call leaves all of the frame or none of it, and none if the gate is not touched.
         ensures any_moment { LeavesOnly D.clock D.left self.old.disk self.new.disk (λ image.
             Told (D.content self.old.disk) (λ _. OpensToEither image self.old.frames frame.now)) }
         ensures any_moment_shut { IsErrOf result (record { gate = false }) → LeavesOnly D.clock D.left self.old.disk self.new.disk
@@ -158,8 +159,8 @@ impl<D: Disk> Journal<D> {
         Ok(())
     }
 
-    /// Finds out whether the frame in doubt stands: it makes the bytes stable, and looks at the gate.
-    /// After a fault the journal is still settling.
+    /// Finds out whether the frame in doubt is kept: it syncs the bytes and reads the gate. After a disk error the
+    /// frame is still in doubt.
     pub fn settle(&mut self) -> Result<Settled, DiskFault>
         requires settling { self.old.doubt ≢ [] }
         ensures stands { result ≡ Ok Settled.Stands → self.new.frames ≡ self.old.frames ++ self.old.doubt ∷ [] }
@@ -167,7 +168,8 @@ impl<D: Disk> Journal<D> {
         ensures settled { OnOk result (self.new.doubt ≡ []) }
         ensures still { OnErr result ((self.new.frames ≡ self.old.frames) × (self.new.doubt ≡ self.old.doubt)) }
 
-        // A crash then leaves what was answered; after a fault, and at any moment of the call, one of the two.
+        // A crash then leaves what was returned. After a disk error, and at any moment of the call, it leaves one of
+        // the two.
         ensures images { OnDisk (D.content self.new.disk) (D.images self.new.disk)
             (λ image. OpensAs image self.new.frames self.new.doubt) }
         ensures any_moment { LeavesOnly D.clock D.left self.old.disk self.new.disk (λ image.

@@ -17,18 +17,18 @@ use disk_model::{Disk, DiskFault};
 use fact_kinds::Batch;
 use std::alloc::Global;
 
-/// What stands at the place of a gate.
+/// What is at the place of a gate.
 #[derive(Clone, Copy)]
 pub enum Judged {
     /// A closed gate.
     Closed,
     /// Neither a closed gate nor a frame.
     Bad,
-    /// An open frame of so many bytes.
+    /// An open frame of this many bytes.
     Whole(usize),
 }
 
-/// Judges what stands at a place, in front of which the window stands, and reads the batches of a frame that stands there.
+/// Judges what is at a place, from which the window has the bytes, and reads the batches of a frame there.
 pub fn judge<D: Disk>(
     alloc: Global,
     disk: &mut D,
@@ -62,7 +62,7 @@ pub fn judge<D: Disk>(
     }
 }
 
-/// Whether an open gate stands at the front of these bytes.
+/// Whether an open gate is at the front of these bytes.
 fn begins_open(bytes: &[u8]) -> bool
     requires some { 0 < length bytes.now }
     ensures value { MatchBool result (slice_index bytes.now 0 ≡ 1) (slice_index bytes.now 0 ≢ 1) }

@@ -9,8 +9,8 @@ use crate::history::Frames;
 use batch_positions::Positions;
 use fact_kinds::{Batch, MOST_FACTS};
 
-/// Adds the batches of one frame more to the identities of these frames, and gives how many facts there are then, unless they
-/// can't all be kept: then the identities stay. It takes no memory.
+/// Adds the batches of one more frame to the identities of the frames so far, and returns the new number of facts. If the
+/// batches cannot all be kept, the identities are unchanged. Allocates nothing.
 pub fn add_frame(
     positions: &mut Positions,
     frames: &Frames,
@@ -37,7 +37,8 @@ pub fn add_frame(
     Some(count)
 }
 
-/// Adds the identity of a batch, and gives how many facts there are then, unless it is there already or there would be too many.
+/// Adds the identity of a batch, and returns the new number of facts, unless the identity is already there or there would be too
+/// many facts.
 fn add_batch(positions: &mut Positions, facts: u64, batch: &Batch) -> Option<u64>
     requires roomy { 0 < positions.old.room }
     requires few { facts ≤ MOST_FACTS }
@@ -57,7 +58,7 @@ fn add_batch(positions: &mut Positions, facts: u64, batch: &Batch) -> Option<u64
     Some(more)
 }
 
-/// Takes the last so many identities out again.
+/// Removes the last `count` identities.
 fn take_out(positions: &mut Positions, count: usize)
     requires some { count ≤ length positions.old.identities }
     ensures value { positions.new.identities ≡ take (length positions.old.identities - count) positions.old.identities }

@@ -1,4 +1,7 @@
-//! A journal of accepted batches in a file, behind gates that a crash leaves closed.
+//! A journal of accepted batches in a file. Each frame of batches has a gate, which is opened only after the frame is
+//! stable, so a crash leaves all of the frame or none of it.
+//!
+//! Tests: `office_tests::journal`.
 #![tactic(auto)]
 
 mod batches;

@@ -4,7 +4,7 @@ use std::alloc::AllocError;
 /// Why a journal was not opened.
 #[derive(Clone, Copy, Debug, PartialEq, Eq)]
 pub enum OpenWhy {
-    /// A call of the disk failed.
+    /// A disk error.
     Disk,
     /// The bytes do not begin with the header.
     NotAJournal,
@@ -35,7 +35,7 @@ impl From<AllocError> for OpenWhy {
     }
 }
 
-/// A journal was not opened. The disk is handed back.
+/// A journal was not opened. The disk is returned.
 #[derive(Drop)]
 pub struct OpenError<D: Disk> {
     pub disk: D,

@@ -10,7 +10,7 @@ use ldar_facts::write_batch;
 use std::alloc::Global;
 use std::marker::Model;
 
-/// A frame made ready to be appended: what will stand behind its gate. Contracts see its batches.
+/// A frame that is ready to be appended: the bytes after its gate. In contracts it is its batches.
 #[derive(Drop)]
 pub struct Frame {
     bytes: Vec<u8>,
@@ -31,7 +31,7 @@ impl Model for Frame {
 }
 
 impl Frame {
-    /// What stands behind the gate of this frame: its length, its payload and a closed gate.
+    /// The bytes after the gate of this frame: its length, its payload and a closed gate.
     pub fn bytes(&self) -> &[u8]
         ensures value { result.now ≡ behind_gate self.now }
         ensures is_frame { IsFrame self.now }
@@ -39,7 +39,7 @@ impl Frame {
         self.bytes.as_slice()
     }
 
-    /// The batches of this frame, for proofs alone.
+    /// The batches of this frame, for proofs only.
     pub fn note(&self) -> Note
         ensures value { result ≡ self.now }
     {
@@ -54,7 +54,7 @@ impl Frame {
     }
 }
 
-/// Makes a frame of 1 to 16 batches ready.
+/// Prepares a frame of 1 to 16 batches.
 pub fn prepare(alloc: Global, batches: &[Batch]) -> Result<Frame, Memory>
     requires some { 0 < length batches.now }
     requires fits { length batches.now ≤ FRAME_BATCHES }

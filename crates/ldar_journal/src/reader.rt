@@ -25,12 +25,12 @@ use fact_kinds::Batch;
 use std::alloc::Global;
 use std::marker::Model;
 
-/// A journal that is being opened, frame by frame. It holds a piece of its bytes and the identities of the batches so far.
+/// A journal that is being opened, frame by frame. It keeps a piece of its bytes and the identities of the batches so far.
 #[derive(Drop)]
 pub struct Opening<D: Disk> {
     disk: D,
     window: Window,
-    /// The place of the next gate, at which the window begins.
+    /// The place of the next gate, where the window begins.
     place: u64,
     frames: Frames,
     positions: Positions,
@@ -57,7 +57,7 @@ impl<D: Disk> Model for Opening<D> {
 }
 
 impl<D: Disk> Opening<D> {
-    /// Makes the bytes of a disk stable, and reads the header.
+    /// Syncs a disk and reads the header.
     pub fn begin(alloc: Global, disk: D) -> Result<Opening<D>, OpenError<D>>
         ensures value { IfOk result (λ opening. (opening.frames ≡ []) × (opening.identities ≡ []) × (opening.ended ≡ false)) }
         ensures unchanged { MatchResult result (λ opening. BothTold (D.content disk) (D.content opening.disk) (λ old new. new ≡ old))
@@ -85,8 +85,8 @@ impl<D: Disk> Opening<D> {
         }
     }
 
-    /// Reads the next frame, and gives its batches in place of what was among these. It answers false where the closed gate
-    /// stands, behind which nothing is read. An error leaves what was read before.
+    /// Reads the next frame, and replaces the contents of `batches` with its batches. Returns false at the closed gate,
+    /// after which nothing is read. After an error, the frames read before are still known.
     pub fn next_frame(&mut self, alloc: Global, batches: &mut Vec<Batch>) -> Result<bool, OpenWhy>
         ensures frame { result ≡ Ok true → (self.new.frames ≡ self.old.frames ++ batches.new.items ∷ [])
             × (fact_count (batches_of self.old.frames) < fact_count (batches_of self.new.frames)) }
@@ -124,7 +124,7 @@ impl<D: Disk> Opening<D> {
         }
     }
 
-    /// The journal, and where its batches stand, once the closed gate was found.
+    /// The journal and the positions of its batches, once the closed gate was reached.
     pub fn finish(self) -> (Journal<D>, Positions)
         requires ended { self.ended ≡ true }
         ensures value { result.0 ≡ record { disk = self.disk; frames = self.frames; doubt = [] } }
@@ -132,7 +132,7 @@ impl<D: Disk> Opening<D> {
         ensures kept { IsKept (batches_of self.frames) }
         ensures identities { result.1.identities ≡ map identity_of (batches_of self.frames) }
 
-        // What a crash may leave of it is just its bytes.
+        // A crash leaves exactly its bytes.
         ensures durable { Told (D.content self.disk) (λ bytes. Only bytes (D.images self.disk)) }
     {
         let Opening {
@@ -147,7 +147,7 @@ impl<D: Disk> Opening<D> {
         (Journal::at(disk, place, frames), positions)
     }
 
-    /// Gives the disk back.
+    /// Returns the disk.
     pub fn into_disk(self) -> D
         ensures value { result ≡ self.disk }
     {
@@ -164,7 +164,7 @@ impl<D: Disk> Opening<D> {
     }
 }
 
-/// Makes the bytes of a disk stable, and gives what stands behind the header, and no identities.
+/// Syncs a disk, and returns a window with the bytes after the header, and no identities.
 fn started<D: Disk>(alloc: Global, disk: &mut D) -> Result<(Window, Positions), OpenWhy>
     ensures started { IfOk result (λ r. IsStarted (D.content disk.new) (D.images disk.new) r.0 r.1) }
     ensures not_a_journal { IfErr result (OnNotAJournal (Told (D.content disk.old) (λ bytes. take 16 bytes ≢ header))) }
@@ -185,7 +185,7 @@ fn started<D: Disk>(alloc: Global, disk: &mut D) -> Result<(Window, Positions), 
     Ok((window, Positions::new(alloc)?))
 }
 
-/// Makes the bytes of a disk stable.
+/// Syncs a disk.
 fn make_stable<D: Disk>(disk: &mut D) -> Result<(), DiskFault>
     ensures same { BothTold (D.content disk.old) (D.content disk.new) (λ old new. new ≡ old) }
     ensures durable { OnOk result (Told (D.content disk.new) (λ bytes. Only bytes (D.images disk.new))) }

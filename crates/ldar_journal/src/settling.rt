@@ -8,16 +8,16 @@ ghost use Rattle.ldar_journal.specs.Crash.{LeavesOnly, AnswersInRoom};
 
 use disk_model::{Disk, DiskFault};
 
-/// What a frame in doubt turned out to be.
+/// What was found out about a frame in doubt.
 #[derive(Clone, Copy, Debug, PartialEq, Eq)]
 pub enum Settled {
-    /// It stands: its batches are kept.
+    /// Its batches are kept.
     Stands,
     /// It is gone, as if it had never been appended.
     Gone,
 }
 
-/// Makes the bytes stable, and then says whether the gate at this place is open. A byte that can't be read is no open gate.
+/// Syncs the bytes, and returns whether the gate at this place is open. If the byte cannot be read, it is not open.
 pub(crate) fn is_open_for_good<D: Disk>(disk: &mut D, gate: u64) -> Result<bool, DiskFault>
     ensures value { IfOk result (λ is_open. Told (D.content disk.new) (λ bytes. gate < length bytes
         → MatchBool is_open (slice_index bytes gate ≡ 1) (slice_index bytes gate ≢ 1))) }

@@ -12,11 +12,11 @@ use fact_kinds::Memory;
 use std::alloc::Global;
 use std::marker::Model;
 
-/// The size of a window in bytes, and so the most that one read asks for.
+/// The size of a window in bytes, which is also the maximum of one read.
 pub const PIECE: usize = 1_048_576;
 
-/// Bytes of a disk that were read and not yet used, in a buffer of fixed size. Only its making wants memory. Bytes are moved
-/// only where the end of the buffer is reached.
+/// Bytes of a disk that were read and not yet used, in a buffer of fixed size. Memory is allocated only when it is created.
+/// Bytes are moved only when the end of the buffer is reached.
 #[derive(Drop)]
 pub struct Window {
     buffer: Vec<u8>,
@@ -57,14 +57,14 @@ impl Window {
         &self.buffer[self.start..self.end]
     }
 
-    /// How many bytes there are.
+    /// The number of bytes.
     pub fn len(&self) -> usize
         ensures value { result ≡ length self.now.bytes }
     {
         self.end - self.start
     }
 
-    /// Forgets bytes at the front.
+    /// Drops bytes at the front.
     pub fn drop_front(&mut self, n: usize)
         requires { n ≤ length self.old.bytes }
         ensures value { self.new ≡ record { bytes = drop n self.old.bytes; size = self.old.size } }
@@ -72,7 +72,7 @@ impl Window {
         self.start += n;
     }
 
-    /// Reads bytes of a disk behind those of the window, which stand at a place there, and says how many.
+    /// Reads the bytes of a disk that follow those of the window. Returns how many were read.
     pub fn read_from<D: Disk>(&mut self, disk: &mut D, place: u64) -> Result<usize, DiskFault>
         requires fits { place < 2 ^ 63 }
         ensures more { IfOk result (λ n. (more : List ℕ) × (length more ≡ n) × (self.new ≡ record { bytes = self.old.bytes ++ more; size = self.old.size })) }
@@ -94,7 +94,7 @@ impl Window {
     }
 }
 
-/// Reads bytes of a disk, from a place there, into a buffer behind an index.
+/// Reads bytes of a disk, from a place on, into a buffer from an index on.
 fn read_behind<D: Disk>(
     disk: &mut D,
     buffer: &mut Vec<u8>,
@@ -115,7 +115,7 @@ fn read_behind<D: Disk>(
     disk.read_at(place, &mut buffer[at..])
 }
 
-/// Moves the bytes between two places to the front, where there is no room behind them, and says where they stand.
+/// Moves the bytes between two places to the front if there is no room after them. Returns their new places.
 fn make_room(buffer: &mut Vec<u8>, start: usize, end: usize) -> (usize, usize)
     requires ordered { start ≤ end }
     requires in_range { end ≤ length buffer.old.items }
@@ -132,7 +132,8 @@ fn make_room(buffer: &mut Vec<u8>, start: usize, end: usize) -> (usize, usize)
     (0, end - start)
 }
 
-/// Reads until a window has so many bytes, from a place on, or the disk has no more. It answers false where it has no more.
+/// Reads until a window has this many bytes from a place on, or the disk has no more. Returns false if the disk has no
+/// more.
 pub fn fill<D: Disk>(
     disk: &mut D,
     window: &mut Window,

@@ -25,7 +25,7 @@ module _ {X : Type 0} (f : Entry → Option X) where
   first_more None xs ys rest e = e
   first_more (Some x) xs ys rest e = refl
 
-  -- what the first gives that gives something
+  -- the first element with a value, in two lists one after the other
   pub first_of_two : (facts more : List Entry)
       → slice_get (filter_map f (facts ++ more)) 0 ≡ option_or (slice_get (filter_map f facts) 0) (slice_get (filter_map f more) 0)
   first_of_two [] more = refl
@@ -49,6 +49,7 @@ first_entry_is_registered number facts =
 abbrev pub with_retired : Option ℕ → Equipment → Equipment
 with_retired retired item = record item { retired = retired }
 
+-- the entry of a component does not depend on its retirement
 entered_so : (number : ℕ) (retired : Option ℕ) (day : ℕ) (body : FactBody)
     → component_entered number retired day body ≡ option_map (with_retired retired) (component_entered number None day body)
 entered_so number retired day (ComponentFact other unit kind monomer replaces class) =
@@ -58,6 +59,7 @@ entered_so number retired day (ComponentFact other unit kind monomer replaces cl
     ]
 entered_so number retired day _ = refl
 
+-- the first of mapped values
 mapped_first : {X Y : Type 0} (g : X → Y) (f : Entry → Option X) (h : Entry → Option Y) → ((e : Entry) → h e ≡ option_map g (f e))
     → (es : List Entry) → slice_get (filter_map h es) 0 ≡ option_map g (slice_get (filter_map f es) 0)
 mapped_first g f h same [] = refl
@@ -69,7 +71,7 @@ mapped_first g f h same (e ∷ es) =
       | Some x ↦ refl
     ])
 
--- a component is as it was entered first, with the first day of its retirement
+-- a component is as its first entry has it, with the first day of its retirement
 pub equipment_is : (number : ℕ) (facts : List Entry)
     → equipment_of number facts ≡ option_map (with_retired (retired_on number facts)) (first_entry number facts)
 equipment_is number facts =
@@ -87,7 +89,7 @@ first_entry_is_equipment number facts =
     ∙ sym (mapped_first unretired (λ e. component_entered number None e.0.day e.1.body) (λ e. component_entered number None e.0.day e.1.body)
     (λ e. entered_so number None e.0.day e.1.body) facts)
 
--- ---- one batch more
+-- ---- one more batch
 
 or_false : (b : Bool) → b ≡ (b || false)
 or_false true = refl
@@ -98,7 +100,7 @@ or_assoc true b c = refl
 or_assoc false b c = refl
 
 module _ {X : Type 0} (q : List X → X → Bool) where
-  -- some element passes by what stands before it, in a list with one element more
+  -- some element passes, seen with those before it, in a list with one more element
   somewhere-push : (front xs : List X) (x : X)
       → somewhere_from (λ before y after. q before y) front (xs ++ x ∷ [])
       ≡ (somewhere_from (λ before y after. q before y) front xs || q (front ++ xs) x)
@@ -107,6 +109,7 @@ module _ {X : Type 0} (q : List X → X → Bool) where
       ap (λ b. q front y || b) (somewhere-push (front ++ y ∷ []) ys x ∙ rw append_assoc refl)
       ∙ or_assoc (q front y) (somewhere_from (λ before z after. q before z) (front ++ y ∷ []) ys) (q (front ++ y ∷ ys) x)
 
+-- no batch is unruly after one more exactly if none was and the new one passes
 neither : (unruly passes : Bool) → not (unruly || not passes) ≡ (not unruly && passes)
 neither true passes = refl
 neither false true = refl

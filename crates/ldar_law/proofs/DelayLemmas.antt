@@ -17,13 +17,13 @@ one_more_delay detected attempts stops delays delay =
       | inr f ↦ rw f refl
     ])
 
--- what stands at a place still does with more behind it
+-- an element keeps its place if others follow
 kept_place : {X : Type 0} (xs ys : List X) (i : ℕ) (x : X) → slice_get xs i ≡ Some x → slice_get (xs ++ ys) i ≡ Some x
 kept_place [] ys i x e = cc
 kept_place (y ∷ xs) ys zero x e = e
 kept_place (y ∷ xs) ys (suc i) x e = kept_place xs ys i x e
 
--- what comes behind some stands at the place of their number
+-- an element added at the end has the list's length as its place
 next_place : {X : Type 0} (xs : List X) (x : X) → slice_get (xs ++ x ∷ []) (length xs) ≡ Some x
 next_place [] x = refl
 next_place (y ∷ xs) x = next_place xs x
@@ -53,6 +53,7 @@ module _ (detected : ℕ) (attempts : List ℕ) (stops : List Stop) where
             (subst (λ n. slice_get (reverse earlier ++ latest ∷ []) n ≡ Some latest) (length-reverse earlier) (next_place (reverse earlier) latest)))
       ]
 
+  -- the delay is at the place that was found
   found_there : (delays : List DelayEntry) (o : Option (ℕ × DelayEntry)) → last_counted detected attempts stops (reverse delays) ≡ o →
       option_and_then (slice_get delays) (option_map (λ c. c.0) o) ≡ option_map (λ c. c.1) o
   found_there delays None e = refl
@@ -62,7 +63,7 @@ pub counted_place_is_of_delay : CountedPlaceIsOfDelay
 counted_place_is_of_delay detected attempts stops delays =
     found_there detected attempts stops delays (last_counted detected attempts stops (reverse delays)) refl
 
--- where one more stands at the end, what stands at a place is one of the others or this one
+-- after one more element, the element at a place is an old one or the new one
 one_or_last : {X : Type 0} (xs : List X) (x : X) (place : ℕ) (y : X) → slice_get (xs ++ x ∷ []) place ≡ Some y →
     ((place < length xs) × (slice_get xs place ≡ Some y)) ⊎ ((place ≡ length xs) × (x ≡ y))
 one_or_last [] x zero y e = inr (refl, cc)
@@ -73,29 +74,29 @@ one_or_last (z ∷ xs) x (suc place) y e = elim (one_or_last xs x place y e) [
   | inr last ↦ inr (ap suc last.0, last.1)
 ]
 
--- a place at which something stands is within
+-- a place with an element is less than the length
 found_within : {X : Type 0} (xs : List X) (place : ℕ) (x : X) → slice_get xs place ≡ Some x → place ≤ length xs
 found_within [] place x e = cc
 found_within (y ∷ xs) zero x e = omega arith
 found_within (y ∷ xs) (suc place) x e = let within = found_within xs place x e in omega (arith, within)
 
--- what stands before a place stands there with more behind
+-- the elements before a place are unchanged if one more follows
 front_kept : {X : Type 0} (xs : List X) (x : X) (place : ℕ) → place ≤ length xs → take place (xs ++ x ∷ []) ≡ take place xs
 front_kept xs x place within = take-append-le place xs (x ∷ []) within
 
--- .. and before one more is all that was
+-- the elements before the added one are the whole old list
 whole_front : {X : Type 0} (xs : List X) (x : X) → take (length xs) (xs ++ x ∷ []) ≡ xs
 whole_front xs x = take-append_seam xs (x ∷ [])
 
 module _ (detected : ℕ) (attempts : List ℕ) (stops : List Stop) where
-  -- the latest of some delays, the latest first, is judged by the others
+  -- the latest of some delays, given latest first, is judged by the others
   judged_by_others : (latest : DelayEntry) (earlier : List DelayEntry) → is_ignored detected attempts stops (reverse earlier) latest
       ≡ is_past latest.key.day (due_given detected attempts stops (option_map (λ c. c.1) (last_counted detected attempts stops earlier)))
   judged_by_others latest earlier =
       ap (λ ds. is_past latest.key.day (due_given detected attempts stops (option_map (λ c. c.1) (last_counted detected attempts stops ds))))
       (reverse_twice earlier)
 
-  -- with one more delay that is ignored, each is that was
+  -- after one more ignored delay, all delays are ignored if all were before
   more_ignored : (delays : List DelayEntry) (delay : DelayEntry) → is_ignored detected attempts stops delays delay ≡ true →
       AreIgnored detected attempts stops delays → AreIgnored detected attempts stops (delays ++ delay ∷ [])
   more_ignored delays delay ignored all place other stands = elim (one_or_last delays delay place other stands) [
@@ -104,7 +105,7 @@ module _ (detected : ℕ) (attempts : List ℕ) (stops : List Stop) where
     | inr last ↦ rw (last.0, whole_front delays delay, sym last.1) ignored
   ]
 
-  -- .. and the last one that counts stays the last
+  -- after one more ignored delay, the last one that counts is unchanged
   last_stays : (delays : List DelayEntry) (delay : DelayEntry) (place : ℕ) → is_ignored detected attempts stops delays delay ≡ true →
       IsLastCounted detected attempts stops delays place → IsLastCounted detected attempts stops (delays ++ delay ∷ []) place
   last_stays delays delay place ignored last = record {
@@ -118,7 +119,7 @@ module _ (detected : ℕ) (attempts : List ℕ) (stops : List Stop) where
     ];
   }
 
-  -- one more delay that counts is the last that does
+  -- one more delay that counts is the last one that does
   is_last : (delays : List DelayEntry) (delay : DelayEntry) → is_ignored detected attempts stops delays delay ≡ false →
       IsLastCounted detected attempts stops (delays ++ delay ∷ []) (length delays)
   is_last delays delay counts = record {
@@ -131,16 +132,18 @@ module _ (detected : ℕ) (attempts : List ℕ) (stops : List Stop) where
     ];
   }
 
-  -- what is given of some delays, the latest first
+  -- what `last_counted` returns for some delays, latest first
   abbrev Given : Option (ℕ × DelayEntry) → List DelayEntry → Type 0
   Given None delays = AreIgnored detected attempts stops delays
   Given (Some c) delays = IsLastCounted detected attempts stops delays c.0
 
+  -- the same result after one more ignored delay
   given_more : (o : Option (ℕ × DelayEntry)) (delays : List DelayEntry) (delay : DelayEntry) → is_ignored detected attempts stops delays delay ≡ true →
       Given o delays → Given o (delays ++ delay ∷ [])
   given_more None delays delay ignored given = more_ignored delays delay ignored given
   given_more (Some c) delays delay ignored given = last_stays delays delay c.0 ignored given
 
+  -- what `last_counted` returns is the last delay that is not ignored
   given_of : (delays : List DelayEntry) → Given (last_counted detected attempts stops delays) (reverse delays)
   given_of [] = λ place delay stands. cc
   given_of (latest ∷ earlier) =
@@ -152,18 +155,19 @@ module _ (detected : ℕ) (attempts : List ℕ) (stops : List Stop) where
             (is_last (reverse earlier) latest (judged ∙ f)))
       ])
 
--- .. of delays in key order
+-- what it returns for delays in key order
 given_in_order : (detected : ℕ) (attempts : List ℕ) (stops : List Stop) (delays : List DelayEntry) →
     Given detected attempts stops (last_counted detected attempts stops (reverse delays)) delays
 given_in_order detected attempts stops delays =
     subst (Given detected attempts stops (last_counted detected attempts stops (reverse delays))) (reverse_twice delays)
     (given_of detected attempts stops (reverse delays))
 
--- where one counts, not all are ignored
+-- if one delay counts, not all are ignored
 not_all : (detected : ℕ) (attempts : List ℕ) (stops : List Stop) (delays : List DelayEntry) (place : ℕ) → IsLastCounted detected attempts stops delays place →
     AreIgnored detected attempts stops delays → ⊥
 not_all detected attempts stops delays place last all = false≢true (sym last.counts ∙ all place last.delay last.stands)
 
+-- there is no result exactly if all delays are ignored
 none_given : (detected : ℕ) (attempts : List ℕ) (stops : List Stop) (delays : List DelayEntry) (o : Option (ℕ × DelayEntry)) →
     Given detected attempts stops o delays → (option_map (λ c. c.0) o ≡ None) ↔ AreIgnored detected attempts stops delays
 none_given detected attempts stops delays None given = (λ e. given, λ all. refl)
@@ -174,6 +178,7 @@ pub none_counted : NoneCounted
 none_counted detected attempts stops delays =
     none_given detected attempts stops delays (last_counted detected attempts stops (reverse delays)) (given_in_order detected attempts stops delays)
 
+-- the result is the last delay that counts
 last_given : (detected : ℕ) (attempts : List ℕ) (stops : List Stop) (delays : List DelayEntry) (place : ℕ) (o : Option (ℕ × DelayEntry)) →
     Given detected attempts stops o delays → option_map (λ c. c.0) o ≡ Some place → IsLastCounted detected attempts stops delays place
 last_given detected attempts stops delays place None given e = cc

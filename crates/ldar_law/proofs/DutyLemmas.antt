@@ -24,11 +24,11 @@ all_joined : {X : Type 0} (P : X → Type 0) (xs ys : List X) → AllByRecursion
 all_joined P [] ys h h' = h'
 all_joined P (x ∷ xs) ys h h' = (h.0, all_joined P xs ys h.1 h')
 
--- a duty of this cause and due day
+-- a duty with this cause and due day
 abbrev pub IsOf : ℕ → ℕ → Duty → Type 0
 IsOf cause due d = (d.cause ≡ cause) × (d.due ≡ due)
 
--- a duty of this cause, due on this day or later
+-- a duty with this cause, due on this day or later
 abbrev IsFrom : ℕ → ℕ → Duty → Type 0
 IsFrom cause low d = (d.cause ≡ cause) × (low ≤ d.due)
 
@@ -40,6 +40,7 @@ IsBlock cause low ds = Ascends comes_no_later ds × AllByRecursion (IsFrom cause
 abbrev IsRest : ℕ → List Duty → Type 0
 IsRest cause ds = Ascends comes_no_later ds × AllByRecursion (λ d. cause ≤ d.cause) ds
 
+-- a duty of a cause and due day comes before later ones of the cause
 within : (cause low : ℕ) (d e : Duty) → IsOf cause low d → IsFrom cause low e → comes_no_later d e ≡ true
 within cause low d e this that =
     let same : d.cause ≡ e.cause = this.0 ∙ sym that.0 in
@@ -48,11 +49,12 @@ within cause low d e this that =
     let le : d.due ≤ e.due = omega (arith, due, later) in
     rw (eq-eqb d.cause e.cause same, le-leb d.due e.due le) (or-true (nat_lt d.cause e.cause))
 
+-- a block from a later day on is a block from an earlier day on
 block_later : (cause low later : ℕ) (ds : List Duty) → low ≤ later → IsBlock cause later ds → IsBlock cause low ds
 block_later cause low later ds le block =
     (block.0, all_implied (IsFrom cause later) (IsFrom cause low) (λ d h. let due : later ≤ d.due = h.1 in (h.0, omega (arith, le, due))) ds block.1)
 
--- one more in front
+-- one more duty in front
 block_more : (cause low : ℕ) (o : Option Duty) (ds : List Duty) → IfSome o (IsOf cause low) → IsBlock cause low ds → IsBlock cause low (cons_option o ds)
 block_more cause low None ds this block = block
 block_more cause low (Some d) ds this block =
@@ -61,12 +63,12 @@ block_more cause low (Some d) ds this block =
       ((this.0, omega (arith, due)), block.1),
     )
 
--- one alone
+-- a single duty
 block_one : (cause low : ℕ) (o : Option Duty) → IfSome o (IsOf cause low) → IsBlock cause low (option_to_list o)
 block_one cause low None this = (tt, tt)
 block_one cause low (Some d) this = let due : d.due ≡ low = this.1 in ((tt, tt), ((this.0, omega (arith, due)), tt))
 
--- what numbers give whose due days grow
+-- the duties of consecutive numbers whose due days do not decrease
 block_range : (cause start : ℕ) (f : ℕ → Option Duty) (g : ℕ → ℕ) → ((n : ℕ) → start ≤ n → g n ≤ g (n + 1)) → ((n : ℕ) → IfSome (f n) (IsOf cause (g n))) →
     (low len : ℕ) → start ≤ low → IsBlock cause (g low) (filter_map f (range_with_len low len))
 block_range cause start f g grows gives low zero h = (tt, tt)
@@ -75,6 +77,7 @@ block_range cause start f g grows gives low (suc len) h =
     (block_later cause (g low) (g (low + 1)) (filter_map f (range_with_len (low + 1) len)) (grows low h)
     (block_range cause start f g grows gives (low + 1) len (omega (arith, h))))
 
+-- the duties of a range of numbers whose due days do not decrease
 block_until : (cause start : ℕ) (f : ℕ → Option Duty) (g : ℕ → ℕ) → ((n : ℕ) → start ≤ n → g n ≤ g (n + 1)) → ((n : ℕ) → IfSome (f n) (IsOf cause (g n))) →
     (low end : ℕ) → start ≤ low → IsBlock cause (g low) (filter_map f (until low end))
 unfolding until
@@ -87,7 +90,7 @@ five_after day = end_by (day + 5)
 five_grow : (a b : ℕ) → a ≤ b → five_after a ≤ five_after b
 five_grow a b h = omega (arith, h)
 
--- what events give that stand by their days
+-- the duties of events in order of their days
 block_events : (cause : ℕ) (f : List Event → Event → List Event → Option Duty) →
     ((before : List Event) (e : Event) (after : List Event) → IfSome (f before e after) (IsOf cause (five_after e.key.day))) →
     (front events : List Event) (low : ℕ) → Ascends (λ a b. nat_le a.key.day b.key.day) events → AllByRecursion (λ e. low ≤ e.key.day) events
@@ -116,12 +119,12 @@ joined cause low (x ∷ xs) ys block rest =
       (omega (arith, of), both.1),
     )
 
--- a block alone
+-- a single block
 last_block : (cause low : ℕ) (xs : List Duty) → IsBlock cause low xs → IsRest cause xs
 last_block cause low xs block =
     (block.0, all_implied (IsFrom cause low) (λ d. cause ≤ d.cause) (λ d h. let of : d.cause ≡ cause = h.0 in omega (arith, of)) xs block.1)
 
--- what is given under a test is as it is written
+-- an optional duty under a test, as `IfSome`
 given : (b : Bool) (d : Duty) (P : Duty → Type 0) → P d → IfSome (if b then Some d else None) P
 given true d P h = h
 given false d P h = tt
@@ -166,7 +169,7 @@ module _ (item : Equipment) (classes : List (Key × Class)) (startup : ℕ) (eve
   unfolding evidence
   evidence_form before e after = given _ _ (IsOf 9 (five_after e.key.day)) (refl, refl)
 
--- months, years and weeks in order end in order
+-- the ends of consecutive months, years and weeks do not decrease
 months_grow : (n : ℕ) → 23_640 ≤ n → last_day n ≤ last_day (n + 1)
 months_grow n h = (first_day-le n (n + 1) h (omega arith)).1
 

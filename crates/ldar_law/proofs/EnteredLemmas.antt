@@ -21,7 +21,7 @@ some_if : {X : Type 0} (b : Bool) (x : X) → is_some (cond b (Some x) None) ≡
 some_if true x = refl
 some_if false x = refl
 
--- there is a first of what facts give exactly where some fact gives something
+-- there is a first value exactly if some fact has a value
 first_where_given : {X : Type 0} (f : Entry → Option X) (p : Entry → Bool) → ((e : Entry) → is_some (f e) ≡ p e) → (es : List Entry) →
     is_some (slice_get (filter_map f es) 0) ≡ list_any p es
 first_where_given f p same [] = refl
@@ -31,6 +31,7 @@ first_where_given f p same (e ∷ es) =
       | Some x ↦ λ is. rw (sym is) refl
     ] (same e)
 
+-- a fact has an entry of a component exactly if it enters the component
 component_given : (number : ℕ) (retired : Option ℕ) (day : ℕ) (body : FactBody) →
     is_some (component_entered number retired day body) ≡ enters_component number body
 component_given number retired day (ComponentFact other unit kind monomer replaces class) = some_if (nat_eq other number) _
@@ -60,13 +61,14 @@ pub unit_where_entered : UnitWhereEntered
 unit_where_entered number facts =
     first_where_given (λ e. unit_entered number e.0.day e.1.body) (λ e. enters_unit number e.1.body) (λ e. unit_given number e.0.day e.1.body) facts
 
--- some class that a fact gives is of a day up to one
+-- some class of a fact was entered by the day
 class_given_by : (day : ℕ) (e : Entry) (o : Option Class) (enters : Bool) (rest : List (Key × Class)) (others : Bool) → is_some o ≡ enters →
     list_any (λ entered. nat_le entered.0.day day) rest ≡ others →
     list_any (λ entered. nat_le entered.0.day day) (cons_option (option_map (λ class. (e.0, class)) o) rest) ≡ ((enters && nat_le e.0.day day) || others)
 class_given_by day e None enters rest others is same = rw (sym is) same
 class_given_by day e (Some class) enters rest others is same = rw (sym is) (ap (λ b. nat_le e.0.day day || b) same)
 
+-- some class was entered by the day exactly if some fact enters one by then
 classes_given : (number day : ℕ) (facts : List Entry) →
     list_any (λ entered. nat_le entered.0.day day) (classes_of number facts) ≡ list_any (λ e. enters_class number e.1.body && nat_le e.0.day day) facts
 classes_given number day [] = refl
@@ -78,7 +80,7 @@ pub class_where_entered : ClassWhereEntered
 class_where_entered number day facts =
     last_such_finds (Key × Class) (λ entered. nat_le entered.0.day day) (classes_of number facts) ∙ classes_given number day facts
 
--- what is among what elements give
+-- an element of the values of a list is the value of one of its elements
 among_given : {X Y : Type 0} (f : X → Option Y) (xs : List X) (y : Y) → Among (filter_map f xs) y → (x : X) × Among xs x × (f x ≡ Some y)
 among_given f [] y h = absurd h
 among_given f (x ∷ xs) y h =
@@ -99,7 +101,7 @@ given_among f [] x y h gives = absurd h
 given_among f (z ∷ zs) x y (inl same) gives = rw (same, gives) (inl refl)
 given_among f (z ∷ zs) x y (inr later) gives = behind (f z) (filter_map f zs) y (given_among f zs x y later gives)
 
--- Numbers that are put in order rise.
+-- Sorted numbers do not decrease.
 
 rises_put : (x : ℕ) (xs : List ℕ) → Ascends nat_le xs → Ascends nat_le (put_in_order nat_lt x xs)
 rises_put x [] up = (tt, tt)

@@ -16,16 +16,16 @@ use Rattle.ldar_law.specs.DutyLaws.{EventDutiesFollowEvents}
 use Rattle.ldar_law.proofs.DutyLemmas.{IsOf, first_form, monthly_form, quarterly_form, yearly_form, planned_form, weekly_form, drip_form, release_form}
 use Rattle.ldar_law.proofs.DutyLemmas.{evidence_form}
 
--- of this cause
+-- the duty has this cause
 abbrev Has : ℕ → Duty → Type 0
 Has cause d = d.cause ≡ cause
 
--- a duty that is of a cause and a due day is of the cause
+-- a duty with a cause and a due day has the cause
 has_cause : (cause due : ℕ) (o : Option Duty) → IfSome o (IsOf cause due) → IfSome o (Has cause)
 has_cause cause due None is = tt
 has_cause cause due (Some d) is = is.0
 
--- one more that is of the cause, if there is one
+-- one more duty with the cause, if there is one
 one_more : (cause : ℕ) (o : Option Duty) (ds : List Duty) → IfSome o (Has cause) → AllByRecursion (Has cause) ds → AllByRecursion (Has cause) (cons_option o ds)
 one_more cause None ds is all = all
 one_more cause (Some d) ds is all = (is, all)
@@ -45,20 +45,22 @@ of_events cause f gives front [] = tt
 of_events cause f gives front (e ∷ events) =
     one_more cause (f front e events) (each_from f (front ++ e ∷ []) events) (gives front e events) (of_events cause f gives (front ++ e ∷ []) events)
 
--- the duties of a cause among those of one cause are all, or none
+-- the duties of a cause among duties of a single cause are all of them, or none
 all_kept : (cause : ℕ) (ds : List Duty) → AllByRecursion (Has cause) ds → filter (λ d. nat_eq d.cause cause) ds ≡ ds
 all_kept cause [] all = refl
 all_kept cause (d ∷ ds) all = rw (eq-eqb d.cause cause all.0) (ap (λ es. d ∷ es) (all_kept cause ds all.1))
 
+-- none of the duties of another cause is kept
 none_kept : (wanted cause : ℕ) → nat_eq cause wanted ≡ false → (ds : List Duty) → AllByRecursion (Has cause) ds → filter (λ d. nat_eq d.cause wanted) ds ≡ []
 none_kept wanted cause other [] all = refl
 none_kept wanted cause other (d ∷ ds) all = rw (all.0, other) (none_kept wanted cause other ds all.1)
 
--- a block of another cause in front, and the block of the cause itself
+-- a block of another cause before the block of this cause
 passed : (wanted cause : ℕ) → nat_eq cause wanted ≡ false → (xs ys zs : List Duty) → AllByRecursion (Has cause) xs →
     filter (λ d. nat_eq d.cause wanted) ys ≡ zs → filter (λ d. nat_eq d.cause wanted) (xs ++ ys) ≡ zs
 passed wanted cause other xs ys zs all rest = rw (filter-append (λ d. nat_eq d.cause wanted) xs ys, none_kept wanted cause other xs all) rest
 
+-- only the block of this cause is kept
 taken : (cause : ℕ) (xs ys : List Duty) → AllByRecursion (Has cause) xs → filter (λ d. nat_eq d.cause cause) ys ≡ [] →
     filter (λ d. nat_eq d.cause cause) (xs ++ ys) ≡ xs
 taken cause xs ys all none = rw (filter-append (λ d. nat_eq d.cause cause) xs ys, all_kept cause xs all, none) (append-nil xs)
@@ -112,7 +114,7 @@ module _ (item : Equipment) (classes : List (Key × Class)) (startup : ℕ) (eve
       (λ before e after. has_cause 9 _ (evidence item classes startup events skipped day before e after)
       (evidence_form item classes startup events skipped day before e after)) [] events
 
-  -- the duties of a cause from the seventh on are those of the blocks from there on
+  -- the duties of a cause from 7 on are those of the blocks from there on
   past_periods : (wanted : ℕ) → nat_eq 1 wanted ≡ false → nat_eq 2 wanted ≡ false → nat_eq 3 wanted ≡ false → nat_eq 4 wanted ≡ false →
       nat_eq 5 wanted ≡ false → nat_eq 6 wanted ≡ false →
       (zs : List Duty) → filter (λ d. nat_eq d.cause wanted) (each_where (drip item classes startup events skipped day) events

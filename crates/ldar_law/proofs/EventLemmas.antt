@@ -22,17 +22,17 @@ use Rattle.ldar_law.specs.Slices.{facts_of_component, facts_of_instrument}
 use Rattle.ldar_law.proofs.FitnessLemmas.{fitness_is_of_instrument}
 
 module _ (item : Equipment) (classes : List (Key × Class)) (limit : ℕ → ℕ) where
-  -- the fitness of a reading has no effect on what is none
+  -- the fitness does not matter for a fact that is not a reading
   no_reading_same : (day : ℕ) (fitness other : Fitness) (body : FactBody) → is_reading body ≡ false →
       happening item classes limit day fitness body ≡ happening item classes limit day other body
   no_reading_same day fitness other (Reading _ _ _ purpose ppm background) e = absurd (false≢true (sym e))
   no_reading_same day fitness other _ e = refl
 
-  -- .. nor on the event
+  -- the fitness does not matter for an event that is not a reading
   no_reading_event : (e : Entry) (fitness other : Fitness) → is_reading e.1.body ≡ false → event_of item classes limit e fitness ≡ event_of item classes limit e other
   no_reading_event e fitness other none = rw (no_reading_same e.0.day fitness other e.1.body none) refl
 
-  -- judged by a list with the fitness of each reading, or each by its own
+  -- judging by a list of fitnesses, one for each reading, or each reading by its own
   in_order_same : (fit : Entry → Fitness) (es : List Entry) →
       events_with item classes limit es (filter_map (λ e. if is_reading e.1.body then Some (fit e) else None) es) ≡ filter_map
       (λ e. event_of item classes limit e (fit e)) es
@@ -49,7 +49,7 @@ unfolding events_in
 events_are_judged_in_order item classes limit facts =
     in_order_same item classes limit (fitness_among limit facts) (facts_of_component item.component facts)
 
--- the fitness of a reading by its instrument's facts
+-- the fitness of a reading from its instrument's facts
 by_instrument : (limit : ℕ → ℕ) (facts : List Entry) (key : Key) (body : FactBody) (instrument : ℕ) →
     reading_instrument body ≡ Some instrument → fitness_at limit (facts_of_instrument instrument facts) key body ≡ fitness_at limit facts key body
 by_instrument limit facts key (Reading _ other _ _ ppm _) instrument e =
@@ -61,20 +61,23 @@ by_instrument limit facts key _ instrument e = refl
 pub readings_are_of_instrument : ReadingsAreOfInstrument
 readings_are_of_instrument limit facts e instrument of = by_instrument limit facts e.0 e.1.body instrument of
 
--- an event has the key of its fact
+-- An event has the key of its fact.
 module _ (item : Equipment) (classes : List (Key × Class)) (limit : ℕ → ℕ) (fit : Entry → Fitness) where
+  -- an event of a later fact is later
   later_at : (key : Key) (e : Entry) (o : Option Happening) (rest : List Event) → is_earlier key e.0 ≡ true →
       AllByRecursion (λ x. is_earlier key x.key ≡ true) rest →
       AllByRecursion (λ x. is_earlier key x.key ≡ true) (cons_option (option_map (λ what. record { key = e.0; what = what }) o) rest)
   later_at key e None rest h all = all
   later_at key e (Some what) rest h all = (h, all)
 
+  -- the events of later facts are later
   all_later : (key : Key) (facts : List Entry) → AllByRecursion (λ e. is_earlier key e.0 ≡ true) facts →
       AllByRecursion (λ x. is_earlier key x.key ≡ true) (filter_map (λ e. event_of item classes limit e (fit e)) facts)
   all_later key [] h = tt
   all_later key (e ∷ facts) h =
       later_at key e (happening item classes limit e.0.day (fit e) e.1.body) (filter_map (λ e. event_of item classes limit e (fit e)) facts) h.0 (all_later key facts h.1)
 
+  -- one more event before later ones keeps the order
   one_more_event : (e : Entry) (o : Option Happening) (rest : List Event) → AllByRecursion (λ x. is_earlier e.0 x.key ≡ true) rest →
       Ascends (λ a b. is_earlier a.key b.key) rest →
       Ascends (λ a b. is_earlier a.key b.key) (cons_option (option_map (λ what. record { key = e.0; what = what }) o) rest)

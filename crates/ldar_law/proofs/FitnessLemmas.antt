@@ -12,7 +12,7 @@ use Rattle.ldar_law.specs.ReadingLaws.{FitnessIsOfInstrument}
 use Rattle.ldar_law.specs.Slices.{facts_of_instrument}
 use Rattle.ldar_law.proofs.TestLemmas.{both}
 
--- the fact is the instrument's own
+-- the fact is one of the instrument
 abbrev is_own : ℕ → Entry → Bool
 is_own instrument e = is_numbered (tested_instrument e.1.body) instrument
 
@@ -53,7 +53,7 @@ module _ (facts : List Entry) (key : Key) (instrument : ℕ) where
   before_same later = list_any_narrowed _ (is_own instrument)
       (λ e passes. calibration_is_own instrument e.1.body (both (both passes).0).0) facts
 
-  -- each fact voids the reading among the instrument's own as among all
+  -- a fact voids the reading among the instrument's facts exactly if it does among all facts
   voids_same : (limit ppm : ℕ) (e : Entry) →
       is_voided_by (facts_of_instrument instrument facts) key instrument limit ppm e ≡ is_voided_by facts key instrument limit ppm e
   voids_same limit ppm e = rw (before_same e.0) refl

@@ -11,7 +11,7 @@ use Rattle.fact_kinds.specs.Facts.{Entry, is_earlier, goes_first}
 use Rattle.fact_kinds.proofs.KeyOrder.{strict_earlier, strict_goes_first}
 use Rattle.ldar_law.specs.Equipment.{class_entered, class_at}
 
--- What facts give with their keys stands in key order as they do.
+-- The values of facts, with their keys, are in key order if the facts are.
 module _ {C : Type 0} (f : Entry → Option (Key × C)) (keyed : (e : Entry) (y : Key × C) → f e ≡ Some y → y.0 ≡ e.0) where
   abbrev pub given_first : Key × C → Key × C → Bool
   given_first a b = is_earlier a.0 b.0
@@ -33,7 +33,7 @@ module _ {C : Type 0} (f : Entry → Option (Key × C)) (keyed : (e : Entry) (y 
         | Some z ↦ λ is. (given_all e z (keyed e z is) es up.0, given_ascends es up.1)
       ] refl
 
-  -- one more fact that gives nothing
+  -- one more fact without a value
   pub given-put_none : (x : Entry) → f x ≡ None → (es : List Entry) → filter_map f (put_in_order goes_first x es) ≡ filter_map f es
   given-put_none x none [] = rw none refl
   given-put_none x none (e ∷ es) =
@@ -47,7 +47,7 @@ module _ {C : Type 0} (f : Entry → Option (Key × C)) (keyed : (e : Entry) (y 
   put_behind y None ys behind = refl
   put_behind y (Some z) ys behind = rw (behind z refl) refl
 
-  -- one more fact that gives something
+  -- one more fact with a value
   pub given-put_some : (x : Entry) (y : Key × C) → f x ≡ Some y → (es : List Entry) → Ascends goes_first es →
       filter_map f (put_in_order goes_first x es) ≡ put_in_order given_first y (filter_map f es)
   given-put_some x y some [] up = rw some refl
@@ -64,6 +64,6 @@ class_is_keyed : (number : ℕ) (e : Entry) (o : Option Class) (y : Key × Class
 class_is_keyed number e None y is = cc
 class_is_keyed number e (Some class) y is = cc
 
--- a class is entered with the key of its fact
+-- a class has the key of the fact that enters it
 pub class_keyed : (number : ℕ) (e : Entry) (y : Key × Class) → class_at number e ≡ Some y → y.0 ≡ e.0
 class_keyed number e y is = class_is_keyed number e (class_entered number e.1.body) y is

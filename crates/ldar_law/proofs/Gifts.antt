@@ -2,12 +2,12 @@ use Rattle.std.proofs.Common.{◌≡◌, ◌⊎◌, Option, Some, None, List, []
 use Rattle.std.specs.List.{filter_map, AllByRecursion}
 use Rattle.list_words.proofs.Members.{Among}
 
--- an option that is nothing, and one that is something
+-- an option is `None` or `Some`
 pub cases_Option : {X : Type 0} (o : Option X) → (o ≡ None) ⊎ ((x : X) × (o ≡ Some x))
 cases_Option None = inl refl
 cases_Option (Some x) = inr (x, refl)
 
--- what the elements of a list give
+-- an element of the values of a list is the value of one of its elements
 pub among_given : {X Y : Type 0} (f : X → Option Y) (xs : List X) (y : Y) → Among (filter_map f xs) y → (x : X) × Among xs x × (f x ≡ Some y)
 among_given f [] y h = absurd h
 among_given f (x ∷ xs) y h =
@@ -31,7 +31,7 @@ given_among f (z ∷ xs) x y h e =
           elim (cases_Option (f z)) [ inl none ↦ rw none rest | inr some ↦ rw some.1 (inr rest) ]
     ]
 
--- where no element gives anything
+-- no element has a value
 pub no_gift : {X Y : Type 0} (f : X → Option Y) (xs : List X) → AllByRecursion (λ x. f x ≡ None) xs → filter_map f xs ≡ []
 no_gift f [] all = refl
 no_gift f (x ∷ xs) all = rw (all.0, no_gift f xs all.1) refl

@@ -1,4 +1,4 @@
--- Of elements in the order of their keys, those of days up to one are a front.
+-- The elements with a day of at most the given one are a prefix of a list in key order.
 use Rattle.std.proofs.Common.{◌≡◌, ℕ, zero, suc, ◌<◌, ◌≤◌, Bool, true, false, nat_le, List, [], ◌∷◌, length, take, filter, get_or, refl, ap, arith}
 use Rattle.std.specs.List.{AllByRecursion}
 use Rattle.std.specs.List.Sorted.{IsPartitionedBy, IsPartitionPoint}
@@ -9,7 +9,7 @@ use Rattle.fact_kinds.specs.Facts.{is_earlier}
 use Rattle.fact_kinds.proofs.Cuts.{earlier_day}
 
 module _ {X : Type 0} (key : X → Key) where
-  -- what is before all of some is before each
+  -- an element before all others is before each of them
   before_each : (x : X) (ys : List X) (j : ℕ) (d : X) → AllByRecursion (λ y. is_earlier (key x) (key y) ≡ true) ys → j < length ys →
       is_earlier (key x) (key (get_or ys j d)) ≡ true
   before_each x [] j d all within = absurd (omega arith)
@@ -25,7 +25,7 @@ module _ {X : Type 0} (key : X → Key) where
   days_in_front day (x ∷ xs) up (suc i) zero d le within t = absurd (omega arith)
   days_in_front day (x ∷ xs) up (suc i) (suc j) d le within t = days_in_front day xs up.1 i j d (omega (arith, le)) (omega (arith, within)) t
 
--- the front that ends where the elements stop to pass is the part that passes
+-- the prefix that ends at the first element that fails is the part that passes
 pub front_filtered : {X : Type 0} (p : X → Bool) (xs : List X) (n : ℕ) → n ≤ length xs → IsPartitionPoint (λ x. p x ≡ true) (λ x. p x ≡ false) xs n →
     take n xs ≡ filter p xs
 front_filtered p [] zero within parts = refl

@@ -1,4 +1,4 @@
--- Which rules hold for what kind of equipment.
+-- Which rules apply to which kind of component.
 use Rattle.std.proofs.Common.{◌≡◌, false, true≢false, refl}
 use Rattle.fact_kinds.specs.declared.class.Kind.{Kind}
 use Rattle.fact_kinds.specs.declared.class.Kind.TheVariants.{Valve, Pump, Compressor, Relief}
@@ -8,7 +8,7 @@ use Rattle.ldar_law.specs.Kinds.{is_valve}
 use Rattle.ldar_law.specs.Limits.{regime_of}
 use Rattle.ldar_law.specs.Standing.{are_valve_rules}
 
--- what is no valve is under no rules for valves
+-- a component that is not a valve is not under the rules for valves
 pub no_valve_rules : (kind : Kind) (service : Service) → is_valve kind ≡ false → are_valve_rules (regime_of kind service) ≡ false
 no_valve_rules Valve service other = absurd (true≢false other)
 no_valve_rules Pump Gas other = refl

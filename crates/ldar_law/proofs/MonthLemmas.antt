@@ -9,7 +9,7 @@ use Rattle.ldar_law.specs.Months.{is_clean, is_clean_twice, is_clean_twice_from,
 use Rattle.ldar_law.specs.MonthLaws.{CleanTwiceFromDecides, QuarterlyDecides}
 use Rattle.ldar_law.proofs.TestLemmas.{both, list_any_implied, passing}
 
--- a clean month has an event: what holds of the month holds of some event's
+-- a clean month has an event, so what holds of the month holds of the month of some event
 of_some_event : (events : List Event) (holds : ℕ → Bool) (k : ℕ) → is_clean events k ≡ true → holds k ≡ true →
     list_any (λ e. holds (month_of e.key.day)) events ≡ true
 unfolding is_clean

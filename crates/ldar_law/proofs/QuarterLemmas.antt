@@ -10,7 +10,7 @@ use Rattle.ldar_law.specs.Skips.{good_streak}
 use Rattle.ldar_law.specs.Tallies.{with_mark}
 use Rattle.ldar_law.proofs.TestLemmas.{both}
 
--- what a prefix reaches passes
+-- the elements of a prefix that passes pass
 reaches : {X : Type 0} (p : X → Bool) (xs : List X) (n : ℕ) → n ≤ prefix_len p xs → (n ≤ length xs) × (list_all p (take n xs) ≡ true)
 reaches p xs zero h = (omega arith, refl)
 reaches p [] (suc n) h = absurd (omega (arith, h))
@@ -19,7 +19,7 @@ reaches p (x ∷ xs) (suc n) h = elim (cases_Bool (p x)) [
   | inr f ↦ absurd (omega (arith, subst (λ b. suc n ≤ cond b (1 + prefix_len p xs) 0) f h))
 ]
 
--- .. and what passes is reached
+-- elements that pass, from the first on, are in the prefix
 reached : {X : Type 0} (p : X → Bool) (xs : List X) (n : ℕ) → n ≤ length xs → list_all p (take n xs) ≡ true → n ≤ prefix_len p xs
 reached p xs zero h e = omega arith
 reached p [] (suc n) h e = absurd (omega (arith, h))
@@ -38,7 +38,7 @@ streak_is_of_good_quarters n before = (
 abbrev of_one : Bool → ℕ
 of_one b = if b then 1 else 0
 
--- the counts on from some
+-- the counts of more marks, starting from some counts
 counts_on : (tally : Tally) (marks : List Mark) → fold with_mark tally marks
     ≡ record { leaking = tally.leaking + count_by (λ mark. mark.leaking) marks; monitored = tally.monitored + count_by (λ mark. mark.monitored) marks }
 counts_on tally [] =

@@ -31,8 +31,9 @@ use Rattle.ldar_law.specs.BatchLaws.{RetiredAfterFacts}
 use Rattle.ldar_law.specs.DenialLaws.{RegisterDecides, later_class, ClassAfterFacts}
 use Rattle.ldar_law.specs.Verdicts.{least_rule, denial_at}
 
--- ---- the register by the facts of the register alone
+-- ---- the register's facts are enough for the register
 
+-- the register's facts of a history are enough for its register
 register_narrowed : (history : List Batch) (more : List Entry)
     → register_with (register_facts (facts_of history)) more ≡ register_with (facts_of history) more
 unfolding register_with
@@ -49,18 +50,19 @@ register_narrowed history more =
     (each_in_order goes_first weak_goes_first (flat_map entries_of history)) in
     rw (behind, placed) refl
 
--- words that agree on each element give the same
+-- functions that agree on each element have the same first value
 first_given_agree : {X Y : Type 0} (f g : List X → X → List X → Option Y)
     → ((before : List X) (x : X) (after : List X) → f before x after ≡ g before x after)
     → (front xs : List X) → first_given_from f front xs ≡ first_given_from g front xs
 first_given_agree f g same front [] = refl
 first_given_agree f g same front (x ∷ xs) = rw (same front x xs, first_given_agree f g same (front ++ x ∷ []) xs) refl
 
--- what is told of a fact by two registers
+-- the denial of a fact by two registers
 told_by : List Entry → Entry → Register → Register → Option (ℕ × ℕ)
 told_by before entry known whole =
     option_map (λ number. (length before + 1, number)) (least_rule (record { entry = entry; known = known; whole = whole }))
 
+-- the register's facts of a history are enough for a denial
 denial_narrowed : (history : List Batch) (before : List Entry) (entry : Entry) (after : List Entry)
     → denial_at (register_facts (facts_of history)) before entry after ≡ denial_at (facts_of history) before entry after
 unfolding told_by
@@ -74,6 +76,7 @@ register_decides history batch =
 
 -- ---- the days of keys in order
 
+-- if a comparison of pairs is not less, its first numbers are not less either
 no_sooner : (x y : ℕ) (o p : Ordering) → MatchOrdering o (x < y) (x ≡ y) (y < x) → is_lt (ordering_then o p) ≡ false → y ≤ x
 no_sooner x y Less p ranks e = absurd cc
 no_sooner x y Equal p ranks e = omega arith
@@ -83,7 +86,7 @@ no_sooner x y Greater p ranks e = omega arith
 pub day_of_later : (a b : Key) → is_earlier a b ≡ false → b.day ≤ a.day
 day_of_later a b e = no_sooner a.day b.day (nat_cmp a.day b.day) _ (ranked a.day b.day (nat_cmp a.day b.day) refl) e
 
--- a day that has not come by another has not come by it on a later one
+-- if a day is after the given day, so is each later one
 not_yet : (a b day : ℕ) → a ≤ b → nat_le a day ≡ false → nat_le b day ≡ false
 not_yet a b day no_later out = elim (cases_Bool (nat_le b day)) [
   | inl e ↦ absurd (false≢true (sym out ∙ le-leb a day (omega (arith, no_later, leb-true b day e))))
@@ -101,7 +104,7 @@ or_moved false b c = refl
 
 -- ---- retirements among facts in order
 
--- behind a fact whose day has not come, none has a day that has
+-- if a fact's day is after the given day, so are the days of all later facts
 none_later : (p : Entry → Bool) (day : ℕ) (e : Entry) (es : List Entry) → nat_le e.0.day day ≡ false
     → AllByRecursion (λ x. goes_first x e ≡ false) es → list_any (λ x. p x && nat_le x.0.day day) es ≡ false
 none_later p day e [] out later = refl
@@ -112,6 +115,7 @@ none_later p day e (x ∷ xs) out later =
       | inr f ↦ rw f (none_later p day e xs out later.1)
     ])
 
+-- a component is retired by a day exactly if some fact retires it by then
 retired_among : (number day : ℕ) (es : List Entry) → InOrder goes_first es
     → has_come (retired_on number es) day ≡ list_any (λ e. retires number e.1.body && nat_le e.0.day day) es
 retired_among number day [] o = refl
@@ -133,8 +137,9 @@ retired_by_some number day entries =
     retired_among number day (in_order goes_first entries) (each_in_order goes_first weak_goes_first entries)
     ∙ list_any-in_order (λ e. retires number e.1.body && nat_le e.0.day day) entries
 
--- ---- the class in force after the facts of a batch
+-- ---- the class in force after a batch's facts
 
+-- the class in force after one more fact
 one_more_class : (number day : ℕ) (entry : Entry) (facts : List Entry) → InOrder goes_first facts
     → class_by day (classes_of number (put_in_order goes_first entry facts)) ≡ with_class day (class_at number entry) (class_by day (classes_of number facts))
 one_more_class number day entry facts o =
@@ -146,6 +151,7 @@ one_more_class number day entry facts o =
           (given_in_order (class_at number) (class_keyed number) facts o)
     ] refl
 
+-- the classes in force after the facts of a batch
 classes_after : (number day : ℕ) (more facts : List Entry) → InOrder goes_first facts
     → class_by day (classes_of number (put_each goes_first more facts)) ≡ later_class number day more (class_by day (classes_of number facts))
 classes_after number day [] facts o = refl

@@ -29,7 +29,7 @@ unfolding until
 six_months first = let six : first + 6 - first ≡ 6 = omega arith in rw six refl
 
 module _ (day : ℕ) (sheets : List Sheet) where
-  -- each of the six numbers of a month is a count of sheets, and so is each of the six months
+  -- each of the 36 numbers of six months is a count of sheets
   months_bounded : (months : List ℕ) → AllByRecursion (λ number. number ≤ length sheets) (flat_map (month_cells day sheets) months)
   unfolding month_cells
   months_bounded [] = tt
@@ -44,6 +44,7 @@ module _ (day : ℕ) (sheets : List Sheet) where
     ),
   )
 
+  -- each month has six numbers
   six_each : (months : List ℕ) → length (flat_map (month_cells day sheets) months) ≡ 6 * length months
   unfolding month_cells
   six_each [] = refl
@@ -56,7 +57,7 @@ cells_are_bounded startup half day sheets stops =
 
 -- ---- months past the calendar
 
--- a test that fails on each element
+-- a test that fails on each element passes on none
 none_passes : {X : Type 0} (p : X → Bool) (xs : List X) → AllByRecursion (λ x. p x ≡ false) xs → list_any p xs ≡ false
 none_passes p [] all = refl
 none_passes p (x ∷ xs) all = rw (all.0, none_passes p xs all.1) refl
@@ -65,7 +66,7 @@ count_none : {X : Type 0} (p : X → Bool) (xs : List X) → AllByRecursion (λ 
 count_none p [] all = refl
 count_none p (x ∷ xs) all = sum_by-cons (λ y. cond (p y) 1 0) x xs ∙ rw (all.0, count_none p xs all.1) refl
 
--- what fails behind a test
+-- a conjunction fails if its second test does
 fails_behind : (a b : Bool) → b ≡ false → (a && b) ≡ false
 fails_behind true b e = e
 fails_behind false b e = refl
@@ -80,6 +81,7 @@ no_date_past month past WhileIsolated within = refl
 no_date_past month past NoDate within = refl
 
 module _ (day month : ℕ) (past : 25_199 < month) (is_kind : Kind → Bool) (sheets : List Sheet) (within : AllByRecursion IsInCalendar sheets) where
+  -- no component has a leak in a month after the calendar's end
   none_leaking : leaking_in is_kind sheets month ≡ 0
   none_leaking =
       count_none (λ sheet. is_kind sheet.kind && list_any (λ leak. nat_eq leak month) sheet.leaks) sheets
@@ -89,6 +91,7 @@ module _ (day month : ℕ) (past : 25_199 < month) (is_kind : Kind → Bool) (sh
       (all_weaker (λ leak. leak ≤ 25_199) (λ leak. nat_eq leak month ≡ false) (λ leak low. earlier_month leak month low past) sheet.leaks h.0)))
       sheets within)
 
+  -- no component has a late tag in a month after the calendar's end
   none_late : late_in is_kind day sheets month ≡ 0
   none_late =
       let late_there : Tag → Bool = λ tag. is_late day tag && is_date_in month tag.repair_due in
@@ -124,7 +127,7 @@ amended_where_different old new change = (
       Contains-from_among _ change (given_among (amended_at old.months new.months) (until 0 36) h.0 change place h.2),
 )
 
--- two numbers that are equal amend nothing, and others do
+-- two equal numbers amend nothing, and different ones do
 amends_nothing : (old new : List ℕ) (place : ℕ) → amended_at old new place ≡ None → slice_index_or old place 0 ≡ slice_index_or new place 0
 unfolding amended_at
 amends_nothing old new place e =

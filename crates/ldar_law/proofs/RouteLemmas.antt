@@ -10,12 +10,12 @@ use Rattle.ldar_law.specs.declared.duty.Duty.{Duty}
 use Rattle.ldar_law.specs.Routes.{is_more_urgent, with_stop}
 use Rattle.ldar_law.specs.QuarterLaws.{StopsAreUndone}
 
--- in order, the same is there
+-- sorting does not change whether some element passes
 in_order_any : {X : Type 0} (p : X → Bool) (before : X → X → Bool) (xs : List X) → list_any p (in_order before xs) ≡ list_any p xs
 in_order_any p before [] = refl
 in_order_any p before (x ∷ xs) = list_any-put p before x (in_order before xs) ∙ ap (λ b. p x || b) (in_order_any p before xs)
 
--- among what passes one test, some passes another
+-- an element passes two tests
 filter_any : {X : Type 0} (p q : X → Bool) (xs : List X) → list_any p (filter q xs) ≡ list_any (λ x. q x && p x) xs
 filter_any p q [] = refl
 filter_any p q (x ∷ xs) = elim (cases_Bool (q x)) [
@@ -27,7 +27,7 @@ filter_any p q (x ∷ xs) = elim (cases_Bool (q x)) [
 abbrev has : List ℕ → ℕ → Bool
 has stops component = list_any (λ stop. nat_eq stop component) stops
 
--- a duty adds its component
+-- a duty adds its component to the stops
 stop_added : (stops : List ℕ) (duty : Duty) (component : ℕ) → has (with_stop stops duty) component ≡ (has stops component || nat_eq duty.component component)
 stop_added stops duty component = elim (cases_Bool (has stops duty.component)) [
   | inl there ↦ rw there (elim (cases_Bool (nat_eq duty.component component)) [
@@ -38,7 +38,7 @@ stop_added stops duty component = elim (cases_Bool (has stops duty.component)) [
       (list_any-append (λ stop. nat_eq stop component) stops (duty.component ∷ []) ∙ rw (or-false (nat_eq duty.component component)) refl)
 ]
 
--- and so does each of some duties
+-- each of some duties adds its component to the stops
 stops_added : (duties : List Duty) (stops : List ℕ) (component : ℕ) →
     has (fold with_stop stops duties) component ≡ (has stops component || list_any (λ d. nat_eq d.component component) duties)
 stops_added [] stops component = sym (or-false (has stops component))

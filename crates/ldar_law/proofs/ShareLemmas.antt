@@ -30,13 +30,14 @@ use Rattle.ldar_law.proofs.RegisterLemmas.{retired_registered}
 use Rattle.ldar_law.proofs.SliceLemmas.{unnamed_component, register_facts_suffice}
 use Rattle.ldar_law.proofs.WeakOrder.{given-put_none}
 
--- ---- what a fact enters
+-- ---- entries of a fact
 
+-- a fact that enters no component has no entry of any
 no_entry : (number day : ℕ) (body : FactBody) → number_entered body ≡ None → component_entered number None day body ≡ None
 no_entry number day (ComponentFact other unit kind monomer replaces class) e = absurd cc
 no_entry number day _ e = refl
 
--- the component that a fact enters, with its number
+-- the component that a fact enters has the fact's number
 entry_there : (number day : ℕ) (body : FactBody) → number_entered body ≡ Some number
     → (item : Equipment) × (component_entered number None day body ≡ Some item) × (item.component ≡ number)
 entry_there number day (ComponentFact other unit kind monomer replaces class) e =
@@ -47,22 +48,24 @@ entry_there number day (ComponentFact other unit kind monomer replaces class) e 
     )
 entry_there number day _ e = absurd cc
 
+-- a fact that enters another component has no entry of this one
 entry_of_other : (number other day : ℕ) (body : FactBody) → number_entered body ≡ Some other → nat_eq other number ≡ false
     → component_entered number None day body ≡ None
 entry_of_other number other day (ComponentFact m unit kind monomer replaces class) e differ =
     let same : m ≡ other = cc in rw (same, differ) refl
 entry_of_other number other day _ e differ = absurd cc
 
--- what a fact enters, it names
+-- a fact that enters a component names it
 entered_is_named : (body : FactBody) (number other : ℕ) → component_of body ≡ Some number → number_entered body ≡ Some other → other ≡ number
 entered_is_named (ComponentFact m unit kind monomer replaces class) number other named entered = cc
 entered_is_named _ number other named entered = absurd cc
 
+-- a fact that names no component enters none
 unnamed_enters_none : (body : FactBody) → component_of body ≡ None → number_entered body ≡ None
 unnamed_enters_none (ComponentFact m unit kind monomer replaces class) e = absurd cc
 unnamed_enters_none _ e = refl
 
--- the first of one fact
+-- the first entry in a list of one fact
 first_entry-one : (number : ℕ) (e : Entry) (o : Option Equipment) → component_entered number None e.0.day e.1.body ≡ o → first_entry number (e ∷ []) ≡ o
 first_entry-one number e None is = rw is refl
 first_entry-one number e (Some item) is = rw is refl
@@ -75,7 +78,7 @@ first_entry-cons_some : (number : ℕ) (e : Entry) (es : List Entry) (item : Equ
     → first_entry number (e ∷ es) ≡ Some item
 first_entry-cons_some number e es item is = rw is refl
 
--- .. and the first after a front with one fact more
+-- the first entry after some facts and one more
 first_entry-push : (number : ℕ) (front : List Entry) (e : Entry)
     → first_entry number (front ++ e ∷ []) ≡ option_or (first_entry number front) (component_entered number None e.0.day e.1.body)
 first_entry-push number front e =
@@ -84,13 +87,15 @@ first_entry-push number front e =
 
 -- ---- each component once
 
+-- the components of a list of facts, each as its first entry after some facts
 abbrev once : List Entry → List Entry → List Equipment
 once front es = each_from (λ before entry after. entered_first before entry) front es
 
+-- the component with a number
 abbrev find_item : ℕ → List Equipment → Option Equipment
 find_item number items = find (λ item. nat_eq item.component number) items
 
--- what a fact enters first, by the number that it enters
+-- the first entry of a fact's component, by the number that it enters
 first_none : (front : List Entry) (e : Entry) → number_entered e.1.body ≡ None → entered_first front e ≡ None
 first_none front e none = rw (none, entered_first) refl
 
@@ -103,6 +108,7 @@ none_or_some : (o p : Option Equipment) → is_none (option_or o p) ≡ (is_none
 none_or_some None p = refl
 none_or_some (Some x) p = refl
 
+-- a component with another number is skipped
 find_past : (number : ℕ) (o : Option Equipment) (items : List Equipment) → ((item : Equipment) → o ≡ Some item → nat_eq item.component number ≡ false)
     → find_item number (cons_option o items) ≡ find_item number items
 find_past number None items other = refl
@@ -112,7 +118,7 @@ and_false : (b : Bool) → (b && false) ≡ false
 and_false true = refl
 and_false false = refl
 
--- what is entered under another number is not that of this one
+-- a component entered under another number is a different one
 entered_other : (number other : ℕ) (mine item : Equipment) (b : Bool) → mine.component ≡ other → nat_eq other number ≡ false
     → cond b (Some mine) None ≡ Some item → nat_eq item.component number ≡ false
 entered_other number other mine item true is differ e = let same : mine ≡ item = cc in subst (λ (x : Equipment). nat_eq x.component number ≡ false) same
@@ -123,7 +129,7 @@ nothing_either_way : (b : Bool) → cond {A = Option Equipment} b None None ≡ 
 nothing_either_way true = refl
 nothing_either_way false = refl
 
--- a component among those that are entered first behind a front
+-- a component among those entered first after some facts
 pub find_once : (number : ℕ) (front es : List Entry)
     → find_item number (once front es) ≡ cond (is_none (first_entry number front)) (first_entry number es) None
 find_once number front [] = sym (nothing_either_way (is_none (first_entry number front)))
@@ -158,11 +164,12 @@ find_once number front (e ∷ es) =
       ]
     ]
 
--- no component stands twice among those
+-- the components all have different numbers
 abbrev Apart : List Equipment → Type 0
 Apart [] = Unit {0}
 Apart (x ∷ xs) = (find_item x.component xs ≡ None) × Apart xs
 
+-- the components of a list of facts all have different numbers
 apart_once : (front es : List Entry) → Apart (once front es)
 apart_once front [] = tt
 apart_once front (e ∷ es) =
@@ -184,18 +191,19 @@ apart_once front (e ∷ es) =
           ]
     ]
 
--- one fact more enters a component at the end, or none
+-- one more fact adds at most one component at the end
 option_append : {X : Type 0} (o : Option X) (xs ys : List X) → cons_option o (xs ++ ys) ≡ cons_option o xs ++ ys
 option_append None xs ys = refl
 option_append (Some x) xs ys = refl
 
+-- one more fact adds its component, if it is the first entry
 once-push : (front es : List Entry) (e : Entry) → once front (es ++ e ∷ []) ≡ once front es ++ option_to_list (entered_first (front ++ es) e)
 once-push front [] e = cons_option_is (entered_first front e) [] ∙ rw (append-nil, append-nil) refl
 once-push front (x ∷ xs) e =
     ap (cons_option (entered_first front x)) (once-push (front ++ x ∷ []) xs e ∙ rw append_assoc refl)
     ∙ option_append (entered_first front x) (once (front ++ x ∷ []) xs) (option_to_list (entered_first (front ++ x ∷ xs) e))
 
--- what a fact enters where its component is known, and where it is not
+-- what a fact enters if its component is already entered, and if it is not
 entered_known : (front : List Entry) (e : Entry) (number : ℕ) → component_of e.1.body ≡ Some number → (item : Equipment)
     → first_entry number front ≡ Some item → entered_first front e ≡ None
 entered_known front e number named item known =
@@ -218,7 +226,7 @@ entered_fresh front e number named new =
           first_some front e some.0 some.1 ∙ rw (fresh, same) refl
     ]
 
--- ---- two tests that differ at one component
+-- ---- two tests that differ on one component
 
 abbrev bit : Bool → ℕ
 bit b = cond b 1 0
@@ -246,6 +254,7 @@ count_agree p q same (x ∷ xs) =
     count_cons q x xs ∙ rw (same x, rest) (sym (count_cons p x xs))
 
 module _ (p q : Equipment → Bool) (number : ℕ) (same : (item : Equipment) → nat_eq item.component number ≡ false → q item ≡ p item) where
+  -- without the component, both tests have the same count
   count_without : (items : List Equipment) → find_item number items ≡ None → count_by q items ≡ count_by p items
   count_without [] none = refl
   count_without (x ∷ xs) none =
@@ -256,6 +265,7 @@ module _ (p q : Equipment → Bool) (number : ℕ) (same : (item : Equipment) �
             count_cons q x xs ∙ rw (same x other, rest) (sym (count_cons p x xs))
       ]
 
+  -- the two counts differ only by the component
   count_change : (items : List Equipment) → Apart items
       → count_by q items + counted p (find_item number items) ≡ count_by p items + counted q (find_item number items)
   count_change [] apart = refl
@@ -273,7 +283,7 @@ module _ (p q : Equipment → Bool) (number : ℕ) (same : (item : Equipment) �
             rw other (omega (arith, first, second, rest, alike))
       ]
 
--- ---- the register, with one fact more
+-- ---- the register after one more fact
 
 put_each-push : (more ys : List Entry) (e : Entry) → put_each goes_first (more ++ e ∷ []) ys ≡ put_in_order goes_first e (put_each goes_first more ys)
 put_each-push [] ys e = refl
@@ -308,7 +318,7 @@ module _ (held more : List Entry) (e : Entry) where
       ap register_facts (sym (append_assoc {A = Entry} held more (e ∷ [])))
       ∙ filter-append (λ x. is_registered x.1.body) (held ++ more) (e ∷ [])
 
-  -- a fact that is no entry leaves the register
+  -- a fact that is no entry leaves the register unchanged
   same_register : is_registered e.1.body ≡ false → after ≡ before
   unfolding register_with
   same_register out =
@@ -335,17 +345,19 @@ module _ (held more : List Entry) (e : Entry) where
         ∙ given-put_none (class_at number) (class_keyed number) e (rw (unnamed_component number e.1.body other).no_class refl) (put_each goes_first more held)
         ∙ sym ((register_facts_suffice number (put_each goes_first more held)).0.classes)
 
--- ---- a count, with one fact more
+-- ---- a count after one more fact
 
--- a test looks at a register for what it holds of the component alone
+-- the test looks only at what the register has about the component
 abbrev IsLocal : (Register → Equipment → Bool) → Type 0
 IsLocal test =
     (old new : Register) (item : Equipment) → retired_on item.component new.in_order ≡ retired_on item.component old.in_order
     → classes_of item.component new.in_order ≡ classes_of item.component old.in_order → test new item ≡ test old item
 
+-- whether a component is a valve in service depends only on what the register has about it
 valve_local : (unit day : ℕ) → IsLocal (counts_as_valve unit day)
 valve_local unit day old new item retired classes = rw retired refl
 
+-- whether it is difficult to monitor depends only on what the register has about it
 difficult_local : (unit day : ℕ) → IsLocal (counts_as_difficult unit day)
 difficult_local unit day old new item retired classes = rw (retired, classes) refl
 
@@ -357,6 +369,7 @@ numbered_other o c n some differ =
     ]
 
 module _ (test : Register → Equipment → Bool) (local : IsLocal test) (held more : List Entry) (e : Entry) where
+  -- the count after one more entry
   count_after : is_registered e.1.body ≡ true
       → count_in test (register_with held (more ++ e ∷ []))
       ≡ count_by (test (register_with held (more ++ e ∷ []))) (components_once (register_with held more))
@@ -369,6 +382,7 @@ module _ (test : Register → Equipment → Bool) (local : IsLocal test) (held m
       ∙ count_append p (once [] (register_with held more).entered) (option_to_list (entered_first (register_with held more).entered e))
       ∙ ap (λ n. count_by p (once [] (register_with held more).entered) + n) (counted_option p (entered_first (register_with held more).entered e))
 
+  -- the first entries after one more entry
   entered_after : is_registered e.1.body ≡ true → (number : ℕ)
       → first_entry number (register_with held (more ++ e ∷ [])).entered
       ≡ option_or (first_entry number (register_with held more).entered) (component_entered number None e.0.day e.1.body)
@@ -441,7 +455,7 @@ other_facts_count_nothing unit day held more entry unnamed = (
   stays_so (counts_as_difficult unit day) (difficult_local unit day) held more entry unnamed,
 )
 
--- ---- what is filtered is counted
+-- ---- the length of a filtered list is a count
 
 kept_length : {X : Type 0} (p : X → Bool) (x : X) (xs : List X) → p x ≡ true → length (filter p (x ∷ xs)) ≡ length (filter p xs) + 1
 kept_length p x xs t = rw t (omega arith)
@@ -490,18 +504,22 @@ valves_are_counted unit day register =
 
 -- ---- the members of a process unit
 
+-- a fact that does not enter the component has no entry of it
 enters_none : (number day : ℕ) (body : FactBody) → enters_component number body ≡ false → component_entered number None day body ≡ None
 enters_none number day (ComponentFact other unit kind monomer replaces class) e = rw e refl
 enters_none number day _ e = refl
 
+-- a fact that enters a number enters that component
 enters_its_own : (number : ℕ) (body : FactBody) → number_entered body ≡ Some number → enters_component number body ≡ true
 enters_its_own number (ComponentFact other unit kind monomer replaces class) e = let same : other ≡ number = cc in eq-eqb other number same
 enters_its_own number _ e = absurd cc
 
+-- a fact that enters no component enters no member
 joins_none : (unit : ℕ) (body : FactBody) → number_entered body ≡ None → member_entered unit body ≡ None
 joins_none unit (ComponentFact other u kind monomer replaces class) e = absurd cc
 joins_none unit _ e = refl
 
+-- a fact that enters a component enters it as a member of its unit
 joins_its_unit : (unit number day : ℕ) (body : FactBody) (item : Equipment) → number_entered body ≡ Some number
     → component_entered number None day body ≡ Some item → member_entered unit body ≡ cond (nat_eq item.unit unit) (Some number) None
 joins_its_unit unit number day (ComponentFact other u kind monomer replaces class) item e is =
@@ -513,7 +531,7 @@ joins_its_unit unit number day (ComponentFact other u kind monomer replaces clas
     rw (same, stands) refl
 joins_its_unit unit number day _ item e is = absurd cc
 
--- a component that is entered first in a list is entered there
+-- a component with a first entry in a list is entered in the list
 count_of_first : (number : ℕ) (es : List Entry) (item : Equipment) → first_entry number es ≡ Some item
     → 1 ≤ count_by (λ e. enters_component number e.1.body) es
 count_of_first number [] item e = absurd cc
@@ -526,7 +544,7 @@ count_of_first number (e ∷ es) item some =
           omega (arith, one, count_of_first number es item later)
     ]
 
--- where no component is entered twice, none is before the fact that enters it
+-- if no component is entered twice, there is no entry before the fact that enters it
 none_before : (number : ℕ) (front : List Entry) (e : Entry) (es : List Entry) → number_entered e.1.body ≡ Some number
     → count_by (λ x. enters_component number x.1.body) (front ++ e ∷ es) ≤ 1 → first_entry number front ≡ None
 none_before number front e es enters few =
@@ -566,6 +584,7 @@ sum-in_order f (x ∷ xs) = sum-put f x (in_order nat_lt xs) ∙ ap (λ n. f x +
 
 module _ (test : Equipment → Bool) (unit : ℕ) (other_unit : (item : Equipment) → nat_eq item.unit unit ≡ false → test item ≡ false)
     (all : List Entry) (few : (number : ℕ) → count_by (λ e. enters_component number e.1.body) all ≤ 1) where
+  -- the counts over some facts are sums over the members that they enter
   members_from : (front es : List Entry) → front ++ es ≡ all
       → count_by test (once front es) ≡ sum_by (λ n. counted test (first_entry n all)) (filter_map (λ e. member_entered unit e.1.body) es)
   members_from front [] whole = refl

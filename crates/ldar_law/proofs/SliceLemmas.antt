@@ -13,19 +13,20 @@ use Rattle.ldar_law.specs.Equipment.{stop_entered}
 use Rattle.ldar_law.specs.Slices.{is_registered}
 use Rattle.ldar_law.specs.RegisterLaws.{HasComponent, HasUnit, OwnFactsSuffice, UnitFactsSuffice, UnitFactsJudge, RegisterFactsSuffice}
 
--- a fact that enters nothing for a component
+-- the fact enters nothing for a component
 pub record IsSilentOnComponent (number : ℕ) (body : FactBody) : Type 0 where
   pub stays : retires number body ≡ false
   pub no_component : (retired : Option ℕ) (day : ℕ) → component_entered number retired day body ≡ None
   pub no_class : class_entered number body ≡ None
 
--- a fact that enters nothing for a process unit
+-- the fact enters nothing for a process unit
 pub record IsSilentOnUnit (number : ℕ) (body : FactBody) : Type 0 where
   pub no_unit : (day : ℕ) → unit_entered number day body ≡ None
   pub no_member : member_entered number body ≡ None
   pub no_election : (key : Key) → election_entered number key body ≡ None
   pub no_stop : (day : ℕ) → stop_entered number day body ≡ None
 
+-- a fact that does not name the component is silent on it
 pub unnamed_component : (number : ℕ) (body : FactBody) → is_numbered (component_of body) number ≡ false → IsSilentOnComponent number body
 unnamed_component number (ComponentFact other unit kind monomer replaces class) e =
     record { stays = refl; no_component = λ retired day. rw e refl; no_class = refl }
@@ -33,6 +34,7 @@ unnamed_component number (ClassFact other class) e = record { stays = refl; no_c
 unnamed_component number (Retire other) e = record { stays = e; no_component = λ retired day. refl; no_class = refl }
 unnamed_component number _ e = record { stays = refl; no_component = λ retired day. refl; no_class = refl }
 
+-- a fact that does not name the unit is silent on it
 unnamed_unit : (number : ℕ) (body : FactBody) → is_numbered (unit_of body) number ≡ false → IsSilentOnUnit number body
 unnamed_unit number (UnitFact other older name) e =
     record { no_unit = λ day. rw e refl; no_member = refl; no_election = λ key. refl; no_stop = λ day. refl }
@@ -44,6 +46,7 @@ unnamed_unit number (Shutdown other days) e =
     record { no_unit = λ day. refl; no_member = refl; no_election = λ key. refl; no_stop = λ day. rw e refl }
 unnamed_unit number _ e = record { no_unit = λ day. refl; no_member = refl; no_election = λ key. refl; no_stop = λ day. refl }
 
+-- a fact that is no entry is silent on each component
 pub unregistered_component : (number : ℕ) (body : FactBody) → is_registered body ≡ false → IsSilentOnComponent number body
 unregistered_component number (UnitFact other older name) e = cc
 unregistered_component number (ComponentFact other unit kind monomer replaces class) e = cc
@@ -53,6 +56,7 @@ unregistered_component number (Election other mode notified) e = cc
 unregistered_component number (Shutdown other days) e = cc
 unregistered_component number _ e = record { stays = refl; no_component = λ retired day. refl; no_class = refl }
 
+-- a fact that is no entry is silent on each unit
 unregistered_unit : (number : ℕ) (body : FactBody) → is_registered body ≡ false → IsSilentOnUnit number body
 unregistered_unit number (UnitFact other older name) e = cc
 unregistered_unit number (ComponentFact other unit kind monomer replaces class) e = cc
@@ -62,12 +66,12 @@ unregistered_unit number (Election other mode notified) e = cc
 unregistered_unit number (Shutdown other days) e = cc
 unregistered_unit number _ e = record { no_unit = λ day. refl; no_member = refl; no_election = λ key. refl; no_stop = λ day. refl }
 
--- what passes is kept
+-- what the first test passes, the second one passes
 kept : (b c : Bool) → (c ≡ false → b ≡ false) → b ≡ true → c ≡ true
 kept b true implies e = refl
 kept b false implies e = absurd (false≢true (sym (implies refl) ∙ e))
 
--- a part that leaves out only facts that are silent on a component has all that the register holds of it
+-- leaving out facts that are silent on a component keeps everything that the register has about it
 pub has_component : (number : ℕ) (q : Entry → Bool) → ((e : Entry) → q e ≡ false → IsSilentOnComponent number e.1.body) → (facts : List Entry) →
     HasComponent number (filter q facts) facts
 has_component number q silent facts =
@@ -82,7 +86,7 @@ has_component number q silent facts =
       classes = filter_map_narrowed (class_at number) q (λ e out. rw (silent e out).no_class refl) facts;
     }
 
--- .. and so of a process unit
+-- leaving out facts that are silent on a process unit keeps everything that the register has about it
 pub has_unit : (number : ℕ) (q : Entry → Bool) → ((e : Entry) → q e ≡ false → IsSilentOnUnit number e.1.body) → (facts : List Entry) →
     HasUnit number (filter q facts) facts
 has_unit number q silent facts =

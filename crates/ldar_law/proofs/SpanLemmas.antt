@@ -21,51 +21,51 @@ not_false : (b : Bool) → not b ≡ false → b ≡ true
 not_false true e = refl
 not_false false e = sym e
 
--- where the last one passes, one does
+-- some element passes if the last one does
 last_passes : (q : Event → List Event → Bool) (front rest : List Event) (x : Event) → q x [] ≡ true →
     somewhere_from (λ _ y after. q y after) front (rest ++ x ∷ []) ≡ true
 last_passes q front [] x h = rw h refl
 last_passes q front (z ∷ rest) x h = rw (last_passes q (front ++ z ∷ []) rest x h) (or-true (q z (rest ++ x ∷ [])))
 
--- a leak is unsettled when nothing follows it
+-- a leak is unsettled if nothing follows it
 leak_unsettled : (kind : Kind) (front : List Event) (leak : Event) → is_leak leak.what ≡ true → is_unsettled kind (front ++ leak ∷ []) ≡ true
 leak_unsettled kind front leak h = last_passes (λ y after. is_leak y.what && not (is_settled kind y after)) [] front leak (ap (λ b. b && true) h)
 
--- what holds of what is given, and of the rest
+-- a property of all spans, with one more that is kept
 all_given : (b : Bool) (s : Span) (P : Span → Type 0) (rest : List Span) → P s → AllByRecursion P rest →
     AllByRecursion P (cons_option (if b then Some s else None) rest)
 all_given true s P rest h all = (h, all)
 all_given false s P rest h all = all
 
--- where nothing is given, what holds of the rest
+-- a property of all spans, with one more that is not kept
 all_skipped : (b : Bool) (s : Span) (P : Span → Type 0) (rest : List Span) → b ≡ false → AllByRecursion P rest →
     AllByRecursion P (cons_option (if b then Some s else None) rest)
 all_skipped true s P rest e all = absurd (false≢true (sym e))
 all_skipped false s P rest e all = all
 
--- one more in front, where it is closed before all of the rest
+-- one more span in front, which is closed before all of the rest
 one_more : (b : Bool) (s : Span) (rest : List Span) → (b ≡ true → AllByRecursion (λ r. closes_before s r ≡ true) rest) → Ascends closes_before rest →
     Ascends closes_before (cons_option (if b then Some s else None) rest)
 one_more true s rest h asc = (h refl, asc)
 one_more false s rest h asc = asc
 
 module _ (kind : Kind) (events : List Event) where
-  -- tags are detected where events are
+  -- tags are detected at events
   detected_later : (key : Key) (front xs : List Event) → AllByRecursion (λ e. is_earlier key e.key ≡ true) xs →
       AllByRecursion (λ s. is_earlier key s.detected ≡ true) (each_from (span_at kind events) front xs)
   detected_later key front [] h = tt
   detected_later key front (x ∷ xs) h =
       all_given (opens kind front x) _ (λ s. is_earlier key s.detected ≡ true) _ h.0 (detected_later key (front ++ x ∷ []) xs h.1)
 
-  -- the closing that is found from behind a front
+  -- the closing found after some events
   abbrev closing : List Event → List Event → Option Key
   closing front xs = option_map (λ e. e.key) (first_from (λ f e _. closes kind f e) front xs)
 
-  -- .. is before a detection
+  -- the closing is before a detection
   abbrev IsBefore : Option Key → Span → Type 0
   IsBefore closed s = option_map_or (λ key. is_earlier key s.detected) closed false ≡ true
 
-  -- with one more event the tag is closed, or what follows closes it
+  -- one more event closes the tag, or a later event does
   one_event : (front : List Event) (y : Event) (ys : List Event) (b : Bool) → closes kind front y ≡ b →
       AllByRecursion (λ e. is_earlier y.key e.key ≡ true) ys →
       (is_unsettled kind (front ++ y ∷ []) ≡ true → AllByRecursion (IsBefore (closing (front ++ y ∷ []) ys))
@@ -75,7 +75,7 @@ module _ (kind : Kind) (events : List Event) where
   one_event front y ys true e later rec = detected_later y.key (front ++ y ∷ []) ys later
   one_event front y ys false e later rec = rec (not_false (is_unsettled kind (front ++ y ∷ [])) e)
 
-  -- while something is unsettled no tag opens, and the closing is before the next one
+  -- while a leak is unsettled no tag opens, and the closing is before the next detection
   closed_before : (front xs : List Event) → is_unsettled kind front ≡ true → Ascends (λ a b. is_earlier a.key b.key) xs →
       AllByRecursion (IsBefore (closing front xs)) (each_from (span_at kind events) front xs)
   closed_before front [] unsettled asc = tt
@@ -84,6 +84,7 @@ module _ (kind : Kind) (events : List Event) where
       (ap (λ b. is_leak y.what && not b) unsettled ∙ and-false (is_leak y.what))
       (one_event front y ys (closes kind front y) refl asc.0 (λ still. closed_before (front ++ y ∷ []) ys still asc.1))
 
+  -- the tags that open after some events are each closed before the next is detected
   follow_from : (front xs : List Event) → Ascends (λ a b. is_earlier a.key b.key) xs → Ascends closes_before (each_from (span_at kind events) front xs)
   follow_from front [] asc = tt
   follow_from front (x ∷ xs) asc =

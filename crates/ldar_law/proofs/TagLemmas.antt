@@ -17,7 +17,7 @@ use Rattle.ldar_law.specs.Tags.{delay_at, delay_entry, is_within, delays_of}
 use Rattle.ldar_law.specs.RepairLaws.{BeginsWithClosing, DelaysLieBetween}
 use Rattle.ldar_law.proofs.TestLemmas.{all_implied}
 
--- what holds of each of two parts' elements
+-- a property of all elements of two lists, for each of the two
 all_back : {X : Type 0} (P : X → Type 0) (xs ys : List X) → AllByRecursion P (xs ++ ys) → AllByRecursion P ys
 all_back P [] ys h = h
 all_back P (x ∷ xs) ys h = all_back P xs ys h.1
@@ -26,17 +26,17 @@ all_front : {X : Type 0} (P : X → Type 0) (xs ys : List X) → AllByRecursion 
 all_front P [] ys h = tt
 all_front P (x ∷ xs) ys h = (h.0, all_front P xs ys h.1)
 
--- an ascending list's back ascends
+-- the second part of an ascending list ascends
 back_ascends : {X : Type 0} (b : X → X → Bool) (xs ys : List X) → Ascends b (xs ++ ys) → Ascends b ys
 back_ascends b [] ys h = h
 back_ascends b (x ∷ xs) ys h = back_ascends b xs ys h.1
 
--- each element of the front is before one of the back
+-- each element of the first part is before each element of the second
 before_one : {X : Type 0} (b : X → X → Bool) (xs : List X) (y : X) (ys : List X) → Ascends b (xs ++ y ∷ ys) → AllByRecursion (λ x. b x y ≡ true) xs
 before_one b [] y ys h = tt
 before_one b (x ∷ xs) y ys h = ((all_back (λ z. b x z ≡ true) xs (y ∷ ys) h.0).0, before_one b xs y ys h.1)
 
--- of two keys not each is before the other
+-- two keys are not each before the other
 not_both : (a b : Key) → is_earlier a b ≡ true → is_earlier b a ≡ false
 not_both a b h =
     elim (is_earlier b a) as (λ t. is_earlier b a ≡ t → t ≡ false) [
@@ -45,7 +45,7 @@ not_both a b h =
     ] refl
 
 module _ (span : Span) where
-  -- a delay at a key within the tag is kept, and another is not
+  -- a delay with a key within the tag is kept, and others are dropped
   kept_at : (key : Key) (what : Happening) (rest : List DelayEntry) → is_within span key ≡ true →
       filter (λ d. is_within span d.key) (cons_option (delay_at key what) rest) ≡ cons_option (delay_at key what) (filter (λ d. is_within span d.key) rest)
   kept_at key (Delay why signer expected) rest h = rw h refl
@@ -67,11 +67,11 @@ module _ (span : Span) where
   of_parts : (xs ys : List Event) → delays_of span (xs ++ ys) ≡ delays_of span xs ++ delays_of span ys
   of_parts xs ys = rw (filter_map-append delay_entry xs ys) (filter-append (λ d. is_within span d.key) (filter_map delay_entry xs) (filter_map delay_entry ys))
 
-  -- what is not after the detection lies outside
+  -- a key that is not after the detection is not within the tag
   not_after : (key : Key) → is_earlier span.detected key ≡ false → is_within span key ≡ false
   not_after key h = rw h refl
 
--- the closing and what follows it lie outside; the part between lies within
+-- the closing and the events after it are not within the tag; the events between are
 rest_left : (span : Span) (rest : List Event) → Ascends (λ a b. is_earlier a.key b.key) rest → BeginsWithClosing span.closed rest → delays_of span rest ≡ []
 rest_left span rest asc begins = go span.closed refl begins
   where

@@ -22,7 +22,7 @@ use Rattle.ldar_law.specs.DenialLaws.{VerdictForgetsOrder}
 
 -- ---- the least rule
 
--- the first of ascending rules that denies is the least that does
+-- the first of ascending rules that denies has the least number of those that do
 least_of : (case : Case) (xs : List Rule) (found other : Rule) → Ascends (λ a b. nat_lt a.number b.number) xs
     → find (λ rule. rule.denies case) xs ≡ Some found → Among xs other → other.denies case ≡ true → found.number ≤ other.number
 least_of case [] found other up e among denies = absurd among
@@ -42,7 +42,7 @@ least_of case (x ∷ xs) found other up e among denies =
       ]
     ]
 
--- a rule that denies, where one is found
+-- if a rule is found, it denies
 found_of : (case : Case) (xs : List Rule) (found : Rule) → find (λ rule. rule.denies case) xs ≡ Some found → Among xs found × (found.denies case ≡ true)
 found_of case [] found e = absurd cc
 found_of case (x ∷ xs) found e =
@@ -51,7 +51,7 @@ found_of case (x ∷ xs) found e =
       | inr let_pass ↦ let rest = found_of case xs found (rw let_pass at e) in (inr rest.0, rest.1)
     ]
 
--- where none is found, none denies
+-- if no rule is found, none denies
 none_of : (case : Case) (xs : List Rule) (other : Rule) → find (λ rule. rule.denies case) xs ≡ None → Among xs other → other.denies case ≡ false
 none_of case [] other e among = absurd among
 none_of case (x ∷ xs) other e among =
@@ -67,7 +67,7 @@ none_of case (x ∷ xs) other e among =
 table_ascends : Ascends (λ a b. nat_lt a.number b.number) rules
 table_ascends = search
 
--- what is told of rules in order of number
+-- the rule that is reported, from rules in order of number
 told_of : (case : Case) (xs : List Rule) (number : ℕ) → Ascends (λ a b. nat_lt a.number b.number) xs
     → option_map (λ rule. rule.number) (find (λ rule. rule.denies case) xs) ≡ Some number
     → ((rule : Rule) × Contains xs rule × (rule.number ≡ number) × (rule.denies case ≡ true))
@@ -84,6 +84,7 @@ told_of case xs number up e =
           )
     ]
 
+-- if no rule is found, there is no number
 none_told : (case : Case) (xs : List Rule) → option_map (λ rule. rule.number) (find (λ rule. rule.denies case) xs) ≡ None
     → (rule : Rule) → Contains xs rule → rule.denies case ≡ false
 none_told case xs e rule among =
@@ -118,7 +119,7 @@ first_fact_is_told history batch fact number =
       λ given. ap (λ o. verdict_by o (facts_with history batch)) (first.1 given),
     )
 
--- a batch passes, or is too much, where nothing of it is denied
+-- if a batch passes or is too large, no fact of it is denied
 pass_told : (o : Option (ℕ × ℕ)) (facts : ℕ) → verdict_by o facts ≡ Pass → (o ≡ None) × (facts ≤ 8_000_000)
 pass_told (Some denial) facts e = absurd cc
 pass_told None facts e =
@@ -138,14 +139,14 @@ full_told None facts told e =
       | inr fits ↦ let clash : Pass ≡ Full told = rw fits at e in absurd cc
     ]
 
--- .. and the other way round
+-- if no fact is denied, the batch passes or is too large
 pass_of : (facts : ℕ) → facts ≤ 8_000_000 → verdict_by None facts ≡ Pass
 pass_of facts fits = let test : nat_lt 8_000_000 facts ≡ false = grind (arith, nat_tests) in rw test refl
 
 full_of : (facts : ℕ) → 8_000_000 < facts → verdict_by None facts ≡ Full facts
 full_of facts full = let test : nat_lt 8_000_000 facts ≡ true = grind (arith, nat_tests) in rw test refl
 
--- nothing is given first exactly where no element gives anything
+-- there is no first value exactly if no element has a value
 none_given : {X Y : Type 0} (f : List X → X → List X → Option Y) (xs : List X) → first_given f xs ≡ None
     → (before : List X) (x : X) (after : List X) → xs ≡ before ++ x ∷ after → f before x after ≡ None
 none_given {X = X} {Y = Y} f xs e before x after stands =
@@ -158,6 +159,7 @@ none_given {X = X} {Y = Y} f xs e before x after stands =
           absurd (false≢true (sym (ap is_some e) ∙ first_given_finds X Y f xs ∙ found))
     ]
 
+-- if no element has a value, there is no first one
 none_first : {X Y : Type 0} (f : List X → X → List X → Option Y) (xs : List X)
     → ((before : List X) (x : X) (after : List X) → xs ≡ before ++ x ∷ after → f before x after ≡ None) → first_given f xs ≡ None
 none_first {X = X} {Y = Y} f xs none =
@@ -216,7 +218,7 @@ ruly_is_each history =
           ],
     )
 
--- a batch of a history has no more facts, with those before it, than the history has
+-- the facts of a batch and of those before it are at most the facts of the history
 facts_before : (before : List Batch) (batch : Batch) (after : List Batch)
     → facts_with before batch ≤ length (facts_of (before ++ batch ∷ after))
 facts_before before batch after =
@@ -227,14 +229,14 @@ facts_before before batch after =
     let first = sum_by-cons size batch after in
     omega (arith, whole, front, split, first)
 
--- .. so that it passes where it is not denied
+-- such a batch passes if it is not denied
 passes_there : (before : List Batch) (batch : Batch) (after : List Batch) → length (facts_of (before ++ batch ∷ after)) ≤ 8_000_000
     → first_denial before batch ≡ None → verdict_on before batch ≡ Pass
 passes_there before batch after fits none =
     let within = facts_before before batch after in
     ap (λ o. verdict_by o (facts_with before batch)) none ∙ pass_of (facts_with before batch) (omega (arith, within, fits))
 
--- what is unruly is denied
+-- a batch that is not unruly is not denied
 undenied : {X Y : Type 0} (f : X → Y) (o : Option X) → option_map f o ≡ None → o ≡ None
 undenied f None e = refl
 undenied f (Some x) e = absurd cc

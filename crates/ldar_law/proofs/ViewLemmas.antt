@@ -11,13 +11,13 @@ use Rattle.ldar_law.proofs.WeakOrder.{InOrder, each_in_order, put_keeps, put_fil
 use Rattle.ldar_law.specs.Shown.{view_day, view_of, shown}
 use Rattle.ldar_law.specs.ViewLaws.{ViewsForgetOrder, ViewsForgetLaterDays}
 
--- a view looks at the facts in key order alone
+-- views use only the facts in key order
 pub views_forget_order : ViewsForgetOrder
 unfolding shown
 views_forget_order history other request moved differ =
     ap (λ facts. view_of request (filter (λ e. nat_le e.0.day (view_day request)) facts)) (order_free history other moved differ)
 
--- elements that do not pass, put among others, leave those that pass
+-- adding elements that do not pass does not change which elements pass
 hidden : (q : Entry → Bool) (more facts : List Entry) → InOrder goes_first facts → AllByRecursion (λ e. q e ≡ false) more
     → filter q (put_each goes_first more facts) ≡ filter q facts
 hidden q [] facts o all = refl
@@ -26,7 +26,7 @@ hidden q (e ∷ more) facts o all =
     ∙ put_filter goes_first weak_goes_first q e facts o
     ∙ rw all.0 refl
 
--- a day after the view day does not pass
+-- a fact of a day after the view day does not pass
 later_days : (day : ℕ) (batch : Batch) (index : ℕ) (facts : List Stated) → AllByRecursion (λ fact. day < fact.day) facts
     → AllByRecursion (λ e. nat_le e.0.day day ≡ false) (entries_from batch index facts)
 later_days day batch index [] later = tt

@@ -16,19 +16,20 @@ use Rattle.fact_kinds.specs.declared.key.Key.{Key}
 use Rattle.fact_kinds.specs.Facts.{Entry, key_cmp, is_earlier, goes_first}
 use Rattle.fact_kinds.proofs.KeyOrder.{key_cmp_total}
 
--- ---- a list in which nothing is before what stands before it
+-- ---- lists in which no element is before an earlier one
 
+-- no element is before an earlier one
 abbrev pub InOrder : {X : Type 0} → (X → X → Bool) → List X → Type 0
 InOrder before [] = Unit {0}
 InOrder before (x ∷ xs) = AllByRecursion (λ y. before y x ≡ false) xs × InOrder before xs
 
--- what is before another is not behind it, and is before all that is not before that other
+-- an order in which an element before another is not after it, and is before every element that is not before that other
 pub record IsWeakOrder {X : Type 0} (before : X → X → Bool) : Type 0 where
   pub asymmetric : (x y : X) → before x y ≡ true → before y x ≡ false
   pub carries : (x y z : X) → before x y ≡ true → before z y ≡ false → before x z ≡ true
 
 module _ {X : Type 0} (before : X → X → Bool) (weak : IsWeakOrder before) where
-  -- what is before the first of a list in order is before all of it
+  -- an element before the first of a list in order is before all of it
   pub before_all : (x y : X) (ys : List X) → before x y ≡ true → AllByRecursion (λ z. before z y ≡ false) ys → AllByRecursion (λ z. before x z ≡ true) (y ∷ ys)
   before_all x y ys e later = (e, all_weaker (λ z. before z y ≡ false) (λ z. before x z ≡ true) (λ z h. weak.carries x y z e h) ys later)
 
@@ -50,7 +51,7 @@ module _ {X : Type 0} (before : X → X → Bool) (weak : IsWeakOrder before) wh
   later_step x y false None e same = refl
   later_step x y b (Some z) e same = same
 
-  -- the last that passes of those behind an element is later
+  -- the last element that passes, of those after an element, is later than it
   later_than : (p : X → Bool) (x : X) (xs : List X) → AllByRecursion (λ y. before x y ≡ true) xs →
       option_or (last_such p xs) (Some x) ≡ later_of before x (last_such p xs)
   later_than p x [] all = refl
@@ -62,7 +63,7 @@ module _ {X : Type 0} (before : X → X → Bool) (weak : IsWeakOrder before) wh
   later_behind x y false None e = refl
   later_behind x y b (Some z) e = elim (cases_Bool (before x z)) [ inl back ↦ rw back refl | inr not_back ↦ rw not_back refl ]
 
-  -- the last that passes, after one more: the new one or the old one, whichever is later
+  -- the last element that passes, after one more: the later of the new one and the old one
   pub last_such-put : (p : X → Bool) (x : X) (xs : List X) → InOrder before xs →
       last_such p (put_in_order before x xs) ≡ cond (p x) (later_of before x (last_such p xs)) (last_such p xs)
   last_such-put p x [] o = refl
@@ -97,12 +98,12 @@ module _ {X : Type 0} (before : X → X → Bool) (weak : IsWeakOrder before) wh
           | inr e ↦ rw e (filter_keeps ys o.1)
         ]
 
-    -- what is before all goes to the front
+    -- an element before all others goes to the front
     pub put_front : (x : X) (ys : List X) → AllByRecursion (λ z. before x z ≡ true) ys → put_in_order before x ys ≡ x ∷ ys
     put_front x [] all = refl
     put_front x (y ∷ ys) all = rw all.0 refl
 
-    -- what passes of a list with one element more
+    -- the elements that pass, of a list with one more
     pub put_filter : (x : X) (ys : List X) → InOrder before ys
         → filter q (put_in_order before x ys) ≡ cond (q x) (put_in_order before x (filter q ys)) (filter q ys)
     put_filter x [] o = refl
@@ -118,7 +119,7 @@ module _ {X : Type 0} (before : X → X → Bool) (weak : IsWeakOrder before) wh
           ]
         ]
 
-    -- lists of which the same passes, with more elements
+    -- two lists with the same passing elements still have them after more elements are added
     put_each_filter : (more xs ys : List X) → InOrder before xs → InOrder before ys → filter q xs ≡ filter q ys
         → filter q (put_each before more xs) ≡ filter q (put_each before more ys)
     put_each_filter [] xs ys o p e = e
@@ -127,7 +128,7 @@ module _ {X : Type 0} (before : X → X → Bool) (weak : IsWeakOrder before) wh
         put_filter x xs o ∙ ap (λ l. cond (q x) (put_in_order before x l) l) e ∙ sym (put_filter x ys p) in
         put_each_filter more (put_in_order before x xs) (put_in_order before x ys) (put_keeps x xs o) (put_keeps x ys p) same
 
-    -- what passes alone, with more elements, lets pass what all do
+    -- adding elements only to the passing part gives the passing part of the whole
     pub put_each_passing : (more xs : List X) → InOrder before xs → filter q (put_each before more (filter q xs)) ≡ filter q (put_each before more xs)
     put_each_passing more xs o =
         put_each_filter more (filter q xs) xs (filter_keeps xs o) o (filter_narrowed q q (λ x h. h) xs)
@@ -140,6 +141,7 @@ less_is Equal e = cc
 less_is Greater e = cc
 
 module _ (a b c : Key) where
+  -- a key before another is before every key that is not before that other
   answer_carries : (o p : Ordering) → key_cmp a b ≡ o → key_cmp c b ≡ p → is_lt o ≡ true → is_lt p ≡ false → is_lt (key_cmp a c) ≡ true
   answer_carries o Less x y e f = absurd (false≢true (sym f))
   answer_carries o Equal x y e f =
@@ -152,7 +154,7 @@ module _ (a b c : Key) where
 not_behind : (a b : Key) → is_lt (key_cmp a b) ≡ true → is_lt (key_cmp b a) ≡ false
 not_behind a b e = ap is_lt (key_cmp_total.antisymm b a ∙ ap ordering_reverse (less_is (key_cmp a b) e))
 
--- what has keys is in a weak order by them
+-- elements with keys are in a weak order by them
 pub weak_earlier : {X : Type 0} (key : X → Key) → IsWeakOrder (λ a b. is_earlier (key a) (key b))
 weak_earlier key = record {
   asymmetric = λ x y e. not_behind (key x) (key y) e;
@@ -162,11 +164,13 @@ weak_earlier key = record {
 pub weak_goes_first : IsWeakOrder goes_first
 weak_goes_first = weak_earlier (λ e. e.0)
 
--- What facts give with their keys stands in order as they do.
+-- The values of facts, with their keys, are in order if the facts are.
 module _ {C : Type 0} (f : Entry → Option (Key × C)) (keyed : (e : Entry) (y : Key × C) → f e ≡ Some y → y.0 ≡ e.0) where
+  -- the value with the earlier key is first
   abbrev given_first : Key × C → Key × C → Bool
   given_first a b = is_earlier a.0 b.0
 
+  -- the values of later facts have later keys
   given_all : (x : Entry) (y : Key × C) → y.0 ≡ x.0 → (es : List Entry) → AllByRecursion (λ e. goes_first x e ≡ true) es →
       AllByRecursion (λ z. given_first y z ≡ true) (filter_map f es)
   given_all x y same [] later = tt
@@ -176,6 +180,7 @@ module _ {C : Type 0} (f : Entry → Option (Key × C)) (keyed : (e : Entry) (y 
         | Some z ↦ λ is. (rw (same, keyed e z is) later.0, given_all x y same es later.1)
       ] refl
 
+  -- the values of facts that are not earlier do not have earlier keys
   given_none_before : (x : Entry) (y : Key × C) → y.0 ≡ x.0 → (es : List Entry) → AllByRecursion (λ e. goes_first e x ≡ false) es →
       AllByRecursion (λ z. given_first z y ≡ false) (filter_map f es)
   given_none_before x y same [] later = tt
@@ -193,7 +198,7 @@ module _ {C : Type 0} (f : Entry → Option (Key × C)) (keyed : (e : Entry) (y 
         | Some z ↦ λ is. (given_none_before e z (keyed e z is) es o.0, given_in_order es o.1)
       ] refl
 
-  -- one more fact that gives nothing
+  -- one more fact without a value
   pub given-put_none : (x : Entry) → f x ≡ None → (es : List Entry) → filter_map f (put_in_order goes_first x es) ≡ filter_map f es
   given-put_none x none [] = rw none refl
   given-put_none x none (e ∷ es) =
@@ -211,7 +216,7 @@ module _ {C : Type 0} (f : Entry → Option (Key × C)) (keyed : (e : Entry) (y 
   front_put y [] all = refl
   front_put y (z ∷ zs) all = rw all.0 refl
 
-  -- one more fact that gives something
+  -- one more fact with a value
   pub given-put_some : (x : Entry) (y : Key × C) → f x ≡ Some y → (es : List Entry) → InOrder goes_first es →
       filter_map f (put_in_order goes_first x es) ≡ put_in_order given_first y (filter_map f es)
   given-put_some x y some [] o = rw some refl

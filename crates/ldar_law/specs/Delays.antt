@@ -1,4 +1,4 @@
--- Until when a leak must be repaired, and what a delay of repair changes (40 CFR 60.482-9a).
+-- The due day of a leak's repair, and how a delay of repair changes it (40 CFR 60.482-9a).
 use Rattle.std.specs.Prelude.{◌≡◌, ◌<◌, slice_get, take, ℕ, ◌+◌, Bool, true, false, ◌&&◌, nat_eq, nat_lt, nat_le, max}
 use Rattle.std.specs.Prelude.{Option, Some, None, option_map, if◌then◌else◌, List, [], ◌∷◌, length, reverse, filter}
 use Rattle.std.specs.List.{list_any}
@@ -11,7 +11,7 @@ use Rattle.ldar_law.specs.declared.delay.Until.TheVariants.{Date, Shutdown, Whil
 use Rattle.ldar_law.specs.declared.grounds.TheConstants.{GROUND_WITHDRAWN, GROUND_SHUTDOWN, GROUND_ISOLATED, GROUND_PURGING, GROUND_DUAL_SEAL}
 use Rattle.ldar_law.specs.declared.numbers.TheConstants.{ATTEMPT_DAYS, REPAIR_DAYS, VERIFICATION_DAYS}
 
--- a delay of repair, as it is entered
+-- a delay of repair, as it was entered
 abbrev pub delay_entered : (key : Key) (ground : ℕ) (signer : ℕ) (expected : Option ℕ) → DelayEntry
 delay_entered key why signer expected = record { key = key; «ground» = why; signer = signer; expected = expected }
 
@@ -23,16 +23,16 @@ repair_by detected = end_by (detected + REPAIR_DAYS)
 abbrev pub attempt_by : ℕ → ℕ
 attempt_by detected = end_by (detected + ATTEMPT_DAYS)
 
--- the day is past the due day; one that is no date is never passed
+-- the day is past the due day; a due day that is no date never passes
 abbrev pub is_past : ℕ → Until → Bool
 is_past day (Date due) = nat_lt due day
 is_past day _ = false
 
--- an attempt lies on a day of the shutdown
+-- an attempt was made on a day of the shutdown
 abbrev pub has_attempt_in : List ℕ → Stop → Bool
 has_attempt_in attempts stop = list_any (λ day. nat_le stop.first day && nat_le day stop.last) attempts
 
--- the end of a shutdown: its last day, and where an attempt was made in it fifteen days after the startup on the next (our own rule)
+-- the end of a shutdown: its last day, or fifteen days after the startup on the next day if an attempt was made in it (our own rule)
 abbrev pub end_of : List ℕ → Stop → ℕ
 end_of attempts stop = if has_attempt_in attempts stop then end_by (stop.last + VERIFICATION_DAYS) else stop.last
 
@@ -40,25 +40,25 @@ end_of attempts stop = if has_attempt_in attempts stop then end_by (stop.last + 
 abbrev pub stops_after : ℕ → List Stop → List Stop
 stops_after detected stops = filter (λ stop. nat_lt detected stop.first) stops
 
--- the end of the first of these shutdowns, once it is known
+-- the end of the first of these shutdowns, if there is one
 abbrev pub end_of_first : List ℕ → List Stop → Until
 end_of_first attempts [] = Shutdown
 end_of_first attempts (first ∷ later) = Date (end_of attempts first)
 
--- 40 CFR 60.482-9a(e): the end of the second of these shutdowns, or of the third where the second begins sooner than six months
--- after the first began
+-- 40 CFR 60.482-9a(e): the end of the second of these shutdowns, or of the third if the second begins less than six months after the first
+-- began
 abbrev pub end_of_second : List ℕ → List Stop → Until
 end_of_second attempts [] = Shutdown
 end_of_second attempts (first ∷ []) = Shutdown
 end_of_second attempts (first ∷ second ∷ later) =
     if nat_lt second.first (later_by 6 first.first) then end_of_first attempts later else Date (end_of attempts second)
 
--- one detection, and the attempts and shutdowns that are known
+-- one detection, and the attempts and shutdowns entered so far
 module _ (detected : ℕ) (attempts : List ℕ) (stops : List Stop) where
-  -- the due day that a delay of this ground gives, entered on this day
+  -- the due day set by a delay of this ground that was entered on this day
   abbrev pub due_by : ℕ → ℕ → Until
   due_by why day =
-      -- withdrawn: as without a delay, and at least the day of withdrawal (our own rule)
+      -- withdrawn: as without a delay, but not before the day of withdrawal (our own rule)
       if nat_eq why GROUND_WITHDRAWN then Date (max (repair_by detected) day)
       -- 40 CFR 60.482-9a(a): infeasible without a shutdown
       else if nat_eq why GROUND_SHUTDOWN then end_of_first attempts (stops_after detected stops)
@@ -71,13 +71,13 @@ module _ (detected : ℕ) (attempts : List ℕ) (stops : List Stop) where
       -- 40 CFR 60.482-9a(e): the stock of valve assemblies is depleted
       else end_of_second attempts (stops_after detected stops)
 
-  -- the due day that the last delay gives which isn't ignored, or the fifteenth day where there is none
+  -- the due day set by the last delay that is not ignored, or the fifteenth day if there is none
   abbrev pub due_given : Option DelayEntry → Until
   due_given None = Date (repair_by detected)
   due_given (Some delay) = due_by delay.«ground» delay.key.day
 
-  -- the last delay that isn't ignored, of delays the latest first, with its place from the first one on: one whose day is past
-  -- the due day that those before it give is ignored (our own rule)
+  -- the last delay that is not ignored, with its place from 0; the delays are given latest first. A delay is ignored if its day is past the
+  -- due day set by those before it (our own rule).
   abbrev pub last_counted : List DelayEntry → Option (ℕ × DelayEntry)
   last_counted [] = None
   last_counted (latest ∷ earlier) =
@@ -85,28 +85,28 @@ module _ (detected : ℕ) (attempts : List ℕ) (stops : List Stop) where
       then last_counted earlier
       else Some (length earlier, latest)
 
-  -- the last delay that isn't ignored, of delays in key order
+  -- the last delay that is not ignored, of delays in key order
   abbrev pub counted_delay : List DelayEntry → Option DelayEntry
   counted_delay delays = option_map (λ c. c.1) (last_counted (reverse delays))
 
-  -- .. and its place among them
+  -- the place of that delay, from 0
   abbrev pub counted_place : List DelayEntry → Option ℕ
   counted_place delays = option_map (λ c. c.0) (last_counted (reverse delays))
 
-  -- 40 CFR 60.482-9a: until when the leak must be repaired
+  -- 40 CFR 60.482-9a: the due day of the repair
   abbrev pub repair_due : List DelayEntry → Until
   repair_due delays = due_given (counted_delay delays)
 
--- a delay is ignored, with these before it: its day is past the due day that they give (our own rule)
+-- the delay is ignored: its day is past the due day set by the delays before it (our own rule)
 abbrev pub is_ignored : ℕ → List ℕ → List Stop → List DelayEntry → DelayEntry → Bool
 is_ignored detected attempts stops before delay = is_past delay.key.day (repair_due detected attempts stops before)
 
--- each of these delays, in key order, is ignored, with those before it
+-- each of these delays, in key order, is ignored
 abbrev pub AreIgnored : ℕ → List ℕ → List Stop → List DelayEntry → Type 0
 AreIgnored detected attempts stops delays =
     (place : ℕ) (delay : DelayEntry) → slice_get delays place ≡ Some delay → is_ignored detected attempts stops (take place delays) delay ≡ true
 
--- the delay at this place is not ignored, and each one after it is
+-- the delay at this place is not ignored, and each one after it is ignored
 pub record IsLastCounted (detected : ℕ) (attempts : List ℕ) (stops : List Stop) (delays : List DelayEntry) (place : ℕ) : Type 0 where
   pub delay : DelayEntry
   pub stands : slice_get delays place ≡ Some delay

@@ -16,14 +16,14 @@ use Rattle.ldar_law.specs.RegisterLaws.{with_class}
 use Rattle.ldar_law.specs.Slices.{register_facts}
 use Rattle.ldar_law.specs.Verdicts.{Rule, rules, least_rule, denial_at, denial_after, first_denial, facts_with, verdict_on, is_ruly, first_unruly}
 
--- a fact is denied by the least of the rules that deny it
+-- a fact is denied by the rule with the least number of those that deny it
 abbrev pub LeastRuleIsTold : Type 0
 LeastRuleIsTold =
     (case : Case) (number : ℕ) → least_rule case ≡ Some number
     → ((rule : Rule) × Contains rules rule × (rule.number ≡ number) × (rule.denies case ≡ true))
     × ((other : Rule) → Contains rules other → other.denies case ≡ true → number ≤ other.number)
 
--- no rule denies a fact of which none is told
+-- if no rule is reported for a fact, no rule denies it
 abbrev pub NoRuleDenies : Type 0
 NoRuleDenies = (case : Case) → least_rule case ≡ None → (rule : Rule) → Contains rules rule → rule.denies case ≡ false
 
@@ -39,49 +39,48 @@ IsUndenied history batch =
     (before : List Entry) (entry : Entry) (after : List Entry) → entries_of batch ≡ before ++ entry ∷ after
     → denial_at (facts_of history) before entry after ≡ None
 
--- a batch passes exactly where no fact of it is denied and the facts fit
+-- a batch passes exactly if no fact of it is denied and its facts fit
 abbrev pub PassesUndenied : Type 0
 PassesUndenied =
     (history : List Batch) (batch : Batch)
     → (verdict_on history batch ≡ Pass) ↔ (IsUndenied history batch × (facts_with history batch ≤ MOST_FACTS))
 
--- a batch is too much exactly where no fact of it is denied and the facts do not fit
+-- a batch is too large exactly if no fact of it is denied and its facts do not fit
 abbrev pub FullUndenied : Type 0
 FullUndenied =
     (history : List Batch) (batch : Batch) (facts : ℕ)
     → (verdict_on history batch ≡ Full facts) ↔ (IsUndenied history batch × (MOST_FACTS < facts) × (facts ≡ facts_with history batch))
 
--- a ruly history is one of which each batch passes after those before it
+-- a history is ruly exactly if each batch passes after those before it
 abbrev pub RulyIsEach : Type 0
 RulyIsEach =
     (history : List Batch)
     → IsTrue (is_ruly history) ↔ ((before : List Batch) (batch : Batch) (after : List Batch)
     → history ≡ before ++ batch ∷ after → verdict_on before batch ≡ Pass)
 
--- a history that is no more than it may be is ruly exactly where it has no unruly batch
+-- a history of at most MOST_FACTS facts is ruly exactly if it has no unruly batch
 abbrev pub RulyHasNoUnruly : Type 0
 RulyHasNoUnruly =
     (history : List Batch) → length (facts_of history) ≤ MOST_FACTS → IsTrue (is_ruly history) ↔ (first_unruly history ≡ None)
 
--- the order in which batches came has no effect on the verdict on another
+-- the order in which batches arrived does not change the verdict on another batch
 abbrev pub VerdictForgetsOrder : Type 0
 VerdictForgetsOrder =
     (history other : List Batch) (batch : Batch) → IsPermutation history other → IsTrue (identities_differ history)
     → verdict_on other batch ≡ verdict_on history batch
 
--- of the facts of a history only those of the register count for what is denied
+-- only the register's facts of a history decide which facts are denied
 abbrev pub RegisterDecides : Type 0
 RegisterDecides =
     (history : List Batch) (batch : Batch)
     → denial_after (register_facts (facts_of history)) batch ≡ first_denial history batch
 
--- the last class entered for a component by a day, after some facts one after the other
+-- the last class entered for a component by a day, after some facts one by one
 abbrev pub later_class : ℕ → ℕ → List Entry → Option (Key × Class) → Option (Key × Class)
 later_class number day [] latest = latest
 later_class number day (entry ∷ entries) latest = later_class number day entries (with_class day (class_at number entry) latest)
 
--- where some facts come to those in order, of which two may have one key, the class in force is the later one of theirs and of those
--- that come
+-- when facts are added to others in key order, the class in force is the later of the old one and the last one added; a key may occur twice
 abbrev pub ClassAfterFacts : Type 0
 ClassAfterFacts =
     (number day : ℕ) (entries more : List Entry)

@@ -1,4 +1,4 @@
--- What has to be done at a component: nine causes, and the rule for lists (40 CFR 60.482-2a, 60.482-3a, 60.482-4a, 60.482-7a, 60.482-8a).
+-- What must be done at a component: nine causes, and the rule for lists (40 CFR 60.482-2a, 60.482-3a, 60.482-4a, 60.482-7a, 60.482-8a).
 use Rattle.std.specs.Prelude.{ℕ, ◌+◌, ◌-◌, ◌*◌, ◌/◌, ◌%◌, Bool, false, not, ◌&&◌, ◌||◌, nat_eq, nat_lt, nat_le, min, if◌then◌else◌}
 use Rattle.std.specs.Prelude.{Option, Some, None, option_map, is_none, option_to_list, unwrap_or, slice_get, List, ◌++◌, find, filter_map}
 use Rattle.std.specs.List.{list_any}
@@ -22,7 +22,7 @@ use Rattle.ldar_law.specs.Months.{is_quarterly, month_in_quarter}
 use Rattle.ldar_law.specs.Standing.{is_under_valve_rules, is_under_pump_rules, is_under_compressor_rules, is_under_relief_rules}
 use Rattle.ldar_law.specs.Standing.{is_under_heavy_liquid_rules, is_plain, is_nde, is_unsafe, is_difficult}
 
--- the rule for lists (our own): the period contains the day, or nothing has met the duty and it was due at most 366 days before
+-- the rule for lists (our own): the period contains the day, or the duty is not met and was due at most 366 days before
 abbrev pub is_listed : ℕ → ℕ → ℕ → Bool → Bool
 is_listed day first due unmet = nat_le first day && (nat_le day due || (unmet && nat_le day (due + LISTED_DAYS)))
 
@@ -30,7 +30,7 @@ is_listed day first due unmet = nat_le first day && (nat_le day due || (unmet &&
 abbrev pub routine_in : List Event → ℕ → ℕ → Option Event
 routine_in events first due = find (λ e. is_routine e.what && is_from_to first due e) events
 
--- .. that is less than 500 above the background
+-- the first counting routine reading of a period that is less than 500 above the background
 abbrev pub routine_near_background : List Event → ℕ → ℕ → Option Event
 routine_near_background events first due = find (λ e. is_routine e.what && is_near_background e.what && is_from_to first due e) events
 
@@ -38,8 +38,8 @@ routine_near_background events first due = find (λ e. is_routine e.what && is_n
 abbrev pub look_in : List Event → ℕ → ℕ → Option Event
 look_in events first due = find (λ e. is_look e.what && is_from_to first due e) events
 
--- some earlier drips, a counting reading below the leak definition since, and no dry visual inspection since (our own reading of
--- 40 CFR 60.482-2a(b)(2))
+-- drips repeat earlier ones: since some earlier drips there is a counting reading below the leak definition and no dry visual inspection
+-- (our own reading of 40 CFR 60.482-2a(b)(2))
 abbrev pub is_repeated : List Event → Bool
 is_repeated before = somewhere (λ _ drips since. has_drips drips.what
     && list_any (λ e. is_below e.what) since && not (list_any (λ e. is_dry e.what) since)) before
@@ -50,16 +50,16 @@ first_due item = end_by (item.begin + FIRST_DAYS)
 
 -- a component, its classes in key order, and the startup of its unit
 module _ (item : Equipment) (classes : List (Key × Class)) (startup : ℕ) where
-  -- 40 CFR 60.482-2a(a)(1), 60.482-7a(a)(2): a valve or pump that is no designated one when it begins, begins after the unit's
-  -- startup and replaces no leaking one; judged on a day
+  -- 40 CFR 60.482-2a(a)(1), 60.482-7a(a)(2): on this day, a valve or pump that has no designation when it begins, begins after the unit's
+  -- startup and does not replace a leaking one
   abbrev pub is_first_owed : ℕ → Bool
   is_first_owed day =
       is_in_service item day && (is_under_valve_rules item classes day || is_under_pump_rules item classes day) && is_plain item classes item.begin
       && nat_lt startup item.begin && not item.replaces
 
--- .. its events, the quarters of the unit that are skipped, from the first on, and the day of the list
+-- the component's events, the unit's skipped quarters from quarter 1 on, and the day of the list
 module _ (item : Equipment) (classes : List (Key × Class)) (startup : ℕ) (events : List Event) (skipped : List Bool) (day : ℕ) where
-  -- a duty of a cause from a first day to a due day, where it is owed, and what met it; if it belongs on the list
+  -- the duty of a cause from a first day to a due day, with the event that met it, if it is owed and belongs on the list
   abbrev pub duty : ℕ → ℕ → ℕ → Bool → Option Event → Option Duty
   duty cause first due owed met =
       if is_listed day first due (is_none met) && owed
@@ -72,7 +72,7 @@ module _ (item : Equipment) (classes : List (Key × Class)) (startup : ℕ) (eve
       (is_first_owed item classes startup (min (first_due item) day))
       (routine_in events item.begin (first_due item))
 
-  -- on this day a pump, or a valve that isn't quarterly in the month, is monitored each month
+  -- on this day, a pump, or a valve that is not quarterly in the month, is monitored each month
   abbrev pub is_monthly : ℕ → ℕ → Bool
   is_monthly month judged =
       is_in_service item judged && is_plain item classes judged
@@ -87,7 +87,8 @@ module _ (item : Equipment) (classes : List (Key × Class)) (startup : ℕ) (eve
   abbrev pub is_month_skipped : ℕ → Bool
   is_month_skipped month = option_map_or (λ q. unwrap_or (slice_get skipped (q - 1)) false) (quarter_of startup month) false
 
-  -- on this day a valve that is quarterly in the month is monitored in it: it is the valve's month of a quarter not skipped
+  -- on this day, a valve that is quarterly in the month is monitored in it: the month is the valve's month of its quarter, which is not
+  -- skipped
   abbrev pub is_quarter_month : ℕ → ℕ → Bool
   is_quarter_month month judged =
       is_in_service item judged && is_plain item classes judged && is_under_valve_rules item classes judged && is_quarterly startup events month
@@ -98,7 +99,7 @@ module _ (item : Equipment) (classes : List (Key × Class)) (startup : ℕ) (eve
   quarterly month = duty CAUSE_QUARTERLY (first_day month) (last_day month) (is_quarter_month month (min (last_day month) day))
       (routine_in events (first_day month) (last_day month))
 
-  -- on this day a valve that is difficult to monitor, or a valve, pump or compressor with no detectable emissions
+  -- on this day, a valve that is difficult to monitor, or a valve, pump or compressor with no detectable emissions
   abbrev pub is_yearly : ℕ → Bool
   is_yearly judged =
       is_in_service item judged
@@ -106,7 +107,7 @@ module _ (item : Equipment) (classes : List (Key × Class)) (startup : ℕ) (eve
       || ((is_under_valve_rules item classes judged || is_under_pump_rules item classes judged || is_under_compressor_rules item classes judged)
       && is_nde item classes judged))
 
-  -- with no detectable emissions the reading has to be less than 500 above the background
+  -- the reading that meets the yearly duty; with no detectable emissions, it must be less than 500 above the background
   abbrev pub yearly_reading : ℕ → ℕ → ℕ → Option Event
   yearly_reading judged first due =
       if is_nde item classes judged then routine_near_background events first due else routine_in events first due
@@ -116,24 +117,24 @@ module _ (item : Equipment) (classes : List (Key × Class)) (startup : ℕ) (eve
   yearly year = duty CAUSE_YEARLY (first_day (12 * year)) (last_day (12 * year + 11)) (is_yearly (min (last_day (12 * year + 11)) day))
       (yearly_reading (min (last_day (12 * year + 11)) day) (first_day (12 * year)) (last_day (12 * year + 11)))
 
-  -- on this day a valve or pump that is unsafe to monitor, with a plan of so many months of which the month ends a window
+  -- on this day, a valve or pump that is unsafe to monitor, whose plan has this many months and a window that ends with the month
   abbrev pub is_planned : ℕ → ℕ → ℕ → Bool
   is_planned month plan judged =
       is_in_service item judged && is_unsafe item classes judged && (is_under_valve_rules item classes judged || is_under_pump_rules item classes judged)
       && nat_lt 0 plan && nat_eq ((month - month_of item.begin) % plan) 0
 
-  -- 5 plan (40 CFR 60.482-2a(g)(2), 60.482-7a(g)(2)): in the window of a plan's months that ends with the month; the windows run
-  -- from the month after the beginning
+  -- 5 plan (40 CFR 60.482-2a(g)(2), 60.482-7a(g)(2)): once in each window, which has as many months as the plan and ends with the month;
+  -- the windows run from the month after the beginning
   abbrev pub planned_by : ℕ → ℕ → Option Duty
   planned_by month plan = duty CAUSE_PLAN (first_day (month + 1 - plan)) (end_by (last_day month))
       (is_planned month plan (min (end_by (last_day month)) day))
       (routine_in events (first_day (month + 1 - plan)) (end_by (last_day month)))
 
-  -- .. by the plan of the day on which the window is judged
+  -- the duty by the plan of the day on which the window is judged
   unfoldable pub planned : ℕ → Option Duty
   planned month = planned_by month (class_on item classes (min (end_by (last_day month)) day)).plan
 
-  -- on this day a pump that is no designated one
+  -- on this day, a pump without a designation
   abbrev pub is_weekly : ℕ → Bool
   is_weekly judged = is_in_service item judged && is_under_pump_rules item classes judged && is_plain item classes judged
 
@@ -145,7 +146,7 @@ module _ (item : Equipment) (classes : List (Key × Class)) (startup : ℕ) (eve
   abbrev pub five_days : Event → ℕ
   five_days e = end_by (e.key.day + EVENT_DAYS)
 
-  -- 7 drip (40 CFR 60.482-2a(b)(2)): a pump's drips that aren't designated and repeat none
+  -- 7 drip (40 CFR 60.482-2a(b)(2)): a pump's drips that are not designated and do not repeat earlier ones
   unfoldable pub drip : List Event → Event → List Event → Option Duty
   drip before e later = duty CAUSE_DRIP e.key.day (five_days e)
       (has_undesignated_drips e.what && is_weekly e.key.day && not (is_repeated before))
@@ -171,7 +172,7 @@ module _ (item : Equipment) (classes : List (Key × Class)) (startup : ℕ) (eve
   abbrev pub years_after : List ℕ
   years_after = from_to (month_of (first_due item) / 12) (month_of day / 12)
 
-  -- the months with which a window may end that has begun: a plan has at most 60 months
+  -- the months that can end a window that has begun: a plan has at most 60 months
   abbrev pub window_ends : List ℕ
   window_ends = from_to (month_of item.begin + 1) (month_of day + 59)
 
@@ -179,7 +180,7 @@ module _ (item : Equipment) (classes : List (Key × Class)) (startup : ℕ) (eve
   abbrev pub weeks_after : List ℕ
   weeks_after = from_to (week_of item.begin + 1) (week_of day)
 
-  -- all duties of the component that belong on the list, by cause, due day and event
+  -- all duties of the component that belong on the list, in order of cause, due day and event
   unfoldable pub duties_of : List Duty
   duties_of =
       option_to_list first_monitoring

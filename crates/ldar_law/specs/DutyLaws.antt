@@ -12,18 +12,18 @@ use Rattle.ldar_law.specs.declared.equipment.Equipment.{Equipment}
 use Rattle.ldar_law.specs.declared.event.Event.{Event}
 use Rattle.ldar_law.specs.Duties.{duties_of, drip, release, evidence}
 
--- by cause, and for one cause by due day
+-- the cause is less, or the cause is the same and the due day is no later
 abbrev pub comes_no_later : Duty → Duty → Bool
 comes_no_later a b = nat_lt a.cause b.cause || (nat_eq a.cause b.cause && nat_le a.due b.due)
 
--- the duties of a component stand by cause and due day, where its events are in key order
+-- the duties of a component are in order of cause and due day if its events are in key order
 abbrev pub DutiesStandInOrder : Type 0
 DutiesStandInOrder =
     (item : Equipment) (classes : List (Key × Class)) (startup : ℕ) (events : List Event) (skipped : List Bool) (day : ℕ)
     → IsDay item.begin → Ascends (λ a b. is_earlier a.key b.key) events
     → Ascends comes_no_later (duties_of item classes startup events skipped day)
 
--- the duties after drips, releases and evidence are those that the events give, in the order of the events
+-- the duties after drips, releases and evidence are those that the events lead to, in the order of the events
 abbrev pub EventDutiesFollowEvents : Type 0
 EventDutiesFollowEvents =
     (item : Equipment) (classes : List (Key × Class)) (startup : ℕ) (events : List Event) (skipped : List Bool) (day : ℕ)

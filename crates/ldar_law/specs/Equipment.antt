@@ -1,4 +1,5 @@
--- What facts in key order enter in the register: components, classes, process units, elections and shutdowns (40 CFR 60.486a(e)(1), 60.481a).
+-- What facts in key order enter into the register: components, classes, process units, elections and shutdowns (40 CFR 60.486a(e)(1),
+-- 60.481a).
 use Rattle.std.specs.Prelude.{ℕ, ◌+◌, ◌-◌, Bool, false, nat_eq, nat_lt, if◌then◌else◌, Option, Some, None, List, find, filter_map, slice_get, option_map}
 use Rattle.list_words.specs.Order.{in_order}
 use Rattle.ldar_days.specs.Calendar.{end_by}
@@ -39,11 +40,11 @@ abbrev pub class_entered : ℕ → FactBody → Option Class
 class_entered number (ClassFact other class) = if nat_eq other number then Some class else None
 class_entered number _ = None
 
--- .. with the key of the fact
+-- the class that a fact enters for the component, with the key of the fact
 abbrev pub class_at : ℕ → Entry → Option (Key × Class)
 class_at number e = option_map (λ class. (e.0, class)) (class_entered number e.1.body)
 
--- the classes that are entered for the component, in key order
+-- the classes entered for the component, in key order
 abbrev pub classes_of : ℕ → List Entry → List (Key × Class)
 classes_of number facts = filter_map (class_at number) facts
 
@@ -66,7 +67,7 @@ member_entered number _ = None
 abbrev pub members_of : ℕ → List Entry → List ℕ
 members_of number facts = in_order nat_lt (filter_map (λ e. member_entered number e.1.body) facts)
 
--- the election of a programme of skip periods that a fact enters for the process unit (40 CFR 60.483-2a)
+-- the election of a skip period program that a fact enters for the process unit (40 CFR 60.483-2a)
 abbrev pub election_entered : ℕ → Key → FactBody → Option ElectionEntry
 election_entered number key (Election other mode _) = if nat_eq other number then Some (record { key = key; mode = mode }) else None
 election_entered number key _ = None
@@ -75,17 +76,17 @@ election_entered number key _ = None
 abbrev pub elections_of : ℕ → List Entry → List ElectionEntry
 elections_of number facts = filter_map (λ e. election_entered number e.0 e.1.body) facts
 
--- the shutdown of the process unit that a fact of this day enters; one that would end after 2099-12-31 ends on
--- that day (our own rule)
+-- the shutdown of the process unit that a fact of this day enters. A shutdown that would end after 2099-12-31 ends on that day (our own
+-- rule).
 abbrev pub stop_entered : ℕ → ℕ → FactBody → Option Stop
 stop_entered number day (Shutdown other days) =
     if nat_eq other number then Some (record { first = day; last = end_by (day + days - 1) }) else None
 stop_entered number day _ = None
 
--- the shutdowns of the process unit, in key order, and so by their first days
+-- the shutdowns of the process unit, in key order, which is the order of their first days
 abbrev pub stops_of : ℕ → List Entry → List Stop
 stops_of number facts = filter_map (λ e. stop_entered number e.0.day e.1.body) facts
 
--- what the facts enter for the process unit that each of its components is judged by
+-- what the facts enter for the process unit that decides on its components
 abbrev pub of_unit : ℕ → List Entry → OfUnit
 of_unit number facts = record { stops = stops_of number facts }

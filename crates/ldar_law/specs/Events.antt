@@ -31,24 +31,24 @@ abbrev pub is_routine_purpose : Purpose → Bool
 is_routine_purpose Routine = true
 is_routine_purpose FollowUp = false
 
--- whether a visual inspection found drips
+-- the visual inspection found drips
 abbrev pub drips_in : VisualState → Bool
 drips_in Dry = false
 drips_in Drips = true
 drips_in Designated = true
 
--- .. and whether it designates the drips as a leak
+-- the visual inspection designates the drips as a leak
 abbrev pub designated_in : VisualState → Bool
 designated_in Designated = true
 designated_in _ = false
 
 -- a component with its classes in key order
 module _ (item : Equipment) (classes : List (Key × Class)) where
-  -- a reading of the day counts where it is fit: the component is in service, and in no service that is left out
+  -- a reading of the day counts: it is fit, and the component is in service and not in an excluded service
   abbrev pub counts_on : ℕ → Bool → Bool
   counts_on day fit = is_in_service item day && not (is_left_out item classes day) && fit
 
-  -- drips of a pump that are designated as a leak (40 CFR 60.482-2a(b)(2)(ii))
+  -- a pump's drips that are designated as a leak (40 CFR 60.482-2a(b)(2)(ii))
   abbrev pub is_drip_leak : ℕ → VisualState → Bool
   is_drip_leak day state =
       designated_in state && is_in_service item day && is_under_pump_rules item classes day && not (is_nde item classes day)
@@ -62,7 +62,7 @@ module _ (item : Equipment) (classes : List (Key × Class)) where
   indication_on day SensorSort present = Sensor present (is_sensor_leak day present)
   indication_on day EvidenceSort present = Evidence present
 
--- .. and the leak definition of each day, in parts per million
+-- the same, with the leak definition of each day in parts per million
 module _ (item : Equipment) (classes : List (Key × Class)) (limit : ℕ → ℕ) where
   -- a counting reading of at least the leak definition is a leak (40 CFR 60.482-2a(b)(1), 60.482-7a(b), 60.482-8a(b))
   abbrev pub is_reading_leak : ℕ → Bool → ℕ → Bool
@@ -76,7 +76,7 @@ module _ (item : Equipment) (classes : List (Key × Class)) (limit : ℕ → ℕ
       Read ppm background (is_routine_purpose purpose) (counts_on item classes day fit)
       (counts_on item classes day fit && nat_lt ppm (limit day)) (is_reading_leak day fit ppm)
 
-  -- a fact of the component on a day, judged; a reading by its fitness. What the register says of it is no event.
+  -- a fact of the component on a day, judged; a reading by its fitness. An entry in the register is no event.
   abbrev pub happening : ℕ → Fitness → FactBody → Option Happening
   happening day fitness (Reading _ _ _ purpose ppm background) = Some (reading_on day (is_fit fitness) purpose ppm background)
   happening day fitness (Visual _ state) = Some (Look (drips_in state) (designated_in state) (is_drip_leak item classes day state))
@@ -103,35 +103,35 @@ abbrev pub is_reading : FactBody → Bool
 is_reading (Reading _ _ _ _ _ _) = true
 is_reading _ = false
 
--- the fitness that is next in a list with one for each reading
+-- the next fitness in a list with one for each reading
 abbrev pub next_fitness : List Fitness → Fitness
 next_fitness [] = NoCalibration
 next_fitness (fitness ∷ rest) = fitness
 
--- .. and those that are left behind a fact
+-- the list of fitnesses after a fact, which takes one if it is a reading
 abbrev pub fitness_left : FactBody → List Fitness → List Fitness
 fitness_left body fitness = if is_reading body then drop 1 fitness else fitness
 
--- the events of a component: its facts in key order, each judged; the readings by the fitness in this list, one after the other
+-- the events of a component: its facts in key order, each judged; each reading by its fitness in this list, in the same order
 abbrev pub events_with : Equipment → List (Key × Class) → (ℕ → ℕ) → List Entry → List Fitness → List Event
 events_with item classes limit [] fitness = []
 events_with item classes limit (e ∷ facts) fitness =
     cons_option (event_of item classes limit e (next_fitness fitness)) (events_with item classes limit facts (fitness_left e.1.body fitness))
 
--- the fitness of a reading with this key, among facts in key order, by the leak definition of each day
+-- the fitness of a reading with this key, by facts in key order and the leak definition of each day
 abbrev pub fitness_at : (ℕ → ℕ) → List Entry → Key → FactBody → Fitness
 fitness_at limit facts key (Reading _ instrument _ _ ppm _) = fitness_of facts (limit key.day) key instrument ppm
 fitness_at limit facts key _ = NoCalibration
 
--- .. of a fact of the component
+-- the fitness of a fact of the component, if it is a reading
 abbrev pub fitness_among : (ℕ → ℕ) → List Entry → Entry → Fitness
 fitness_among limit facts e = fitness_at limit facts e.0 e.1.body
 
--- .. if it is a reading
+-- the fitness of a reading, or `None` for another fact
 abbrev pub fitness_in : (ℕ → ℕ) → List Entry → Entry → Option Fitness
 fitness_in limit facts e = if is_reading e.1.body then Some (fitness_among limit facts e) else None
 
--- the events of a component among facts in key order
+-- the events of a component, from facts in key order
 unfoldable pub events_in : Equipment → List (Key × Class) → (ℕ → ℕ) → List Entry → List Event
 events_in item classes limit facts =
     filter_map (λ e. event_of item classes limit e (fitness_among limit facts e)) (facts_of_component item.component facts)

@@ -1,4 +1,4 @@
--- What an event of a component is: one named test for each thing that the rule asks of one.
+-- Tests of a component's event, one for each property that the rule asks about.
 use Rattle.std.specs.Prelude.{ℕ, ◌-◌, Bool, true, false, not, ◌&&◌, ◌||◌, nat_eq, nat_lt, nat_le}
 use Rattle.ldar_days.specs.Calendar.{month_of}
 use Rattle.ldar_law.specs.declared.event.Event.{Event}
@@ -8,7 +8,7 @@ use Rattle.ldar_law.specs.declared.event.Happening.TheVariants.{Read, Look, Atte
 
 -- ---- leaks
 
--- a leak of whatever sort
+-- a leak of any kind
 abbrev pub is_leak : Happening → Bool
 is_leak (Read _ _ _ _ _ leak) = leak
 is_leak (Look _ _ leak) = leak
@@ -26,7 +26,7 @@ abbrev pub is_look : Happening → Bool
 is_look (Look _ _ _) = true
 is_look _ = false
 
--- what a sensor tells
+-- a sensor's indication
 abbrev pub is_sensor : Happening → Bool
 is_sensor (Sensor _ _) = true
 is_sensor _ = false
@@ -70,17 +70,17 @@ abbrev pub is_dry : Happening → Bool
 is_dry (Look drips _ _) = not drips
 is_dry _ = false
 
--- a visual inspection that found drips, designated as a leak or not
+-- a visual inspection that found drips, whether designated as a leak or not
 abbrev pub has_drips : Happening → Bool
 has_drips (Look drips _ _) = drips
 has_drips _ = false
 
--- drips that are designated as a leak
+-- drips designated as a leak
 abbrev pub is_designating : Happening → Bool
 is_designating (Look _ designated _) = designated
 is_designating _ = false
 
--- drips that aren't designated as a leak
+-- drips not designated as a leak
 abbrev pub has_undesignated_drips : Happening → Bool
 has_undesignated_drips (Look drips designated _) = drips && not designated
 has_undesignated_drips _ = false
@@ -95,7 +95,7 @@ abbrev pub has_evidence : Happening → Bool
 has_evidence (Evidence present) = present
 has_evidence _ = false
 
--- .. or is gone
+-- evidence of a potential leak is gone
 abbrev pub is_evidence_gone : Happening → Bool
 is_evidence_gone (Evidence present) = not present
 is_evidence_gone _ = false
@@ -122,10 +122,10 @@ is_retire _ = false
 
 -- ---- when
 
--- the event's day is among these
+-- the event is on one of these days
 abbrev pub is_from_to : ℕ → ℕ → Event → Bool
 is_from_to first last e = nat_le first e.key.day && nat_le e.key.day last
 
--- the event lies in the month
+-- the event is in the month
 abbrev pub is_in_month : ℕ → Event → Bool
 is_in_month month e = nat_eq (month_of e.key.day) month

@@ -21,8 +21,8 @@ regime_of Relief Light = HeavyLiquidRules
 regime_of Relief Heavy = HeavyLiquidRules
 regime_of _ _ = LeftOut
 
--- the leak definition in parts per million (40 CFR 60.482-2a(b)(1), 60.482-7a(b), 60.482-8a(b)); a pump that
--- handles polymerizing monomers has the higher one, and where the rules set none it is 500 (our own rule)
+-- the leak definition in parts per million (40 CFR 60.482-2a(b)(1), 60.482-7a(b), 60.482-8a(b)). It is higher for a pump that handles
+-- polymerizing monomers; it is 500 if the rules set none (our own rule).
 abbrev pub limit_under : Regime → Bool → ℕ
 limit_under PumpRules true = 5_000
 limit_under PumpRules false = 2_000

@@ -1,4 +1,4 @@
--- The office as a machine: what it answers to a request after a history of accepted batches, and what a fault of the disk leaves in doubt.
+-- The office as a machine: its reply to a request after a history of accepted batches, and what a disk error leaves in doubt.
 use Rattle.std.specs.Prelude.{◌≡◌, ◌≢◌, ℕ, ◌+◌, ◌-◌, ◌<◌, ◌≤◌, ◌^◌, ◌⊎◌, Bool, true, false, ◌&&◌, if◌then◌else◌}
 use Rattle.std.specs.Prelude.{Option, Some, None, is_none, List, [], ◌∷◌, ◌++◌, length, slice_get, IsTrue}
 use Rattle.std.specs.List.{AllByRecursion}
@@ -13,13 +13,13 @@ use Rattle.ldar_law.specs.declared.verdict.Verdict.TheVariants.{Denied as Denied
 use Rattle.ldar_law.specs.Shown.{shown}
 use Rattle.ldar_law.specs.Verdicts.{verdict_on, is_pass}
 
--- ---- what is answered after a history
+-- ---- replies after a history
 
 -- the batch at a position, from 1
 abbrev pub batch_at : List Batch → ℕ → Option Batch
 batch_at history position = slice_get history (position - 1)
 
--- the identity of the batch stands first at this position, with this batch
+-- this position, from 1, is the first with the identity of the batch, and has this kept batch
 abbrev pub StandsAt : List Batch → Batch → ℕ → Batch → Type 0
 StandsAt history batch position kept = (position_of (identity_of batch) history ≡ Some position) × (batch_at history position ≡ Some kept)
 
@@ -27,12 +27,12 @@ StandsAt history batch position kept = (position_of (identity_of batch) history 
 abbrev pub IsNew : List Batch → Batch → Type 0
 IsNew history batch = position_of (identity_of batch) history ≡ None
 
--- a batch is accepted after a history: it is new, and no rule speaks against it
+-- the batch is accepted after a history: it is new, and no rule denies it
 abbrev pub is_accepted : List Batch → Batch → Bool
 is_accepted history batch = is_none (position_of (identity_of batch) history) && is_pass (verdict_on history batch)
 
--- What a batch is answered, and the history after it. Kept with equal content: the receipt of its position, again. Kept with other content: that
--- position. New: denied, or too much, or behind the others and receipted there.
+-- The reply to a batch, and the history after it. Already kept with equal content: the receipt of its position, again. Kept with other
+-- content: a conflict with that position. New: denied, or too large, or added at the end with a receipt.
 abbrev pub AnswersBatch : List Batch → Batch → Reply → List Batch → Type 0
 AnswersBatch history batch (Receipt handheld number position) after =
     (handheld ≡ batch.handheld) × (number ≡ batch.number)
@@ -46,11 +46,11 @@ AnswersBatch history batch (NoSuch what) after = ⊥
 AnswersBatch history batch Fault after = ⊥
 AnswersBatch history batch Memory after = ⊥
 
--- a view is answered as the history has it, and leaves it
+-- the reply to a view is what the history shows; the history does not change
 abbrev pub AnswersView : List Batch → Request → Reply → List Batch → Type 0
 AnswersView history request reply after = (shown history request ≡ Some reply) × (after ≡ history)
 
--- what a request is answered, and the history after it
+-- the reply to a request, and the history after it
 abbrev pub Answers : List Batch → Request → Reply → List Batch → Type 0
 Answers history (Sync batch) reply after = AnswersBatch history batch reply after
 Answers history (Due unit day) reply after = AnswersView history (Due unit day) reply after
@@ -70,26 +70,26 @@ batch_added history (Route unit day stops) = None
 batch_added history (Percent unit quarter day) = None
 batch_added history (ReportView unit half day) = None
 
--- a request takes memory where it adds a batch, and where it is answered a text
+-- a request takes memory if it adds a batch, or if its reply is a text
 abbrev pub TakesMemory : List Batch → Request → Type 0
 TakesMemory history request =
     ((batch : Batch) × (batch_added history request ≡ Some batch)) ⊎ ((text : List ℕ) × (shown history request ≡ Some (Shown text)))
 
 -- ---- turns
 
--- the accepted batches, and those of a failed write that may stand behind them or not
+-- the accepted batches, and those of a failed write that may or may not be on the disk
 pub record State : Type 0 where
   pub history : List Batch
   pub doubt : List Batch
 
--- what was found of the batches in doubt before a request was answered
+-- what was found about the batches in doubt before a request was answered: nothing was looked up, they are kept, or they are gone
 pub data Finding : Type 0 where
   not_asked : Finding
   they_stand : Finding
   they_are_gone : Finding
 
--- a request and its reply; what was found before it; whether a failed write leaves its batch in doubt; the disk's count of faults as the call
--- began and as it returned, and its clock as it returned
+-- a request and its reply; what was found before it; whether a failed write leaves its batch in doubt; the disk's count of errors when the
+-- call began and when it returned; and the disk's clock when it returned
 pub record Turn : Type 0 where
   pub request : Request
   pub reply : Reply
@@ -99,44 +99,44 @@ pub record Turn : Type 0 where
   pub after : ℕ
   pub clock : ℕ
 
--- the state once this was found
+-- the state after this finding
 abbrev pub settled : Finding → State → State
 settled not_asked state = state
 settled they_stand state = record { history = state.history ++ state.doubt; doubt = [] }
 settled they_are_gone state = record { history = state.history; doubt = [] }
 
--- something was found only of batches that were in doubt
+-- only batches that were in doubt can be found or found missing
 abbrev pub CanBeFound : Finding → State → Type 0
 CanBeFound not_asked state = Unit {0}
 CanBeFound they_stand state = state.doubt ≢ []
 CanBeFound they_are_gone state = state.doubt ≢ []
 
--- the count of faults rose in the call, or stands at its greatest
+-- the count of errors rose in the call, or is at its maximum
 abbrev pub HasFault : Turn → Type 0
 HasFault turn = (turn.before < turn.after) ⊎ (turn.after ≡ 2 ^ 64 - 1)
 
--- with nothing left in doubt, a request is answered as the history has it
+-- nothing is in doubt, and the reply is the one that the history determines
 pub record IsAnswered (state : State) (turn : Turn) (next : State) : Type 0 where
   pub nothing_in_doubt : state.doubt ≡ []
   pub none_left : next.doubt ≡ []
   pub certain : turn.in_doubt ≡ false
   pub answers : Answers state.history turn.request turn.reply next.history
 
--- with nothing left in doubt, memory was wanting for a request that takes some; the history stays
+-- nothing is in doubt, and a request that takes memory ran out of it; the history does not change
 pub record IsWanting (state : State) (turn : Turn) (next : State) : Type 0 where
   pub nothing_in_doubt : state.doubt ≡ []
   pub certain : turn.in_doubt ≡ false
   pub takes : TakesMemory state.history turn.request
   pub stays : next ≡ state
 
--- a fault that leaves the state: the batches in doubt could not be settled, or nothing was written of a batch to be added
+-- an error that leaves the state: the batches in doubt could not be settled, or no part of a batch to be added was written
 pub record LeavesState (state : State) (turn : Turn) (next : State) : Type 0 where
   pub faulty : HasFault turn
   pub certain : turn.in_doubt ≡ false
   pub why : (state.doubt ≢ []) ⊎ ((batch : Batch) × (batch_added state.history turn.request ≡ Some batch))
   pub stays : next ≡ state
 
--- a turn but a fault, from what was found on
+-- a turn without a disk error, after the finding
 abbrev pub GoesOn : State → Turn → State → Type 0
 GoesOn state turn next = elim turn.reply [
   | Fault ↦ ⊥
@@ -144,14 +144,14 @@ GoesOn state turn next = elim turn.reply [
   | _ ↦ IsAnswered state turn next
 ]
 
--- a turn but a fault
+-- a turn without a disk error
 pub record Step (state : State) (turn : Turn) (next : State) : Type 0 where
   pub can : CanBeFound turn.found state
   pub goes_on : GoesOn (settled turn.found state) turn next
 
--- ---- groups of turns that are asked at once
+-- ---- groups of turns that are handled in one call
 
--- the batches that these turns add to a history, each with those before it
+-- the batches that these turns add to a history, each after those before it
 abbrev pub batches_added : List Batch → List Turn → List Batch
 batches_added history [] = []
 batches_added history (turn ∷ turns) = elim (batch_added history turn.request) [
@@ -159,7 +159,7 @@ batches_added history (turn ∷ turns) = elim (batch_added history turn.request)
   | Some batch ↦ batch ∷ batches_added (history ++ batch ∷ []) turns
 ]
 
--- a fault that leaves in doubt the batches that this turn and those behind it add: they were written as one
+-- an error that leaves in doubt the batches of this turn and the turns after it, which were written in one frame
 pub record LeavesDoubt (state : State) (turn : Turn) (turns : List Turn) (next : State) : Type 0 where
   pub faulty : HasFault turn
   pub uncertain : turn.in_doubt ≡ true
@@ -168,13 +168,13 @@ pub record LeavesDoubt (state : State) (turn : Turn) (turns : List Turn) (next :
   pub adds : batch_added state.history turn.request ≡ Some batch
   pub leaves : next ≡ record { history = state.history; doubt = batches_added state.history (turn ∷ turns) }
 
--- the first fault of a group, and the turns behind it, which are faults too
+-- the first error of a group; the turns after it report an error too
 pub record BreaksOff (state : State) (turn : Turn) (turns : List Turn) (next : State) : Type 0 where
   pub can : CanBeFound turn.found state
   pub leaves : LeavesState (settled turn.found state) turn next ⊎ LeavesDoubt (settled turn.found state) turn turns next
   pub others : AllByRecursion (λ t. t.reply ≡ Fault) turns
 
--- the turns of a group one after the other, up to the first fault
+-- the turns of a group one after the other, up to the first error
 abbrev pub Steps : State → List Turn → State → Type 0
 Steps state [] next = next ≡ state
 Steps state (turn ∷ turns) next = elim turn.reply [
@@ -184,13 +184,13 @@ Steps state (turn ∷ turns) next = elim turn.reply [
 
 -- ---- runs
 
--- where a run begins or ends: the state, and the disk's count of faults and clock
+-- the start or end of a run: the state, and the disk's count of errors and its clock
 pub record Moment : Type 0 where
   pub state : State
   pub faults : ℕ
   pub clock : ℕ
 
--- a turn belongs to a call that began with this count of faults, and ended at this moment
+-- the turn is part of a call that began with this count of errors and ended at this moment
 pub record IsOfCall (before : ℕ) (end : Moment) (turn : Turn) : Type 0 where
   pub begins : turn.before ≡ before
   pub counts : turn.after ≡ end.faults
@@ -211,7 +211,7 @@ pub record Call : Type 0 where
   pub turns : List Turn
   pub end : Moment
 
--- groups one after the other; count and clock may rise between them
+-- groups one after the other; the count of errors and the clock may rise between them
 abbrev pub Runs : Moment → List Call → Moment → Type 0
 Runs start [] end = (end.state ≡ start.state) × (start.faults ≤ end.faults) × (start.clock ≤ end.clock)
 Runs start (call ∷ calls) end = GroupStep start call.turns call.end × Runs call.end calls end

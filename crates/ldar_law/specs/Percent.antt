@@ -18,7 +18,7 @@ use Rattle.ldar_law.specs.Standing.{is_under_valve_rules, is_nde}
 use Rattle.ldar_law.specs.Tags.{is_delayed}
 use Rattle.ldar_law.specs.Tallies.{with_mark}
 
--- the day lies in the quarter
+-- the day is in the quarter
 abbrev pub is_in_quarter : ℕ → ℕ → ℕ → Bool
 is_in_quarter startup quarter day = is_numbered (quarter_of startup (month_of day)) quarter
 
@@ -26,7 +26,7 @@ is_in_quarter startup quarter day = is_numbered (quarter_of startup (month_of da
 abbrev pub is_open_on : ℕ → Tag → Bool
 is_open_on day tag = nat_le tag.detected day && option_map_or (λ closed. nat_lt day closed) tag.closed true
 
--- the repair of some leak that is open on the day is delayed
+-- some leak is open on the day and its repair is delayed
 abbrev pub has_delay_on : ℕ → List Tag → Bool
 has_delay_on day tags = list_any (λ tag. is_open_on day tag && is_delayed tag) tags
 
@@ -36,7 +36,7 @@ judging_day startup quarter day = min (quarter_last startup quarter) day
 
 -- a component with its classes and events, whether its repair is delayed on the quarter's judging day, and the day of the view
 module _ (item : Equipment) (classes : List (Key × Class)) (startup : ℕ) (events : List Event) (delayed : Bool) (quarter day : ℕ) where
-  -- valves that are in regime V then and not for no detectable emissions are counted
+  -- the component is counted: on the judging day it is under the valve rules and not designated for no detectable emissions
   abbrev pub is_counted : Bool
   is_counted = is_under_valve_rules item classes (judging_day startup quarter day) && not (is_nde item classes (judging_day startup quarter day))
 
@@ -44,11 +44,11 @@ module _ (item : Equipment) (classes : List (Key × Class)) (startup : ℕ) (eve
   abbrev pub is_read : Bool
   is_read = list_any (λ e. is_routine e.what && is_in_quarter startup quarter e.key.day) events
 
-  -- .. that is a leak
+  -- it has a counting routine reading in the quarter that is a leak
   abbrev pub is_found_leaking : Bool
   is_found_leaking = list_any (λ e. is_routine_leak e.what && is_in_quarter startup quarter e.key.day) events
 
-  -- it begins in the quarter and its first monitoring was due before the day and was not made (our own rule)
+  -- it begins in the quarter, and its first monitoring was due before the day and was not done (our own rule)
   abbrev pub is_first_missed : Bool
   is_first_missed =
       is_in_quarter startup quarter item.begin && is_first_owed item classes startup (min (first_due item) day)
@@ -61,10 +61,10 @@ module _ (item : Equipment) (classes : List (Key × Class)) (startup : ℕ) (eve
     monitored = is_counted && (is_read || delayed || is_first_missed);
   }
 
--- the counts of a quarter: each component of the unit is counted once
+-- the counts of a quarter; each component of the unit counts once
 abbrev pub tally_of : List Mark → Tally
 tally_of marks = fold with_mark (record { leaking = 0; monitored = 0 }) marks
 
--- 40 CFR 60.483-2a(b)(2): at most 2 percent leak, of at least one that was monitored
+-- 40 CFR 60.483-2a(b)(2): at least one valve was monitored, and at most 2 percent of those monitored leak
 abbrev pub is_good : Tally → Bool
 is_good tally = nat_lt 0 tally.monitored && nat_le (50 * tally.leaking) tally.monitored

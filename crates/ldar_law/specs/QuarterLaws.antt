@@ -1,4 +1,4 @@
--- What is true of percent leaking, skipped quarters and routes: the statements of `laws::quarters`.
+-- Laws about percent leaking, skipped quarters and routes: the statements of `laws::quarters`.
 use Rattle.std.specs.Prelude.{◌≡◌, count_by, ℕ, true, not, ◌&&◌, nat_le, is_none, List, ◌≤◌, Decides, length, take, nat_eq, filter}
 use Rattle.std.specs.List.{list_any, list_all}
 use Rattle.ldar_law.specs.declared.duty.Duty.{Duty}
@@ -7,13 +7,13 @@ use Rattle.ldar_law.specs.Percent.{tally_of}
 use Rattle.ldar_law.specs.Routes.{stops_in_order}
 use Rattle.ldar_law.specs.Skips.{Past, good_streak}
 
--- the counts are those of the marks that are leaking and of those that are monitored
+-- the counts are the numbers of leaking and of monitored marks
 abbrev pub TallyCounts : Type 0
 TallyCounts =
     (marks : List Mark)
     → tally_of marks ≡ record { leaking = count_by (λ mark. mark.leaking) marks; monitored = count_by (λ mark. mark.monitored) marks }
 
--- a streak reaches so far where so many of the last quarters that were not skipped exist and are good
+-- the streak is at least n exactly if the last n quarters that were not skipped exist and are good
 abbrev pub StreakIsOfGoodQuarters : Type 0
 StreakIsOfGoodQuarters =
     (n : ℕ) (before : List Past)
@@ -21,7 +21,7 @@ StreakIsOfGoodQuarters =
     ((n ≤ length (filter (λ past. not past.0) before))
     × (list_all (λ past. past.1) (take n (filter (λ past. not past.0) before)) ≡ true))
 
--- a component is a stop just where it has a duty that isn't done
+-- a component is a stop exactly if it has a duty that is not done
 abbrev pub StopsAreUndone : Type 0
 StopsAreUndone =
     (duties : List Duty) (component : ℕ)

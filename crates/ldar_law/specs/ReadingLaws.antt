@@ -1,4 +1,4 @@
--- What is true of readings and events, whatever the leak definition of each day: the statements of `laws::readings`.
+-- Laws about readings and events, for any leak definition of each day: the statements of `laws::readings`.
 use Rattle.std.specs.Prelude.{◌≡◌, ℕ, Some, List, filter_map}
 use Rattle.list_words.specs.Order.{Ascends}
 use Rattle.fact_kinds.specs.declared.class.Class.{Class}
@@ -10,13 +10,13 @@ use Rattle.ldar_law.specs.Events.{events_with, fitness_among, fitness_in, events
 use Rattle.ldar_law.specs.Fitness.{fitness_of}
 use Rattle.ldar_law.specs.Slices.{facts_of_instrument, facts_of_component}
 
--- a reading is judged by its instrument's own facts as by all facts
+-- the fitness of a reading depends only on the facts of its instrument
 abbrev pub FitnessIsOfInstrument : Type 0
 FitnessIsOfInstrument =
     (facts : List Entry) (limit : ℕ) (key : Key) (instrument ppm : ℕ)
     → fitness_of (facts_of_instrument instrument facts) limit key instrument ppm ≡ fitness_of facts limit key instrument ppm
 
--- judging each reading where it stands, or by a list with the fitness of each: it is the same
+-- judging each reading in its place gives the same events as judging from a list of the readings' fitnesses
 abbrev pub EventsAreJudgedInOrder : Type 0
 EventsAreJudgedInOrder =
     (item : Equipment) (classes : List (Key × Class)) (limit : ℕ → ℕ) (facts : List Entry)
@@ -24,14 +24,14 @@ EventsAreJudgedInOrder =
     (filter_map (fitness_in limit facts) (facts_of_component item.component facts))
     ≡ events_in item classes limit facts
 
--- a reading is judged by the facts of its instrument as by all facts
+-- the fitness of a reading's entry depends only on the facts of its instrument
 abbrev pub ReadingsAreOfInstrument : Type 0
 ReadingsAreOfInstrument =
     (limit : ℕ → ℕ) (facts : List Entry) (e : Entry) (instrument : ℕ)
     → reading_instrument e.1.body ≡ Some instrument
     → fitness_among limit (facts_of_instrument instrument facts) e ≡ fitness_among limit facts e
 
--- the events of a component are in key order, as the facts are
+-- the events of a component are in key order if the facts are
 abbrev pub EventsAscend : Type 0
 EventsAscend =
     (item : Equipment) (classes : List (Key × Class)) (limit : ℕ → ℕ) (facts : List Entry)

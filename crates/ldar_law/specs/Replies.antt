@@ -8,7 +8,7 @@ use Rattle.ldar_law.specs.declared.request.What.TheVariants.{Unit as NoUnit, Qua
 use Rattle.ldar_law.specs.Texts.{end_of_line}
 use Rattle.ldar_law.specs.Verdicts.{paragraph_of}
 
--- what there is none of
+-- the word for what does not exist
 abbrev pub what_text : What → List ℕ
 what_text NoUnit = codes "unit"
 what_text NoQuarter = codes "quarter"
@@ -16,7 +16,7 @@ what_text NoHalf = codes "half"
 what_text NoDay = codes "day"
 what_text NoStops = codes "stops"
 
--- the line of a reply; a view's text is its own lines
+-- the line of a reply; a view's text has its own lines
 abbrev pub reply_text : Reply → List ℕ
 reply_text (Receipt handheld number position) =
     codes "receipt " ++ decimal handheld ++ codes " " ++ decimal number ++ codes " " ++ decimal position ++ end_of_line

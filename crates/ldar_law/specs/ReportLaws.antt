@@ -1,4 +1,4 @@
--- What is true of the numbers of reports.
+-- Laws about the numbers of reports.
 use Rattle.std.specs.Prelude.{◌≡◌, ℕ, ◌<◌, ◌≤◌, ◌↔◌, Some, List, [], length, replicate, slice_index_or, Contains}
 use Rattle.std.specs.List.{AllByRecursion}
 use Rattle.ldar_days.specs.Calendar.{IsDay}
@@ -10,36 +10,36 @@ use Rattle.ldar_law.specs.declared.report.Cells.{Cells}
 use Rattle.ldar_law.specs.declared.sheet.Sheet.{Sheet}
 use Rattle.ldar_law.specs.Reports.{month_cells, cells_of, amended_at, amended}
 
--- a report has 36 numbers, none of which is more than there are components
+-- a report has 36 numbers, each at most the number of components
 abbrev pub CellsAreBounded : Type 0
 CellsAreBounded =
     (startup half day : ℕ) (sheets : List Sheet) (stops : List Stop)
     → (length (cells_of startup half day sheets stops).months ≡ 36)
     × AllByRecursion (λ number. number ≤ length sheets) (cells_of startup half day sheets stops).months
 
--- the due day, if it is a date, is a day of the calendar
+-- the due day is a day of the calendar if it is a date
 abbrev pub IsDueInCalendar : Until → Type 0
 IsDueInCalendar (Date due) = IsDay due
 IsDueInCalendar _ = Unit {0}
 
--- the leaks and due days of a sheet lie in the calendar
+-- the leaks and due days of a sheet are in the calendar
 abbrev pub IsInCalendar : Sheet → Type 0
 IsInCalendar sheet =
     AllByRecursion (λ leak. leak ≤ 25_199) sheet.leaks × AllByRecursion (λ tag. IsDueInCalendar tag.repair_due) sheet.tags
 
--- a month after December 2099 has zeros
+-- the numbers of a month after December 2099 are zero
 abbrev pub MonthsPastAreZero : Type 0
 MonthsPastAreZero =
     (day month : ℕ) (sheets : List Sheet) → AllByRecursion IsInCalendar sheets → 25_199 < month
     → month_cells day sheets month ≡ replicate 6 0
 
--- what is amended are the places of the 36 at which the numbers differ
+-- the amended numbers are those of the 36 places at which two reports differ
 abbrev pub AmendedWhereDifferent : Type 0
 AmendedWhereDifferent =
     (old new : Cells) (change : Amended)
     → Contains (amended old new) change ↔ ((place : ℕ) × (place < 36) × (amended_at old.months new.months place ≡ Some change))
 
--- nothing is amended exactly where all 36 are equal
+-- nothing is amended exactly if all 36 numbers are equal
 abbrev pub NothingAmended : Type 0
 NothingAmended =
     (old new : Cells)

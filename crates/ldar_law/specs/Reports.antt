@@ -1,4 +1,5 @@
--- The semiannual report of a process unit (40 CFR 60.487a(c)): its half, its numbers, its lines, and what a later one amends.
+-- The semiannual report of a process unit (40 CFR 60.487a(c)): its reporting period (half), its numbers, its lines, and what a later report
+-- amends.
 use Rattle.std.specs.Prelude.{ℕ, ◌+◌, ◌-◌, ◌*◌, ◌/◌, ◌%◌, Bool, false, not, ◌&&◌, nat_lt, nat_le, nat_eq}
 use Rattle.std.specs.Prelude.{if◌then◌else◌, Option, Some, None, List, [], ◌∷◌, filter, slice_index_or}
 use Rattle.std.specs.List.{list_any, filter_map, flat_map, count_by}
@@ -21,11 +22,11 @@ use Rattle.ldar_law.specs.Tags.{is_late, line_on}
 
 -- ---- quarters and halves
 
--- quarters count from 1, and one that would begin after the calendar's end begins after every day
+-- the quarter has begun by the day; quarters count from 1, and one that would begin after the calendar's end never begins
 abbrev pub has_quarter_begun : ℕ → ℕ → ℕ → Bool
 has_quarter_begun startup quarter day = nat_le 1 quarter && nat_le (first_day (first_quarter startup + 3 * quarter - 3)) day
 
--- half h is quarters 2h - 1 and 2h (our own rule)
+-- the half has begun by the day; half h is quarters 2h - 1 and 2h (our own rule)
 abbrev pub has_half_begun : ℕ → ℕ → ℕ → Bool
 has_half_begun startup half day = nat_le 1 half && has_quarter_begun startup (2 * half - 1) day
 
@@ -33,9 +34,11 @@ has_half_begun startup half day = nat_le 1 half && has_quarter_begun startup (2 
 abbrev pub half_month : ℕ → ℕ → ℕ
 half_month startup half = first_quarter startup + 6 * half - 6
 
+-- the first day of a half
 abbrev pub half_first : ℕ → ℕ → ℕ
 half_first startup half = quarter_first startup (2 * half - 1)
 
+-- the last day of a half
 abbrev pub half_last : ℕ → ℕ → ℕ
 half_last startup half = quarter_last startup (2 * half)
 
@@ -46,16 +49,16 @@ abbrev pub is_date_in : ℕ → Until → Bool
 is_date_in month (Date due) = nat_eq (month_of due) month
 is_date_in month _ = false
 
--- the components of a kind with a leak in the month (40 CFR 60.487a(c)(2)(i), (iii), (v))
+-- the number of components of a kind with a leak in the month (40 CFR 60.487a(c)(2)(i), (iii), (v))
 abbrev pub leaking_in : (Kind → Bool) → List Sheet → ℕ → ℕ
 leaking_in is_kind sheets month = count_by (λ sheet. is_kind sheet.kind && list_any (λ leak. nat_eq leak month) sheet.leaks) sheets
 
--- those with a late tag that was due in the month (40 CFR 60.487a(c)(2)(ii), (iv), (vi))
+-- the number of components of a kind with a late tag that was due in the month (40 CFR 60.487a(c)(2)(ii), (iv), (vi))
 abbrev pub late_in : (Kind → Bool) → ℕ → List Sheet → ℕ → ℕ
 late_in is_kind day sheets month =
     count_by (λ sheet. is_kind sheet.kind && list_any (λ tag. is_late day tag && is_date_in month tag.repair_due) sheet.tags) sheets
 
--- the six numbers of a month; relief devices are in none (our own rule)
+-- the six numbers of a month; they do not count relief devices (our own rule)
 unfoldable pub month_cells : ℕ → List Sheet → ℕ → List ℕ
 month_cells day sheets month =
     leaking_in is_valve sheets month ∷ late_in is_valve day sheets month
@@ -64,23 +67,24 @@ month_cells day sheets month =
 
 -- ---- the lines (40 CFR 60.487a(c)(2)(xi), (3))
 
+-- the tag was closed before the day
 abbrev pub is_closed_before : ℕ → Tag → Bool
 is_closed_before day tag = elim tag.closed [ Some closed ↦ nat_lt closed day | None ↦ false ]
 
--- the line of a tag with a delay that was not ignored, detected by the half's last day and not closed before its first
+-- the line of a tag whose delay was not ignored, if it was detected by the half's last day and not closed before its first
 unfoldable pub delay_of : ℕ → ℕ → Tag → Option DelayLine
 delay_of first last tag = elim tag.delay [
   | None ↦ None
   | Some delay ↦ if nat_le tag.detected last && not (is_closed_before first tag) then Some (line_on tag delay) else None
 ]
 
--- a shutdown with a day in the half
+-- the shutdown has a day in the half
 abbrev pub is_stop_in : ℕ → ℕ → Stop → Bool
 is_stop_in first last stop = nat_le stop.first last && nat_le first stop.last
 
 -- ---- the report
 
--- what the report of a half says on a day, of components in ascending order and shutdowns in key order
+-- the report of a half as of a day, from the sheets of components in ascending order and the shutdowns in key order
 abbrev pub cells_of : ℕ → ℕ → ℕ → List Sheet → List Stop → Cells
 cells_of startup half day sheets stops = record {
   months = flat_map (month_cells day sheets) (until (half_month startup half) (half_month startup half + 6));
@@ -88,19 +92,20 @@ cells_of startup half day sheets stops = record {
   stops = filter (is_stop_in (half_first startup half) (half_last startup half)) stops;
 }
 
+-- the report of a half as of a day
 abbrev pub report_on : UnitEntry → ℕ → ℕ → List Sheet → List Stop → Report
 report_on unit half day sheets stops =
     record { unit = unit.unit; name = unit.name; half = half; day = day; cells = cells_of unit.startup half day sheets stops }
 
 -- ---- what a later report amends
 
--- the number at a place of the 36, where two differ; months and columns count from 1
+-- the change at a place of the 36, if two reports differ there; months and columns count from 1
 unfoldable pub amended_at : List ℕ → List ℕ → ℕ → Option Amended
 amended_at old new place =
     let before = slice_index_or old place 0 in
     let now = slice_index_or new place 0 in
     if nat_eq before now then None else Some (record { month = place / 6 + 1; column = place % 6 + 1; old = before; new = now })
 
--- the numbers of two reports that differ, by their places
+-- the changed numbers of two reports, in order of place
 abbrev pub amended : Cells → Cells → List Amended
 amended old new = filter_map (amended_at old.months new.months) (until 0 36)

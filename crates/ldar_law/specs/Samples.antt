@@ -1,4 +1,4 @@
--- One of each: events, facts, rules, services, designations and kinds, for worked examples of tests.
+-- Samples for examples and tests: one of each event, fact, rule, service, designation and kind.
 use Rattle.std.specs.Prelude.{ℕ, true, false, None, List, [], ◌∷◌, map}
 use Rattle.fact_kinds.specs.declared.body.FactBody.{FactBody}
 use Rattle.fact_kinds.specs.declared.body.FactBody.TheVariants.{Unit as UnitFact, Component as ComponentFact, Class as ClassFact, Retire as RetireFact}
@@ -22,11 +22,11 @@ use Rattle.ldar_law.specs.Short.{class, fact}
 
 -- ---- events
 
--- a delay of a ground
+-- a delay of this ground
 abbrev pub delay_of_ground : ℕ → Happening
 delay_of_ground why = Delay why 9 None
 
--- one of each
+-- one event of each kind
 abbrev pub each_happening : List Happening
 each_happening =
     Read 20 0 true true true false ∷ Read 620 0 true true false true ∷ Read 20 0 true false false false
@@ -37,14 +37,14 @@ each_happening =
 
 -- ---- facts
 
--- a fact of each kind, with number 1 where it names one
+-- a fact of each kind; it names number 1 if it names one
 abbrev pub each_fact : List FactBody
 each_fact =
     UnitFact 1 false [] ∷ ComponentFact 1 1 Valve false false (class Gas Plain) ∷ ClassFact 1 (class Gas Plain) ∷ RetireFact 1 ∷ Election 1 1 1 ∷ Shutdown 1 1
     ∷ Calibration 1 500 ∷ Precision 1 500 (500, 500, 500) ∷ Drift 1 500 (440, 440, 440) ∷ Reading 1 1 1 Routine 20 0 ∷ Visual 1 Drips
     ∷ AttemptFact 1 false ∷ DelayFact 1 1 9 None ∷ ReleaseFact 1 ∷ Indication 1 SensorSort true ∷ []
 
--- .. with keys of one minute
+-- those facts, with keys of one minute
 abbrev pub each_entry : List Entry
 each_entry = map (fact 1 0) each_fact
 

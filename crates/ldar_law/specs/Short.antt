@@ -1,4 +1,4 @@
--- Words for the worked examples: days, facts and components in short.
+-- Short names for examples: days, facts and components.
 use Rattle.std.specs.Prelude.{ℕ, ◌+◌, ◌-◌, ◌*◌, Bool, true, false, nat_lt, if◌then◌else◌, Some, None, List, [], ◌∷◌, map}
 use Rattle.ldar_days.specs.Calendar.{first_day}
 use Rattle.fact_kinds.specs.declared.body.FactBody.{FactBody}
@@ -25,21 +25,21 @@ use Rattle.ldar_law.specs.Happenings.{is_leak}
 
 -- ---- days
 
--- a day by year, month and day of the month
+-- a day from year, month and day of the month
 abbrev pub date : ℕ → ℕ → ℕ → ℕ
 date y m d = first_day (12 * y + m - 1) + d - 1
 
--- a month by year and number
+-- a month from year and month of the year
 abbrev pub month : ℕ → ℕ → ℕ
 month y m = 12 * y + m - 1
 
 -- ---- facts
 
--- a key of a day and minute, of handheld 1
+-- a key with a day and a minute, of handheld 1
 abbrev pub key : ℕ → ℕ → Key
 key day minute = record { day = day; minute = minute; handheld = 1; number = 1; index = 0 }
 
--- a fact of that key
+-- a fact with such a key
 abbrev pub fact : ℕ → ℕ → FactBody → Entry
 fact day minute body = (key day minute, record { day = day; minute = minute; body = body })
 
@@ -59,27 +59,26 @@ drifted day minute ppm = fact day minute (Drift 1 500 (ppm, ppm, ppm))
 abbrev pub measured : ℕ → ℕ → ℕ → Entry
 measured day component ppm = fact day 600 (Reading component 1 1 Routine ppm 0)
 
--- the fitness of a reading of 2024-02-20 at a minute, by a leak definition of 500, among these facts and a precision test of
--- 2024-01-02
+-- the fitness of a reading at a minute of 2024-02-20, by a leak definition of 500, these facts and a precision test of 2024-01-02
 abbrev pub judged_at : List Entry → ℕ → ℕ → Fitness
 judged_at facts minute ppm = fitness_of (precise (date 2024 1 2) ∷ facts) 500 (key (date 2024 2 20) minute) 1 ppm
 
--- a day with a calibration at minute 300 and a drift assessment at minute 900
+-- a calibration at minute 300 and a drift assessment at minute 900 of one day
 abbrev pub drifted_to : ℕ → List Entry
 drifted_to ppm = calibrated (date 2024 2 20) 300 500 ∷ drifted (date 2024 2 20) 900 ppm ∷ []
 
--- a day with three calibrations, the first with too strong a gas, and three drift assessments
+-- three calibrations of one day, the first with too strong a gas, and three drift assessments
 abbrev pub busy_day : List Entry
 busy_day =
     calibrated (date 2024 2 20) 300 2501 ∷ calibrated (date 2024 2 20) 500 2500 ∷ drifted (date 2024 2 20) 650 440
     ∷ calibrated (date 2024 2 20) 700 500 ∷ drifted (date 2024 2 20) 800 440 ∷ drifted (date 2024 2 20) 900 430 ∷ []
 
--- three readings of valve 1 in February, March and June, and an attempt behind the first
+-- three readings of valve 1 in February, March and June, and an attempt after the first
 abbrev pub three_readings : List Entry
 three_readings =
     measured (date 2024 2 20) 1 20 ∷ fact (date 2024 2 22) 600 (AttemptFact 1 false) ∷ measured (date 2024 3 20) 1 30 ∷ measured (date 2024 6 20) 1 40 ∷ []
 
--- the calibrations of the last two of these days, and a precision test of January
+-- the calibrations of the last two of these days, and a precision test in January
 abbrev pub calibrated_twice : List Entry
 calibrated_twice = precise (date 2024 1 2) ∷ calibrated (date 2024 3 20) 300 500 ∷ calibrated (date 2024 6 20) 300 500 ∷ []
 
@@ -89,7 +88,7 @@ calibrated_twice = precise (date 2024 1 2) ∷ calibrated (date 2024 3 20) 300 5
 abbrev pub class : Service → Designation → Class
 class service designation = record { service = service; designation = designation; plan = 0; month = 1 }
 
--- a class that is entered on a day
+-- a class entered on a day
 abbrev pub entered_on : ℕ → Class → Key × Class
 entered_on day class = (key day 0, class)
 
@@ -97,15 +96,15 @@ entered_on day class = (key day 0, class)
 abbrev pub second_month : Class
 second_month = record { service = Gas; designation = Plain; plan = 0; month = 2 }
 
--- .. entered on 2024-01-02
+-- the same class, entered on 2024-01-02
 abbrev pub second_months : Key × Class
 second_months = entered_on (date 2024 1 2) second_month
 
--- difficult to monitor, with the plan that it had before
+-- difficult to monitor, with the plan from before
 abbrev pub planned_difficult : Class
 planned_difficult = record { service = Gas; designation = Difficult; plan = 5; month = 1 }
 
--- unsafe to monitor, with a plan of so many months
+-- unsafe to monitor, with a plan of this many months
 abbrev pub unsafe_by : Service → ℕ → Class
 unsafe_by service plan = record { service = service; designation = Unsafe; plan = plan; month = 1 }
 
@@ -126,7 +125,7 @@ gear component kind class begin = record {
 abbrev pub valve : ℕ → ℕ → Equipment
 valve component begin = gear component Valve (class Gas Plain) begin
 
--- .. that is retired
+-- a component that is retired
 abbrev pub retired_gear : ℕ → Kind → Class → ℕ → ℕ → Equipment
 retired_gear component kind class begin retired = record {
   component = component;
@@ -143,7 +142,7 @@ retired_gear component kind class begin retired = record {
 abbrev pub retired_valve : ℕ → ℕ → ℕ → Equipment
 retired_valve component begin retired = retired_gear component Valve (class Gas Plain) begin retired
 
--- .. that replaces a leaking one
+-- a valve that replaces a leaking one
 abbrev pub replacing_valve : ℕ → ℕ → Equipment
 replacing_valve component begin = record {
   component = component;
@@ -160,7 +159,7 @@ replacing_valve component begin = record {
 abbrev pub pump : ℕ → ℕ → Equipment
 pump component begin = gear component Pump (class Light Plain) begin
 
--- .. that handles polymerizing monomers
+-- a pump that handles polymerizing monomers
 abbrev pub monomer_pump : ℕ → ℕ → Equipment
 monomer_pump component begin = record {
   component = component;
@@ -181,39 +180,39 @@ compressor component begin = gear component Compressor (class Gas Plain) begin
 abbrev pub relief : ℕ → ℕ → Equipment
 relief component begin = gear component Relief (class Gas Plain) begin
 
--- whether facts of 2024-02-20 at a component are leaks, with the instrument calibrated
+-- which facts of 2024-02-20 at a component are leaks, with a calibrated instrument
 abbrev pub leaks_of : Equipment → Entry → List Bool
 leaks_of item e = map (λ event. is_leak event.what)
     (events_in item [] (limit_on item []) (precise (date 2024 1 2) ∷ calibrated (date 2024 2 20) 300 500 ∷ e ∷ []))
 
--- whether a reading is one
+-- whether a reading is a leak
 abbrev pub found_at : Equipment → ℕ → List Bool
 found_at item ppm = leaks_of item (measured (date 2024 2 20) item.component ppm)
 
--- whether a sensor's indication is one
+-- whether a sensor's indication is a leak
 abbrev pub sensed : Equipment → Bool → List Bool
 sensed item present = leaks_of item (fact (date 2024 2 20) 600 (Indication item.component SensorSort present))
 
--- whether a designated drip is one
+-- whether a designated drip is a leak
 abbrev pub designated_at : Equipment → List Bool
 designated_at item = leaks_of item (fact (date 2024 2 20) 600 (Visual item.component Designated))
 
--- what a fact of 2024-02-20 at a component is, with the instrument calibrated with a gas
+-- the event of a fact of 2024-02-20 at a component, with the instrument calibrated with a gas
 abbrev pub events_with_gas : ℕ → Equipment → List (Key × Class) → FactBody → List Happening
 events_with_gas gas item classes body = map (λ event. event.what)
     (events_in item classes (limit_on item classes) (precise (date 2024 1 2) ∷ calibrated (date 2024 2 20) 300 gas ∷ fact (date 2024 2 20) 600 body ∷ []))
 
--- a leak definition of 500 up to 2024-02-29, and of 200 from the next day on
+-- a leak definition of 500 through 2024-02-29, and of 200 from the next day on
 abbrev pub lowered : ℕ → ℕ
 lowered day = if nat_lt day (date 2024 3 1) then 500 else 200
 
--- readings of a valve on these two days, judged by it, with the instrument calibrated with a gas
+-- readings of a valve on these two days by this leak definition, with the instrument calibrated with a gas
 abbrev pub read_while_lowered : ℕ → ℕ → List Happening
 read_while_lowered gas ppm = map (λ event. event.what)
     (events_in (valve 1 (date 2020 1 15)) [] lowered
     (precise (date 2024 1 2) ∷ calibrated (date 2024 2 29) 300 gas ∷ measured (date 2024 2 29) 1 ppm ∷ calibrated (date 2024 3 1) 300 gas
     ∷ measured (date 2024 3 1) 1 ppm ∷ []))
 
--- what a fact of 2024-02-20 is with a gas of 500
+-- the event of a fact of 2024-02-20, with a gas of 500
 abbrev pub events_on : Equipment → List (Key × Class) → FactBody → List Happening
 events_on item classes body = events_with_gas 500 item classes body

@@ -1,4 +1,4 @@
--- Words for the worked examples: events and the tags that they make, in short.
+-- Short names for examples: events and the tags that they lead to.
 use Rattle.std.specs.Prelude.{ℕ, ◌+◌, Bool, true, false, nat_lt, nat_le, Option, Some, None}
 use Rattle.fact_kinds.specs.declared.key.Key.{Key}
 use Rattle.ldar_law.specs.declared.delay.DelayEntry.{DelayEntry}
@@ -13,9 +13,9 @@ use Rattle.ldar_law.specs.declared.tag.Tag.{Tag}
 use Rattle.ldar_law.specs.Delays.{delay_entered}
 use Rattle.ldar_law.specs.Short.{key}
 
--- ---- events, at minute 600
+-- ---- events, each at minute 600
 
--- what happened on a day
+-- an event on a day
 abbrev pub event : ℕ → Happening → Event
 event day what = record { key = key day 600; what = what }
 
@@ -23,11 +23,11 @@ event day what = record { key = key day 600; what = what }
 abbrev pub reads_by : ℕ → ℕ → ℕ → Event
 reads_by limit day ppm = event day (Read ppm 0 true true (nat_lt ppm limit) (nat_le limit ppm))
 
--- .. by a valve's
+-- a counting routine reading by a valve's leak definition
 abbrev pub reads : ℕ → ℕ → Event
 reads day ppm = reads_by 500 day ppm
 
--- .. over a background
+-- a counting routine reading by a valve's leak definition, over a background
 abbrev pub reads_over : ℕ → ℕ → ℕ → Event
 reads_over day ppm background = event day (Read ppm background true true (nat_lt ppm 500) false)
 
@@ -39,7 +39,7 @@ follows_up day ppm background = event day (Read ppm background false true true f
 abbrev pub leaks_in_a_follow_up : ℕ → Event
 leaks_in_a_follow_up day = event day (Read 620 0 false true false true)
 
--- a reading that doesn't count
+-- a reading that does not count
 abbrev pub reads_in_vain : ℕ → ℕ → Event
 reads_in_vain day ppm = event day (Read ppm 0 true false false false)
 
@@ -51,15 +51,15 @@ counts_above day ppm = event day (Read ppm 0 true true false false)
 abbrev pub far_below : ℕ → Event
 far_below day = event day (Read 9_000 0 true true true false)
 
--- a visual inspection that is dry
+-- a dry visual inspection
 abbrev pub dry : ℕ → Event
 dry day = event day (Look false false false)
 
--- .. that finds drips
+-- a visual inspection that finds drips
 abbrev pub drips : ℕ → Event
 drips day = event day (Look true false false)
 
--- .. that designates them as a leak
+-- a visual inspection that designates drips as a leak
 abbrev pub designates : ℕ → Event
 designates day = event day (Look true true true)
 
@@ -67,11 +67,11 @@ designates day = event day (Look true true true)
 abbrev pub attempts : ℕ → Event
 attempts day = event day (Attempt false)
 
--- .. that is complete
+-- a complete attempt at a repair
 abbrev pub completes : ℕ → Event
 completes day = event day (Attempt true)
 
--- a delay of repair of a ground, signed by 9, until a day is expected
+-- a delay of repair of this ground, signed by 9, with an expected day
 abbrev pub delays : ℕ → ℕ → ℕ → Event
 delays day why expected = event day (Delay why 9 (Some expected))
 
@@ -79,7 +79,7 @@ delays day why expected = event day (Delay why 9 (Some expected))
 abbrev pub sensor_leak : ℕ → Event
 sensor_leak day = event day (Sensor true true)
 
--- .. or none
+-- a sensor indicates no leak
 abbrev pub sensor_silent : ℕ → Event
 sensor_silent day = event day (Sensor false false)
 
@@ -95,7 +95,7 @@ shows_evidence day present = event day (Evidence present)
 abbrev pub retires : ℕ → Event
 retires day = event day Retire
 
--- the tag that is detected on a day
+-- the span of a tag, detected on a day
 abbrev pub span : ℕ → Option ℕ → Option Key → Bool → Span
 span detected attempted closed removable = record {
   detected = key detected 600;
@@ -106,11 +106,11 @@ span detected attempted closed removable = record {
 
 -- ---- delays, shutdowns and tags
 
--- a delay of a ground, entered on a day
+-- a delay of this ground, entered on a day
 abbrev pub delay : ℕ → ℕ → DelayEntry
 delay day why = delay_entered (key day 600) why 9 None
 
--- .. until a day is expected
+-- a delay of this ground with an expected day
 abbrev pub delay_until : ℕ → ℕ → ℕ → DelayEntry
 delay_until day why expected = delay_entered (key day 600) why 9 (Some expected)
 
@@ -118,7 +118,7 @@ delay_until day why expected = delay_entered (key day 600) why 9 (Some expected)
 abbrev pub stop : ℕ → ℕ → Stop
 stop first last = record { first = first; last = last }
 
--- a tag as it is shown, detected on a day, with its due days
+-- a tag as views show it, detected on a day, with its due days
 abbrev pub tag : ℕ → ℕ → Option ℕ → Until → Option ℕ → Option DelayEntry → Bool → Tag
 tag component detected attempted due closed delayed removable = record {
   component = component;
@@ -131,6 +131,6 @@ tag component detected attempted due closed delayed removable = record {
   removable = removable;
 }
 
--- a line on an open tag
+-- the line of an open tag
 abbrev pub line : ℕ → ℕ → DelayEntry → Until → DelayLine
 line component detected delay until = record { component = component; detected = detected; delay = delay; until = until; closed = None }

@@ -1,4 +1,4 @@
--- Words for the worked examples: duties, quarters, routes and histories, in short.
+-- Short names for examples: duties, quarters, routes and histories.
 use Rattle.std.specs.Prelude.{ℕ, Bool, true, false, nat_eq, Some, None, List, [], ◌∷◌, replicate, filter}
 use Rattle.fact_kinds.specs.declared.batch.Batch.{Batch}
 use Rattle.fact_kinds.specs.declared.body.FactBody.{FactBody}
@@ -28,7 +28,7 @@ use Rattle.ldar_law.specs.Short.{date, key, class, valve}
 
 -- ---- duties
 
--- a duty that nothing has met
+-- a duty that is not met
 abbrev pub owes : ℕ → ℕ → ℕ → Duty
 owes component cause due = record { component = component; cause = cause; due = due; met = None }
 
@@ -40,11 +40,11 @@ has_done component cause due day = record { component = component; cause = cause
 abbrev pub of_cause : ℕ → List Duty → List Duty
 of_cause cause duties = filter (λ d. nat_eq d.cause cause) duties
 
--- the duties on a day of a component of unit 1, which started up on 2020-01-15 and has skipped no quarter
+-- the duties on a day of a component of unit 1, which started up on 2020-01-15 and skips no quarter
 abbrev pub duties_on : ℕ → Equipment → List Event → List Duty
 duties_on day item events = duties_of item [] (date 2020 1 15) events [] day
 
--- .. with classes that are entered for it
+-- those duties, with classes entered for the component
 abbrev pub duties_with : ℕ → Equipment → List (Key × Class) → List Event → List Duty
 duties_with day item classes events = duties_of item classes (date 2020 1 15) events [] day
 
@@ -54,11 +54,11 @@ duties_of_30 events skipped day = duties_of (valve 30 (date 2024 1 15)) [] (date
 
 -- ---- quarters and routes
 
--- so many quarters that are good
+-- this many good quarters
 abbrev pub good_quarters : ℕ → List Tally
 good_quarters n = replicate n (record { leaking = 0; monitored = 10 })
 
--- so many quarters that are not
+-- this many quarters that are not good
 abbrev pub bad_quarters : ℕ → List Tally
 bad_quarters n = replicate n (record { leaking = 1; monitored = 10 })
 
@@ -74,7 +74,7 @@ tally leaking monitored = record { leaking = leaking; monitored = monitored }
 abbrev pub found : Mark
 found = record { leaking = true; monitored = true }
 
--- a valve that is not
+-- a valve that is monitored and does not leak
 abbrev pub clean : Mark
 clean = record { leaking = false; monitored = true }
 
@@ -82,7 +82,7 @@ clean = record { leaking = false; monitored = true }
 abbrev pub uncounted : Mark
 uncounted = record { leaking = false; monitored = false }
 
--- what is known of a component with some classes and events, in a unit without shutdowns
+-- a component with some classes and events, in a unit without shutdowns
 abbrev pub known : Equipment → List (Key × Class) → List Event → Known
 known item classes events = record {
   item = item;
@@ -91,11 +91,11 @@ known item classes events = record {
   tags = tags_of item.component item.kind events [];
 }
 
--- what a component of unit 1 adds to the counts of a quarter, as known on a day
+-- what a component of unit 1 adds to the counts of a quarter, as of a day
 abbrev pub mark_with : ℕ → ℕ → Equipment → List (Key × Class) → List Event → Mark
 mark_with day quarter item classes events = mark_in (date 2020 1 15) day quarter (known item classes events)
 
--- .. where no class was entered for it
+-- the same, without entered classes
 abbrev pub mark_on : ℕ → ℕ → Equipment → List Event → Mark
 mark_on day quarter item events = mark_with day quarter item [] events
 
@@ -105,7 +105,7 @@ route stops = record { stops = stops }
 
 -- ---- histories
 
--- a fact as a batch has it
+-- a fact as it is in a batch
 abbrev pub stated : ℕ → ℕ → FactBody → Stated
 stated day minute body = record { day = day; minute = minute; body = body }
 

@@ -1,4 +1,4 @@
--- A small history for the worked examples of stirred facts.
+-- A small history for examples of stirred facts.
 use Rattle.std.specs.Prelude.{ℕ, false, List, [], ◌∷◌, ◌++◌}
 use Rattle.fact_kinds.specs.declared.body.FactBody.TheVariants.{Unit as UnitFact, Component as ComponentFact, Calibration, Reading}
 use Rattle.fact_kinds.specs.declared.body.Purpose.TheVariants.{Routine}
@@ -9,11 +9,11 @@ use Rattle.fact_kinds.specs.Facts.{Entry}
 use Rattle.ldar_law.specs.Short.{date, fact, class, calibrated, precise}
 use Rattle.ldar_law.specs.Stirred.{touched, stirred}
 
--- a valve is entered in a process unit
+-- an entry of a valve in a process unit
 abbrev pub enters_valve : ℕ → ℕ → ℕ → Entry
 enters_valve day component unit = fact day 100 (ComponentFact component unit Valve false false (class Gas Plain))
 
--- a valve is read with an instrument
+-- a reading of a valve with an instrument
 abbrev pub reads_with : ℕ → ℕ → ℕ → Entry
 reads_with instrument day component = fact day 600 (Reading component instrument 1 Routine 20 0)
 
@@ -26,10 +26,10 @@ adopted =
     ∷ calibrated (date 2024 2 29) 300 500 ∷ reads_with 1 (date 2024 2 29) 1 ∷ reads_with 1 (date 2024 2 29) 3
     ∷ fact (date 2024 3 1) 300 (Calibration 2 500) ∷ reads_with 2 (date 2024 3 1) 2 ∷ []
 
--- the valves of unit 1 that one more fact touches
+-- the valves of unit 1 that are touched by one more fact
 abbrev pub touched_by : Entry → List ℕ
 touched_by e = touched (adopted ++ e ∷ []) (e ∷ []) 1
 
--- how many facts some more stir for a unit
+-- the number of facts that some more facts stir for a unit
 abbrev pub stirred_by : List Entry → ℕ → ℕ
 stirred_by news unit = stirred (adopted ++ news) news unit

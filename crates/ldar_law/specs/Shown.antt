@@ -1,4 +1,4 @@
--- What each view shows of a history on a day: its text, or what there is none of.
+-- What each view shows of a history on a day: its text, or what does not exist.
 use Rattle.std.specs.Prelude.{ℕ, nat_eq, if◌then◌else◌, Option, Some, None, List, filter, map}
 use Rattle.ldar_days.specs.Calendar.{month_of}
 use Rattle.fact_kinds.specs.declared.batch.Batch.{Batch}
@@ -35,20 +35,23 @@ report_of_unit unit half day facts = report_on unit half day (map sheet_of (comp
 
 -- ---- the views, from the facts up to a view day
 
--- a view of a unit that was entered by the day
+-- a view of a unit, or that there is none if it was not entered by the day
 abbrev pub of_unit : ℕ → List Entry → (UnitEntry → Reply) → Reply
 of_unit unit facts view = elim (unit_entry_of unit facts) [ None ↦ NoSuch NoUnit | Some entry ↦ view entry ]
 
+-- the duties of a unit
 abbrev pub due_view : ℕ → ℕ → List Entry → Reply
 due_view unit day facts = of_unit unit facts (λ entry. Shown (due_text unit day (duties_of_unit entry day facts)))
 
+-- the tags of a unit
 abbrev pub tags_view : ℕ → ℕ → List Entry → Reply
 tags_view unit day facts = of_unit unit facts (λ entry. Shown (tags_text unit day (tags_of_unit entry day facts)))
 
+-- the delayed repairs of a unit
 abbrev pub delays_view : ℕ → ℕ → List Entry → Reply
 delays_view unit day facts = of_unit unit facts (λ entry. Shown (delays_text unit day (delays_of_unit entry facts)))
 
--- a route has at least one stop
+-- the routes of a unit; a route has at least one stop
 abbrev pub route_view : ℕ → ℕ → ℕ → List Entry → Reply
 route_view unit day stops facts = of_unit unit facts (λ entry.
     if nat_eq stops 0 then NoSuch NoStops else Shown (route_text unit day stops (routes_of_unit entry day facts stops)))
@@ -59,20 +62,20 @@ quarter_text unit quarter day facts =
     let tally = tally_of_unit unit day facts quarter in
     percent_text unit.unit quarter tally (is_good tally) (is_skipped_of_unit unit day facts quarter)
 
--- the quarter has begun by the day
+-- percent leaking in a quarter, which must have begun by the day
 abbrev pub percent_view : ℕ → ℕ → ℕ → List Entry → Reply
 percent_view unit quarter day facts = of_unit unit facts (λ entry.
     if has_quarter_begun entry.startup quarter day then Shown (quarter_text entry quarter day facts) else NoSuch NoQuarter)
 
--- the half has begun by the day
+-- the report of a half, which must have begun by the day
 abbrev pub report_view : ℕ → ℕ → ℕ → List Entry → Reply
 report_view unit half day facts = of_unit unit facts (λ entry.
     if has_half_begun entry.startup half day
     then Shown (report_text (half_month entry.startup half) (report_of_unit entry half day facts)) else NoSuch NoHalf)
 
--- ---- what is shown of a history
+-- ---- what a history shows
 
--- the day of a view
+-- the day of a view; 0 for a batch
 abbrev pub view_day : Request → ℕ
 view_day (Sync batch) = 0
 view_day (Due unit day) = day
@@ -82,7 +85,7 @@ view_day (Route unit day stops) = day
 view_day (Percent unit quarter day) = day
 view_day (ReportView unit half day) = day
 
--- what a view answers from the facts up to its day; a batch is no view
+-- the reply to a view from the facts up to its day; a batch is no view
 abbrev pub view_of : Request → List Entry → Option Reply
 view_of (Sync batch) facts = None
 view_of (Due unit day) facts = Some (due_view unit day facts)
@@ -92,6 +95,6 @@ view_of (Route unit day stops) facts = Some (route_view unit day stops facts)
 view_of (Percent unit quarter day) facts = Some (percent_view unit quarter day facts)
 view_of (ReportView unit half day) facts = Some (report_view unit half day facts)
 
--- .. of a history
+-- the reply to a view of a history
 unfoldable pub shown : List Batch → Request → Option Reply
 shown history request = view_of request (facts_to (view_day request) history)

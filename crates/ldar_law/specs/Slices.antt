@@ -1,4 +1,4 @@
--- Parts of the facts, each in key order: of a component, a process unit or an instrument, and of the register.
+-- Parts of the facts, each in key order: of a component, of a process unit, of an instrument, and of the register.
 use Rattle.std.specs.Prelude.{ℕ, Bool, true, false, List, filter}
 use Rattle.fact_kinds.specs.declared.body.FactBody.{FactBody}
 use Rattle.fact_kinds.specs.declared.body.FactBody.TheVariants.{Unit as UnitFact, Component as ComponentFact, Class as ClassFact, Retire, Election, Shutdown}

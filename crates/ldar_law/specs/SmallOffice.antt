@@ -1,4 +1,4 @@
--- A small office, for worked examples: the process unit CRUDE, started up on 2020-01-15, with nine components.
+-- A small office for examples: the process unit CRUDE, started up on 2020-01-15, with nine components.
 use Rattle.std.specs.Prelude.{ℕ, Bool, true, false, Some, List, [], ◌∷◌, ◌++◌, zero, suc, codes}
 use Rattle.fact_kinds.specs.declared.batch.Batch.{Batch}
 use Rattle.fact_kinds.specs.declared.class.Class.{Class}
@@ -15,21 +15,23 @@ use Rattle.fact_kinds.specs.declared.body.FactBody.TheVariants.{Election, Shutdo
 use Rattle.fact_kinds.specs.Stated.{Stated}
 use Rattle.ldar_law.specs.Short.{date}
 
--- what is entered at ten o'clock
+-- a fact at ten o'clock
 abbrev pub on : ℕ → FactBody → Stated
 on day body = record { day = day; minute = 600; body = body }
 
--- a batch of the office itself, and one of handheld 7
+-- a batch of the office itself
 abbrev pub enters : ℕ → List Stated → Batch
 enters number facts = record { handheld = 0; number = number; facts = facts }
 
+-- a batch of handheld 7
 abbrev pub sends : ℕ → List Stated → Batch
 sends number facts = record { handheld = 7; number = number; facts = facts }
 
--- a class in a service without a designation, and a designated one in gas service
+-- a class in a service, without a designation
 abbrev pub in_service : Service → Class
 in_service service = record { service = service; designation = Plain; plan = 0; month = 1 }
 
+-- a class in gas service with a designation
 abbrev pub designated : Designation → Class
 designated designation = record { service = Gas; designation = designation; plan = 0; month = 1 }
 
@@ -37,10 +39,11 @@ designated designation = record { service = Gas; designation = designation; plan
 abbrev pub component : ℕ → Kind → Bool → Service → FactBody
 component number kind monomer service = ComponentFact number 1 kind monomer false (in_service service)
 
+-- the entry of the process unit CRUDE
 abbrev pub crude : FactBody
 crude = UnitFact 1 false (codes "CRUDE")
 
--- what the register says at first
+-- the first entries in the register
 abbrev pub register : Batch
 register = enters 1 (
     on (date 2020 1 15) crude
@@ -59,6 +62,7 @@ register = enters 1 (
 abbrev pub precision : Batch
 precision = record { handheld = 1; number = 1; facts = on (date 2024 1 2) (Precision 1 500 (500, 500, 500)) ∷ [] }
 
+-- the history of these two batches
 abbrev pub base : List Batch
 base = register ∷ precision ∷ []
 
@@ -70,12 +74,12 @@ calibrated day = record { day = day; minute = 300; body = Calibration 1 500 }
 abbrev pub reads : ℕ → ℕ → FactBody
 reads component ppm = Reading component 1 1 Routine ppm 0
 
--- so many valves of a unit, numbered from 1
+-- this many valves of a unit, numbered from 1
 abbrev pub valves_of : ℕ → ℕ → List Stated
 valves_of unit zero = []
 valves_of unit (suc more) = valves_of unit more ++ on (date 2020 1 15) (ComponentFact (suc more) unit Valve false false (in_service Gas)) ∷ []
 
--- .. of unit 1
+-- this many valves of unit 1
 abbrev pub valves : ℕ → List Stated
 valves count = valves_of 1 count
 
@@ -91,9 +95,9 @@ one_difficult = base ++ enters 2 (makes_difficult 1 ∷ []) ∷ []
 abbrev pub hundred_valves : Batch
 hundred_valves = enters 1 (on (date 2020 1 15) crude ∷ valves 100)
 
--- ---- what handheld 7 finds at valve 1
+-- ---- findings of handheld 7 at valve 1
 
--- a routine reading on a day on which its instrument is calibrated
+-- a routine reading on a day on which the instrument is calibrated
 abbrev pub rounds : ℕ → ℕ → ℕ → List Stated
 rounds day component ppm = calibrated day ∷ on day (reads component ppm) ∷ []
 
@@ -101,6 +105,7 @@ rounds day component ppm = calibrated day ∷ on day (reads component ppm) ∷ [
 abbrev pub leak_found : Batch
 leak_found = sends 1 (record { day = date 2024 2 20; minute = 615; body = reads 1 620 } ∷ [])
 
+-- the base history with this leak and the calibration of its day
 abbrev pub leaking : List Batch
 leaking = base ++ leak_found ∷ sends 2 (calibrated (date 2024 2 20) ∷ []) ∷ []
 
@@ -108,26 +113,27 @@ leaking = base ++ leak_found ∷ sends 2 (calibrated (date 2024 2 20) ∷ []) �
 abbrev pub repaired_on : ℕ → List Batch
 repaired_on day = leaking ++ sends 3 (on (date 2024 2 22) (Attempt 1 false) ∷ rounds day 1 20) ∷ []
 
--- readings of two valves on 2024-02-20, the second of which leaks and is delayed for want of a shutdown
+-- readings of two valves on 2024-02-20; the second one leaks, and its repair is delayed until a shutdown
 abbrev pub two_valves : List Batch
 two_valves = base ++ sends 1 (rounds (date 2024 2 20) 1 20 ++ on (date 2024 2 20) (reads 2 620)
     ∷ on (date 2024 3 1) (Delay 2 1 9 (Some (date 2024 6 10))) ∷ []) ∷ []
 
--- a delay for want of a shutdown, entered on a day, with the repair expected on 2024-06-10
+-- a delay until a shutdown, entered on a day, with the repair expected on 2024-06-10
 abbrev pub delayed_on : ℕ → List Batch
 delayed_on day = leaking ++ sends 3 (on day (Delay 1 1 9 (Some (date 2024 6 10))) ∷ []) ∷ []
 
--- fourteen days of shutdown
+-- a shutdown of fourteen days
 abbrev pub shut_down : Batch
 shut_down = enters 2 (on (date 2024 6 1) (Shutdown 1 14) ∷ [])
 
--- ---- the process unit COKER, started up on 2024-01-15, with valve 30 of a class
+-- ---- the process unit COKER, started up on 2024-01-15, with valve 30
 
+-- the small office and COKER, with valve 30 in a class
 abbrev pub coker_with : Class → List Batch
 coker_with class = base ++ enters 2 (on (date 2024 1 15) (UnitFact 2 false (codes "COKER"))
     ∷ on (date 2024 1 15) (ComponentFact 30 2 Valve false false class) ∷ []) ∷ []
 
--- .. in gas service
+-- the small office and COKER, with valve 30 in gas service
 abbrev pub coker : List Batch
 coker = coker_with (in_service Gas)
 
@@ -136,11 +142,11 @@ abbrev pub coker_readings : Batch
 coker_readings = sends 1 (on (date 2024 4 1) (Precision 1 500 (500, 500, 500)) ∷ on (date 2024 7 1) (Precision 1 500 (500, 500, 500))
     ∷ rounds (date 2024 2 10) 30 10 ++ rounds (date 2024 3 10) 30 10 ++ rounds (date 2024 4 10) 30 10 ++ rounds (date 2024 7 10) 30 10)
 
--- .. of the unit
+-- the office with COKER and these readings
 abbrev pub coker_rounds : List Batch
 coker_rounds = coker ++ coker_readings ∷ []
 
--- a leak in April that comes late
+-- a leak in April that arrives late
 abbrev pub coker_leak : Batch
 coker_leak = sends 2 (rounds (date 2024 4 20) 30 700)
 
@@ -148,6 +154,6 @@ coker_leak = sends 2 (rounds (date 2024 4 20) 30 700)
 abbrev pub coker_election : Batch
 coker_election = enters 3 (on (date 2024 10 1) (Election 2 1 (date 2024 7 1)) ∷ [])
 
--- a unit that started up on the last day on which one may
+-- a unit that started up on the last possible day
 abbrev pub last_unit : List Batch
 last_unit = enters 1 (on (date 2097 12 31) crude ∷ []) ∷ []

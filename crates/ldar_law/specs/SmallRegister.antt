@@ -1,4 +1,4 @@
--- Small registers, for worked examples: process unit 1, which started up on 2020-01-15, and some components.
+-- Small registers for examples: process unit 1, which started up on 2020-01-15, and some components.
 use Rattle.std.specs.Prelude.{ℕ, Bool, true, false, nat_le, Option, List, [], ◌∷◌, option_map, codes}
 use Rattle.fact_kinds.specs.declared.batch.Batch.{Batch}
 use Rattle.fact_kinds.specs.declared.body.FactBody.{FactBody}
@@ -28,7 +28,7 @@ at day minute body = record { day = day; minute = minute; body = body }
 abbrev pub entered : ℕ → List Stated → Batch
 entered number facts = record { handheld = 0; number = number; facts = facts }
 
--- a reading of so much reaches the leak definition
+-- a reading of this many ppm reaches the leak definition
 abbrev pub reaches : Kind → Bool → Service → ℕ → Bool
 reaches kind monomer service ppm = nat_le (limit_of kind monomer (plain service)) ppm
 
@@ -38,11 +38,11 @@ valve_that_changes =
     entered 1 (at (date 2020 1 15) 0 (UnitFact 1 false (codes "U-1")) ∷ at (date 2020 2 1) 0 (ComponentFact 7 1 Valve false false (plain Gas))
     ∷ at (date 2020 2 8) 0 (ClassFact 7 (plain Heavy)) ∷ []) ∷ []
 
--- the service in force of valve 7
+-- the service of valve 7 in force
 abbrev pub service_on : List Batch → ℕ → Option Service
 service_on history day = option_map (λ class. class.service) (class_in_force 7 (facts_of history) day)
 
--- two classes of one day, of which the one that came last has the earlier minute
+-- two classes of one day; the one that arrived last has the earlier minute
 abbrev pub two_classes : List Batch
 two_classes =
     entered 1 (at (date 2020 2 1) 0 (ComponentFact 7 1 Valve false false (plain Gas)) ∷ at (date 2020 2 8) 60 (ClassFact 7 (plain Heavy)) ∷ [])
@@ -54,7 +54,7 @@ retired_valve =
     entered 1 (at (date 2020 2 1) 0 (ComponentFact 7 1 Valve false false (plain Gas)) ∷ at (date 2020 2 18) 0 (Retire 7) ∷ [])
     ∷ entered 2 (at (date 2020 2 11) 0 (Retire 7) ∷ []) ∷ []
 
--- whether valve 7 is in service on a day, as known on a view day
+-- whether valve 7 is in service on a day, as of a view day
 abbrev pub serves : List Batch → ℕ → ℕ → Option Bool
 serves history view day = option_map (λ item. is_in_service item day) (equipment_of 7 (facts_to view history))
 
@@ -65,7 +65,7 @@ two_units =
     ∷ at (date 2020 2 2) 0 (ComponentFact 5 2 Relief false false (plain Gas)) ∷ at (date 2020 2 2) 0 (ComponentFact 7 1 Valve false false (plain Gas))
     ∷ at (date 2020 2 3) 0 (Retire 3) ∷ at (date 2020 2 3) 0 (Retire 9) ∷ []) ∷ []
 
--- of unit 1 a shutdown of thirty days from 2020-03-01, and one of which the calendar has two days; one of each unit beside it
+-- shutdowns of unit 1: thirty days from 2020-03-01, and one of which the calendar has two days; and one of each other unit
 abbrev pub shutdowns : List Batch
 shutdowns = entered 1 (at (date 2099 12 30) 0 (Shutdown 1 10) ∷ at (date 2020 3 1) 0 (Shutdown 1 30)
     ∷ at (date 2020 4 1) 0 (Shutdown 2 5) ∷ at (date 2020 5 1) 0 (Shutdown 3 7) ∷ []) ∷ []

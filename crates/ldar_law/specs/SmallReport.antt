@@ -1,4 +1,4 @@
--- Tags and sheets of the small office, for worked examples of reports.
+-- Tags and sheets of the small office, for examples of reports.
 use Rattle.std.specs.Prelude.{ℕ, ◌+◌, ◌*◌, Bool, false, Option, Some, None, List, [], ◌∷◌, ◌++◌, replicate}
 use Rattle.fact_kinds.specs.declared.class.Kind.{Kind}
 use Rattle.fact_kinds.specs.declared.key.Key.{Key}
@@ -11,7 +11,7 @@ use Rattle.ldar_law.specs.declared.sheet.Sheet.{Sheet}
 use Rattle.ldar_law.specs.declared.tag.Tag.{Tag}
 use Rattle.ldar_law.specs.Short.{date}
 
--- the tag of a leak of valve 1 on 2024-02-20: its first attempt, its closing, and whether it may come off
+-- the tag of a leak of valve 1 on 2024-02-20, with its first attempt, its closing, and whether its identification may be removed
 abbrev pub small_tag : Option ℕ → Option ℕ → Bool → Tag
 small_tag attempted closed removable = record {
   component = 1;
@@ -24,11 +24,11 @@ small_tag attempted closed removable = record {
   removable = removable;
 }
 
--- .. attempted on 2024-02-22, and closed on a day or open
+-- this tag with an attempt on 2024-02-22, closed on a day or open
 abbrev pub with_closing : Option ℕ → Tag
 with_closing closed = small_tag (Some (date 2024 2 22)) closed false
 
--- .. closed one day after its due day
+-- this tag, closed one day after its due day
 abbrev pub repaired_late : Tag
 repaired_late = with_closing (Some (date 2024 3 7))
 
@@ -58,7 +58,7 @@ delayed why until closed = record {
 abbrev pub sheet_of : ℕ → Kind → Tag → Sheet
 sheet_of component kind tag = record { component = component; kind = kind; leaks = (12 * 2024 + 1) ∷ []; tags = tag ∷ [] }
 
--- numbers of a report: so many valves leaking in the fifth month, and so many late in the sixth
+-- the numbers of a report with this many leaking valves in the fifth month and this many late ones in the sixth
 abbrev pub filed_months : ℕ → ℕ → List ℕ
 filed_months leaking late = replicate 24 0 ++ leaking ∷ replicate 6 0 ++ late ∷ replicate 4 0
 
@@ -66,7 +66,7 @@ filed_months leaking late = replicate 24 0 ++ leaking ∷ replicate 6 0 ++ late 
 abbrev pub met_by : ℕ → Key
 met_by day = record { day = day; minute = 600; handheld = 7; number = 1; index = 0 }
 
--- the line on the tag with such a delay
+-- the line of the tag with such a delay
 abbrev pub delayed_line : ℕ → Until → Option ℕ → DelayLine
 delayed_line why until closed = record { component = 1; detected = date 2024 2 20; delay = delay_entry why; until = until; closed = closed }
 

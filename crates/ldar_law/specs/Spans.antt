@@ -1,4 +1,4 @@
--- The time from which a leak is known until nothing is left unsettled (40 CFR 60.486a(b)).
+-- The time from the detection of a leak until no leak is unsettled (40 CFR 60.486a(b)).
 use Rattle.std.specs.Prelude.{ℕ, Bool, true, false, not, ◌&&◌, ◌||◌, Option, Some, None, option_map, if◌then◌else◌, List, [], ◌∷◌, ◌++◌, find}
 use Rattle.std.specs.Option.{option_map_or}
 use Rattle.list_words.specs.Words.{first_from, each_where}
@@ -17,15 +17,15 @@ abbrev pub is_valve : Kind → Bool
 is_valve Valve = true
 is_valve _ = false
 
--- a tag opens at a leak before which nothing is unsettled
+-- a tag opens at a leak if no leak before it is unsettled
 abbrev pub opens : Kind → List Event → Event → Bool
 opens kind before leak = is_leak leak.what && not (is_unsettled kind before)
 
--- with this event no leak is left unsettled
+-- no leak is unsettled after this event
 abbrev pub closes : Kind → List Event → Event → Bool
 closes kind before event = not (is_unsettled kind (before ++ event ∷ []))
 
--- the first event after a leak with which no leak is left unsettled
+-- the first event after a leak after which no leak is unsettled
 abbrev pub closing_of : Kind → List Event → Event → List Event → Option Key
 closing_of kind before leak after = option_map (λ e. e.key) (first_from (λ front e _. closes kind front e) (before ++ leak ∷ []) after)
 
@@ -33,12 +33,12 @@ closing_of kind before leak after = option_map (λ e. e.key) (first_from (λ fro
 abbrev pub attempt_after : List Event → Option ℕ
 attempt_after after = option_map (λ e. e.key.day) (find (λ e. is_attempt e.what) after)
 
--- 40 CFR 60.486a(b)(2), (3): the identification may come off a closed tag; a valve's only where two months in a row are clean,
--- the first of them the month of closing or a later one (our own rule)
+-- 40 CFR 60.486a(b)(2), (3): the identification of a closed tag may be removed. A valve's may be removed only if two months in a row are
+-- clean, the first of them the month of closing or later (our own rule).
 abbrev pub is_removable : Kind → List Event → Option Key → Bool
 is_removable kind events closed = option_map_or (λ key. not (is_valve kind) || is_clean_twice_from events (month_of key.day)) closed false
 
--- the tag that opens at one of the events, with those before and after it
+-- the tag that opens at one of the events, seen with the events before it and after it
 abbrev pub span_at : Kind → List Event → List Event → Event → List Event → Option Span
 span_at kind events before leak after =
     if opens kind before leak

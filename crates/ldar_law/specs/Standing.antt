@@ -1,4 +1,4 @@
--- What the rule asks of a component on a day: under which rules it is, and how it is designated.
+-- What the rule requires of a component on a day: which rules apply to it, and how it is designated.
 use Rattle.std.specs.Prelude.{ℕ, Bool, true, false, List}
 use Rattle.fact_kinds.specs.declared.class.Class.{Class}
 use Rattle.fact_kinds.specs.declared.class.Designation.{Designation}
@@ -11,32 +11,32 @@ use Rattle.ldar_law.specs.Force.{class_on, regime_on}
 
 -- ---- tests of a regime and of a designation
 
--- these are the rules for valves
+-- the rules for valves
 abbrev pub are_valve_rules : Regime → Bool
 are_valve_rules ValveRules = true
 are_valve_rules _ = false
 
--- .. for pumps
+-- the rules for pumps
 abbrev pub are_pump_rules : Regime → Bool
 are_pump_rules PumpRules = true
 are_pump_rules _ = false
 
--- .. for compressors
+-- the rules for compressors
 abbrev pub are_compressor_rules : Regime → Bool
 are_compressor_rules CompressorRules = true
 are_compressor_rules _ = false
 
--- .. for relief devices
+-- the rules for relief devices
 abbrev pub are_relief_rules : Regime → Bool
 are_relief_rules ReliefRules = true
 are_relief_rules _ = false
 
--- .. for heavy liquid service
+-- the rules for heavy liquid service
 abbrev pub are_heavy_liquid_rules : Regime → Bool
 are_heavy_liquid_rules HeavyLiquidRules = true
 are_heavy_liquid_rules _ = false
 
--- these rules leave a component out
+-- the rules exclude the component
 abbrev pub leave_out : Regime → Bool
 leave_out LeftOut = true
 leave_out _ = false
@@ -84,7 +84,7 @@ module _ (item : Equipment) (classes : List (Key × Class)) (day : ℕ) where
   abbrev pub is_under_heavy_liquid_rules : Bool
   is_under_heavy_liquid_rules = are_heavy_liquid_rules (regime_on item classes day)
 
-  -- in a service that is left out (40 CFR 60.482-1a(d), (e))
+  -- in an excluded service (40 CFR 60.482-1a(d), (e))
   abbrev pub is_left_out : Bool
   is_left_out = leave_out (regime_on item classes day)
 

@@ -1,4 +1,4 @@
--- The counts of a quarter with one valve more (40 CFR 60.485a(h)).
+-- The counts of a quarter with one more valve (40 CFR 60.485a(h)).
 use Rattle.std.specs.Prelude.{◌+◌, if◌then◌else◌}
 use Rattle.ldar_law.specs.declared.tally.Mark.{Mark}
 use Rattle.ldar_law.specs.declared.tally.Tally.{Tally}

@@ -1,4 +1,4 @@
--- What the facts up to a view day say of a process unit: its components with their events and tags, and from these the lists of the unit.
+-- A process unit by the facts up to a view day: its components with their events and tags, and the unit's lists.
 use Rattle.std.specs.Prelude.{ℕ, ◌-◌, Bool, option_map, unwrap_or, List, filter, filter_map, flat_map, map}
 use Rattle.list_words.specs.Ranges.{from_to}
 use Rattle.ldar_days.specs.Calendar.{month_of}
@@ -26,39 +26,39 @@ use Rattle.ldar_law.specs.Routes.{routes_of}
 use Rattle.ldar_law.specs.Skips.{is_skipped, skipped_to}
 use Rattle.ldar_law.specs.Tags.{tags_of, is_shown, delay_lines}
 
--- what is known of a component
+-- a component with its classes, events and tags
 pub record Known : Type 0 where
   pub item : Equipment
   pub classes : List (Key × Class)
   pub events : List Event
   pub tags : List Tag
 
--- .. with these classes and events of it, and what the facts enter for its process unit
+-- a component with these classes and events, and what the facts enter for its process unit
 abbrev pub known_with : Equipment → List (Key × Class) → List Event → OfUnit → Known
 known_with item classes events unit =
     record { item = item; classes = classes; events = events; tags = tags_of item.component item.kind events unit.stops }
 
--- .. from the facts in key order; its events are judged by its leak definition of each day
+-- a component from the facts in key order; its events are judged by its leak definition of each day
 abbrev pub known_of : List Entry → Equipment → Known
 known_of facts item =
     let classes = classes_of item.component facts in
     known_with item classes (events_in item classes (limit_on item classes) facts) (of_unit item.unit facts)
 
--- the components of a unit, ascending by number, with what is known of each
+-- the components of a unit, ascending by number
 abbrev pub components_of : ℕ → List Entry → List Known
 components_of unit facts = filter_map (λ number. option_map (known_of facts) (equipment_of number facts)) (members_of unit facts)
 
--- ---- of the components of a unit, on a view day
+-- ---- by the components of a unit, on a view day
 
 -- all tags, by component and detection
 abbrev pub all_tags : List Known → List Tag
 all_tags components = flat_map (λ c. c.tags) components
 
--- the tags that are not closed, or closed at most 366 days before
+-- the tags that are not closed, or were closed at most 366 days before
 abbrev pub tag_list : ℕ → List Known → List Tag
 tag_list day components = filter (is_shown day) (all_tags components)
 
--- the lines on open tags whose repair is delayed
+-- the lines of open tags whose repair is delayed
 abbrev pub delay_list : List Known → List DelayLine
 delay_list components = delay_lines (all_tags components)
 
@@ -71,11 +71,11 @@ mark_in startup day quarter c =
 abbrev pub tally_in : ℕ → ℕ → List Known → ℕ → Tally
 tally_in startup day components quarter = tally_of (map (mark_in startup day quarter) components)
 
--- the counts of the quarters from the first to one
+-- the counts of the quarters from quarter 1 to this one
 abbrev pub tallies_to : ℕ → ℕ → List Known → ℕ → List Tally
 tallies_to startup day components quarter = map (tally_in startup day components) (from_to 1 quarter)
 
--- the number of the quarter in which the day lies; 0 before the first
+-- the number of the quarter that contains the day; 0 before quarter 1
 abbrev pub quarter_at : ℕ → ℕ → ℕ
 quarter_at startup day = unwrap_or (quarter_of startup (month_of day)) 0
 
@@ -84,22 +84,22 @@ abbrev pub is_quarter_skipped : ℕ → ℕ → List Known → List ElectionEntr
 is_quarter_skipped startup day components elections quarter =
     is_skipped (tallies_to startup day components (quarter - 1)) elections startup quarter
 
--- which quarters are skipped, from the first to the one of the day
+-- which quarters are skipped, from quarter 1 to the one of the day
 abbrev pub skipped_on : ℕ → ℕ → List Known → List ElectionEntry → List Bool
 skipped_on startup day components elections =
     skipped_to (tallies_to startup day components (quarter_at startup day - 1)) elections startup (quarter_at startup day)
 
--- what has to be done at the components, by component, cause, due day and event
+-- the duties of the components, in order of component, cause, due day and event
 abbrev pub due_list : ℕ → ℕ → List Bool → List Known → List Duty
 due_list startup day skipped components = flat_map (λ c. duties_of c.item c.classes startup c.events skipped day) components
 
--- ---- of the facts up to a view day
+-- ---- by the facts up to a view day
 
 -- the tags of a unit
 abbrev pub tags_of_unit : UnitEntry → ℕ → List Entry → List Tag
 tags_of_unit unit day facts = tag_list day (components_of unit.unit facts)
 
--- the lines on delayed repairs of a unit
+-- the lines of delayed repairs of a unit
 abbrev pub delays_of_unit : UnitEntry → List Entry → List DelayLine
 delays_of_unit unit facts = delay_list (components_of unit.unit facts)
 
@@ -120,6 +120,6 @@ duties_by unit day elections components = due_list unit.startup day (skipped_on 
 abbrev pub duties_of_unit : UnitEntry → ℕ → List Entry → List Duty
 duties_of_unit unit day facts = duties_by unit day (elections_of unit.unit facts) (components_of unit.unit facts)
 
--- the routes to the components of a unit that have something to be done
+-- the routes to the components of a unit at which something must be done
 abbrev pub routes_of_unit : UnitEntry → ℕ → List Entry → ℕ → List Route
 routes_of_unit unit day facts stops = routes_of (duties_of_unit unit day facts) stops

@@ -16,10 +16,11 @@ pub record Rule : Type 0 where
   pub paragraph : List ℕ
   pub denies : Case → Bool
 
+-- a rule from its number, its paragraph and its test
 abbrev pub numbered : ℕ → List ℕ → (Case → Bool) → Rule
 numbered number paragraph denies = record { number = number; paragraph = paragraph; denies = denies }
 
--- the rules in order of number; where several deny a fact, the least is told
+-- the rules in order of their numbers; if several rules deny a fact, the one with the least number is reported
 abbrev pub rules : List Rule
 rules =
     numbered 1 (codes "60.486a(e)(1)") denials.component_unknown
@@ -53,7 +54,7 @@ paragraph_of number = elim (find (λ rule. nat_eq rule.number number) rules) [ N
 abbrev pub least_rule : Case → Option ℕ
 least_rule case = option_map (λ rule. rule.number) (find (λ rule. rule.denies case) rules)
 
--- a fact of a batch that is denied: its place in the batch, from 1, and the least rule that denies it
+-- a fact of a batch that is denied: its place in the batch, from 1, and the number of the least rule that denies it
 abbrev pub denial_at : List Entry → List Entry → Entry → List Entry → Option (ℕ × ℕ)
 denial_at held earlier entry later =
     option_map (λ number. (length earlier + 1, number)) (least_rule (case_of held earlier entry later))
@@ -62,19 +63,21 @@ denial_at held earlier entry later =
 abbrev pub denial_after : List Entry → Batch → Option (ℕ × ℕ)
 denial_after held batch = first_given (denial_at held) (entries_of batch)
 
--- .. after those of a history
+-- the first fact of a batch that is denied after a history
 abbrev pub first_denial : List Batch → Batch → Option (ℕ × ℕ)
 first_denial history batch = denial_after (facts_of history) batch
 
--- the facts of a history and one batch more
+-- the number of facts of a history and one more batch
 abbrev pub facts_with : List Batch → Batch → ℕ
 facts_with history batch = length (facts_of history) + length batch.facts
 
--- a batch is denied for its first fact that a rule denies; else it is too much where there would be more than 8,000,000 facts; else it passes
+-- a batch is denied for its first fact that a rule denies; otherwise it is too large if there would be more than 8,000,000 facts; otherwise
+-- it passes
 abbrev pub verdict_by : Option (ℕ × ℕ) → ℕ → Verdict
 verdict_by (Some denial) facts = Denied denial.0 denial.1
 verdict_by None facts = if nat_lt MOST_FACTS facts then Full facts else Pass
 
+-- the verdict on a batch after a history
 abbrev pub verdict_on : List Batch → Batch → Verdict
 verdict_on history batch = verdict_by (first_denial history batch) (facts_with history batch)
 
@@ -86,7 +89,7 @@ is_pass _ = false
 abbrev pub is_ruly : List Batch → Bool
 is_ruly history = not (somewhere (λ before batch after. not (is_pass (verdict_on before batch))) history)
 
--- a batch that is denied after those before it: its position, from 1, and the rule
+-- the position, from 1, of a batch that is denied after those before it, and the rule
 abbrev pub unruly_at : List Batch → Batch → List Batch → Option (ℕ × ℕ)
 unruly_at before batch after = option_map (λ denial. (length before + 1, denial.1)) (first_denial before batch)
 

@@ -1,4 +1,4 @@
-//! What a fact asks for, each kind of fact sorted.
+//! The component and the process unit that each kind of fact needs.
 
 ghost use Rattle.std.specs.Prelude.{◌≡◌};
 ghost use Rattle.ldar_law.specs.Denials as law;
@@ -29,7 +29,7 @@ pub fn is_registered(body: &FactBody) -> bool
     }
 }
 
-/// The component that a fact asks for, which must have been entered (40 CFR 60.486a(e)(1)).
+/// The component that a fact needs, which must have been entered (40 CFR 60.486a(e)(1)).
 pub fn component_asked(body: &FactBody) -> Option<u16>
     ensures value { result ≡ law.component_asked body.now }
 {
@@ -52,7 +52,7 @@ pub fn component_asked(body: &FactBody) -> Option<u16>
     }
 }
 
-/// The process unit that a fact asks for, which must have been entered (our own rule).
+/// The process unit that a fact needs, which must have been entered (our own rule).
 pub fn unit_asked(body: &FactBody) -> Option<u8>
     ensures value { result ≡ law.unit_asked body.now }
 {

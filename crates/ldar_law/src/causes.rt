@@ -1,4 +1,4 @@
-//! The causes of duties, as a duty numbers them.
+//! The causes of duties, by number.
 
 /// The first monitoring of a component (40 CFR 60.482-2a(a)(1), 60.482-7a(a)(2)).
 pub const CAUSE_FIRST: u8 = 1;
@@ -18,11 +18,11 @@ pub const CAUSE_PLAN: u8 = 5;
 /// The weekly visual inspection of a pump (40 CFR 60.482-2a(a)(2)).
 pub const CAUSE_WEEKLY: u8 = 6;
 
-/// What follows drips (40 CFR 60.482-2a(b)(2)).
+/// The reading or designation after drips (40 CFR 60.482-2a(b)(2)).
 pub const CAUSE_DRIP: u8 = 7;
 
-/// What follows a pressure release (40 CFR 60.482-4a(b)(2)).
+/// The reading after a pressure release (40 CFR 60.482-4a(b)(2)).
 pub const CAUSE_RELEASE: u8 = 8;
 
-/// What follows evidence of a potential leak (40 CFR 60.482-8a(a)).
+/// The reading after evidence of a potential leak (40 CFR 60.482-8a(a)).
 pub const CAUSE_EVIDENCE: u8 = 9;

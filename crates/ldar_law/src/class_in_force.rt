@@ -1,5 +1,5 @@
-//! The class of a component that is in force on a day: found by halving, or moved on from one day to the next, so that
-//! most days ask for no search among the classes entered for it.
+//! The class of a component that is in force on a day. It is found by binary search, or kept from one day to the next,
+//! so that most days need no search among the component's classes.
 
 ghost use Rattle.std.specs.Prelude.{◌≡◌, ◌≤◌, ◌<◌, ◌-◌, ◌&&◌, ℕ, false, nat_le, nat_lt, filter, length, slice_get, slice_index_or};
 ghost use Rattle.std.specs.Option.{option_map_or};
@@ -15,19 +15,20 @@ use ldar_days::Day;
 /// A number greater than that of any day.
 const AFTER_ALL_DAYS: u32 = 65_536;
 
-/// A class of a component, with days over which it is in force.
+/// A class of a component, with the days on which it is in force.
 #[derive(Clone, Copy)]
 pub struct ClassInForce {
-    /// The number of the first of the days.
+    /// The number of the first day.
     pub first: u32,
-    /// The number of the day after the last of them.
+    /// The number of the day after the last one.
     pub end: u32,
-    /// How many of the component's classes were entered by then.
+    /// How many of the component's classes were entered by the last day.
     pub entered: usize,
     pub class: Class,
 }
 
-/// The number of the day on which the class at a place was entered; if there is none, a number greater than that of any day.
+/// The number of the day on which the class at a place was entered, or a number greater than that of any day if there is no
+/// such class.
 fn day_at(classes: &[(Key, Class)], place: usize) -> u32
     ensures value { (day : ℕ) → day < 65_536 → option_map_or (λ e. nat_le e.0.day day) (slice_get classes.now place) false ≡ nat_le result day }
     ensures bound { result ≤ 65_536 }
@@ -38,7 +39,7 @@ fn day_at(classes: &[(Key, Class)], place: usize) -> u32
     }
 }
 
-/// The number of the day on which the class before a place was entered; 0 if there is none.
+/// The number of the day on which the class before a place was entered, or 0 if there is no such class.
 fn day_before(classes: &[(Key, Class)], place: usize) -> u32
     ensures value { (day : ℕ) → day < 65_536 → 0 < place
         → option_map_or (λ e. nat_le e.0.day day) (slice_get classes.now (place - 1)) false ≡ nat_le result day }
@@ -50,7 +51,7 @@ fn day_before(classes: &[(Key, Class)], place: usize) -> u32
     day_at(classes, place - 1)
 }
 
-/// How many of the classes of a component, in key order, were entered by a day, by halving.
+/// How many of a component's classes, in key order, were entered by a day; by binary search.
 fn entered_by(classes: &[(Key, Class)], day: Day) -> usize
     requires ordered { Ascends (λ a b. is_earlier a.0 b.0) classes.now }
     ensures within { result ≤ length classes.now }
@@ -59,8 +60,8 @@ fn entered_by(classes: &[(Key, Class)], day: Day) -> usize
     classes.partition_point(|e| e.0.day <= day)
 }
 
-/// How many of the classes of a component, in key order, were entered by a day: the first `from` were, and the others are
-/// looked at one after the other.
+/// How many of a component's classes, in key order, were entered by a day. The first `from` were; the others are tested
+/// one by one.
 pub fn entered_from(classes: &[(Key, Class)], from: usize, day: Day) -> usize
     requires within { from ≤ length classes.now }
     requires front { (k : ℕ) (e : Key × Class) → k < from → (slice_index_or classes.now k e).0.day ≤ day }
@@ -76,7 +77,7 @@ pub fn entered_from(classes: &[(Key, Class)], from: usize, day: Day) -> usize
     place
 }
 
-/// The classes of a component that were entered by a day, by its classes in key order.
+/// The classes of a component that were entered by a day, from its classes in key order.
 pub fn entered_to(classes: &[(Key, Class)], day: Day) -> &[(Key, Class)]
     requires ordered { Ascends (λ a b. is_earlier a.0 b.0) classes.now }
     ensures value { result.now ≡ filter (λ e. nat_le e.0.day day) classes.now }
@@ -85,8 +86,8 @@ pub fn entered_to(classes: &[(Key, Class)], day: Day) -> &[(Key, Class)]
     &classes[..entered_by(classes, day)]
 }
 
-/// The last class that was entered for a component by a day, with the key of its fact, by its classes in key order; `None`
-/// if none was.
+/// The last class entered for a component by a day, with the key of its fact, from its classes in key order; `None` if no
+/// class was entered by then.
 pub fn last_entered(classes: &[(Key, Class)], day: Day) -> Option<(Key, Class)>
     requires ordered { Ascends (λ a b. is_earlier a.0 b.0) classes.now }
     ensures value { result ≡ force.class_by day classes.now }
@@ -99,7 +100,7 @@ pub fn last_entered(classes: &[(Key, Class)], day: Day) -> Option<(Key, Class)>
 }
 
 impl Equipment {
-    /// The class in force on each day by which just this many of the component's classes were entered.
+    /// The class in force on each day by which exactly this many of the component's classes were entered.
     fn class_after(&self, classes: &[(Key, Class)], count: usize) -> Class
         requires within { count ≤ length classes.now }
         ensures value { (day : ℕ) → HasEntered day classes.now count → result ≡ force.class_on self.now classes.now day }
@@ -110,8 +111,8 @@ impl Equipment {
         classes[count - 1].1
     }
 
-    /// The class in force on a day (our own rule), by the component's classes in key order: the last one entered by then,
-    /// or that with which the component was entered.
+    /// The class in force on a day (our own rule), from the component's classes in key order: the last one entered by
+    /// then, or the one with which the component was entered.
     pub fn class_on(&self, classes: &[(Key, Class)], day: Day) -> Class
         requires ordered { Ascends (λ a b. is_earlier a.0 b.0) classes.now }
         ensures value { result ≡ force.class_on self.now classes.now day }
@@ -121,8 +122,7 @@ impl Equipment {
 }
 
 impl ClassInForce {
-    /// The class after this many of a component's classes, in key order. It is in force on the days by which just these were
-    /// entered.
+    /// The class in force on the days by which exactly this many of a component's classes, in key order, were entered.
     pub fn after(equipment: &Equipment, classes: &[(Key, Class)], count: usize) -> ClassInForce
         requires within { count ≤ length classes.now }
         requires ordered { Ascends (λ a b. is_earlier a.0 b.0) classes.now }
@@ -137,7 +137,7 @@ impl ClassInForce {
         }
     }
 
-    /// The class on a day, by a component's classes in key order.
+    /// The class on a day, from a component's classes in key order.
     pub fn on(equipment: &Equipment, classes: &[(Key, Class)], day: Day) -> ClassInForce
         requires ordered { Ascends (λ a b. is_earlier a.0 b.0) classes.now }
         ensures today { result.class ≡ force.class_on equipment.now classes.now day }
@@ -147,7 +147,7 @@ impl ClassInForce {
         ClassInForce::after(equipment, classes, entered_by(classes, day))
     }
 
-    /// Whether a day is one of its days.
+    /// Whether it is in force on a day.
     pub fn holds_on(&self, day: Day) -> bool
         ensures value { result ≡ (nat_le self.now.first day && nat_lt day self.now.end) }
     {
@@ -155,8 +155,8 @@ impl ClassInForce {
         self.first <= number && number < self.end
     }
 
-    /// The class on another day: the same if the day is one of its days. For a later day the classes after those that were
-    /// entered are looked at one after the other; an earlier one is found by halving.
+    /// The class on another day. It is the same one if that is in force on the day. For a later day, the classes that were
+    /// not entered yet are tested one by one; for an earlier day, there is a binary search.
     pub fn moved_to(self, equipment: &Equipment, classes: &[(Key, Class)], day: Day) -> ClassInForce
         requires ordered { Ascends (λ a b. is_earlier a.0 b.0) classes.now }
         requires value { IsInForce equipment.now classes.now self }

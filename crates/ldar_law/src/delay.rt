@@ -10,9 +10,9 @@ use ldar_days::Day;
 #[derive(Clone, Copy, Debug, PartialEq, Eq)]
 pub struct DelayEntry {
     pub key: Key,
-    /// One of `GROUND_WITHDRAWN` to `GROUND_STOCK`: from 1 to 5 for (a) to (e), and 0 if the delay is withdrawn.
+    /// One of `GROUND_WITHDRAWN` to `GROUND_STOCK`: 1 to 5 for (a) to (e), or 0 if the delay is withdrawn.
     pub ground: u8,
-    /// Who decided it; 0 is none.
+    /// The person who decided on the delay; 0 for none.
     pub signer: u16,
     /// The day on which the repair is expected.
     pub expected: Option<Day>,
@@ -25,11 +25,11 @@ pub struct Stop {
     pub last: Day,
 }
 
-/// Until when a leak must be repaired (40 CFR 60.482-9a).
+/// The due day of a leak's repair (40 CFR 60.482-9a).
 #[derive(Clone, Copy, Debug, PartialEq, Eq)]
 pub enum Until {
     Date(Day),
-    /// Until a process unit shutdown that isn't known yet.
+    /// Until a process unit shutdown that has not been entered yet.
     Shutdown,
     /// As long as the component is isolated and not in VOC service.
     WhileIsolated,
@@ -37,7 +37,7 @@ pub enum Until {
     NoDate,
 }
 
-/// A line of a report on a repair that was delayed.
+/// The line of a report on a repair that was delayed.
 #[derive(Clone, Copy, Debug, PartialEq, Eq)]
 pub struct DelayLine {
     pub component: u16,
@@ -48,15 +48,15 @@ pub struct DelayLine {
     pub closed: Option<Day>,
 }
 
-/// The day by which a first attempt at the repair is due of a leak detected on this day (40 CFR 60.482-2a(c)(2),
-/// 60.482-7a(d)(2)).
+/// The day by which a first attempt at the repair of a leak is due; `detected` is the day of its detection (40 CFR
+/// 60.482-2a(c)(2), 60.482-7a(d)(2)).
 pub fn attempt_by(detected: Day) -> Day
     ensures value { result ≡ law.attempt_by detected }
 {
     detected.plus_days(ATTEMPT_DAYS)
 }
 
-/// The day by which the repair is due if it is not delayed (40 CFR 60.482-2a(c)(1), 60.482-7a(d)(1)).
+/// The day by which the repair of a leak is due if it is not delayed (40 CFR 60.482-2a(c)(1), 60.482-7a(d)(1)).
 pub fn repair_by(detected: Day) -> Day
     ensures value { result ≡ law.repair_by detected }
 {
@@ -64,7 +64,7 @@ pub fn repair_by(detected: Day) -> Day
 }
 
 impl Until {
-    /// Whether it is past on the day. What is no date is never past.
+    /// Whether it is past on the day. If it is not a date, it is never past.
     pub fn is_past_on(&self, day: Day) -> bool
         ensures value { result ≡ law.is_past day self.now }
     {
@@ -74,7 +74,7 @@ impl Until {
         }
     }
 
-    /// Whether it is a date in the month with this number, which may be one that the calendar has not.
+    /// Whether it is a date in the month with this number, which may be outside the calendar.
     pub fn is_date_in(&self, month: u32) -> bool
         ensures value { result ≡ reports.is_date_in month self.now }
     {
@@ -86,7 +86,7 @@ impl Until {
 }
 
 impl Stop {
-    /// Whether it has a day among these.
+    /// Whether some day of the shutdown is in the range.
     pub fn is_in(&self, first: Day, last: Day) -> bool
         ensures value { result ≡ reports.is_stop_in first last self.now }
     {

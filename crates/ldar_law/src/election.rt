@@ -1,6 +1,6 @@
 use fact_kinds::Key;
 
-/// A choice of the programme of skip periods (40 CFR 60.483-2a): mode 1 or 3, or 0 for none.
+/// An election of the skip period program (40 CFR 60.483-2a): mode 1 or 3, or 0 for none.
 #[derive(Clone, Copy, Debug, PartialEq, Eq)]
 pub struct ElectionEntry {
     pub key: Key,

@@ -1,4 +1,4 @@
-//! Worked examples of the definitions: functions with nothing to do, whose contracts are found by computing.
+//! Worked examples of the definitions: empty functions whose contracts are proved by computing.
 
 pub mod after_events;
 pub mod denial_edges;

@@ -1,4 +1,4 @@
-//! The grounds of a delay of repair, as a delay numbers them (40 CFR 60.482-9a).
+//! The grounds of a delay of repair, by number (40 CFR 60.482-9a).
 
 /// No ground: the delay is withdrawn.
 pub const GROUND_WITHDRAWN: u8 = 0;

@@ -1,4 +1,4 @@
-//! What an event of a component is: one test for each thing that the rule asks of one.
+//! Tests of a component's event, one for each property that the rule asks about.
 
 ghost use Rattle.std.specs.Prelude.{◌≡◌};
 ghost use Rattle.std.specs.List.{list_any};
@@ -18,7 +18,7 @@ pub fn has_leak(events: &[Event]) -> bool
 }
 
 impl Happening {
-    /// Whether it is a leak of whatever sort.
+    /// Whether it is a leak of any kind.
     pub fn is_leak(&self) -> bool
         ensures value { result ≡ law.is_leak self.now }
     {
@@ -44,7 +44,7 @@ impl Happening {
         matches!(*self, Happening::Look { .. })
     }
 
-    /// Whether it is what a sensor tells.
+    /// Whether it is a sensor's indication.
     pub fn is_sensor(&self) -> bool
         ensures value { result ≡ law.is_sensor self.now }
     {
@@ -110,8 +110,8 @@ impl Happening {
         }
     }
 
-    /// Whether it is a counting reading that is less than 500 parts per million above the background; below the
-    /// background it is 0 above it (our own rule).
+    /// Whether it is a counting reading less than 500 parts per million above the background. A reading below the
+    /// background is 0 above it (our own rule).
     pub fn is_near_background(&self) -> bool
         ensures value { result ≡ law.is_near_background self.now }
     {
@@ -136,7 +136,7 @@ impl Happening {
         }
     }
 
-    /// Whether it is a visual inspection that found drips, designated as a leak or not.
+    /// Whether it is a visual inspection that found drips, whether designated as a leak or not.
     pub fn has_drips(&self) -> bool
         ensures value { result ≡ law.has_drips self.now }
     {
@@ -236,21 +236,21 @@ impl Happening {
 }
 
 impl Event {
-    /// Whether its day is among these.
+    /// Whether its day is in the range.
     pub fn is_from_to(&self, first: Day, last: Day) -> bool
         ensures value { result ≡ law.is_from_to first last self.now }
     {
         first <= self.key.day && self.key.day <= last
     }
 
-    /// Whether it lies in the month with this number, which may be one that the calendar has not.
+    /// Whether it is in the month with this number, which may be outside the calendar.
     pub fn is_in_month(&self, month: u32) -> bool
         ensures value { result ≡ law.is_in_month month self.now }
     {
         self.key.day.month().number() == month
     }
 
-    /// The delay of repair that it is, if it is one.
+    /// The delay of repair, if the event is one.
     pub fn delay_entry(&self) -> Option<DelayEntry>
         ensures value { result ≡ delay_entered_at self.now }
     {

@@ -2,7 +2,7 @@ ghost use Rattle.std.specs.Prelude.{◌≡◌};
 
 use std::marker::Model;
 
-/// A list that is a part of a larger value. Contracts see the list, in which nothing tells how much room it has.
+/// A list that is part of a larger value. In contracts it is only the list, without the memory reserved for it.
 #[derive(Drop)]
 pub struct Items<T> {
     items: Vec<T>,
@@ -17,7 +17,7 @@ impl<T> Model for Items<T> {
 }
 
 impl<T> Items<T> {
-    /// These items. Takes no memory.
+    /// A list of these items. Allocates nothing.
     pub fn new(items: Vec<T>) -> Items<T>
         ensures value { result ≡ items.items }
     {
@@ -31,7 +31,7 @@ impl<T> Items<T> {
         self.items.as_slice()
     }
 
-    /// The items, given back. Takes no memory.
+    /// Returns the items as a vector. Allocates nothing.
     pub fn into_vec(self) -> Vec<T>
         ensures value { result.items ≡ self }
     {

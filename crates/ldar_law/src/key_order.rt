@@ -4,8 +4,7 @@ ghost use Rattle.fact_kinds.specs.Facts.{goes_first};
 
 use fact_kinds::{Fact, Key, precedes};
 
-/// Whether facts with their keys stand in key order, each before all that follow it: what `ordered` asks for, where
-/// nobody knows.
+/// Whether facts with their keys are in key order, each before all that follow it. It decides the premise `ordered`.
 pub fn are_in_key_order(facts: &[(Key, Fact)]) -> bool
     ensures value { IsTrue result ↔ Ascends goes_first facts.now }
 {

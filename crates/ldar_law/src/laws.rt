@@ -1,4 +1,4 @@
-//! What is true of the definitions: functions with nothing to do, whose contracts are the laws.
+//! Laws about the definitions: empty functions whose contracts are the laws.
 
 pub mod batches;
 pub mod denials;

@@ -4,9 +4,9 @@ ghost use Rattle.ldar_law.specs.Limits.{limit_of};
 use crate::regime::Regime;
 use fact_kinds::{Class, Kind};
 
-/// The leak definition of a component of this class, in parts per million by volume (40 CFR 60.482-2a(b)(1),
-/// 60.482-7a(b), 60.482-8a(b)); 500 where the rules set none, which is our own rule. A pump that handles
-/// polymerizing monomers has the higher one.
+/// The leak definition of a component with this class, in parts per million by volume (40 CFR 60.482-2a(b)(1),
+/// 60.482-7a(b), 60.482-8a(b)). It is higher for a pump that handles polymerizing monomers, and 500 if the rules set
+/// none (our own rule).
 pub fn limit(kind: Kind, monomer: bool, class: Class) -> u32
     ensures value { result ≡ limit_of kind monomer class }
 {

@@ -1,4 +1,7 @@
-//! The leak programme as definitions: what the facts of a history mean on a view day, and the types that speak of it.
+//! The rules of the leak detection and repair program as definitions: what the facts of a history mean on a view day,
+//! and the types for it.
+//!
+//! Tests: `examples` here, `rule_tests::classes`, `register_tests::tallies`.
 #![tactic(auto)]
 
 mod asked;

@@ -1,5 +1,5 @@
-//! Clean months (40 CFR 60.482-7a(c)), by the events of a component. Months are numbers here, since the one after the
-//! last of the calendar is asked for too.
+//! Clean months (40 CFR 60.482-7a(c)), from the events of a component. A month is given by its number, since it may be
+//! the one after the calendar's last month.
 
 ghost use Rattle.std.specs.Prelude.{◌≡◌, ◌≤◌, ◌&&◌};
 ghost use Rattle.std.specs.List.{list_any};
@@ -8,7 +8,7 @@ ghost use Rattle.ldar_law.specs.Months as law;
 
 use crate::event::Event;
 
-/// Whether some leak lies in the months from one to another.
+/// Whether some leak is in the months from `low` to `high`.
 #[tactic(auto, unfolding(crate::specs::Months::has_leak_in))]
 pub fn has_leak_in(events: &[Event], low: u32, high: u32) -> bool
     ensures value { result ≡ law.has_leak_in events.now low high }
@@ -18,7 +18,7 @@ pub fn has_leak_in(events: &[Event], low: u32, high: u32) -> bool
     })
 }
 
-/// Whether a counting routine reading below the leak definition lies in the month.
+/// Whether a counting routine reading below the leak definition is in the month.
 fn is_read_below_in(events: &[Event], month: u32) -> bool
     ensures value { result ≡ list_any (λ e. says_routine_below e.what && says_in_month month e) events.now }
 {

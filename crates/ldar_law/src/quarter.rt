@@ -1,5 +1,5 @@
-//! Quarters of a process unit and the months in them (40 CFR 60.481a, 60.482-7a(c)). `startup` is that of the unit;
-//! months are numbers, since the one after the last of the calendar is asked for too.
+//! Quarters of a process unit and their months (40 CFR 60.481a, 60.482-7a(c)). `startup` is the unit's. A month is
+//! given by its number, since it may be the one after the calendar's last month.
 
 ghost use Rattle.std.specs.Prelude.{◌≡◌, ◌≤◌};
 ghost use Rattle.ldar_law.specs.Months as months;
@@ -8,7 +8,7 @@ ghost use Rattle.ldar_law.specs.declared.numbers.TheConstants.{LAST_FACT_DAY};
 
 use ldar_days::{Day, first_quarter, quarter_last, quarter_of};
 
-/// Whether the day lies in the quarter.
+/// Whether the day is in the quarter.
 pub fn is_in_quarter(startup: Day, quarter: u16, day: Day) -> bool
     requires startup { startup ≤ LAST_FACT_DAY }
     ensures value { result ≡ law.is_in_quarter startup quarter day }
@@ -19,8 +19,7 @@ pub fn is_in_quarter(startup: Day, quarter: u16, day: Day) -> bool
     }
 }
 
-/// The day on which a quarter is judged, as a view of the day has it: its last day, or the day itself where that is
-/// earlier.
+/// The day on which a view of the day judges a quarter: the quarter's last day, or the view's day if that is earlier.
 pub fn judging_day(startup: Day, quarter: u16, day: Day) -> Day
     requires startup { startup ≤ LAST_FACT_DAY }
     requires quarter { 1 ≤ quarter }
@@ -29,7 +28,7 @@ pub fn judging_day(startup: Day, quarter: u16, day: Day) -> Day
     quarter_last(startup, quarter).min(day)
 }
 
-/// The first month of the quarter in which a month lies.
+/// The first month of the quarter that contains the month.
 pub fn quarter_start(startup: Day, month: u32) -> u32
     requires startup { startup ≤ LAST_FACT_DAY }
     ensures value { result ≡ months.quarter_start startup month }

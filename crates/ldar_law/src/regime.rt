@@ -4,7 +4,7 @@ ghost use Rattle.ldar_law.specs.Standing as law;
 
 use fact_kinds::{Kind, Service};
 
-/// The rules that a component is under, by its kind and its service.
+/// The rules that apply to a component, by its kind and its service.
 #[derive(Clone, Copy, Debug, PartialEq, Eq)]
 pub enum Regime {
     /// Valves in gas or vapor service and in light liquid service (40 CFR 60.482-7a).
@@ -18,8 +18,8 @@ pub enum Regime {
     /// Valves and pumps in heavy liquid service, pressure relief devices in light or heavy liquid service
     /// (40 CFR 60.482-8a).
     HeavyLiquidRules,
-    /// Components in vacuum service or in VOC service less than 300 hours a year (40 CFR 60.482-1a(d) and (e)).
-    /// By our own rule also a kind in a service that does not suit it.
+    /// Components in vacuum service or in VOC service less than 300 hours a year (40 CFR 60.482-1a(d) and (e)), and
+    /// kinds in a service that does not suit them (our own rule).
     LeftOut,
 }
 
@@ -77,7 +77,7 @@ impl Regime {
         matches!(self, Regime::HeavyLiquidRules)
     }
 
-    /// Whether the rules leave the component out (40 CFR 60.482-1a(d), (e)).
+    /// Whether the rules exclude the component (40 CFR 60.482-1a(d), (e)).
     pub fn leave_out(self) -> bool
         ensures value { result ≡ law.leave_out self }
     {

@@ -10,16 +10,16 @@ use crate::text::Text;
 use fact_kinds::Memory;
 use std::alloc::Global;
 
-/// What the office answers. Positions in the journal, facts of a batch and rules count from 1.
+/// A reply of the office. Positions in the journal, facts of a batch and rules count from 1.
 #[derive(Drop)]
 pub enum Reply {
-    /// The batch is kept, and has this position.
+    /// The batch is kept at this position.
     Receipt {
         handheld: u16,
         number: u32,
         position: u32,
     },
-    /// Another batch of this identity is kept there.
+    /// Another batch with this identity is kept at this position.
     Conflict {
         position: u32,
     },
@@ -28,20 +28,20 @@ pub enum Reply {
         fact: u16,
         rule: u8,
     },
-    /// With the batch there would be so many facts, more than 8,000,000.
+    /// With the batch there would be this many facts, which is more than 8,000,000.
     Full {
         facts: u64,
     },
     Shown(Text),
     NoSuch(What),
-    /// The disk failed; a batch stands or not.
+    /// A disk error. The batch may or may not be kept.
     Fault,
-    /// Memory was wanting; a batch is not kept.
+    /// Out of memory. The batch is not kept.
     Memory,
 }
 
 impl Reply {
-    /// Appends the line of the reply, or the text of a view; nothing where memory is wanting.
+    /// Appends the line of the reply, or the text of a view. Appends nothing if it is out of memory.
     pub fn put_line(&self, alloc: Global, out: &mut Vec<u8>) -> Result<(), Memory>
         requires has_rule { HasRule self.now }
         ensures value { OnOk result (out.new.items ≡ out.old.items ++ reply_text self.now) }

@@ -6,8 +6,8 @@ use fact_kinds::Name;
 use ldar_days::Day;
 use std::marker::Model;
 
-/// The counts of a report: for each of six months those of valves, pumps and compressors, of each first the
-/// components with a leak and then those with a late tag (40 CFR 60.487a(c)(2)). Contracts see the 36 numbers.
+/// The counts of a report (40 CFR 60.487a(c)(2)). For each of six months: valves, pumps and compressors with a leak,
+/// each followed by those with a late tag. In contracts it is the list of 36 numbers.
 #[derive(Clone, Copy, Debug, PartialEq, Eq)]
 pub struct MonthCells {
     cells: [u32; 36],
@@ -26,7 +26,7 @@ impl Model for MonthCells {
 }
 
 impl MonthCells {
-    /// These numbers, month by month.
+    /// The counts with these numbers, month by month.
     pub fn new(cells: [u32; 36]) -> MonthCells
         ensures value { result ≡ cells }
         ensures in_range { length result ≡ 36 }
@@ -43,22 +43,22 @@ impl MonthCells {
     }
 }
 
-/// What a report says of a process unit: if two have equal cells, the later one amends nothing.
+/// The content of a report on a process unit. If two reports have equal cells, the later one amends nothing.
 #[derive(Drop)]
 pub struct Cells {
     pub months: MonthCells,
-    /// By component and detection (40 CFR 60.487a(c)(2)(xi)).
+    /// The delays, by component and detection (40 CFR 60.487a(c)(2)(xi)).
     pub delays: Items<DelayLine>,
     /// The process unit shutdowns, in key order (40 CFR 60.487a(c)(3)).
     pub stops: Items<Stop>,
 }
 
-/// The semiannual report of a process unit (40 CFR 60.487a(c)), as known on a day.
+/// The semiannual report of a process unit (40 CFR 60.487a(c)) as of a day.
 #[derive(Drop)]
 pub struct Report {
     pub unit: u8,
     pub name: Name,
-    /// Half h is quarters 2h - 1 and 2h, from 1.
+    /// The reporting period, from 1: half h is quarters 2h - 1 and 2h.
     pub half: u16,
     pub day: Day,
     pub cells: Cells,
@@ -74,7 +74,7 @@ pub struct Filed {
     pub cells: Cells,
 }
 
-/// A number that differs between two reports: in the month and column 1 to 6.
+/// A number that differs between two reports, by month and by column 1 to 6.
 #[derive(Clone, Copy, Debug, PartialEq, Eq)]
 pub struct Amended {
     pub month: u8,

@@ -4,8 +4,8 @@ ghost use Rattle.ldar_law.specs.Replies.{what_text};
 use fact_kinds::Batch;
 use ldar_days::Day;
 
-/// What is asked of the office: that it keep a batch, or show something as known on a day. Numbers of units,
-/// quarters and halves count from 1, and may name none.
+/// A request to the office: to keep a batch, or to show something as of a day. Numbers of units, quarters and halves
+/// count from 1; a request may use numbers that do not exist.
 #[derive(Drop)]
 pub enum Request {
     Sync(Batch),
@@ -24,7 +24,7 @@ pub enum Request {
     Route {
         unit: u16,
         day: Day,
-        /// How many components a route has at most.
+        /// The maximum number of components in a route.
         stops: u16,
     },
     Percent {
@@ -39,7 +39,7 @@ pub enum Request {
     },
 }
 
-/// What there is none of.
+/// What does not exist.
 #[derive(Clone, Copy, Debug, PartialEq, Eq)]
 pub enum What {
     Unit,

@@ -14,7 +14,7 @@ use crate::sorts::is_none_designated;
 use fact_kinds::{Class, Key};
 use ldar_days::Day;
 
-/// Whether a day, if there is one, has come.
+/// Whether the day, if there is one, has come.
 fn has_come(first: &Option<Day>, day: Day) -> bool
     ensures value { result ≡ force.has_come first.now day }
 {
@@ -39,7 +39,8 @@ impl Equipment {
         self.begin.plus_days(FIRST_DAYS)
     }
 
-    /// Whether it is a valve or a pump with a first monitoring, by the class in force on a day (40 CFR 60.482-2a, 60.482-7a).
+    /// Whether it is a valve or a pump that needs a first monitoring, by the class in force on a day (40 CFR 60.482-2a,
+    /// 60.482-7a).
     fn is_valve_or_pump_on(&self, classes: &[(Key, Class)], day: Day) -> bool
         requires ordered { Ascends (λ a b. is_earlier a.0 b.0) classes.now }
         ensures value { result ≡ (law.is_under_valve_rules self.now classes.now day || law.is_under_pump_rules self.now classes.now day) }
@@ -56,7 +57,7 @@ impl Equipment {
         is_none_designated(self.class_on(classes, day).designation)
     }
 
-    /// Whether a first monitoring is owed, judged on a day (40 CFR 60.482-2a(a)(1), 60.482-7a(a)(2)), by the component's
+    /// Whether a first monitoring is owed on a day (40 CFR 60.482-2a(a)(1), 60.482-7a(a)(2)), from the component's
     /// classes in key order. `startup` is that of its process unit.
     pub fn is_first_owed(&self, classes: &[(Key, Class)], startup: Day, day: Day) -> bool
         requires ordered { Ascends (λ a b. is_earlier a.0 b.0) classes.now }

@@ -1,4 +1,4 @@
-//! The sorts of components: of which kind they are, how they are designated, and in which service.
+//! Tests of a component's kind, designation and service.
 
 ghost use Rattle.std.specs.Prelude.{◌≡◌};
 ghost use Rattle.ldar_law.specs.Denials as denials;
@@ -65,14 +65,14 @@ pub fn is_difficult_designated(designation: Designation) -> bool
     matches!(designation, Designation::Difficult)
 }
 
-/// Whether it is vacuum service (40 CFR 60.482-1a(d)).
+/// Whether the service is vacuum service (40 CFR 60.482-1a(d)).
 pub fn is_vacuum(service: Service) -> bool
     ensures value { result ≡ denials.is_vacuum service }
 {
     matches!(service, Service::Vacuum)
 }
 
-/// Whether it is VOC service less than 300 hours a year (40 CFR 60.482-1a(e)).
+/// Whether the service is VOC service less than 300 hours a year (40 CFR 60.482-1a(e)).
 pub fn is_under_300(service: Service) -> bool
     ensures value { result ≡ denials.is_under_300 service }
 {

@@ -4,8 +4,8 @@ ghost use Rattle.ldar_law.specs.Denials as law;
 use crate::regime::Regime;
 use fact_kinds::{Class, Designation, Kind, Service};
 
-/// Whether a kind of component can be in the service (our own rule): a compressor has no liquid service, and a pump no
-/// gas service.
+/// Whether a kind of component can have the service (our own rule): a compressor has no liquid service, and a pump has
+/// no gas service.
 pub fn suits_service(kind: Kind, service: Service) -> bool
     ensures value { result ≡ law.suits_service kind service }
 {
@@ -17,7 +17,8 @@ pub fn suits_service(kind: Kind, service: Service) -> bool
     }
 }
 
-/// Whether the rules have the designation (40 CFR 60.482-2a(e), (g), 60.482-3a(i), 60.482-7a(f) to (h)).
+/// Whether a component under these rules can have the designation (40 CFR 60.482-2a(e), (g), 60.482-3a(i), 60.482-7a(f)
+/// to (h)).
 pub fn suits_designation(regime: Regime, designation: Designation) -> bool
     ensures value { result ≡ law.suits_designation regime designation }
 {
@@ -31,7 +32,7 @@ pub fn suits_designation(regime: Regime, designation: Designation) -> bool
     }
 }
 
-/// Whether a class, by its service and its designation, suits a kind of component.
+/// Whether the service and the designation of a class suit a kind of component.
 pub fn suits(kind: Kind, class: Class) -> bool
     ensures value { result ≡ law.suits kind class }
 {

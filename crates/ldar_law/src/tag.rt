@@ -20,7 +20,7 @@ pub struct Tag {
     pub closed: Option<Day>,
     /// The last delay that was not ignored.
     pub delay: Option<DelayEntry>,
-    /// The identification may come off.
+    /// Whether the identification may be removed.
     pub removable: bool,
 }
 
@@ -43,7 +43,7 @@ impl Tag {
             }
     }
 
-    /// Whether it is in the list of a day: open, or closed at most 366 days before (our own rule).
+    /// Whether it is on the list of a day: open, or closed at most 366 days before (our own rule).
     pub fn is_shown(&self, day: Day) -> bool
         ensures value { result ≡ law.is_shown day self.now }
     {
@@ -53,7 +53,7 @@ impl Tag {
         }
     }
 
-    /// Whether it is late on a day: closed after its due day, or open when that is past.
+    /// Whether it is late on a day: closed after its due day, or open when its due day is past.
     pub fn is_late(&self, day: Day) -> bool
         ensures value { result ≡ law.is_late day self.now }
     {
@@ -80,7 +80,7 @@ impl Tag {
         self.standing_delay().is_some()
     }
 
-    /// The line on a delay of it.
+    /// The line of the tag with a delay.
     pub fn line_on(&self, delay: DelayEntry) -> DelayLine
         ensures value { result ≡ law.line_on self.now delay }
     {

@@ -10,7 +10,7 @@ pub struct Mark {
     pub monitored: bool,
 }
 
-/// The counts of valves of a process unit in a quarter: their quotient is the percent leaking (40 CFR 60.485a(h)).
+/// The counts of valves of a process unit in a quarter. Their quotient is the percent leaking (40 CFR 60.485a(h)).
 #[derive(Clone, Copy, Debug, PartialEq, Eq)]
 pub struct Tally {
     pub leaking: u32,
@@ -28,7 +28,7 @@ impl Tally {
         self.monitored += u32::from(mark.monitored);
     }
 
-    /// Takes back a valve that was counted: with it the counts are as before.
+    /// Removes a valve that was counted; counting it again restores the counts.
     pub fn remove(&mut self, mark: Mark)
         requires leaking { mark.leaking ≡ true → 0 < self.old.leaking }
         requires monitored { mark.monitored ≡ true → 0 < self.old.monitored }
@@ -38,8 +38,8 @@ impl Tally {
         self.monitored -= u32::from(mark.monitored);
     }
 
-    /// Whether the quarter is good: at most 2 percent of the valves leak, of at least one that was monitored
-    /// (40 CFR 60.483-2a(b)(2)).
+    /// Whether the quarter is good: at least one valve was monitored, and at most 2 percent of those monitored leak (40
+    /// CFR 60.483-2a(b)(2)).
     pub fn is_good(&self) -> bool
         ensures value { result ≡ says_good self.now }
     {

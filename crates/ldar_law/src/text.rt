@@ -2,7 +2,7 @@ ghost use Rattle.std.specs.Prelude.{◌≡◌};
 
 use std::marker::Model;
 
-/// A text that is shown. Contracts see its bytes.
+/// The text of a view. In contracts it is its bytes.
 #[derive(Drop)]
 pub struct Text {
     bytes: Vec<u8>,
@@ -17,7 +17,7 @@ impl Model for Text {
 }
 
 impl Text {
-    /// The text with these bytes. Takes no memory.
+    /// The text with these bytes. Allocates nothing.
     pub fn new(bytes: Vec<u8>) -> Text
         ensures value { result ≡ bytes.items }
     {
@@ -31,7 +31,7 @@ impl Text {
         self.bytes.as_slice()
     }
 
-    /// The bytes of the text, given back. Takes no memory.
+    /// Returns the bytes of the text as a vector. Allocates nothing.
     pub fn into_bytes(self) -> Vec<u8>
         ensures value { result.items ≡ self }
     {

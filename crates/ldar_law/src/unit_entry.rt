@@ -9,6 +9,6 @@ pub struct UnitEntry {
     pub name: Name,
     /// The day of the initial startup, from which quarters are counted (40 CFR 60.481a).
     pub startup: Day,
-    /// The share of difficult valves has no bound (40 CFR 60.482-7a(h)(2)).
+    /// Whether the share of difficult valves is unlimited (40 CFR 60.482-7a(h)(2)).
     pub older: bool,
 }

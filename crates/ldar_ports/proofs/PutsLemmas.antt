@@ -1,16 +1,16 @@
--- Pieces that were put one after the other.
+-- Pieces that were written one after the other.
 use Rattle.std.proofs.Common.{refl, All, replicate, ◌<◌, ◌≤◌, ◌-◌, take, drop, arith, ◌≡◌, ℕ, List, [], ◌∷◌, ◌++◌, Option, Some, None, length, sym, ap, ◌∙◌}
 use Rattle.std.proofs.lemmas.List.{length-append, replicate-append-replicate, append-nil, append_assoc, length-drop, length-take-le, take_all, take-append-drop}
 use Rattle.std.proofs.lemmas.List.Elements.{All-head, All-tail}
 use Rattle.std.proofs.lemmas.Grind.{flat_map-append}
 use Rattle.ldar_ports.specs.Sink.{IsStamped, stamps_of, Piece, Puts, piece_of, bytes_of}
 
--- where nothing is put, the pieces stay
+-- if nothing is written, the pieces do not change
 pub puts_none : (pieces : Option (List Piece)) → Puts pieces [] pieces
 puts_none None = tt
 puts_none (Some pieces) = sym (append-nil pieces)
 
--- what is put in one stretch and then in another is put in both together
+-- two stretches of written pieces are one
 pub puts_more : (old middle new : Option (List Piece)) (first second : List Piece)
     → Puts old first middle → Puts middle second new → Puts old (first ++ second) new
 puts_more None middle new first second a b = tt
@@ -19,7 +19,7 @@ puts_more (Some old) (Some middle) None first second a b = absurd b
 puts_more (Some old) (Some middle) (Some new) first second a b =
     b ∙ ap (λ pieces. pieces ++ second) a ∙ append_assoc old first second
 
--- bytes of which some pieces were put, and then a front of the rest
+-- bytes of which some pieces were written, followed by a prefix of the rest
 pub rest_more : (bytes rest : List ℕ) (put : List Piece) (all n stamp : ℕ) → all ≡ length rest
     → bytes ≡ bytes_of put ++ rest
     → bytes ≡ bytes_of (put ++ piece_of (take n rest) stamp ∷ []) ++ take (all - n) (drop n rest)
@@ -33,7 +33,7 @@ rest_more bytes rest put all n stamp is_all was =
       take-append-drop n rest,
     ) was
 
--- a front of some bytes that is not empty has a byte
+-- a non-empty prefix has a byte
 pub front_has_some : (n : ℕ) (bytes : List ℕ) → n ≤ length bytes → 0 < n → 0 < length (take n bytes)
 front_has_some n bytes le some = omega (arith, length-take-le n bytes le)
 

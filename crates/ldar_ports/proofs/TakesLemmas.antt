@@ -1,14 +1,14 @@
--- Bytes that were taken one after the other.
+-- Bytes that were read one after the other.
 use Rattle.std.proofs.Common.{ℕ, List, [], ◌++◌, Option, Some, None, refl, sym, ap, ◌∙◌}
 use Rattle.std.proofs.lemmas.List.{append_assoc}
 use Rattle.ldar_ports.specs.Source.{Takes}
 
--- where nothing is taken, the bytes left stay
+-- if nothing is read, the unread bytes do not change
 pub takes_none : (left : Option (List ℕ)) → Takes left [] left
 takes_none None = tt
 takes_none (Some left) = refl
 
--- what is taken in one stretch and then in another is taken in both together
+-- two stretches of read bytes are one
 pub takes_more : (old middle new : Option (List ℕ)) (first second : List ℕ)
     → Takes old first middle → Takes middle second new → Takes old (first ++ second) new
 takes_more None middle new first second a b = tt

@@ -5,7 +5,7 @@ use Rattle.std.proofs.lemmas.List.{drop-append-le, drop-take, length-drop, lengt
 use Rattle.std.proofs.lemmas.List.Edits.{take-paste}
 use Rattle.ldar_ports.specs.Window.{WindowState, after_taking}
 
--- what was copied from between two places to the front stands there
+-- the bytes between two places, copied to the front
 pub moved_to_front : (old new : List ℕ) (from end : ℕ) → from ≤ end → end ≤ length old
     → new ≡ paste old 0 (drop from old) (end - from)
     → take (end - from) new ≡ drop from (take end old)
@@ -21,11 +21,11 @@ moved_to_front old new from end ordered in_range is_new =
     ∙ sym (drop-take from count old)
     ∙ ap (λ n. drop from (take n old)) sum
 
--- the window with what stands between two places of a buffer
+-- a window with the bytes between two places of a buffer
 abbrev pub window_of : ℕ → ℕ → List ℕ → WindowState
 window_of start end buffer = record { bytes = drop start (take end buffer); size = length buffer }
 
--- what was taken behind the bytes of a window, once there was room, stands behind them
+-- bytes that were read into the room after the window's bytes follow them
 pub window_of-more : (old moved new : List ℕ) (from to start end n : ℕ) (window : WindowState) → window_of from to old ≡ window
     → length moved ≡ length old → drop start (take end moved) ≡ drop from (take to old)
     → start ≤ end → end ≤ length moved

@@ -1,13 +1,13 @@
--- What is put into a sink.
+-- The pieces written to a sink.
 use Rattle.std.specs.Prelude.{◌≡◌, ◌<◌, ℕ, List, ◌++◌, length, replicate, Option, Some, None}
 use Rattle.std.specs.List.{flat_map}
 
--- bytes that were put at once, with the clock of the disk beside them
+-- bytes that were written in one call, with the clock of the given disk
 pub record Piece : Type 0 where
   pub bytes : List ℕ
   pub stamp : ℕ
 
--- a piece of these bytes with this stamp
+-- a piece with these bytes and this stamp
 abbrev pub piece_of : List ℕ → ℕ → Piece
 piece_of bytes stamp = record { bytes = bytes; stamp = stamp }
 
@@ -15,7 +15,7 @@ piece_of bytes stamp = record { bytes = bytes; stamp = stamp }
 abbrev pub IsStamped : ℕ → Piece → Type 0
 IsStamped stamp piece = (0 < length piece.bytes) × (piece.stamp ≡ stamp)
 
--- after the pieces that were there these were put; nothing is said where nothing was told
+-- these pieces were added to the old ones; nothing is stated if the sink does not expose its pieces
 abbrev pub Puts : Option (List Piece) → List Piece → Option (List Piece) → Type 0
 Puts None put new = Unit {0}
 Puts (Some old) put None = ⊥

@@ -1,4 +1,6 @@
-//! How bytes come in and go out: a source of bytes, a sink of stamped pieces, and a window on a source.
+//! Input and output of bytes: a source of bytes, a sink of stamped pieces, and a window on a source.
+//!
+//! Tests: `office_tests::streams`.
 #![tactic(auto)]
 
 mod list_source;

@@ -9,8 +9,8 @@ use disk_model::Calls;
 use std::alloc::Global;
 use std::marker::Model;
 
-/// A source in memory, for tests. A call gives bytes of one piece alone, and passes empty pieces
-/// over. The calls are numbered from 0; the calls with given numbers fail.
+/// A source in memory, for tests. A call returns bytes of only one piece, and skips empty pieces. The calls are
+/// numbered from 0; the calls with given numbers fail.
 #[derive(Drop)]
 pub struct ListSource {
     pieces: Vec<Rest>,
@@ -29,7 +29,7 @@ impl Model for ListSource {
 }
 
 impl ListSource {
-    /// A source of these pieces, whose calls with these numbers will fail.
+    /// A source of these pieces, on which the calls with these numbers will fail.
     pub fn new(alloc: Global, pieces: &[Vec<u8>], failing: &[u64]) -> Result<ListSource, Memory>
         ensures value { IfOk result (λ source. source ≡ record {
           pieces = map (λ piece. piece.items) pieces.now;
@@ -46,7 +46,7 @@ impl ListSource {
         })
     }
 
-    /// The bytes that are left.
+    /// The unread bytes.
     pub fn bytes_left(&self, alloc: Global) -> Result<Vec<u8>, Memory>
         ensures value { IfOk result (λ bytes. bytes.items ≡ joined self.now.pieces) }
     {
@@ -57,14 +57,14 @@ impl ListSource {
         Ok(bytes)
     }
 
-    /// How many calls were made, those that failed among them.
+    /// The number of calls made, including those that failed.
     pub fn calls(&self) -> u64
         ensures value { result ≡ self.now.calls.made }
     {
         self.calls.made()
     }
 
-    /// How many calls failed.
+    /// The number of calls that failed.
     pub fn faults(&self) -> u64
         ensures value { result ≡ self.now.calls.faults }
     {
@@ -89,7 +89,7 @@ impl Source for ListSource {
         ensures ended { IfOk result
             (λ n. n ≡ 0 → 0 < length into.old → joined self.new.pieces ≡ []) }
 
-        // It fails at the calls that were to fail, and at no other.
+        // It fails exactly at the calls that were given.
         ensures fails { IsFailing self.old.calls → IsErr result }
         ensures only_failing { OnErr result (IsFailing self.old.calls) }
 
@@ -105,7 +105,7 @@ impl Source for ListSource {
     }
 }
 
-// Takes bytes of the first piece that is not empty, as far as it and the slice go.
+// Takes bytes of the first non-empty piece, as far as it and the slice go.
 fn take_front(pieces: &mut Vec<Rest>, into: &mut [u8]) -> usize
     ensures value { result ≡ min (length into.old) (length (first_piece (from_first pieces.old.items))) }
     ensures copied { into.new
@@ -118,7 +118,7 @@ fn take_front(pieces: &mut Vec<Rest>, into: &mut [u8]) -> usize
     take_first(pieces, into)
 }
 
-// Drops the pieces before the first that is not empty.
+// Drops the pieces before the first non-empty one.
 fn skip_empty(pieces: &mut Vec<Rest>)
     ensures { pieces.new.items ≡ from_first pieces.old.items }
 {

@@ -4,7 +4,7 @@ use crate::Memory;
 use std::alloc::Global;
 use std::marker::Model;
 
-// What is left of one piece.
+// The unread part of one piece.
 #[derive(Drop)]
 pub struct Rest {
     bytes: Vec<u8>,
@@ -43,7 +43,7 @@ impl Rest {
         self.as_slice().is_empty()
     }
 
-    // Takes bytes into the front of a slice, as far as both go.
+    // Copies bytes into the front of a slice, as far as both go.
     pub fn take(&mut self, into: &mut [u8]) -> usize
         ensures value { result ≡ min (length into.old) (length self.old) }
         ensures copied { into.new ≡ take result self.old ++ drop result into.old }

@@ -6,7 +6,7 @@ use disk_model::Disk;
 use std::error::Error;
 use std::fmt;
 
-/// A call of a sink failed. The sink has counted it.
+/// A call of a sink failed, and the sink counted the error.
 #[derive(Clone, Copy, Debug, PartialEq, Eq)]
 pub struct SinkFault;
 
@@ -20,16 +20,16 @@ impl fmt::Display for SinkFault {
 
 impl Error for SinkFault {}
 
-/// Bytes that go out, in pieces, and a count of faults. Each piece is stamped with the clock of
-/// the disk that the sink is shown beside it.
+/// An output of bytes, in pieces, and a count of errors. Each piece is stamped with the clock of the disk that is given
+/// with it.
 pub trait Sink: Drop {
-    /// The pieces that were put, the first first, where the sink tells them.
+    /// The pieces that were written, earliest first, if the sink exposes them.
     ghost pieces: { Self → Option (List Piece) };
 
-    /// How often a call of the sink failed. The count stays at 2^64 - 1 once it is there.
+    /// The number of failed calls. It stays at 2^64 - 1 once it reaches it.
     ghost faults: { Self → ℕ };
 
-    /// Puts bytes from the front on, and says how many it took: of some bytes at least one.
+    /// Writes bytes from the front on, and returns how many; at least one if there are any.
     fn put<D: Disk>(&mut self, beside: &D, bytes: &[u8]) -> Result<usize, SinkFault>
         ensures within { IfOk result (λ n. n ≤ length bytes.now) }
         ensures at_least_one { IfOk result (λ n. 0 < length bytes.now → 0 < n) }
@@ -50,8 +50,7 @@ impl<K: Sink> Sink for &mut K {
     }
 }
 
-/// Puts all of the bytes, in as many pieces as the sink likes. After a fault a front of them
-/// was put.
+/// Writes all of the bytes, in as many pieces as the sink wants. After an error, a prefix of them was written.
 pub fn put_all<K: Sink, D: Disk>(sink: &mut K, beside: &D, bytes: &[u8]) -> Result<(), SinkFault>
     ensures puts { (put : List Piece) × (unsaid : List ℕ)
         × Puts (K.pieces sink.old) put (K.pieces sink.new)

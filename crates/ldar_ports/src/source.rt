@@ -5,7 +5,7 @@ ghost use Rattle.ldar_ports.specs.Source.{Takes, HasEnded};
 use std::error::Error;
 use std::fmt;
 
-/// A call of a source failed. The source has counted it.
+/// A call of a source failed, and the source counted the error.
 #[derive(Clone, Copy, Debug, PartialEq, Eq)]
 pub struct SourceFault;
 
@@ -19,16 +19,16 @@ impl fmt::Display for SourceFault {
 
 impl Error for SourceFault {}
 
-/// Bytes that come in, in pieces of any size, and a count of faults.
+/// An input of bytes, in pieces of any size, and a count of errors.
 pub trait Source: Drop {
-    /// The bytes that are left, where the source tells them.
+    /// The unread bytes, if the source exposes them.
     ghost left: { Self → Option (List ℕ) };
 
-    /// How often a call of the source failed. The count stays at 2^64 - 1 once it is there.
+    /// The number of failed calls. It stays at 2^64 - 1 once it reaches it.
     ghost faults: { Self → ℕ };
 
-    /// Takes the next bytes into the front of a slice, and says how many. It takes none exactly
-    /// at the end of input, or where the slice is empty.
+    /// Reads the next bytes into the front of a slice, and returns how many. It returns 0 exactly at the end of the
+    /// input, or if the slice is empty.
     fn take(&mut self, into: &mut [u8]) -> Result<usize, SourceFault>
         ensures within { IfOk result (λ n. n ≤ length into.old) }
         ensures taken { IfOk result (λ n. Takes (left self.old) (take n into.new) (left self.new)) }

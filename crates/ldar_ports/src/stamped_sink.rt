@@ -9,7 +9,7 @@ use disk_model::{Calls, Disk};
 use std::alloc::Global;
 use std::marker::Model;
 
-/// Bytes that were put at once, with the clock of the disk that was beside them.
+/// Bytes that were written in one call, with the clock of the disk given with them.
 #[derive(Drop)]
 pub struct StampedPiece {
     bytes: Vec<u8>,
@@ -40,8 +40,8 @@ impl StampedPiece {
     }
 }
 
-/// A sink in memory, for tests. It takes each piece whole, and keeps it with its stamp. The calls
-/// are numbered from 0; the calls with given numbers fail, and those for which it can't grow.
+/// A sink in memory, for tests. It accepts each piece whole and keeps it with its stamp. The calls are numbered from 0;
+/// the calls with given numbers fail, and so do those that run out of memory.
 #[derive(Drop)]
 pub struct StampedSink {
     alloc: Global,
@@ -61,7 +61,7 @@ impl Model for StampedSink {
 }
 
 impl StampedSink {
-    /// An empty sink, whose calls with these numbers will fail.
+    /// An empty sink, on which the calls with these numbers will fail.
     pub fn new(alloc: Global, failing: &[u64]) -> Result<StampedSink, Memory>
         ensures value { IfOk result (λ sink. sink
             ≡ record { pieces = []; calls = record { failing = failing.now; made = 0; faults = 0 } }) }
@@ -73,7 +73,7 @@ impl StampedSink {
         })
     }
 
-    /// The pieces that were put, the first first.
+    /// The pieces that were written, earliest first.
     pub fn pieces(&self) -> &[StampedPiece]
         ensures value { result.now ≡ self.now.pieces }
     {
@@ -91,14 +91,14 @@ impl StampedSink {
         Ok(bytes)
     }
 
-    /// How many calls were made, those that failed among them.
+    /// The number of calls made, including those that failed.
     pub fn calls(&self) -> u64
         ensures value { result ≡ self.now.calls.made }
     {
         self.calls.made()
     }
 
-    /// How many calls failed.
+    /// The number of calls that failed.
     pub fn faults(&self) -> u64
         ensures value { result ≡ self.now.calls.faults }
     {
@@ -119,7 +119,7 @@ impl Sink for StampedSink {
             (λ _. self.new ≡ after_put self.old (piece_of bytes.now (D.clock beside.now)))
             (λ _. self.new ≡ after_failing self.old) }
 
-        // It fails at the calls that were to fail, and where it can't grow.
+        // It fails exactly at the calls that were given, and when it runs out of memory.
         ensures fails { IsFailing self.old.calls → IsErr result }
 
         ensures count { self.old.calls.faults ≤ self.new.calls.faults }

@@ -7,12 +7,11 @@ use crate::{Memory, Source, SourceFault};
 use std::alloc::Global;
 use std::marker::Model;
 
-/// With fewer bytes of room behind what is in hand, this is moved to the front before more is taken.
+/// If fewer bytes than this fit after those in hand, the bytes in hand are moved to the front before the next read.
 const LITTLE_ROOM: usize = 4_096;
 
-/// Bytes taken from a source and not yet used, in a buffer of fixed size. Only its making wants
-/// memory. Bytes are moved only where the end of the buffer is near, once for each time that some
-/// were used.
+/// Bytes read from a source and not yet used, in a buffer of fixed size. Memory is allocated only when it is created.
+/// Bytes are moved only near the end of the buffer, at most once each time some were used.
 #[derive(Drop)]
 pub struct Window {
     buffer: Vec<u8>,
@@ -35,7 +34,7 @@ impl Model for Window {
 }
 
 impl Window {
-    /// An empty window for so many bytes.
+    /// An empty window with room for this many bytes.
     pub fn new(alloc: Global, size: usize) -> Result<Window, Memory>
         ensures value { IfOk result (λ window. window ≡ record { bytes = []; size = size }) }
     {
@@ -61,7 +60,7 @@ impl Window {
         self.end - self.start == self.buffer.len()
     }
 
-    /// Takes bytes from a source once, as far as there is room, and says how many.
+    /// Reads from a source once, as far as there is room, and returns how many bytes.
     pub fn take_from<S: Source>(&mut self, source: &mut S) -> Result<usize, SourceFault>
         ensures taken { IfOk result (λ n. (taken : List ℕ) × (length taken ≡ n)
             × Takes (S.left source.old) taken (S.left source.new)
@@ -82,8 +81,8 @@ impl Window {
         Ok(n)
     }
 
-    /// Takes bytes from a source until no room is left or the input has ended. After a fault what
-    /// came before it is there.
+    /// Reads from a source until the window is full or the input has ended. After an error, the bytes read before it
+    /// are in the window.
     pub fn fill_from<S: Source>(&mut self, source: &mut S) -> Result<(), SourceFault>
         ensures taken { (taken : List ℕ) × Takes (S.left source.old) taken (S.left source.new)
             × (self.new ≡ after_taking self.old taken) }
@@ -101,7 +100,7 @@ impl Window {
         Ok(())
     }
 
-    /// Forgets bytes at the front.
+    /// Drops bytes at the front.
     pub fn drop_front(&mut self, n: usize)
         requires in_range { n ≤ length self.old.bytes }
         ensures value { self.new ≡ after_dropping self.old n }
@@ -110,7 +109,7 @@ impl Window {
     }
 }
 
-// Takes bytes into a buffer behind a place.
+// Reads bytes into a buffer from a place on.
 fn take_behind<S: Source>(
     buffer: &mut Vec<u8>,
     at: usize,
@@ -131,8 +130,8 @@ fn take_behind<S: Source>(
     source.take(&mut buffer[at..])
 }
 
-// Moves the bytes between two places to the front, where there is little room behind them, and says
-// where they stand. Bytes that stand at the front already are not moved.
+// Moves the bytes between two places to the front if there is little room after them. Returns their new places. Bytes
+// that are already at the front are not moved.
 fn make_room(buffer: &mut Vec<u8>, start: usize, end: usize) -> (usize, usize)
     requires ordered { start ≤ end }
     requires in_range { end ≤ length buffer.old.items }

@@ -1,4 +1,4 @@
--- What a connection keeps as it goes on, and at its ends.
+-- What a connection keeps between its items, and at its end.
 use Rattle.std.proofs.Common.{◌≡◌, ◌⊎◌, inl, inr, ℕ, ◌+◌, ◌<◌, ◌≤◌, false, List, [], ◌∷◌, ◌++◌, length, Option, refl, sym, ap, subst, ◌∙◌}
 use Rattle.std.proofs.Common.{append_assoc, length-append, arith}
 use Rattle.std.proofs.lemmas.Grind.{flat_map-append}
@@ -14,13 +14,13 @@ use Rattle.ldar_session.specs.Speech.{Speech, AreAnswered, Ends, EndsInput, Ends
 use Rattle.ldar_session.proofs.ItemLemmas.{are_some_more}
 use Rattle.ldar_session.proofs.Stretches.{lacks_group, lacks_none}
 
--- bytes that were taken twice
+-- two reads of bytes
 pub taken_twice : (old middle new : WindowState) (first second : List ℕ) → middle ≡ after_taking old first → new ≡ after_taking middle second
     → new ≡ after_taking old (first ++ second)
 taken_twice old middle new first second one two =
     two ∙ ap (λ (w : WindowState). after_taking w second) one ∙ ap (λ (l : List ℕ). record old { bytes = l }) (append_assoc old.bytes first second)
 
--- what came after the bytes in hand
+-- the bytes read after those in hand
 pub takes_after : (old middle new : Option (List ℕ)) (items window taken window' : List ℕ) → Takes old (items ++ window) middle → Takes middle taken new
     → window' ≡ window ++ taken → Takes old (items ++ window') new
 takes_after old middle new items window taken window' before more is =
@@ -28,20 +28,20 @@ takes_after old middle new items window taken window' before more is =
     subst (λ bytes. Of (items ++ bytes)) (sym is)
     (subst Of (append_assoc items window taken) (takes_more old middle new (items ++ window) taken before more))
 
--- items in front of the bytes in hand come after those before them
+-- items at the front of the bytes in hand come after those served before
 pub items_before : (served more : List Served) (window rest : List ℕ) → window ≡ items_of more ++ rest
     → items_of served ++ window ≡ items_of (served ++ more) ++ rest
 items_before served more window rest is =
     ap (λ l. items_of served ++ l) is ∙ sym (append_assoc (items_of served) (items_of more) rest)
     ∙ ap (λ l. l ++ rest) (sym (flat_map-append (λ (s : Served). s.item) served more))
 
--- a list without elements is empty
+-- a list of length 0 is empty
 pub is_nil : (l : List ℕ) → length l ≡ 0 → l ≡ []
 is_nil [] none = refl
 is_nil (x ∷ l) none = absurd (omega (arith, none))
 
 module _ (p : Speech) where
-  -- an input that gives no item more ends the connection so
+  -- the end of a connection whose input has no further item
   pub ends_input : (ended : Ended) (served : List Served) (rest : List ℕ) (left : Option (List ℕ)) (before : ℕ) → length served < MOST_ANSWERS
       → before ≡ length (items_of served) → AreAnswered p false served → EndsInput p ended before rest left → Ends p ended served rest left []
   ends_input Done served rest left before fewer same are input = inl (record { said = refl; fewer = fewer; are = are; input = input })
@@ -54,13 +54,13 @@ module _ (p : Speech) where
   ends_input Memory served rest left before fewer same are input =
       record { are = inl (record { closing = false; are = are; most = omega (arith, fewer) }); lacks = lacks_none served }
 
-  -- a write fault, and want of memory, end it
+  -- the end of a connection by a write error or out of memory
   ends_fault : (ended : Ended) (served : List Served) (rest : List ℕ) (left : Option (List ℕ)) (unsaid : List ℕ)
       → (ended ≡ WriteFault) ⊎ (ended ≡ Memory) → EndsUnsaid p served unsaid → Ends p ended served rest left unsaid
   ends_fault ended served rest left unsaid (inl is) ends = subst (λ e. Ends p e served rest left unsaid) (sym is) ends
   ends_fault ended served rest left unsaid (inr is) ends = subst (λ e. Ends p e served rest left unsaid) (sym is) ends
 
-  -- items of which something may be unsaid, or bytes that are refused, end it after items that stay open
+  -- the end of a connection by items with text that may not be written, or by refused bytes, after items that leave it open
   pub ends_part : (ended : Ended) (served more : List Served) (rest : List ℕ) (left : Option (List ℕ)) (put : List Piece) (unsaid : List ℕ) (before most : ℕ)
       → most ≤ 16 → length served + most ≤ MOST_ANSWERS → length served < MOST_ANSWERS → before ≡ length (items_of served) → AreAnswered p false served
       → texts_of more ≡ bytes_of put ++ unsaid → IsPartProgress p most ended more ⊎ IsRefusal p before ended more unsaid

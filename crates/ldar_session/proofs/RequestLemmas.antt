@@ -1,4 +1,4 @@
--- What is known of the request at the front, and what it asks.
+-- What is known about the request at the front, and what it asks for.
 use Rattle.std.proofs.Common.{◌≡◌, ◌⊎◌, inl, inr, ℕ, ◌+◌, ◌-◌, ◌<◌, ◌≤◌, Bool, true, false, cond, not, nat_lt, List, [], ◌++◌, length, take, drop, min}
 use Rattle.std.proofs.Common.{get_or, Option, Some, None, Result, Ok, Err, codes}
 use Rattle.std.proofs.Common.{refl, sym, ap, subst, ◌∙◌, length-take, length-append, arith}
@@ -31,32 +31,32 @@ use Rattle.ldar_session.specs.Requests.{AsksAs, SaysWhy, HasNoneWithin, Knows, r
 use Rattle.ldar_session.specs.Speech.{NoneJoins}
 use Rattle.ldar_session.proofs.BatchLemmas.{is_zero}
 
--- ---- what is known of the head
+-- ---- what is known about the head
 
--- a request is not longer than the longest
+-- a request is at most as long as the longest one
 begun_request_fits : (bytes : List ℕ) (head body : ℕ) (closing : Bool) → BeginsRequest bytes head body closing → head + body ≤ 270_336
 begun_request_fits bytes head body closing begins =
     let most = body_length_le begins.0.method (pairs_of begins.0) body begins.1.length in
     omega (arith, most, begins.1.ends.in_range.1)
 
--- where no empty line ends within the first bytes, none does as more come
+-- if no empty line ends within the first bytes, none does when more arrive
 none_within_more : (bytes more : List ℕ) (n : ℕ) → n ≤ length bytes → HasNoneWithin bytes n → HasNoneWithin (bytes ++ more) n
 none_within_more bytes more n inside none k fits there =
     none k fits (OccursAt-same (bytes ++ more) bytes empty_line k (length bytes) (λ j lt. sym (SameBefore-append bytes more j lt))
     (omega (arith, fits, inside)) (omega (arith, fits, inside)) there)
 
--- where no head has ended, no empty line has
+-- if no head has ended, no empty line has
 none_yet : (bytes : List ℕ) → HasNoHeadYet bytes → HasNoneWithin bytes (length bytes)
 none_yet bytes yet k fits there = yet.endless k (omega (arith, fits, yet.short)) there
 
--- where no empty line is among few bytes, no head has ended
+-- if a few bytes have no empty line, no head has ended
 pub no_head_yet : (bytes : List ℕ) → length bytes < 8_192 → HasNoneWithin bytes (length bytes) → HasNoHeadYet bytes
 no_head_yet bytes short none = record {
   endless = λ k fits there. none k there.fits there;
   short = short;
 }
 
--- what an empty line can be in that ends after what was searched
+-- the bytes that an empty line can be in if it ends after those searched
 pub none_after : (bytes rest : List ℕ) (searched : ℕ) → rest ≡ drop (searched - 3) bytes → searched ≤ length bytes → HasNoneWithin bytes searched
     → Nowhere (OccursAt rest empty_line) 0 (length rest + 1) → HasNoneWithin bytes (length bytes)
 none_after bytes rest searched is inside none nowhere k fits there =
@@ -74,37 +74,37 @@ none_after bytes rest searched is inside none nowhere k fits there =
       | inr early ↦ none k (omega (arith, early)) there
     ]
 
--- more is awaited of fewer bytes than have room
+-- bytes that await more fit into the buffer
 pub awaited_fit : (bytes : List ℕ) → IsCut bytes More → length bytes < 274_432
 awaited_fit bytes (inl yet) = omega (arith, yet.short)
 awaited_fit bytes (inr lacks) =
     omega (arith, lacks.short, begun_request_fits bytes lacks.head lacks.body lacks.closing lacks.begins)
 
--- of bytes of which nothing was searched nothing is known
+-- before a search, nothing is known about the bytes
 pub knows_nothing : (bytes : List ℕ) → Knows Unended 0 bytes
 knows_nothing bytes = (omega arith, λ k fits there. absurd (omega (arith, fits)))
 
--- what is known of a head that has not ended holds as more come
+-- what is known about a head that has not ended still holds when more bytes arrive
 pub unended_knows : (bytes more : List ℕ) → HasNoHeadYet bytes → Knows Unended (length bytes) (bytes ++ more)
 unended_knows bytes more yet = (
   omega (arith, length-append bytes more),
   none_within_more bytes more (length bytes) (omega arith) (none_yet bytes yet),
 )
 
--- of a request whose body is missing more is awaited
+-- a request without its whole body awaits more
 pub lacks_body : (bytes : List ℕ) (extent : Extent) → IsExtent bytes extent → length bytes < extent.head + extent.body → IsCut bytes More
 lacks_body bytes extent is short =
     inr (record { head = extent.head; body = extent.body; closing = extent.closing; begins = (is.h, is.begins); short = short })
 
--- ---- what is asked
+-- ---- what a request asks for
 
--- a whole request asks what it means
+-- a whole request asks for what it means
 pub extent_asks : (bytes : List ℕ) (extent : Extent) (request : Request) → IsExtent bytes extent → extent.head + extent.body ≤ length bytes
     → Means (take (extent.head + extent.body) bytes) (Asks request) → AsksAs extent.closing (take (extent.head + extent.body) bytes) request
 extent_asks bytes extent request is inside means =
     record { whole = whole_front bytes extent.head extent.body extent.closing (is.h, is.begins) inside; means = means }
 
--- .. or says why it asks nothing
+-- a whole request that is not passed on has its reason
 pub extent_says : (bytes : List ℕ) (extent : Extent) (why : Refusal) (text : List ℕ) → IsExtent bytes extent → extent.head + extent.body ≤ length bytes
     → Means (take (extent.head + extent.body) bytes) (Not why) → text ≡ answer_bytes (AsksNothing why) extent.closing
     → SaysWhy extent.closing (take (extent.head + extent.body) bytes) text
@@ -122,7 +122,7 @@ same_asked bytes extent asked at means used other within is =
     let whole : used ≡ n = omega (arith, long, is.whole, same.0, same.1) in
     one_meaning_with (take n bytes) asked other means (subst (λ n. Means (take n bytes) other) whole is)
 
--- if it asks for no batch of a handheld other than 0, none joins
+-- if it is no batch of a handheld other than 0, no batch joins
 pub none_joins_alone : (bytes : List ℕ) (extent : Extent) (request : Request) → IsExtent bytes extent
     → Means (take (extent.head + extent.body) bytes) (Asks request) → ¬ (IsFromHandheld request) → NoneJoins request_speech bytes
 none_joins_alone bytes extent request at means alone used closing batch within is =
@@ -130,18 +130,18 @@ none_joins_alone bytes extent request at means alone used closing batch within i
     let request_is : request ≡ Sync batch = cc same in
     is_zero batch.handheld (subst (λ r. ¬ (IsFromHandheld r)) request_is alone)
 
--- .. nor if it asks nothing
+-- if it is not passed on, no batch joins
 pub none_joins_unasked : (bytes : List ℕ) (extent : Extent) (why : Refusal) → IsExtent bytes extent
     → Means (take (extent.head + extent.body) bytes) (Not why) → NoneJoins request_speech bytes
 none_joins_unasked bytes extent why at means used closing batch within is =
     let same = same_asked bytes extent (Not why) at means used (Asks (Sync batch)) within is.means in absurd cc
 
--- while more is awaited, none joins
+-- while more is awaited, no batch joins
 pub none_joins_more : (bytes : List ℕ) → IsCut bytes More → NoneJoins request_speech bytes
 none_joins_more bytes more used closing batch within is =
     absurd ((more_is_none_with bytes more).0 used within ((items_mean_with (take used bytes)).1 (Asks (Sync batch), is.means)))
 
--- if the bytes are refused, none joins
+-- if the bytes are refused, no batch joins
 pub none_joins_refused : (bytes : List ℕ) (status : ℕ) → Refuses bytes status → NoneJoins request_speech bytes
 none_joins_refused bytes status refused used closing batch within is =
     let none = subst (λ (l : List ℕ). (n : ℕ) → n ≤ length l → ¬ (IsItem (take n l))) (append-nil bytes) (refused_is_none_with bytes [] (status, refused)) in
@@ -149,12 +149,12 @@ none_joins_refused bytes status refused used closing batch within is =
 
 -- ---- statuses
 
--- a test that refuses does so with its status, or what follows does
+-- a test refuses with its status, or the next one decides
 either : (b : Bool) (says status : ℕ) (r : Result ℕ ℕ) → cond b (Err says) r ≡ Err status → (says ≡ status) ⊎ (r ≡ Err status)
 either true says status r e = inl cc
 either false says status r e = inr e
 
--- a length that is stated is refused with 400 or 413
+-- a stated length is refused with 400 or 413
 stated_status : (value : List ℕ) (status : ℕ) → stated_length value ≡ Err status → IsRefusalStatus status
 stated_status value status e =
     elim (either (not (is_number value)) 400 status _ e) [
@@ -165,7 +165,7 @@ stated_status value status e =
       ]
     ]
 
--- .. and where none is stated, with 411
+-- without a stated length it is refused with 411
 length_status : (method : List ℕ) (value : Option (List ℕ)) (status : ℕ) → length_by method value ≡ Err status → IsRefusalStatus status
 length_status method None status e =
     elim (either (is_post method) 411 status (Ok 0) e) [
@@ -174,7 +174,7 @@ length_status method None status e =
     ]
 length_status method (Some value) status e = stated_status value status e
 
--- fields that rule out a body do so with one of the statuses
+-- fields that do not allow a body are refused with one of the statuses
 body_status : (method : List ℕ) (fields : List Pair) (status : ℕ) → body_length method fields ≡ Err status → IsRefusalStatus status
 body_status method fields status e =
     elim (either (nat_lt 0 (count_named (codes "Transfer-Encoding") fields)) 501 status _ e) [

@@ -1,4 +1,4 @@
--- Bytes are cut into requests in one way.
+-- Bytes are cut into requests in only one way.
 use Rattle.std.proofs.Common.{◌≡◌, ℕ, zero, suc, inl, inr, Bool, true, false, List, [], ◌∷◌, ◌++◌, length, map, take, Option, Some, None}
 use Rattle.std.proofs.Common.{refl, sym, ap, subst, ◌∙◌, append_assoc, length-append, arith}
 use Rattle.std.specs.List.{flat_map, AllByRecursion}
@@ -20,25 +20,25 @@ whole_by : (closing : Bool) (item text : List ℕ) (turn : Option Turn)
 whole_by closing item text None is = is.whole
 whole_by closing item text (Some turn) is = is.0.whole
 
--- .. also where it is the item of what was served
+-- the item of what was served is a request, after which the connection closes or not
 whole_in : (closing : Bool) (s : Served) → IsAnswered request_speech closing s → IsWhole s.item closing
 whole_in closing s is = whole_by closing s.item s.text s.turn is
 
--- .. so it is a request
+-- the item of what was served is a request
 is_item : (closing : Bool) (s : Served) → IsAnswered request_speech closing s → IsItem s.item
 unfolding IsItem
 is_item closing s is = (closing, whole_in closing s is)
 
--- .. and each is
+-- each item of what was served is a request
 are_items : (closing : Bool) (served : List Served) → AreRequests closing served → AllByRecursion IsItem (map (λ (s : Served). s.item) served)
 are_items closing [] are = tt
 are_items closing (s ∷ served) are = (is_item _ s are.0, are_items closing served are.1)
 
--- a request closes the connection or does not
+-- a request closes the connection or not
 whole_unique : (item : List ℕ) (c d : Bool) → IsWhole item c → IsWhole item d → c ≡ d
 whole_unique item c d a b = (Begins-unique item a.head a.body c a.begins.0 b.head b.body d b.begins.0 a.begins.1 b.begins.1).2
 
--- each whole request that the bytes begin with was answered
+-- each whole request at the front of the bytes was answered
 pub every_request : (served : List Served) (rest : List ℕ) (requests : List (List ℕ)) (more : List ℕ) → AreRequests false served → HasNoItem rest
     → AllByRecursion IsItem requests → items_of served ++ rest ≡ flat_map (λ bytes. bytes) requests ++ more
     → take (length requests) (map (λ s. s.item) served) ≡ requests
@@ -46,7 +46,7 @@ every_request served rest requests more are none all same =
     cut_in_order IsItem no_proper_front_with (map (λ (s : Served). s.item) served) rest requests more (are_items false served are) none all
     (ap (λ l. l ++ rest) (sym (items_of-items served)) ∙ same)
 
--- those that were answered are the first of those that the bytes begin with
+-- the answered requests are the first of those at the front of the bytes
 pub in_order : (closing : Bool) (served : List Served) (rest : List ℕ) (requests : List (List ℕ)) (more : List ℕ) → AreRequests closing served
     → AllByRecursion IsItem requests → items_of served ++ rest ≡ flat_map (λ bytes. bytes) requests ++ more
     → take (length requests) (map (λ s. s.item) served) ≡ take (length served) requests
@@ -54,13 +54,13 @@ in_order closing served rest requests more are all same =
     cut_both IsItem no_proper_front_with served rest requests more (are_items closing served are) all
     (ap (λ l. l ++ rest) (sym (items_of-items served)) ∙ same)
 
--- no request stands in front of these bytes
+-- no request is at the front of these bytes
 none_stands : (rest more : List ℕ) (closing : Bool) (s : Served) → HasNoItem rest → IsAnswered request_speech closing s → rest ≡ s.item ++ more → ⊥
 none_stands rest more closing s none is same =
     let front : s.item ≡ take (length s.item) rest = sym (take-append_seam s.item more) ∙ ap (take (length s.item)) (sym same) in
     none (length s.item) (omega (arith, ap length same, length-append s.item more)) (subst (λ (l : List ℕ). IsItem l) front (is_item closing s is))
 
--- two streams of the same bytes that begin with a request have the same
+-- two streams of the same bytes that begin with a request begin with the same one
 same_streams : (closing last : Bool) (s t : Served) (served other : List Served) (rest left : List ℕ)
     → AreRequests closing (s ∷ served) → AreRequests last (t ∷ other) → (closing ≡ false → HasNoItem rest) → (last ≡ false → HasNoItem left)
     → s.item ++ (items_of served ++ rest) ≡ t.item ++ (items_of other ++ left)
@@ -86,7 +86,7 @@ same_streams closing last s t (v ∷ served) (u ∷ other) rest left are are' no
     let behind = sym (append_assoc v.item (items_of served) rest) ∙ same_behind s.item t.item one two first same ∙ append_assoc u.item (items_of other) left in
     rw (first, same_streams closing last v u served other rest left are.1 are'.1 none none' behind) refl
 
--- a stream closes or not, and where it does not, no request stands behind it
+-- a stream closes or not; if it does not, no request follows it
 stream_parts : (served : List Served) (rest : List ℕ) → IsStream served rest
     → (closing : Bool) × AreRequests closing served × (closing ≡ false → HasNoItem rest) × (served ≡ [] → HasNoItem rest)
 stream_parts served rest (inl stays) = (false, stays.0, λ _. stays.1, λ _. stays.1)
@@ -109,7 +109,7 @@ same_requests (s ∷ served) (t ∷ other) rest left is is' same =
     same_streams one.0 two.0 s t served other rest left one.1 two.1 one.2 two.2
     (sym (append_assoc s.item (items_of served) rest) ∙ same ∙ append_assoc t.item (items_of other) left)
 
--- the bytes alone say which requests were answered, and what is left over
+-- only the bytes decide which requests were answered, and what is left over
 pub one_stream : (served other : List Served) (rest left : List ℕ) → IsStream served rest → IsStream other left
     → items_of served ++ rest ≡ items_of other ++ left
     → (map (λ s. s.item) served ≡ map (λ s. s.item) other) × (rest ≡ left)
@@ -118,7 +118,7 @@ one_stream served other rest left is is' same =
     let bytes : items_of served ≡ items_of other = items_of-items served ∙ ap (flat_map (λ (l : List ℕ). l)) are ∙ sym (items_of-items other) in
     (are, same_behind (items_of served) (items_of other) rest left bytes same)
 
--- ---- what is left
+-- ---- unanswered requests
 
 -- no request is empty
 none_in_nothing : HasNoItem []

@@ -1,4 +1,4 @@
--- Bytes are cut into items in one way, and so into batches.
+-- Bytes are cut into items in only one way, and so into batches.
 use Rattle.std.proofs.Common.{◌≡◌, ℕ, ◌≤◌, List, [], ◌∷◌, ◌++◌, length, map, take, drop, Option, Some, None, MatchOption, inl, inr}
 use Rattle.std.proofs.Common.{refl, sym, ap, subst, ◌∙◌, append_assoc, length-append, arith}
 use Rattle.std.specs.List.{flat_map, AllByRecursion}
@@ -17,7 +17,7 @@ use Rattle.ldar_session.proofs.ItemLemmas.{items_of-map}
 
 -- ---- spellings
 
--- what asks for something spells a batch
+-- an item with a request spells a batch
 asks_spelling : (item : List ℕ) (request : Request) → Asks item request → IsSpelling item
 asks_spelling item (Sync batch) asks = (batch, asks)
 asks_spelling item (Due unit day) asks = absurd asks
@@ -27,7 +27,7 @@ asks_spelling item (Route unit day stops) asks = absurd asks
 asks_spelling item (Percent unit quarter day) asks = absurd asks
 asks_spelling item (ReportView unit half day) asks = absurd asks
 
--- .. also where it is the item of a turn
+-- the item of a turn spells a batch
 asked_spelling : (item text : List ℕ) (turn : Option Turn) → MatchOption turn ⊥ (λ t. Asks item t.request × (text ≡ reply_text t.reply))
     → IsSpelling item
 asked_spelling item text None is = absurd is
@@ -38,15 +38,15 @@ pub are_spellings : (served : List Served) → AllByRecursion IsBatch served →
 are_spellings [] each = tt
 are_spellings (s ∷ served) each = (asked_spelling s.item s.text s.turn each.0, are_spellings served each.1)
 
--- ---- one way to cut
+-- ---- only one way to cut
 
--- what stands behind the same front is the same
+-- the rests after equal prefixes are equal
 pub same_behind : (a b more more' : List ℕ) → a ≡ b → a ++ more ≡ b ++ more' → more ≡ more'
 same_behind a b more more' front same =
     sym (drop-append_seam a more) ∙ ap (drop (length a)) (same ∙ ap (λ l. l ++ more') (sym front)) ∙ drop-append_seam a more'
 
 module _ (P : List ℕ → Type 0) (no_front : (a more : List ℕ) → P a → P (a ++ more) → more ≡ []) where
-  -- of two items in front of the same bytes, the one that is no longer is the other
+  -- of two items at the front of the same bytes, the one that is not longer is the other one
   same_shorter : (a b more more' : List ℕ) → P a → P b → a ++ more ≡ b ++ more' → length a ≤ length b → a ≡ b
   same_shorter a b more more' is_a is_b same le =
       let front : a ≡ take (length a) b = sym (take-append_seam a more) ∙ ap (take (length a)) same ∙ take-append-le (length a) b more' le in
@@ -54,7 +54,7 @@ module _ (P : List ℕ → Type 0) (no_front : (a more : List ℕ) → P a → P
       let none : drop (length a) b ≡ [] = no_front a (drop (length a) b) is_a (subst P whole is_b) in
       sym (whole ∙ ap (λ l. a ++ l) none ∙ append-nil a)
 
-  -- two items in front of the same bytes are one
+  -- two items at the front of the same bytes are equal
   pub same_front : (a b more more' : List ℕ) → P a → P b → a ++ more ≡ b ++ more' → a ≡ b
   same_front a b more more' is_a is_b same =
       elim (cases_lt (length a) (length b)) [
@@ -62,7 +62,7 @@ module _ (P : List ℕ → Type 0) (no_front : (a more : List ℕ) → P a → P
         | inr ge ↦ sym (same_shorter b a more' more is_b is_a (sym same) (omega arith))
       ]
 
-  -- where no item stands in front of the rest, the items that the bytes begin with are the first of those cut off
+  -- if no item is at the front of the rest, the items at the front of the bytes are the first of those cut off
   pub cut_in_order : (items : List (List ℕ)) (rest : List ℕ) (others : List (List ℕ)) (more : List ℕ) → AllByRecursion P items
       → ((n : ℕ) → n ≤ length rest → ¬ (P (take n rest))) → AllByRecursion P others
       → flat_map (λ bytes. bytes) items ++ rest ≡ flat_map (λ bytes. bytes) others ++ more → take (length others) items ≡ others
@@ -79,7 +79,7 @@ module _ (P : List ℕ → Type 0) (no_front : (a more : List ℕ) → P a → P
       let first = same_front item other (one ++ rest) (two ++ more) are.0 all.0 whole in
       rw (first, cut_in_order items rest others more are.1 none all.1 (same_behind item other (one ++ rest) (two ++ more) first whole)) refl
 
-  -- of items that the same bytes begin with, as many as both have are the same
+  -- two lists of items at the front of the same bytes agree as far as both go
   pub cut_both : (served : List Served) (rest : List ℕ) (others : List (List ℕ)) (more : List ℕ) → AllByRecursion P (map (λ (s : Served). s.item) served)
       → AllByRecursion P others → flat_map (λ bytes. bytes) (map (λ (s : Served). s.item) served) ++ rest ≡ flat_map (λ bytes. bytes) others ++ more
       → take (length others) (map (λ s. s.item) served) ≡ take (length served) others
@@ -93,7 +93,7 @@ module _ (P : List ℕ → Type 0) (no_front : (a more : List ℕ) → P a → P
       let first = same_front s.item other (one ++ rest) (two ++ more) are.0 all.0 whole in
       rw (first, cut_both served rest others more are.1 all.1 (same_behind s.item other (one ++ rest) (two ++ more) first whole)) refl
 
--- no spelling is a proper front of another
+-- no spelling is a proper prefix of another
 no_spelling_front : (a more : List ℕ) → IsSpelling a → IsSpelling (a ++ more) → more ≡ []
 no_spelling_front a more is longer = no_proper_front a more is.0 longer.0 is.1 longer.1
 
@@ -103,7 +103,7 @@ no_spelling_front a more is longer = no_proper_front a more is.0 longer.0 is.1 l
 pub items_of-items : (served : List Served) → items_of served ≡ flat_map (λ bytes. bytes) (map (λ (s : Served). s.item) served)
 items_of-items served = items_of-map served (map (λ (s : Served). s.item) served) refl
 
--- each whole batch that the bytes begin with was served
+-- each whole batch at the front of the bytes was served
 pub every_batch : (served : List Served) (rest : List ℕ) (batches : List (List ℕ)) (more : List ℕ) → AllByRecursion IsBatch served → HasNoBatch rest
     → AllByRecursion IsSpelling batches → items_of served ++ rest ≡ flat_map (λ bytes. bytes) batches ++ more
     → take (length batches) (map (λ s. s.item) served) ≡ batches
@@ -112,7 +112,7 @@ every_batch served rest batches more each none all same =
     (λ n within is. none n is.0 is.1) all
     (ap (λ l. l ++ rest) (sym (items_of-items served)) ∙ same)
 
--- the bytes alone say what was served
+-- only the bytes decide what was served
 pub one_cut : (served other : List Served) (rest left : List ℕ) → AllByRecursion IsBatch served → AllByRecursion IsBatch other → HasNoBatch rest
     → HasNoBatch left → items_of served ++ rest ≡ items_of other ++ left
     → (map (λ s. s.item) served ≡ map (λ s. s.item) other) × (rest ≡ left)

@@ -1,4 +1,4 @@
--- Stretches of a connection: none, one call, and two that join. What an item is does not matter.
+-- Stretches of a connection: an empty one, one call, and two consecutive ones. What an item is does not matter.
 use Rattle.std.proofs.Common.{◌≡◌, ℕ, ◌≤◌, List, [], ◌∷◌, ◌++◌, length, take, Option, None, All, refl, sym, ap, subst, ◌∙◌, append_assoc, length-append, arith}
 use Rattle.std.specs.List.{AllByRecursion}
 use Rattle.std.specs.Option.{option_to_list}
@@ -12,7 +12,7 @@ use Rattle.ldar_ports.proofs.PutsLemmas.{puts_none, puts_more}
 use Rattle.ldar_session.specs.Served.{Served, Stretch, LacksOneGroup, HasItsClock, Stamped, texts_of, turns_of}
 use Rattle.ldar_session.proofs.StampLemmas.{all_parts, length-stamps_of, stamped_more, stamped_behind, unasked_since}
 
--- where all was said to the first items, only what is said to a group after them may be unsaid
+-- if all text was written to the first items, only text to a group after them may not be written
 pub lacks_group : (first more : List Served) (put : List Piece) (unsaid : List ℕ) → length more ≤ 16 → texts_of more ≡ bytes_of put ++ unsaid
     → LacksOneGroup (first ++ more) unsaid
 lacks_group first more put unsaid fits said = record {
@@ -23,7 +23,7 @@ lacks_group first more put unsaid fits said = record {
   lacks = omega (arith, ap length said, length-append (bytes_of put) unsaid);
 }
 
--- where nothing is unsaid, nothing is
+-- if all text was written, none is missing
 pub lacks_none : (served : List Served) → LacksOneGroup served []
 lacks_none served = record { before = served; last = []; served_are = sym (append-nil served); group = omega arith; lacks = omega arith }
 
@@ -42,7 +42,7 @@ module _ {O : Type 0} (IsItem : Served → Type 0) (led : O → List Call → O 
     stamped = λ own. tt;
   }
 
-  -- one call, and behind it pieces that say what its turns were answered
+  -- one call, followed by pieces with the answers to its turns
   unfoldable pub stretch_call : (old new : O) (call : Call) (pieces pieces' : Option (List Piece)) (put : List Piece) (served : List Served) (unsaid : List ℕ) (clock : ℕ)
       → led old (call ∷ []) new → turns_of served ≡ call.turns → AllByRecursion IsItem served
       → Puts pieces put pieces' → texts_of served ≡ bytes_of put ++ unsaid → All (IsStamped clock) put → call.end.clock ≤ clock
@@ -58,7 +58,7 @@ module _ {O : Type 0} (IsItem : Served → Type 0) (led : O → List Call → O 
     stamped = λ own. stamped_behind served call.turns call.end.clock clock put are late stamped own.0;
   }
 
-  -- one call of which nothing is said
+  -- one call without written text
   unfoldable pub stretch_unsaid : (old new : O) (call : Call) (pieces : Option (List Piece)) (served : List Served)
       → led old (call ∷ []) new → turns_of served ≡ call.turns → AllByRecursion IsItem served
       → Stretch IsItem led old new pieces pieces served (texts_of served)
@@ -66,7 +66,7 @@ module _ {O : Type 0} (IsItem : Served → Type 0) (led : O → List Call → O 
       stretch_call old new call pieces pieces [] served (texts_of served) call.end.clock run are each (puts_none pieces) refl
       (All-nil (IsStamped call.end.clock)) (omega arith)
 
-  -- no call, and pieces that say a front of what is said to an item that asked nothing
+  -- no call, and pieces with a prefix of the answer to an item that was not passed on
   unfoldable pub stretch_put : ((office : O) → led office [] office) → (office : O) (pieces pieces' : Option (List Piece)) (put : List Piece)
       → (s : Served) (unsaid : List ℕ)
       → s.turn ≡ None → IsItem s → Puts pieces put pieces' → s.text ≡ bytes_of put ++ unsaid
@@ -82,7 +82,7 @@ module _ {O : Type 0} (IsItem : Served → Type 0) (led : O → List Call → O 
     stamped = λ own. (unasked_since s (take (length s.text) (stamps_of put)) unasked, tt);
   }
 
-  -- a stretch whose items are of another kind, too
+  -- a stretch whose items are of another kind
   abbrev pub stretch_of : (IsOther : Served → Type 0) (old new : O) (pieces pieces' : Option (List Piece)) (served : List Served) (unsaid : List ℕ)
       → Stretch IsItem led old new pieces pieces' served unsaid → AllByRecursion IsOther served → Stretch IsOther led old new pieces pieces' served unsaid
   stretch_of IsOther old new pieces pieces' served unsaid stretch each = record {
@@ -96,7 +96,7 @@ module _ {O : Type 0} (IsItem : Served → Type 0) (led : O → List Call → O 
     stamped = stretch.stamped;
   }
 
-  -- a stretch of which all is said, and one behind it
+  -- a stretch with all text written, and one after it
   unfoldable pub stretch_more : ((a b c : O) (first second : List Call) → led a first b → led b second c → led a (first ++ second) c)
       → (old middle new : O) (pieces pieces' pieces'' : Option (List Piece)) (first second : List Served) (unsaid : List ℕ)
       → Stretch IsItem led old middle pieces pieces' first [] → Stretch IsItem led middle new pieces' pieces'' second unsaid

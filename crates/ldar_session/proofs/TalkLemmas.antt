@@ -1,4 +1,4 @@
--- Stretches of which no stamp is past the clock at their end: none, one call, and two that join.
+-- Stretches without a stamp past the clock at their end: an empty one, one call, and two consecutive ones.
 use Rattle.std.proofs.Common.{◌≡◌, ℕ, ◌≤◌, Bool, List, [], ◌∷◌, ◌++◌, length, take, drop, Option, None, All, inl, inr, refl, sym, ap, subst, ◌∙◌, arith}
 use Rattle.std.specs.List.{AllByRecursion}
 use Rattle.std.proofs.lemmas.List.{append-nil, take-append-drop}
@@ -33,7 +33,7 @@ module _ {O : Type 0} (IsItem : Served → Type 0) (led : O → List Call → O 
   unfolding stretch_none
   talk_none stays office pieces = record { stretch = stretch_none IsItem led stays office pieces; within = λ never. tt }
 
-  -- one call, and after it pieces that say what its turns were answered
+  -- one call, followed by pieces with the answers to its turns
   pub talk_call : (old new : O) (call : Call) (pieces pieces' : Option (List Piece)) (put : List Piece) (served : List Served) (unsaid : List ℕ) (clock : ℕ)
       → led old (call ∷ []) new → turns_of served ≡ call.turns → AllByRecursion IsItem served
       → Puts pieces put pieces' → texts_of served ≡ bytes_of put ++ unsaid → All (IsStamped clock) put → call.end.clock ≤ clock → clock ≤ clock_of new
@@ -44,7 +44,7 @@ module _ {O : Type 0} (IsItem : Served → Type 0) (led : O → List Call → O 
     within = λ never. stamp_not_past put clock (clock_of new) stamped le;
   }
 
-  -- one call of which nothing is said
+  -- one call without written text
   pub talk_unsaid : (old new : O) (call : Call) (pieces : Option (List Piece)) (served : List Served)
       → led old (call ∷ []) new → turns_of served ≡ call.turns → AllByRecursion IsItem served
       → Talk IsItem led clock_of old new pieces pieces served (texts_of served)
@@ -52,7 +52,7 @@ module _ {O : Type 0} (IsItem : Served → Type 0) (led : O → List Call → O 
   talk_unsaid old new call pieces served run are each =
       record { stretch = stretch_unsaid IsItem led old new call pieces served run are each; within = λ never. tt }
 
-  -- no call, and pieces that say a front of what is said to an item that asked nothing
+  -- no call, and pieces with a prefix of the answer to an item that was not passed on
   pub talk_put : ((office : O) → led office [] office) → (office : O) (pieces pieces' : Option (List Piece)) (put : List Piece)
       → (s : Served) (unsaid : List ℕ) (clock : ℕ) → s.turn ≡ None → IsItem s → Puts pieces put pieces' → s.text ≡ bytes_of put ++ unsaid
       → All (IsStamped clock) put → clock ≤ clock_of office → Talk IsItem led clock_of office office pieces pieces' (s ∷ []) unsaid
@@ -62,7 +62,7 @@ module _ {O : Type 0} (IsItem : Served → Type 0) (led : O → List Call → O 
     within = λ never. stamp_not_past put clock (clock_of office) stamped le;
   }
 
-  -- a stretch of which all is said, and one after it
+  -- a stretch with all text written, and one after it
   pub talk_more : ((a b c : O) (first second : List Call) → led a first b → led b second c → led a (first ++ second) c)
       → (old middle new : O) (pieces pieces' pieces'' : Option (List Piece)) (first second : List Served) (unsaid : List ℕ)
       → Talk IsItem led clock_of old middle pieces pieces' first [] → Talk IsItem led clock_of middle new pieces' pieces'' second unsaid
@@ -80,7 +80,7 @@ module _ {O : Type 0} (IsItem : Served → Type 0) (led : O → List Call → O 
             (two.within never));
       }
 
--- items that were asked in one call, and pieces that say a front of their answers
+-- items of one call, and pieces with a prefix of their answers
 pub talk_group : {O : Type 0} (p : Speech) (led : O → List Call → O → Type 0) (clock_of : O → ℕ) (old new : O) (call : Call) (closing : Bool)
     (items : List (List ℕ)) (pieces pieces' : Option (List Piece)) (put : List Piece) (unsaid : List ℕ) (clock : ℕ) → AskedEach p closing items call.turns
     → led old (call ∷ []) new → Puts pieces put pieces' → answers_text p closing (replies_of call) ≡ bytes_of put ++ unsaid → All (IsStamped clock) put
@@ -92,14 +92,14 @@ talk_group p led clock_of old new call closing items pieces pieces' put unsaid c
     (have_answers p closing served (are_answered p closing items call.turns asked)) puts (texts_of-served_in p closing items call.turns asked ∙ said)
     stamped late le
 
--- an item that asks nothing, and its answer
+-- an item that is not passed on, and its answer
 abbrev pub unasked_of : List ℕ → List ℕ → Served
 unasked_of item text = record { item = item; turn = None; text = text }
 
 module _ {O : Type 0} (p : Speech) (led : O → List Call → O → Type 0) (clock_of : O → ℕ) (stays : (office : O) → led office [] office) (office : O)
     (bytes : List ℕ) (pieces pieces' : Option (List Piece)) (put : List Piece) (unsaid shown : List ℕ) (clock : ℕ) (puts : Puts pieces put pieces')
     (said : shown ≡ bytes_of put ++ unsaid) (stamped : All (IsStamped clock) put) (le : clock ≤ clock_of office) where
-  -- the answer to an item at the front that asks nothing, as far as it is said
+  -- the answer to an item at the front that is not passed on, as far as it was written
   pub talk_says : (unasked : Unasked) → IsUnasked p bytes unasked → shown ≡ unasked.text.items
       → Talk (HasAnswer p) led clock_of office office pieces pieces' (unasked_of (take unasked.used bytes) unasked.text.items ∷ []) unsaid
       × (bytes ≡ items_of (unasked_of (take unasked.used bytes) unasked.text.items ∷ []) ++ drop unasked.used bytes)
@@ -112,7 +112,7 @@ module _ {O : Type 0} (p : Speech) (led : O → List Call → O → Type 0) (clo
         sym (take-append-drop n bytes) ∙ ap (λ l. l ++ drop n bytes) (sym (append-nil item)),
       )
 
-  -- .. and that to bytes that are refused
+  -- the answer to refused bytes, as far as it was written
   pub talk_away : (text : List ℕ) → p.away bytes text → shown ≡ text
       → Talk (HasAnswer p) led clock_of office office pieces pieces' (unasked_of bytes text ∷ []) unsaid
       × (bytes ≡ items_of (unasked_of bytes text ∷ []) ++ []) × IsAway p (unasked_of bytes text)

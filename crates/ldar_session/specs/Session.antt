@@ -1,4 +1,4 @@
--- How a connection of HTTP requests ends.
+-- The end of a connection of HTTP requests.
 use Rattle.std.specs.Prelude.{◌≡◌, ℕ, List, [], ◌∷◌, ◌++◌, length, Option}
 use Rattle.ldar_session.specs.declared.ended.TheConstants.{MOST_ANSWERS}
 use Rattle.ldar_session.specs.declared.ended.Ended.{Ended}
@@ -7,12 +7,13 @@ use Rattle.ldar_session.specs.Requests.{IsStream, request_speech}
 use Rattle.ldar_session.specs.Served.{Served, items_of}
 use Rattle.ldar_session.specs.Speech as speech
 
--- how it ended, by the requests that were served, the bytes in hand after them, those left in the source, and what is unsaid
+-- how it ended, from the requests that were served, the bytes in hand after them, the bytes unread in the source, and the text that was not
+-- written
 abbrev pub Ends : Ended → List Served → List ℕ → Option (List ℕ) → List ℕ → Type 0
 Ends ended served rest left unsaid = speech.Ends request_speech ended served rest left unsaid
 
--- No whole request was left unanswered: none is in front of the bytes after those answered, unless the last closes the connection, or the most were
--- answered; or there was a write fault or no memory, of which nothing is said here.
+-- No whole request is left unanswered: none is at the front of the bytes after the answered ones, unless the last one closes the
+-- connection, or the maximum number was answered. For a write error and for out of memory it states nothing.
 abbrev pub LeavesNone : Ended → List Served → List ℕ → Type 0
 LeavesNone Done served rest = IsStream served rest
 LeavesNone Stopped served rest = length served ≡ MOST_ANSWERS

@@ -18,7 +18,7 @@ use ldar_ports::{Sink, put_all};
 use office_book::Office;
 use std::alloc::Global;
 
-/// What was answered at once: items in so many bytes, and whether the last closes the connection.
+/// The items that were answered in one call: their bytes, their number, and whether the last one closes the connection.
 #[derive(Clone, Copy)]
 pub struct Progress {
     pub used: usize,
@@ -26,7 +26,7 @@ pub struct Progress {
     pub closing: bool,
 }
 
-/// Answers the item at the front of the bytes, and those that are asked with it, at most so many. So many bytes of the
+/// Answers the item at the front of the bytes, with those of its group: at most `most` items. `before` bytes of the
 /// input came before these.
 pub fn answer_front<P: Protocol, O: Office, K: Sink>(
     alloc: Global,
@@ -80,7 +80,8 @@ pub fn answer_front<P: Protocol, O: Office, K: Sink>(
     }
 }
 
-/// Asks an office for several requests at once, and then puts their answers. The last closes the connection or not.
+/// Passes several requests to an office in one call, and then writes their answers. The last one closes the connection
+/// or not.
 fn answer_group<P: Protocol, O: Office, K: Sink>(
     alloc: Global,
     protocol: &P,
@@ -114,7 +115,7 @@ fn answer_group<P: Protocol, O: Office, K: Sink>(
     }
 }
 
-/// Asks an office for several requests at once. Out of memory, nothing is asked.
+/// Passes several requests to an office in one call. If it is out of memory, no request is passed on.
 fn ask<O: Office>(alloc: Global, office: &mut O, requests: &[Request]) -> Result<Vec<Reply>, Memory>
     requires some { 0 < length requests.now }
     requires fits { length requests.now ≤ FRAME_BATCHES }
@@ -130,7 +131,7 @@ fn ask<O: Office>(alloc: Global, office: &mut O, requests: &[Request]) -> Result
     Ok(replies)
 }
 
-/// The answers to replies, one after the other. The last closes the connection or not.
+/// The answers to replies, one after the other. The last one closes the connection or not.
 fn text_of<P: Protocol>(
     alloc: Global,
     protocol: &P,

@@ -11,7 +11,7 @@ use ldar_facts::{Read, read_batch};
 use ldar_law::{Reply, Request};
 use std::alloc::Global;
 
-/// The longest batch, and at least 4,096 bytes to take into after the beginning of one.
+/// The maximum length of a batch, plus at least 4,096 bytes of room after the beginning of one.
 pub const BATCH_WINDOW: usize = 16_384;
 
 /// Binary batches, each answered by the line of its reply.

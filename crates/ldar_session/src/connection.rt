@@ -20,8 +20,9 @@ use ldar_ports::{Sink, Source, Window};
 use office_book::Office;
 use std::alloc::Global;
 
-/// Asks an office to keep the batches of an input, and puts the lines of its replies. Batches of handhelds other than 0
-/// that are in hand together are asked at once, up to 16; more input is waited for only if no whole batch is in hand.
+/// Passes the batches of an input to an office, and writes the lines of its replies. Batches of handhelds other than 0
+/// that are in hand together are passed on in one call, up to 16. It waits for more input only if no whole batch is in
+/// hand.
 pub fn dock<O: Office, S: Source, K: Sink>(
     alloc: Global,
     office: &mut O,
@@ -42,8 +43,8 @@ pub fn dock<O: Office, S: Source, K: Sink>(
 }
 
 /// Answers the HTTP requests of an input, in order. Batches of handhelds other than 0 whose requests are in hand together
-/// are asked at once, up to 16; more input is waited for only if no whole request is in hand. The answer to a request
-/// that closes the connection, or to bytes that are refused, is the last.
+/// are passed on in one call, up to 16. It waits for more input only if no whole request is in hand. The answer to a
+/// request that closes the connection, or to refused bytes, is the last.
 pub fn session<O: Office, S: Source, K: Sink>(
     alloc: Global,
     office: &mut O,
@@ -63,8 +64,8 @@ pub fn session<O: Office, S: Source, K: Sink>(
     connect::<Requests, O, S, K>(alloc, REQUEST_WINDOW, office, source, sink)
 }
 
-/// Answers the items of an input in order, up to one that closes the connection, or to bytes that are refused. At most so
-/// many bytes of the input are in hand at once.
+/// Answers the items of an input in order, until one closes the connection or bytes are refused. At most `size` bytes of
+/// the input are in hand at once.
 fn connect<P: Protocol, O: Office, S: Source, K: Sink>(
     alloc: Global,
     size: usize,
@@ -113,7 +114,7 @@ fn connect<P: Protocol, O: Office, S: Source, K: Sink>(
     Ended::Stopped
 }
 
-/// How a connection ended whose last item, of so many, closes it.
+/// How a connection ended whose last item closes it, after this many answers.
 fn ended_closed<P: Protocol>(answers: usize) -> Ended
     requires some { 0 < answers }
     requires most { answers ≤ MOST_ANSWERS }

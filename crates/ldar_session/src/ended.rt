@@ -8,15 +8,15 @@ pub enum Ended {
     Done,
     /// The maximum number of answers was given.
     Stopped,
-    /// The input ended within an item, of which this many bytes came.
+    /// The input ended within an item, of which this many bytes were read.
     CutShort { got: u64 },
-    /// No batch goes on with the byte at this place of the input, counted from 0; or the request that begins there is
+    /// No batch continues with the byte at this place of the input, from 0; or the request that begins there is
     /// refused.
     Refused { at: u64 },
-    /// A call of the source failed.
+    /// Read error: a call of the source failed.
     ReadFault,
-    /// A call of the sink failed.
+    /// Write error: a call of the sink failed.
     WriteFault,
-    /// Out of memory: for the buffers, an item or an answer, or for room in the replies of the office.
+    /// Out of memory: for the buffers, an item or an answer, or for the replies of the office.
     Memory,
 }

@@ -10,7 +10,7 @@ use fact_kinds::FRAME_BATCHES;
 use ldar_law::Request;
 use std::alloc::Global;
 
-/// Requests that are asked at once, in so many bytes, and whether the last closes the connection.
+/// The requests of a group, their number of bytes, and whether the last one closes the connection.
 #[derive(Drop)]
 pub struct Group {
     pub requests: Vec<Request>,
@@ -18,8 +18,8 @@ pub struct Group {
     pub closing: bool,
 }
 
-/// The requests that are asked with the one at the front: a batch of a handheld other than 0 is asked with the whole
-/// batches of such handhelds that follow it, at most so many.
+/// The group of the request at the front: a batch of a handheld other than 0 is passed on with the whole batches of
+/// such handhelds that follow it, at most `most` in all.
 pub fn group_from<P: Protocol>(
     alloc: Global,
     bytes: &[u8],
@@ -47,8 +47,8 @@ pub fn group_from<P: Protocol>(
     Ok(group)
 }
 
-/// Adds the batches after those of a group, up to a closing one, or to an item that is no batch of a handheld other than
-/// 0, or until there are so many.
+/// Adds the batches after those of a group, until one closes the connection, another item is at the front, or there are
+/// `most` of them.
 fn add_others<P: Protocol>(
     alloc: Global,
     bytes: &[u8],
@@ -81,7 +81,7 @@ fn add_others<P: Protocol>(
     Ok(())
 }
 
-/// The item at the front, if it asks for a batch of a handheld other than 0.
+/// The item at the front, if it is a batch of a handheld other than 0.
 fn next_other<P: Protocol>(alloc: Global, bytes: &[u8]) -> Result<Option<Question>, Memory>
     ensures none { IfOk result (λ found. IfNone found (NoneJoins P.speech bytes.now)) }
     ensures found { IfOk result (λ found. IfSome found (IsQuestion P.speech bytes.now)) }
@@ -101,7 +101,7 @@ fn next_other<P: Protocol>(alloc: Global, bytes: &[u8]) -> Result<Option<Questio
     }
 }
 
-/// Whether a request never shares a frame of the journal: it is no batch, or one of handheld 0.
+/// Whether a request never shares a frame of the journal: it is no batch, or a batch of handheld 0.
 fn is_asked_alone(request: &Request) -> bool
     ensures value { IsTrue result ↔ (¬ (IsFromHandheld request.now)) }
 {

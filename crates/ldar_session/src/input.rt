@@ -10,10 +10,10 @@ use crate::protocol::Protocol;
 use ldar_ports::{Source, Window};
 use std::alloc::Global;
 
-/// The most bytes of an input that are in hand at once.
+/// The maximum number of bytes of an input that are in hand at once.
 pub const MOST_IN_HAND: usize = 1_048_576;
 
-/// The next item, once it is in hand. So many bytes of the input came before those in hand.
+/// The next item, once it is in hand. `before` bytes of the input came before those in hand.
 pub fn next_item<P: Protocol, S: Source>(
     alloc: Global,
     protocol: &mut P,
@@ -53,7 +53,7 @@ pub fn next_item<P: Protocol, S: Source>(
     }
 }
 
-/// Takes bytes once, if more are awaited after those in hand.
+/// Reads once, if more bytes are awaited after those in hand.
 fn take_more<P: Protocol, S: Source>(source: &mut S, window: &mut Window) -> Result<(), Ended>
     requires awaits { P.speech.awaits window.old.bytes }
     requires room { length window.old.bytes < window.old.size }
@@ -72,7 +72,7 @@ fn take_more<P: Protocol, S: Source>(source: &mut S, window: &mut Window) -> Res
     }
 }
 
-/// How an input ended with these bytes in hand, after which more are awaited.
+/// How an input ended, with these bytes in hand, after which more are awaited.
 fn ended_within<P: Protocol>(bytes: &[u8]) -> Ended
     ensures value { (before : ℕ) (left : Option (List ℕ)) → P.speech.awaits bytes.now → HasEnded left
         → EndsInput P.speech result before bytes.now left }

@@ -1,7 +1,7 @@
 use ldar_law::Request;
 
-/// An item at the front that asks the office something: a request in so many bytes. A closing item is the last that is
-/// answered.
+/// An item at the front that is passed to the office: a request, and the number of its bytes. A closing item is the
+/// last one that is answered.
 #[derive(Drop)]
 pub struct Question {
     pub request: Request,
@@ -9,7 +9,7 @@ pub struct Question {
     pub closing: bool,
 }
 
-/// An item at the front that asks the office nothing, in so many bytes, and its answer.
+/// An item at the front that is not passed to the office: the number of its bytes, and its answer.
 #[derive(Drop)]
 pub struct Unasked {
     pub text: Vec<u8>,
@@ -30,8 +30,8 @@ pub enum Item {
 #[derive(Drop)]
 pub enum Front {
     Whole(Item),
-    /// No item, and one may be there once more bytes have come.
+    /// No item, but one may be there when more bytes have arrived.
     Unfinished,
-    /// No item goes on with the byte at this place, and nothing is said to it.
+    /// No item continues with the byte at this place, and it gets no answer.
     Wrong { at: usize },
 }

@@ -1,4 +1,4 @@
-//! Laws of what a connection is served. Each function has an empty body, and its clause says the law.
+//! Laws about what a connection is served: empty functions whose contracts are the laws.
 
 ghost use Rattle.std.specs.Prelude.{◌≡◌, ℕ, Bool, false, List, ◌++◌, length, map, take, Option};
 ghost use Rattle.std.specs.List.{flat_map, AllByRecursion};
@@ -11,7 +11,7 @@ ghost use Rattle.ldar_session.specs.Served.{Served, HasItsClock, items_of};
 ghost use Rattle.ldar_session.specs.Session.{Ends, LeavesNone};
 ghost use Rattle.ldar_session.specs.declared.ended.Ended.{Ended};
 
-/// Each whole batch that the bytes begin with was served, in order, where no batch stands in front of the rest.
+/// If no batch is at the front of the rest, each whole batch at the front of the bytes was served, in order.
 pub fn every_batch_is_served()
     ensures law { (served : List Served) (rest : List ℕ) (batches : List (List ℕ)) (more : List ℕ)
         → AllByRecursion IsBatch served → HasNoBatch rest → AllByRecursion IsSpelling batches
@@ -19,7 +19,7 @@ pub fn every_batch_is_served()
         → take (length batches) (map (λ s. s.item) served) ≡ batches }
 {}
 
-/// The bytes alone say what was served and what is left over, however they came.
+/// Only the bytes decide what was served and what is left over, however they were split on the way.
 pub fn pieces_do_not_matter()
     ensures law { (served other : List Served) (rest left : List ℕ)
         → AllByRecursion IsBatch served → AllByRecursion IsBatch other → HasNoBatch rest → HasNoBatch left
@@ -27,8 +27,8 @@ pub fn pieces_do_not_matter()
         → (map (λ s. s.item) served ≡ map (λ s. s.item) other) × (rest ≡ left) }
 {}
 
-/// Each whole request that the bytes begin with was answered, in order, where none that was answered closes the
-/// connection, and no request stands in front of the rest.
+/// If no answered request closes the connection and no request is at the front of the rest, each whole request at the
+/// front of the bytes was answered, in order.
 pub fn every_request_is_answered()
     ensures law { (served : List Served) (rest : List ℕ) (requests : List (List ℕ)) (more : List ℕ)
         → AreRequests false served → HasNoItem rest → AllByRecursion IsItem requests
@@ -36,7 +36,7 @@ pub fn every_request_is_answered()
         → take (length requests) (map (λ s. s.item) served) ≡ requests }
 {}
 
-/// The requests that were answered are the first of those that the bytes begin with, whatever is left over.
+/// The answered requests are the first of those at the front of the bytes, whatever is left over.
 pub fn requests_are_answered_in_order()
     ensures law { (closing : Bool) (served : List Served) (rest : List ℕ) (requests : List (List ℕ)) (more : List ℕ)
         → AreRequests closing served → AllByRecursion IsItem requests
@@ -44,21 +44,21 @@ pub fn requests_are_answered_in_order()
         → take (length requests) (map (λ s. s.item) served) ≡ take (length served) requests }
 {}
 
-/// However a connection of requests ended but by a fault of the sink or want of memory, no whole request was left
-/// unanswered that stands before a closing one, a refused one or behind fewer than the most.
+/// Unless a connection of requests ended by a write error or out of memory, each whole request was answered up to the
+/// first that closes the connection or is refused, or up to the maximum number.
 pub fn no_request_is_left()
     ensures law { (ended : Ended) (served : List Served) (rest : List ℕ) (left : Option (List ℕ)) (unsaid : List ℕ)
         → Ends ended served rest left unsaid → LeavesNone ended served rest }
 {}
 
-/// The bytes alone say which requests were answered and what is left over, however they came.
+/// Only the bytes decide which requests were answered and what is left over, however they were split on the way.
 pub fn pieces_of_requests_do_not_matter()
     ensures law { (served other : List Served) (rest left : List ℕ) → IsStream served rest → IsStream other left
         → items_of served ++ rest ≡ items_of other ++ left
         → (map (λ s. s.item) served ≡ map (λ s. s.item) other) × (rest ≡ left) }
 {}
 
-/// In a run of the machine each turn has the clock at which its call returned, so what is said to it was put no earlier.
+/// In a run of the machine, each turn has the clock at which its call returned, so its answer was not written earlier.
 pub fn runs_have_clocks()
     ensures law { (start end : Moment) (calls : List Call) → Runs start calls end → AllByRecursion HasItsClock calls }
 {}

@@ -1,4 +1,7 @@
-//! One connection of an office: what it is sent is asked in order, and each reply is put after it was asked.
+//! One connection of an office: its requests are passed to the office in order, and each reply is written after its
+//! request was answered.
+//!
+//! Tests: `office_tests::connections`.
 #![tactic(auto)]
 
 mod answer;
@@ -14,5 +17,5 @@ mod requests;
 
 pub use connection::{dock, session};
 pub use ended::{Ended, MOST_ANSWERS};
-/// Memory ran out.
+/// Out of memory.
 pub use std::alloc::AllocError as Memory;

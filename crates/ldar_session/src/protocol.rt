@@ -7,15 +7,16 @@ use crate::item::Front;
 use ldar_law::Reply;
 use std::alloc::Global;
 
-/// What a connection speaks: how the bytes in hand are cut into items, what each asks, and the bytes of its answer.
+/// The protocol of a connection: how the bytes in hand are cut into items, the request of each, and the bytes of its
+/// answer.
 pub trait Protocol: Drop {
     /// How its items are read and answered.
     ghost speech: { Speech };
 
-    /// What it knows of the bytes in hand, after it awaited more of them.
+    /// What it knows about the bytes in hand while it awaits more of them.
     ghost knows: { Self → List ℕ → Type 0 };
 
-    /// One that knows nothing of the bytes yet.
+    /// The state at the start, which knows nothing about the bytes.
     fn new() -> Self
         ensures known { (bytes : List ℕ) → knows result bytes };
 
@@ -26,7 +27,7 @@ pub trait Protocol: Drop {
         ensures joins { IfOk result (NoOtherJoins speech bytes.now) }
         ensures known { IfOk result (Learns (knows self.new) bytes.now) };
 
-    /// Puts the answer to a reply at the end of a text, to an item that closes the connection or not.
+    /// Appends the answer to a reply. The item closes the connection or not.
     fn put_reply(
         &self,
         alloc: Global,

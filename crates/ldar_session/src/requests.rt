@@ -15,15 +15,15 @@ use ldar_law::Reply;
 use memchr::memmem;
 use std::alloc::Global;
 
-/// The longest request, and 4,096 bytes to take into after the beginning of one.
+/// The maximum length of a request, plus 4,096 bytes of room after the beginning of one.
 pub const REQUEST_WINDOW: usize = 274_432;
 
-/// HTTP requests, each answered by a response. It keeps what is known of the request at the front, so that a head is
-/// read once, however the bytes of head and body come.
+/// HTTP requests, each answered by a response. It keeps what is known about the request at the front, so that a head is
+/// read only once, in whatever pieces the bytes arrive.
 #[derive(Drop)]
 pub struct Requests {
     known: Known,
-    /// No empty line ends within so many of the bytes, if the head has not ended.
+    /// If the head has not ended: no empty line ends within this many bytes.
     searched: usize,
 }
 
@@ -76,7 +76,7 @@ impl Protocol for Requests {
     }
 }
 
-/// What is known of the request at the front, of which this was known when fewer bytes had come.
+/// What is known about the request at the front, from what was known when there were fewer bytes.
 fn known_of(known: Known, searched: usize, bytes: &[u8]) -> Known
     requires known { Knows known searched bytes.now }
     ensures value { IsKnown bytes.now result }
@@ -92,7 +92,7 @@ fn known_of(known: Known, searched: usize, bytes: &[u8]) -> Known
     }
 }
 
-/// Whether an empty line ends after so many bytes, if none ends within them.
+/// Whether an empty line ends after this many bytes, if none ends within them.
 fn ends_after(bytes: &[u8], searched: usize) -> bool
     requires within { searched ≤ length bytes.now }
     requires none { HasNoneWithin bytes.now searched }
@@ -104,7 +104,8 @@ fn ends_after(bytes: &[u8], searched: usize) -> bool
     true
 }
 
-/// What an empty line can be in that ends after so many bytes: the last three of them, and those that follow.
+/// The bytes that an empty line can be in if it ends after this many bytes: the last three of them, and those that
+/// follow.
 fn after(bytes: &[u8], searched: usize) -> &[u8]
     requires { searched ≤ length bytes.now }
     ensures { result.now ≡ drop (searched - 3) bytes.now }
@@ -112,7 +113,7 @@ fn after(bytes: &[u8], searched: usize) -> &[u8]
     &bytes[searched.saturating_sub(3)..]
 }
 
-/// What the request at the front asks, or its answer if it asks the office nothing.
+/// The request at the front, or its answer if it is not passed to the office.
 fn item_of(alloc: Global, bytes: &[u8], extent: Extent) -> Result<Item, Memory>
     requires begins { IsExtent bytes.now extent }
     requires whole { extent.head + extent.body ≤ length bytes.now }

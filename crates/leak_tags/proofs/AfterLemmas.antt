@@ -1,4 +1,4 @@
--- Some event that passes, seen with those after it: with one event more, and since the last leak.
+-- Some event that passes, seen with those after it: with one more event, and since the last leak.
 use Rattle.std.proofs.Common.{◌≡◌, Bool, true, false, not, ◌&&◌, ◌||◌, List, [], ◌∷◌, ◌++◌, refl, sym, ap, ◌∙◌, append_assoc}
 use Rattle.std.proofs.lemmas.List.{append-nil}
 use Rattle.std.specs.List.{list_any}
@@ -11,46 +11,46 @@ use Rattle.leak_tags.specs.Telling.{some_after, since_leak}
 
 -- ---- tests
 
--- a test or nothing
+-- a disjunction with false
 pub or_false : (b : Bool) → (b || false) ≡ b
 or_false true = refl
 or_false false = refl
 
--- a test or what always holds
+-- a disjunction with true
 pub or_true : (b : Bool) → (b || true) ≡ true
 or_true true = refl
 or_true false = refl
 
--- a test and what always holds
+-- a conjunction with true
 pub and_true : (b : Bool) → (b && true) ≡ b
 and_true true = refl
 and_true false = refl
 
--- a test and what never holds
+-- a conjunction with false
 pub and_false : (b : Bool) → (b && false) ≡ false
 and_false true = refl
 and_false false = refl
 
--- one of two tests, in either order
+-- disjunction is commutative
 pub or_swap : (a b : Bool) → (a || b) ≡ (b || a)
 or_swap true true = refl
 or_swap true false = refl
 or_swap false true = refl
 or_swap false false = refl
 
--- one of three tests
+-- disjunction is associative
 or_regroup : (a b c : Bool) → (a || (b || c)) ≡ ((a || b) || c)
 or_regroup true b c = refl
 or_regroup false b c = refl
 
--- one of four tests, sorted
+-- a disjunction of four tests, regrouped
 or_sort : (a b c d : Bool) → ((a || b) || (c || d)) ≡ ((a || c) || (b || d))
 or_sort true b c d = refl
 or_sort false true true d = refl
 or_sort false true false d = refl
 or_sort false false c d = refl
 
--- a test and one of two
+-- conjunction distributes over disjunction
 pub and_over : (a b c : Bool) → (a && (b || c)) ≡ ((a && b) || (a && c))
 and_over true b c = refl
 and_over false b c = refl
@@ -81,12 +81,12 @@ some_or p q (e ∷ after) =
     ap (λ b. (p e after || q e after) || b) (some_or p q after)
     ∙ or_sort (p e after) (q e after) (some_after p after) (some_after q after)
 
--- what never passes
+-- a test that never passes
 pub some_none : (events : List Event) → some_after (λ _ _. false) events ≡ false
 some_none [] = refl
 some_none (e ∷ after) = some_none after
 
--- with one event more
+-- with one more event
 pub some_more : (p : Event → List Event → Bool) (events : List Event) (v : Event) →
     some_after p (events ++ v ∷ []) ≡ (some_after (λ e after. p e (after ++ v ∷ [])) events || p v [])
 some_more p [] v = or_false (p v [])
@@ -94,13 +94,13 @@ some_more p (e ∷ after) v =
     ap (λ b. p e (after ++ v ∷ []) || b) (some_more p after v)
     ∙ or_regroup (p e (after ++ v ∷ [])) (some_after (λ x rest. p x (rest ++ v ∷ [])) after) (p v [])
 
--- what does not look at the front
+-- a test that does not look at the earlier events
 pub somewhere_is_after : (p : Event → List Event → Bool) (front events : List Event) →
     somewhere_from (λ _ e after. p e after) front events ≡ some_after p events
 somewhere_is_after p front [] = refl
 somewhere_is_after p front (e ∷ after) = ap (λ b. p e after || b) (somewhere_is_after p (front ++ e ∷ []) after)
 
--- what does not look at the rest, with one event more
+-- a test that does not look at the later events, with one more event
 pub somewhere_before : (p : List Event → Event → Bool) (front events : List Event) (v : Event) →
     somewhere_from (λ before e _. p before e) front (events ++ v ∷ []) ≡ (somewhere_from (λ before e _. p before e) front events || p (front ++ events) v)
 somewhere_before p front [] v = or_false (p front v) ∙ ap (λ before. p before v) (sym (append-nil front))
@@ -111,18 +111,18 @@ somewhere_before p front (e ∷ after) v =
 
 -- ---- tests of events
 
--- with one event more
+-- with one more event
 pub any_more : (p : Event → Bool) (events : List Event) (v : Event) → list_any p (events ++ v ∷ []) ≡ (list_any p events || p v)
 any_more p events v = list_any-append p events (v ∷ []) ∙ ap (λ b. list_any p events || b) (or_false (p v))
 
--- an event that passes
+-- some element passes if there is one that does
 any_there : (p : Event → Bool) (before : List Event) (e : Event) (after : List Event) → p e ≡ true → list_any p (before ++ e ∷ after) ≡ true
 any_there p [] e after passes = or_left (p e) (list_any p after) passes
 any_there p (x ∷ before) e after passes = ap (λ b. p x || b) (any_there p before e after passes) ∙ or_true (p x)
 
 -- ---- since the last leak
 
--- what a leak that fails the test stands before is all that counts
+-- if a leak fails the test, only the events after it count
 pub since_that_leak : (p : Event → Bool) (before : List Event) (e : Event) (after : List Event) → is_leak e.what ≡ true → p e ≡ false →
     since_leak p (before ++ e ∷ after) ≡ since_leak p after
 since_that_leak p [] e after leaks fails = ap (λ b. (b && not (list_any (λ x. is_leak x.what) after)) || since_leak p after) fails
@@ -131,19 +131,19 @@ since_that_leak p (x ∷ before) e after leaks fails =
     ∙ ap (λ b. b || since_leak p (before ++ e ∷ after)) (and_false (p x))
     ∙ since_that_leak p before e after leaks fails
 
--- what passes before another event, with it
+-- a test before another event, with it
 passes_before : (b any leaks : Bool) → (b && not (any || leaks)) ≡ (not leaks && (b && not any))
 passes_before b true true = and_false b
 passes_before b true false = refl
 passes_before b false true = and_false b
 passes_before b false false = refl
 
--- a test that each event has to pass too
+-- a test with a condition that does not depend on the event
 some_under : (t : Bool) (p : Event → List Event → Bool) (events : List Event) → some_after (λ e after. t && p e after) events ≡ (t && some_after p events)
 some_under true p events = refl
 some_under false p events = some_none events
 
--- with one event more
+-- with one more event
 pub since_more : (p : Event → Bool) (events : List Event) (v : Event) → since_leak p (events ++ v ∷ []) ≡ ((not (is_leak v.what) && since_leak p events) || p v)
 since_more p events v =
     some_more (λ e after. p e && not (list_any (λ x. is_leak x.what) after)) events v

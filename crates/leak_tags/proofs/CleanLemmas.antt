@@ -19,16 +19,16 @@ use Rattle.leak_tags.proofs.AfterLemmas.{or_false, and_true, and_false}
 use Rattle.leak_tags.proofs.TellsLemmas.{month_rises, month_low}
 use Rattle.leak_tags.proofs.WalkLemmas.{rest_is, front_is}
 
--- a counting routine reading below the leak definition lies in the month
+-- a counting routine reading below the leak definition is in the month
 abbrev read_in : List Event → ℕ → Bool
 read_in events month = list_any (λ e. is_routine_below e.what && is_in_month month e) events
 
--- a month is clean that has such a reading and no leak
+-- a month is clean if it has such a reading and no leak
 clean_is : (events : List Event) (month : ℕ) → is_clean events month ≡ (read_in events month && not (has_leak_in events month month))
 unfolding is_clean
 clean_is events month = refl
 
--- in months behind the last one nothing is read
+-- months after the last one have no such reading
 none_read : (events : List Event) (last month : ℕ) → AllByRecursion (λ e. month_of e.key.day ≤ last) events → last < month → read_in events month ≡ false
 none_read [] last month all later = refl
 none_read (e ∷ after) last month all later =
@@ -36,7 +36,7 @@ none_read (e ∷ after) last month all later =
     or_from (is_routine_below e.what && is_in_month month e) (read_in after month)
     (ap (λ b. is_routine_below e.what && b) other ∙ and_false (is_routine_below e.what)) (none_read after last month all.1 later)
 
--- .. and there is no leak
+-- months after the last one have no leak
 none_leaks : (events : List Event) (last month : ℕ) → AllByRecursion (λ e. month_of e.key.day ≤ last) events → last < month →
     list_any (λ e. is_leak e.what && nat_le month (month_of e.key.day) && nat_le (month_of e.key.day) month) events ≡ false
 none_leaks [] last month all later = refl
@@ -52,12 +52,12 @@ none_leak : (events : List Event) (last month : ℕ) → AllByRecursion (λ e. m
 unfolding has_leak_in
 none_leak events last month all later = none_leaks events last month all later
 
--- .. so that they are not clean
+-- months after the last one are not clean
 none_clean : (events : List Event) (last month : ℕ) → AllByRecursion (λ e. month_of e.key.day ≤ last) events → last < month → is_clean events month ≡ false
 none_clean events last month all later =
     clean_is events month ∙ ap (λ b. b && not (has_leak_in events month month)) (none_read events last month all later)
 
--- in months before the first one nothing is read either
+-- months before the first one have no such reading
 early_read : (events : List Event) (first month : ℕ) → AllByRecursion (λ e. first ≤ month_of e.key.day) events → month < first → read_in events month ≡ false
 early_read [] first month all before = refl
 early_read (e ∷ after) first month all before =
@@ -65,7 +65,7 @@ early_read (e ∷ after) first month all before =
     or_from (is_routine_below e.what && is_in_month month e) (read_in after month)
     (ap (λ b. is_routine_below e.what && b) other ∙ and_false (is_routine_below e.what)) (early_read after first month all.1 before)
 
--- .. and there is no leak
+-- months before the first one have no leak
 early_leaks : (events : List Event) (first month : ℕ) → AllByRecursion (λ e. first ≤ month_of e.key.day) events → month < first →
     list_any (λ e. is_leak e.what && nat_le month (month_of e.key.day) && nat_le (month_of e.key.day) month) events ≡ false
 early_leaks [] first month all before = refl
@@ -81,19 +81,19 @@ early_leak : (events : List Event) (first month : ℕ) → AllByRecursion (λ e.
 unfolding has_leak_in
 early_leak events first month all before = early_leaks events first month all before
 
--- a leak in a month, by the first event
+-- a leak in a month, by the first event and the others
 leak_first : (e : Event) (after : List Event) (month : ℕ) → has_leak_in (e ∷ after) month month
     ≡ ((is_leak e.what && nat_le month (month_of e.key.day) && nat_le (month_of e.key.day) month) || has_leak_in after month month)
 unfolding has_leak_in
 leak_first e after month = refl
 
--- .. and by the events in front and behind
+-- a leak in a month, by the events of two parts
 leak_parts : (front rest : List Event) (month : ℕ) → has_leak_in (front ++ rest) month month ≡ (has_leak_in front month month || has_leak_in rest month month)
 unfolding has_leak_in
 leak_parts front rest month =
     list_any-append (λ (e : Event). is_leak e.what && nat_le month (month_of e.key.day) && nat_le (month_of e.key.day) month) front rest
 
--- of a month behind those in front the rest tells alone
+-- for a month after those of the first part, only the second part matters
 rest_tells : (front rest : List Event) (now month : ℕ) → AllByRecursion (λ e. month_of e.key.day ≤ now) front → now < month →
     is_clean (front ++ rest) month ≡ (read_in rest month && not (has_leak_in rest month month))
 rest_tells front rest now month all later =
@@ -104,7 +104,7 @@ rest_tells front rest now month all later =
     ∙ ap (λ b. read_in rest month && not b) (leak_parts front rest month
     ∙ ap (λ b. b || has_leak_in rest month month) (none_leak front now month all later))
 
--- ---- events that rise
+-- ---- events whose days do not decrease
 
 rises_to : (low : ℕ) (front : List Event) (e : Event) (rest : List Event) → Rises low (front ++ e ∷ rest) → low ≤ e.key.day
 rises_to low [] e rest rises = rises.0
@@ -124,6 +124,7 @@ all_last P (x ∷ front) e all = all_last P front e all.1
 
 -- ---- the last pair
 
+-- a number is the last pair if its months are clean, and no later two in a row are
 pair_is : (events : List Event) (pair : ℕ) → (0 < pair → is_clean_twice events pair ≡ true) →
     ((k : ℕ) → pair < k → is_clean_twice events k ≡ false) → IsLastPair pair events
 pair_is events pair found none first pos =
@@ -155,7 +156,7 @@ module _ (events : List Event) (place : ℕ) (v : Event) (within : place < lengt
       subst (AllByRecursion (λ (e : Event). month_of e.key.day ≤ now)) (sym (front_is events place v within stands))
       (all_append (λ (e : Event). month_of e.key.day ≤ now) (take place events) (v ∷ []) front_now (omega arith, tt))
 
-  -- it is the last one
+  -- the event is the last one
   pub tells_last : place + 1 ≡ length events → TellsLast (clean_of v) events place
   tells_last all =
       let whole : AllByRecursion (λ (e : Event). month_of e.key.day ≤ now) events =
@@ -223,7 +224,7 @@ module _ (events : List Event) (place : ℕ) (v : Event) (within : place < lengt
     }
 
     module _ (before : now < months.month) where
-      -- the month behind it is looked at in full
+      -- the events of the later month are complete
       finished : is_clean events months.month ≡ is_month_clean months
       finished =
           ap (λ es. is_clean es months.month) (sym (take-append-drop (place + 1) events))
@@ -231,7 +232,7 @@ module _ (events : List Event) (place : ℕ) (v : Event) (within : place < lengt
           ∙ ap (λ b. b && not (has_leak_in rest months.month months.month)) told.read
           ∙ ap (λ b. months.read && not b) told.leak
 
-      -- .. and none between them is clean
+      -- no month between them is clean
       between : (k : ℕ) → now < k → k < months.month → is_clean events k ≡ false
       between k low high =
           ap (λ es. is_clean es k) (sym (take-append-drop (place + 1) events))
@@ -262,7 +263,7 @@ module _ (events : List Event) (place : ℕ) (v : Event) (within : place < lengt
         ]
       ]
 
-      -- it is of an earlier month
+      -- the event is of an earlier month
       in_earlier : is_pair months ≡ false → TellsLast (record {
         month = now;
         read = is_routine_below v.what;
@@ -296,20 +297,20 @@ module _ (events : List Event) (place : ℕ) (v : Event) (within : place < lengt
         last = last_now no_pair;
       }
 
-      -- .. and behind it the last pair stands
+      -- the last pair of clean months begins with the later month
       pub pair_found : is_pair months ≡ true → IsLastPair months.month events
       pair_found pair =
           pair_is events months.month
           (λ pos. ap (λ b. b && is_clean events (months.month + 1)) finished ∙ ap (λ b. is_month_clean months && b) told.followed ∙ pair) told.last
 
-    -- it is of an earlier month where the month moves
+    -- the event is of an earlier month if the month changes
     pub moves : ((clean_with months v).month ≡ months.month → ⊥) → now < months.month
     moves differs = elim (cases_eq months.month now) [
       | inl same ↦ let at : nat_eq months.month now ≡ true = eq-eqb months.month now same in absurd (differs (rw at refl))
       | inr other ↦ omega (arith, other, no_later)
     ]
 
-    -- what is known with it, where no pair was found
+    -- the summary with the event, if no pair was found
     pub tells_more : (nat_eq months.month now ≡ false → is_pair months ≡ false) → TellsLast (clean_with months v) events place
     tells_more no_pair = elim (cases_eq months.month now) [
       | inl same ↦ let at : nat_eq months.month now ≡ true = eq-eqb months.month now same in rw at (in_month same)
@@ -320,6 +321,7 @@ module _ (events : List Event) (place : ℕ) (v : Event) (within : place < lengt
 
 -- all of them
 module _ (events : List Event) (months : CleanMonths) (told : TellsLast months events 0) where
+  -- the first month is complete, since all events were looked at
   whole_month : is_clean events months.month ≡ is_month_clean months
   whole_month =
       clean_is events months.month
@@ -347,12 +349,12 @@ module _ (events : List Event) (months : CleanMonths) (told : TellsLast months e
         ]
       ])
 
--- no events have none
+-- without events there is no pair
 pub pair_of_no_events : (events : List Event) → length events ≡ 0 → IsLastPair 0 events
 pair_of_no_events [] none = pair_is [] 0 (λ pos. absurd (omega (arith, pos))) (λ k pos. ap (λ b. b && is_clean [] (k + 1)) (clean_is [] k))
 pair_of_no_events (e ∷ after) none = absurd (omega (arith, none))
 
--- with an event of another month the month is that one's
+-- an event of another month changes the month
 pub moved : (months : CleanMonths) (v : Event) → nat_eq months.month (month_of v.key.day) ≡ false → (clean_with months v).month ≡ months.month → ⊥
 moved months v past stays =
     let at : (clean_with months v).month ≡ month_of v.key.day = rw past refl in

@@ -5,6 +5,6 @@ more [] place x stands = cc
 more (y ∷ ys) zero x stands = let same : y ≡ x = cc in rw same refl
 more (y ∷ ys) (suc place) x stands = ap (λ front. y ∷ front) (more ys place x stands)
 
--- what stands before the next place is what stands before this one, and the element here
+-- the elements before the next place are those before this one and the element here
 pub take_one_more : {X : Type 0} (xs : List X) (place : ℕ) (x : X) → slice_get xs place ≡ Some x → take (place + 1) xs ≡ take place xs ++ x ∷ []
 take_one_more xs place x stands = let next : place + 1 ≡ suc place = omega arith in ap (λ n. take n xs) next ∙ more xs place x stands

@@ -1,4 +1,4 @@
--- What settles the open leaks of each sort, and those with one event more.
+-- What settles the open leaks of each kind, and the open leaks after one more event.
 use Rattle.std.proofs.Common.{◌≡◌, ℕ, ◌+◌, Bool, true, false, not, ◌&&◌, ◌||◌, nat_eq, nat_le, List, [], ◌∷◌, ◌++◌, refl, sym, ap, ◌∙◌}
 use Rattle.std.specs.List.{list_any}
 use Rattle.std.proofs.lemmas.Bool.{false≢true}
@@ -19,7 +19,7 @@ use Rattle.leak_tags.proofs.ToldLemmas.{Sums}
 
 -- ---- some open leak
 
--- the leaks of a sort that are open are some of many
+-- the open leaks of a kind, as a test of some of many
 pub sums_open : (kind : Kind) (is_sort : Happening → Bool) (events : List Event) → Sums (some_open kind is_sort events)
 sums_open kind is_sort events =
     let here : Event → List Event → Bool = λ e after. (is_leak e.what && is_sort e.what) && not (law.is_settled kind e after) in
@@ -36,12 +36,12 @@ sums_open kind is_sort events =
       none = some_same (λ e after. here e after && false) (λ _ _. false) (λ e after. and_false (here e after)) events ∙ some_none events;
     }
 
--- a leak is settled with one event more where it is before, or where that event settles it
+-- a leak is settled after one more event exactly if it was before or that event settles it
 settled_more : (kind : Kind) (e : Event) (after : List Event) (v : Event) →
     law.is_settled kind e (after ++ v ∷ []) ≡ (law.is_settled kind e after || law.settles kind e after v)
 settled_more kind e after v = somewhere_before (λ between later. law.settles kind e between later) [] after v
 
--- some delay lies between with one event more
+-- a delay is between, with one more event
 delay_more : (e : Event) (after : List Event) (v : Event) →
     law.has_delay_between e (after ++ v ∷ [])
     ≡ ((delays_with_reading v.what && nat_le v.key.day (e.key.day + REPAIR_DAYS)) || law.has_delay_between e after)
@@ -49,12 +49,12 @@ delay_more e after v =
     any_more (λ x. delays_with_reading x.what && nat_le x.key.day (e.key.day + REPAIR_DAYS)) after v
     ∙ or_swap (law.has_delay_between e after) (delays_with_reading v.what && nat_le v.key.day (e.key.day + REPAIR_DAYS))
 
--- what is asked where a test holds
+-- a test that matters only if another one passes
 where_so : (b st a a' x : Bool) → (b ≡ true → a ≡ a') → ((b && not (st || a)) && x) ≡ ((b && not (st || a')) && x)
 where_so true st a a' x so = ap (λ s. not (st || s) && x) (so refl)
 where_so false st a a' x so = refl
 
--- what is not settled before nor now
+-- not settled before and not settled now
 regroup : (b st a x : Bool) → ((b && not (st || a)) && x) ≡ ((b && not st) && (not a && x))
 regroup true true a x = refl
 regroup true false a x = refl
@@ -63,15 +63,15 @@ regroup false st a x = refl
 module _ (kind : Kind) (is_sort : Happening → Bool) (events : List Event) (v : Event) (all late : Bool)
     (fits : (before : List Event) (e : Event) (after : List Event) → before ++ e ∷ after ≡ events → (is_leak e.what && is_sort e.what) ≡ true →
     law.settles kind e after v ≡ (all || (late && law.has_delay_between e after))) where
-  -- a delay, if the event is one, reaches a leak of this day
+  -- the event is a delay and reaches a leak of this day
   abbrev comes_to : ℕ → Bool
   comes_to from = delays_with_reading v.what && nat_le v.key.day (from + REPAIR_DAYS)
 
-  -- the leak of a sort that is seen in a list
+  -- a leak of the kind, seen in a list
   abbrev of_sort : Event → Bool
   of_sort e = is_leak e.what && is_sort e.what
 
-  -- some open leak of the sort passes with one event more
+  -- some open leak of the kind passes after one more event
   pub open_more : (p : Bool → ℕ → Bool) → some_open kind is_sort (events ++ v ∷ []) p
       ≡ (some_open kind is_sort events (λ l from. not (all || (late && l)) && p (comes_to from || l) from) || (of_sort v && p false v.key.day))
   open_more p =
@@ -92,7 +92,7 @@ module _ (kind : Kind) (is_sort : Happening → Bool) (events : List Event) (v :
       ∙ ap (λ b. some_open kind is_sort events (λ l from. not (all || (late && l)) && p (comes_to from || l) from) || (b && p false v.key.day))
       (and_true (of_sort v))
 
--- ---- sorts
+-- ---- kinds
 
 -- what a reading is
 pub reading_is : (what : Happening) → is_reading what ≡ true → (is_reading_or_drip what ≡ true) × (is_look what ≡ false) × (is_sensor what ≡ false)
@@ -105,7 +105,7 @@ reading_is (Sensor _ _) e = absurd (false≢true e)
 reading_is (Evidence _) e = absurd (false≢true e)
 reading_is Retire e = absurd (false≢true e)
 
--- what drips are
+-- what a drip is
 pub drip_is : (what : Happening) → is_look what ≡ true → (is_reading_or_drip what ≡ true) × (is_look what ≡ true) × (is_sensor what ≡ false)
 drip_is (Read _ _ _ _ _ _) e = absurd (false≢true e)
 drip_is (Look _ _ _) e = (refl, refl, refl)
@@ -116,7 +116,7 @@ drip_is (Sensor _ _) e = absurd (false≢true e)
 drip_is (Evidence _) e = absurd (false≢true e)
 drip_is Retire e = absurd (false≢true e)
 
--- what a sensor told
+-- what a sensor's indication is
 pub sensor_is : (what : Happening) → is_sensor what ≡ true → (is_reading_or_drip what ≡ false) × (is_look what ≡ false) × (is_sensor what ≡ true)
 sensor_is (Read _ _ _ _ _ _) e = absurd (false≢true e)
 sensor_is (Look _ _ _) e = absurd (false≢true e)
@@ -127,7 +127,7 @@ sensor_is (Sensor _ _) e = (refl, refl, refl)
 sensor_is (Evidence _) e = absurd (false≢true e)
 sensor_is Retire e = absurd (false≢true e)
 
--- a leak is of one of three sorts
+-- a leak is of one of three kinds
 pub one_of_sorts : (what : Happening) → is_leak what ≡ ((is_leak what && is_reading what) || (is_leak what && is_look what) || (is_leak what && is_sensor what))
 one_of_sorts (Read _ _ _ _ _ true) = refl
 one_of_sorts (Read _ _ _ _ _ false) = refl
@@ -152,7 +152,7 @@ leak_is_no_attempt (Sensor _ _) e = refl
 leak_is_no_attempt (Evidence _) e = refl
 leak_is_no_attempt Retire e = refl
 
--- ---- what settles a leak, by its sort
+-- ---- what settles a leak, by its kind
 
 -- a delay between, and a second reading
 sort_late : (v d w : Bool) → ((v && d) && w) ≡ ((v && w) && d)
@@ -162,6 +162,7 @@ sort_late true false true = refl
 sort_late true false false = refl
 sort_late false d w = refl
 
+-- regroups the tests for a reading
 settles_one : (x y r : Bool) → ((((x || false) || false) || y) || r) ≡ ((r || x) || y)
 settles_one true y true = refl
 settles_one true y false = refl
@@ -170,6 +171,7 @@ settles_one false false true = refl
 settles_one false true false = refl
 settles_one false false false = refl
 
+-- regroups the tests for a drip
 settles_two : (x z y r : Bool) → ((((x || z) || false) || y) || r) ≡ (((r || x) || z) || y)
 settles_two true z y true = refl
 settles_two true z y false = refl
@@ -180,6 +182,7 @@ settles_two false false false true = refl
 settles_two false false true false = refl
 settles_two false false false false = refl
 
+-- regroups the tests for a sensor's indication
 settles_three : (x y r : Bool) → ((x || y) || r) ≡ ((r || x) || y)
 settles_three true y true = refl
 settles_three true y false = refl
@@ -188,7 +191,7 @@ settles_three false false true = refl
 settles_three false true false = refl
 settles_three false false false = refl
 
--- whether a leak is settled, by what holds of it and of the rest
+-- whether a leak is settled, from properties of the leak and of the rest
 abbrev settles_by : (rd lk sn bl dr cp at vp dl ws rt : Bool) → Bool
 settles_by rd lk sn bl dr cp at vp dl ws rt =
     (rd && bl && at) || (lk && dr && at) || (sn && cp) || (vp && bl && dl && ws) || rt
@@ -206,7 +209,7 @@ by_drip bl dr cp at vp dl ws rt =
     ap (λ y. ((((bl && at) || (dr && at)) || false) || y) || rt) (sort_late (vp && bl) dl ws)
     ∙ settles_two (bl && at) (dr && at) (((vp && bl) && ws) && dl) rt
 
--- what a sensor told
+-- a sensor's indication
 by_sensor : (bl dr cp at vp dl ws rt : Bool) → settles_by false false true bl dr cp at vp dl ws rt ≡ ((rt || cp) || (((vp && bl) && ws) && dl))
 by_sensor bl dr cp at vp dl ws rt =
     ap (λ y. (cp || y) || rt) (sort_late (vp && bl) dl ws)
@@ -214,17 +217,17 @@ by_sensor bl dr cp at vp dl ws rt =
 
 module _ (kind : Kind) (v : Event) (attempted second : Bool) (e : Event) (after : List Event)
     (attempt_is : law.is_attempted after ≡ attempted) (second_is : law.was_below after v ≡ second) where
-  -- what settles it, by what is asked of the sort and of the event
+  -- what settles it, from properties of its kind and of the event
   abbrev settles_so : Bool → Bool → Bool → Bool
   settles_so rd lk sn =
       settles_by rd lk sn (is_below v.what) (is_dry v.what) (is_complete v.what) attempted (law.is_valve_or_pump kind) (law.has_delay_between e after) second
       (is_retire v.what)
 
-  -- .. as the second of two readings, where it is delayed
+  -- a delayed leak is settled by the second of two readings
   abbrev settles_late : Bool
   settles_late = (law.is_valve_or_pump kind && is_below v.what && second) && law.has_delay_between e after
 
-  -- what settles it, by its sort
+  -- what settles it, by its kind
   settles_is : (rd lk sn : Bool) → is_reading_or_drip e.what ≡ rd → is_look e.what ≡ lk → is_sensor e.what ≡ sn →
       law.settles kind e after v ≡ settles_so rd lk sn
   settles_is rd lk sn of_rd of_lk of_sn = rw (of_rd, of_lk, of_sn, attempt_is, second_is) refl
@@ -238,7 +241,7 @@ module _ (kind : Kind) (v : Event) (attempted second : Bool) (e : Event) (after 
       ∙ by_reading (is_below v.what) (is_dry v.what) (is_complete v.what) attempted (law.is_valve_or_pump kind) (law.has_delay_between e after) second
       (is_retire v.what)
 
-  -- drips
+  -- a drip
   pub drip_settled : is_look e.what ≡ true → law.settles kind e after v
       ≡ (((is_retire v.what || (is_below v.what && attempted)) || (is_dry v.what && attempted)) || settles_late)
   drip_settled of_sort =
@@ -247,7 +250,7 @@ module _ (kind : Kind) (v : Event) (attempted second : Bool) (e : Event) (after 
       ∙ by_drip (is_below v.what) (is_dry v.what) (is_complete v.what) attempted (law.is_valve_or_pump kind) (law.has_delay_between e after) second
       (is_retire v.what)
 
-  -- what a sensor told
+  -- a sensor's indication
   pub sensor_settled : is_sensor e.what ≡ true → law.settles kind e after v
       ≡ ((is_retire v.what || is_complete v.what) || settles_late)
   sensor_settled of_sort =
@@ -269,13 +272,13 @@ was_below_is events later =
     somewhere_is_after
     (λ e after. is_below e.what && nat_eq (month_of e.key.day + 1) (month_of later.key.day) && not (list_any (λ x. is_leak x.what) after)) [] events
 
--- an attempt since a leak of a list is one since its last leak
+-- an attempt since a leak of a list is an attempt since its last leak
 pub attempted_since : (before : List Event) (e : Event) (after : List Event) → is_leak e.what ≡ true →
     law.is_attempted after ≡ since_leak (λ x. is_attempt x.what) (before ++ e ∷ after)
 attempted_since before e after leaks =
     attempted_is after ∙ sym (since_that_leak (λ x. is_attempt x.what) before e after leaks (leak_is_no_attempt e.what leaks))
 
--- .. and so is a reading
+-- a reading since a leak of a list is a reading since its last leak
 pub below_since : (before : List Event) (e : Event) (after : List Event) (later : Event) → is_leak e.what ≡ true → is_below e.what ≡ false →
     law.was_below after later ≡ since_leak (λ x. is_below x.what && nat_eq (month_of x.key.day + 1) (month_of later.key.day)) (before ++ e ∷ after)
 below_since before e after later leaks above =

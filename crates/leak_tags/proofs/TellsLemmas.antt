@@ -1,4 +1,4 @@
--- What open leaks tell of events, with one event more, and whether some leak is unsettled.
+-- The summary of open leaks after one more event, and whether some leak is unsettled.
 use Rattle.std.proofs.Common.{◌≡◌, ℕ, ◌+◌, ◌-◌, ◌<◌, ◌≤◌, Bool, true, false, not, ◌&&◌, ◌||◌, nat_eq, nat_le, List, [], ◌∷◌, ◌++◌, refl, sym, ap, subst, ◌∙◌}
 use Rattle.std.proofs.Common.{inl, inr, arith}
 use Rattle.std.specs.Prelude.{if◌then◌else◌}
@@ -25,24 +25,24 @@ use Rattle.leak_tags.proofs.ToldLemmas.{sums_under, told_same, told_settled, tol
 
 -- ---- months
 
--- the month of a later day is no earlier one
+-- the month of a later day is not earlier
 pub month_rises : (a b : ℕ) → a ≤ b → month_of a ≤ month_of b
 unfolding month_of
 month_rises a b le = grind (arith, nat_tests)
 
--- months begin with January 1970
+-- no month is before January 1970
 pub month_low : (n : ℕ) → 23_640 ≤ month_of n
 unfolding month_of
 month_low n = grind (arith, nat_tests)
 
--- no month is a second one where none was read below
+-- no month is a second one without a reading below before it
 none_second : (month : ℕ) → 23_640 ≤ month → is_second no_months month ≡ false
 none_second month low =
     let other : nat_eq month 0 ≡ false = ne_eqb month 0 (λ e. omega (arith, e, low)) in
     let next : nat_eq (month - 1) 0 ≡ false = ne_eqb (month - 1) 0 (λ e. omega (arith, e, low)) in
     rw (other, next) refl
 
--- a month is a second one, with a month more that is read below
+-- a month is a second one, with one more month that has a reading below
 second_with : (last now month : ℕ) (before : Bool) → last ≤ now → now ≤ month → 0 < now →
     ((if nat_eq month last then before else nat_eq (month - 1) last) || nat_eq (now + 1) month)
     ≡ (if nat_eq month now then (if nat_eq now last then before else nat_eq (now - 1) last) else nat_eq (month - 1) now)
@@ -69,7 +69,7 @@ second_with last now month before by le pos = elim (cases_eq month now) [
       ]
 ]
 
--- readings below the leak definition since the last leak, with one event more
+-- readings below the leak definition since the last leak, with one more event
 months_more : (leaks below since : Bool) (months : BelowMonths) (now month : ℕ) → (leaks && below) ≡ false → months.last ≤ now → now ≤ month →
     23_640 ≤ now → since ≡ is_second months month →
     ((not leaks && since) || (below && nat_eq (now + 1) month))
@@ -80,26 +80,26 @@ months_more false false since months now month apart by le low so = or_false sin
 months_more false true since months now month apart by le low so =
     ap (λ b. b || nat_eq (now + 1) month) so ∙ second_with months.last now month months.before by le (omega (arith, low))
 
--- their last month, with one event more
+-- the last month of such a reading, with one more event
 last_by : (leaks below : Bool) (months : BelowMonths) (now : ℕ) → months.last ≤ now →
     (if leaks then no_months else if below then record { last = now; before = is_second months now } else months).last ≤ now
 last_by true below months now by = omega arith
 last_by false true months now by = omega arith
 last_by false false months now by = by
 
--- ---- one event more
+-- ---- one more event
 
--- what holds of each event holds of one among them
+-- a property of all events, for one of them
 one_of_all : (P : Event → Type 0) (before : List Event) (e : Event) (after : List Event) → AllByRecursion P (before ++ e ∷ after) → P e
 one_of_all P [] e after all = all.0
 one_of_all P (x ∷ before) e after all = one_of_all P before e after all.1
 
--- of two tests that do not both pass, where one does
+-- if two tests do not both pass and one does, the other fails
 other_fails : (a b : Bool) → (a && b) ≡ false → a ≡ true → b ≡ false
 other_fails true b apart passes = apart
 other_fails false b apart passes = absurd (false≢true passes)
 
--- what leaks of one sort tell, with one event more
+-- the summary of the leaks of one kind, with one more event
 sort_more : (kind : Kind) (is_sort : Happening → Bool) (events : List Event) (v : Event) (all late : Bool)
     (fits : (before : List Event) (e : Event) (after : List Event) → before ++ e ∷ after ≡ events → (is_leak e.what && is_sort e.what) ≡ true →
     law.settles kind e after v ≡ (all || (late && law.has_delay_between e after)))
@@ -119,13 +119,13 @@ sort_more kind is_sort events v all late fits leaks today le told =
     (is_leak v.what && is_sort v.what))
 
 module _ (kind : Kind) (leaks : OpenLeaks) (today : ℕ) (events : List Event) (v : Event) (tells : Tells kind leaks today events) (le : today ≤ v.key.day) where
-  -- an attempt since a leak among them
+  -- an attempt since a leak of the events
   attempt_is : (before : List Event) (e : Event) (after : List Event) → before ++ e ∷ after ≡ events → is_leak e.what ≡ true →
       law.is_attempted after ≡ leaks.attempted
   attempt_is before e after at leak =
       attempted_since before e after leak ∙ ap (since_leak (λ x. is_attempt x.what)) at ∙ tells.attempted
 
-  -- .. and a reading in the month before
+  -- a reading in the month before
   second_is : (before : List Event) (e : Event) (after : List Event) → before ++ e ∷ after ≡ events → is_leak e.what ≡ true →
       law.was_below after v ≡ is_second leaks.below (month_of v.key.day)
   second_is before e after at leak =
@@ -136,7 +136,7 @@ module _ (kind : Kind) (leaks : OpenLeaks) (today : ℕ) (events : List Event) (
       ∙ ap (since_leak (λ x. is_below x.what && nat_eq (month_of x.key.day + 1) (month_of v.key.day))) at
       ∙ tells.below (month_of v.key.day) (month_rises today v.key.day le)
 
-  -- what they tell with one event more
+  -- the summary with one more event
   pub tells_more : (is_leak v.what && is_below v.what) ≡ false → Tells kind (with_event kind leaks v) v.key.day (events ++ v ∷ [])
   tells_more apart = record {
     readings = sort_more kind is_reading events v (settles_readings leaks v) (settles_delayed kind leaks v)
@@ -179,7 +179,7 @@ tells_none kind = record {
 
 -- ---- whether some leak is unsettled
 
--- what is unsettled, by its sort
+-- an unsettled leak, by its kind
 spread : (a b c st : Bool) → (((a || b) || c) && not st) ≡ ((((a && not st) && true) || ((b && not st) && true)) || ((c && not st) && true))
 spread true b c false = refl
 spread false true c false = refl
@@ -194,7 +194,7 @@ spread false true false true = refl
 spread false false true true = refl
 spread false false false true = refl
 
--- some leak is unsettled where the open leaks have one
+-- some leak is unsettled exactly if the summary has an open one
 pub unsettled_is : (kind : Kind) (leaks : OpenLeaks) (today : ℕ) (events : List Event) → Tells kind leaks today events →
     law.is_unsettled kind events ≡ is_open leaks
 unsettled_is kind leaks today events tells =

@@ -1,4 +1,4 @@
--- What leaks of one sort tell, with one event more: some are settled, a delay comes, one more is found.
+-- The summary of the leaks of one kind, in three steps: some are settled, a delay is added, a leak is added.
 use Rattle.std.proofs.Common.{◌≡◌, ℕ, ◌+◌, ◌≤◌, Bool, true, false, not, ◌&&◌, ◌||◌, nat_le, Option, Some, None, IfSome, refl, sym, ap, ◌∙◌, inl, inr, arith}
 use Rattle.std.specs.Prelude.{is_some}
 use Rattle.std.proofs.lemmas.Bool.{cases_Bool, and_right, leb-true, leb-false, lt-leb, le-leb}
@@ -9,13 +9,13 @@ use Rattle.leak_tags.specs.OpenLeaks.{has_leaks, reaches, misses, missed_by, fir
 use Rattle.leak_tags.specs.Telling.{Told}
 use Rattle.leak_tags.proofs.AfterLemmas.{or_false, and_true, and_false, and_over}
 
--- some one of many passes a test: tests that agree give the same, one of two is one or the other, what never passes does not
+-- a test of some of many: it depends only on the values, distributes over disjunction, and fails for a test that never passes
 pub record Sums (some : (Bool → ℕ → Bool) → Bool) : Type 0 where
   pub same : (p q : Bool → ℕ → Bool) → ((late : Bool) (from : ℕ) → p late from ≡ q late from) → some p ≡ some q
   pub either : (p q : Bool → ℕ → Bool) → some (λ late from. p late from || q late from) ≡ (some p || some q)
   pub none : some (λ _ _. false) ≡ false
 
--- some one that another test is for passes
+-- a test under a condition that is a test too
 pub sums_under : (some : (Bool → ℕ → Bool) → Bool) → Sums some → (t : Bool → ℕ → Bool) → Sums (λ p. some (λ late from. t late from && p late from))
 sums_under some sums t = record {
   same = λ p q agree. sums.same (λ late from. t late from && p late from) (λ late from. t late from && q late from)
@@ -27,7 +27,7 @@ sums_under some sums t = record {
   none = sums.same (λ late from. t late from && false) (λ _ _. false) (λ late from. and_false (t late from)) ∙ sums.none;
 }
 
--- what is told of the same
+-- equal tests have the same summary
 pub told_same : (some other : (Bool → ℕ → Bool) → Bool) (leaks : Leaks) (today : ℕ) → ((p : Bool → ℕ → Bool) → some p ≡ other p) → Told other leaks today →
     Told some leaks today
 told_same some other leaks today same told = record {
@@ -37,24 +37,24 @@ told_same some other leaks today same told = record {
   in_order = told.in_order;
 }
 
--- what follows for what there is
+-- a property of an optional value that follows from another
 if_some : {X : Type 0} (P Q : X → Type 0) (o : Option X) → ((x : X) → P x → Q x) → IfSome o P → IfSome o Q
 if_some P Q None implies h = h
 if_some P Q (Some x) implies h = implies x h
 
 -- ---- some are settled
 
--- not and yes
+-- a conjunction with the negation
 not_both : (b : Bool) → (not b && b) ≡ false
 not_both true = refl
 not_both false = refl
 
--- twice the same
+-- a conjunction with a repeated test
 twice : (a b : Bool) → (a && (a && b)) ≡ (a && b)
 twice true b = refl
 twice false b = refl
 
--- what is told where all are settled, or those that are delayed
+-- the summary when all are settled, or only the delayed ones
 pub told_settled : (some : (Bool → ℕ → Bool) → Bool) (leaks : Leaks) (today : ℕ) → Sums some → Told some leaks today → (all late : Bool) →
     Told (λ p. some (λ l from. not (all || (late && l)) && p l from)) (settled leaks all late) today
 told_settled some leaks today sums told true late = record {
@@ -82,7 +82,7 @@ told_settled some leaks today sums told false false = record {
   in_order = told.in_order;
 }
 
--- ---- a delay comes
+-- ---- a delay is added
 
 -- delayed now or before
 now_or_before : (a l : Bool) → (a || l) ≡ (l || (not l && a))
@@ -91,21 +91,21 @@ now_or_before true false = refl
 now_or_before false true = refl
 now_or_before false false = refl
 
--- what an earlier delay has not reached, a later one does not reach
+-- what an earlier delay does not reach, a later one does not reach
 not_later : (t day from : ℕ) (l : Bool) → t ≤ day → (not (nat_le t from || l) && nat_le day from) ≡ false
 not_later t day from l le = elim (cases_Bool (nat_le t from)) [
   | inl by ↦ rw by refl
   | inr past ↦ and_right (not (nat_le t from || l)) (nat_le day from) (lt-leb day from (omega (arith, le, leb-false t from past)))
 ]
 
--- .. so that it misses just what the earlier one missed
+-- a later delay misses exactly what the earlier one missed
 missed_still : (t day from : ℕ) (l : Bool) → t ≤ day → (not (nat_le t from || l) && not (nat_le day from)) ≡ (not l && not (nat_le t from))
 missed_still t day from l le = elim (cases_Bool (nat_le t from)) [
   | inl by ↦ rw by (sym (and_false (not l)))
   | inr past ↦ let later : nat_le day from ≡ false = lt-leb day from (omega (arith, le, leb-false t from past)) in rw (past, later) refl
 ]
 
--- those that a delay has missed are reached by none
+-- leaks that a delay has missed are reached by no later one
 none_reached : (waiting : Option Days) (t day : ℕ) → t ≤ day → reaches (missed_by waiting t) day ≡ false
 none_reached None t day le = refl
 none_reached (Some days) t day le = elim (cases_Bool (nat_le t (days.first + REPAIR_DAYS))) [
@@ -116,7 +116,7 @@ none_reached (Some days) t day le = elim (cases_Bool (nat_le t (days.first + REP
       rw (past, later) refl
 ]
 
--- .. and missed by each
+-- leaks that a delay has missed are missed by each later one
 all_missed : (waiting : Option Days) (t day : ℕ) → t ≤ day → misses waiting t ≡ misses (missed_by waiting t) day
 all_missed None t day le = refl
 all_missed (Some days) t day le = elim (cases_Bool (nat_le t (days.first + REPAIR_DAYS))) [
@@ -127,7 +127,7 @@ all_missed (Some days) t day le = elim (cases_Bool (nat_le t (days.first + REPAI
       rw (past, later) refl
 ]
 
--- the days of those that are missed
+-- the days of the missed leaks
 missed_in_order : (waiting : Option Days) (today t : ℕ) → today ≤ t → IfSome waiting (λ days. (days.first ≤ days.last) × (days.last ≤ today)) →
     IfSome (missed_by waiting t) (λ days. (days.first ≤ days.last) × (days.last ≤ t))
 missed_in_order None today t le h = tt
@@ -136,7 +136,7 @@ missed_in_order (Some days) today t le h = elim (cases_Bool (nat_le t (days.firs
   | inr past ↦ rw past (omega arith, omega (arith, h.0, h.1, le))
 ]
 
--- what is told when a delay comes, or none does
+-- the summary after a delay, if there is one
 pub told_reached : (some : (Bool → ℕ → Bool) → Bool) (leaks : Leaks) (today t : ℕ) → Sums some → today ≤ t → Told some leaks today → (delays : Bool) →
     Told (λ p. some (λ l from. p ((delays && nat_le t (from + REPAIR_DAYS)) || l) from)) (reached leaks delays t) t
 told_reached some leaks today t sums le told true = record {
@@ -168,16 +168,16 @@ told_reached some leaks today t sums le told false = record {
       (λ days h. (h.0, omega (arith, h.1, le))) told.in_order;
 }
 
--- ---- one more is found
+-- ---- a leak is added
 
--- up to one of two numbers is up to the larger
+-- a bound by one of two numbers is a bound by the larger
 up_to_larger : (day a b : ℕ) → a ≤ b → (nat_le day a || nat_le day b) ≡ nat_le day b
 up_to_larger day a b le = elim (cases_Bool (nat_le day a)) [
   | inl by ↦ let more : nat_le day b ≡ true = le-leb day b (omega (arith, le, leb-true day a by)) in rw (by, more) refl
   | inr past ↦ rw past refl
 ]
 
--- past one of two numbers is past the smaller
+-- a number past one of two numbers is past the smaller
 past_smaller : (day a b : ℕ) → a ≤ b → (not (nat_le day a) || not (nat_le day b)) ≡ not (nat_le day a)
 past_smaller day a b le = elim (cases_Bool (nat_le day a)) [
   | inl by ↦ let more : nat_le day b ≡ true = le-leb day b (omega (arith, le, leb-true day a by)) in rw (by, more) refl
@@ -185,13 +185,13 @@ past_smaller day a b le = elim (cases_Bool (nat_le day a)) [
 ]
 
 module _ (t : ℕ) where
-  -- a delay reaches one of those that wait, with one more
+  -- a delay reaches some waiting leak, with one more
   reaches_more : (waiting : Option Days) (day : ℕ) → IfSome waiting (λ days. (days.first ≤ days.last) × (days.last ≤ t)) →
       (reaches waiting day || nat_le day (t + REPAIR_DAYS)) ≡ nat_le day (t + REPAIR_DAYS)
   reaches_more None day h = refl
   reaches_more (Some days) day h = up_to_larger day (days.last + REPAIR_DAYS) (t + REPAIR_DAYS) (omega (arith, h.1))
 
-  -- .. or misses one
+  -- a delay misses some waiting leak, with one more
   misses_more : (waiting : Option Days) (day : ℕ) → IfSome waiting (λ days. (days.first ≤ days.last) × (days.last ≤ t)) →
       (misses waiting day || not (nat_le day (t + REPAIR_DAYS))) ≡ not (nat_le day (first_with waiting t + REPAIR_DAYS))
   misses_more None day h = refl
@@ -202,7 +202,7 @@ module _ (t : ℕ) where
   first_by None h = omega arith
   first_by (Some days) h = omega (arith, h.0, h.1)
 
--- what is told when one more is found, or none is
+-- the summary with one more leak, if one is found
 pub told_opened : (some : (Bool → ℕ → Bool) → Bool) (leaks : Leaks) (t : ℕ) → Told some leaks t → (opens : Bool) →
     Told (λ p. some p || (opens && p false t)) (opened leaks opens t) t
 told_opened some leaks t told true = record {
@@ -218,7 +218,7 @@ told_opened some leaks t told false = record {
   in_order = told.in_order;
 }
 
--- ---- whether there is one
+-- ---- whether there is a leak
 
 -- delayed, or reached, or missed
 one_of_three : (l a : Bool) → true ≡ (l || ((not l && a) || (not l && not a)))
@@ -226,7 +226,7 @@ one_of_three true a = refl
 one_of_three false true = refl
 one_of_three false false = refl
 
--- those that wait are reached or missed
+-- a waiting leak is reached or missed
 waiting_is : (waiting : Option Days) (today : ℕ) → IfSome waiting (λ days. (days.first ≤ days.last) × (days.last ≤ today)) →
     (reaches waiting today || misses waiting today) ≡ is_some waiting
 waiting_is None today h = refl
@@ -238,7 +238,7 @@ waiting_is (Some days) today h = elim (cases_Bool (nat_le today (days.last + REP
       rw (past, later) refl
 ]
 
--- some leak is there
+-- some leak exists
 pub told_any : (some : (Bool → ℕ → Bool) → Bool) (leaks : Leaks) (today : ℕ) → Sums some → Told some leaks today → some (λ _ _. true) ≡ has_leaks leaks
 told_any some leaks today sums told =
     let near : Bool → ℕ → Bool = λ l from. not l && nat_le today (from + REPAIR_DAYS) in

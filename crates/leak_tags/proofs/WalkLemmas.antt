@@ -1,4 +1,4 @@
--- Walks over events: what is open at a place, the next attempt, and events that rise.
+-- Walks over events: the open leaks at a place, the next attempt, and events whose days do not decrease.
 use Rattle.std.proofs.Common.{◌≡◌, ℕ, zero, suc, ◌+◌, ◌<◌, ◌≤◌, Bool, true, false, not, ◌&&◌, ◌||◌, nat_lt, Option, Some, None, List, [], ◌∷◌, ◌++◌, length}
 use Rattle.std.proofs.Common.{take, drop, get_or, slice_get, option_map, refl, sym, ap, subst, ◌∙◌, inl, inr, ◌⊎◌, arith}
 use Rattle.std.proofs.lemmas.Bool.{cases_lt, or_parts, ltb-true, ltb-false, or_cases, and_from, true≢false}
@@ -32,24 +32,24 @@ use Rattle.leak_tags.proofs.TellsLemmas.{tells_none, tells_more, unsettled_is}
 
 -- ---- the event at a place
 
--- what stands from a place on, with the event there
+-- the events from a place on begin with the event there
 pub rest_is : (events : List Event) (i : ℕ) (e : Event) → i < length events → e ≡ get_or events i e → drop i events ≡ e ∷ drop (i + 1) events
 rest_is events i e within is = drop_more events i e within ∙ ap (λ x. x ∷ drop (i + 1) events) (sym is)
 
--- what stands before the next place
+-- the events before the next place end with the event here
 pub front_is : (events : List Event) (i : ℕ) (e : Event) → i < length events → e ≡ get_or events i e → take (i + 1) events ≡ take i events ++ e ∷ []
 front_is events i e within is = take_more events i e within ∙ ap (λ x. take i events ++ x ∷ []) (sym is)
 
--- ---- events that rise
+-- ---- events whose days do not decrease
 
--- an event is in its place where neither test says otherwise
+-- an event is in order if both tests fail
 pub in_place : (e : Event) (today : ℕ) → (nat_lt e.key.day today || (is_leak e.what && is_below e.what)) ≡ false →
     (today ≤ e.key.day) × ((is_leak e.what && is_below e.what) ≡ false)
 in_place e today passes =
     let parts = or_parts (nat_lt e.key.day today) (is_leak e.what && is_below e.what) passes in
     (ltb-false e.key.day today parts.0, parts.1)
 
--- an event more
+-- one more event
 pub rises_next : (events : List Event) (i : ℕ) (e : Event) (today : ℕ) → i < length events → e ≡ get_or events i e →
     (nat_lt e.key.day today || (is_leak e.what && is_below e.what)) ≡ false →
     (Rises e.key.day (drop (i + 1) events) → Rises today (drop i events)) × (Rises today (drop i events) → Rises e.key.day (drop (i + 1) events))
@@ -68,7 +68,7 @@ rises_not events i e today within is fails rises =
       | inr both ↦ true≢false (sym both ∙ here.1)
     ]
 
--- behind the last event
+-- after the last event
 pub rises_end : (events : List Event) (i today : ℕ) → length events ≤ i → Rises today (drop i events)
 rises_end events i today past = subst (Rises today) (sym (drop_all i events past)) tt
 
@@ -79,12 +79,12 @@ pub at_first : (kind : Kind) (events : List Event) → Rises 0 events → IsAt k
 at_first kind events rises = record { today = 0; tells = tells_none kind; rises = rises }
 
 module _ (kind : Kind) (leaks : OpenLeaks) (events : List Event) (i : ℕ) (at : IsAt kind leaks events i) where
-  -- what is unsettled at a place
+  -- unsettled leaks at a place
   pub open_is : is_unsettled kind (take i events) ≡ is_open leaks
   open_is = unsettled_is kind leaks at.today (take i events) at.tells
 
   module _ (e : Event) (within : i < length events) (is : e ≡ get_or events i e) where
-    -- what is told with the event of the place
+    -- the summary with the event at the place
     told : Tells kind (with_event kind leaks e) e.key.day (take i events ++ e ∷ [])
     told =
         let here = subst (Rises at.today) (rest_is events i e within is) at.rises in
@@ -98,19 +98,19 @@ module _ (kind : Kind) (leaks : OpenLeaks) (events : List Event) (i : ℕ) (at :
       rises = (subst (Rises at.today) (rest_is events i e within is) at.rises).2;
     }
 
-    -- whether the event closes
+    -- whether a tag can close at the event
     pub closes_is : law.closes kind (take i events) e ≡ not (is_open (with_event kind leaks e))
     closes_is = ap not (unsettled_is kind (with_event kind leaks e) e.key.day (take i events ++ e ∷ []) told)
 
 -- ---- tags
 
--- the element of a place
+-- the element at a place
 stands_same : (xs : List Event) (i : ℕ) (x y : Event) → slice_get xs i ≡ Some y → x ≡ get_or xs i x → i < length xs → y ≡ x
 stands_same [] i x y stands is within = absurd (omega arith)
 stands_same (z ∷ xs) zero x y stands is within = cc
 stands_same (z ∷ xs) (suc i) x y stands is within = stands_same xs i x y stands is (omega (arith, within))
 
--- .. stands there
+-- the element is at the place
 pub stands_there : (xs : List Event) (i : ℕ) (x : Event) → x ≡ get_or xs i x → i < length xs → slice_get xs i ≡ Some x
 stands_there [] i x is within = absurd (omega arith)
 stands_there (z ∷ xs) zero x is within = ap Some (sym is)
@@ -118,18 +118,18 @@ stands_there (z ∷ xs) (suc i) x is within = stands_there xs i x is (omega (ari
 
 module _ (kind : Kind) (leaks : OpenLeaks) (events : List Event) (i : ℕ) (at : IsAt kind leaks events i) (e : Event) (within : i < length events)
     (is : e ≡ get_or events i e) where
-  -- the closing that is looked for from this place on
+  -- the closing that is searched from this place on
   abbrev first_closing : ℕ → Option Event
   first_closing n = first_from (λ front x _. law.closes kind front x) (take n events) (drop n events)
 
-  -- .. is here where nothing is open with the event
+  -- the closing is here if no leak is open after the event
   pub closing_here : is_open (with_event kind leaks e) ≡ false → option_map (λ x. x.key) (first_closing i) ≡ Some e.key
   closing_here shut =
       let closed : law.closes kind (take i events) e ≡ true = closes_is kind leaks events i at e within is ∙ ap not shut in
       ap (λ rest. option_map (λ x. x.key) (first_from (λ front x _. law.closes kind front x) (take i events) rest)) (rest_is events i e within is)
       ∙ rw closed refl
 
-  -- .. and else behind it
+  -- otherwise the closing is later
   pub closing_later : is_open (with_event kind leaks e) ≡ true → first_closing i ≡ first_closing (i + 1)
   closing_later open_still =
       let closed : law.closes kind (take i events) e ≡ false = closes_is kind leaks events i at e within is ∙ ap not open_still in
@@ -151,7 +151,7 @@ module _ (kind : Kind) (leaks : OpenLeaks) (events : List Event) (i : ℕ) (at :
   abbrev tag : Option ℕ → Option Key → Bool → Option Span
   tag attempted closed removable = Some (record { detected = e.key; attempted = attempted; closed = closed; removable = removable })
 
-  -- .. is the one that is looked for
+  -- the tag that opens is the one in the definition
   pub span_some : (leak : Event) → slice_get events i ≡ Some leak → (is_leak e.what && not (is_open leaks)) ≡ true →
       (attempted : Option ℕ) (closed : Option Key) (removable : Bool) → attempted ≡ law.attempt_after (drop (i + 1) events) →
       closed ≡ option_map (λ x. x.key) (first_closing (i + 1)) → removable ≡ law.is_removable kind events closed →
@@ -176,11 +176,11 @@ module _ (events : List Event) (i : ℕ) (e : Event) (within : i < length events
   pub attempt_here : is_attempt e.what ≡ true → law.attempt_after (drop i events) ≡ Some e.key.day
   attempt_here attempts = ap law.attempt_after (rest_is events i e within is) ∙ rw attempts refl
 
-  -- another event is passed over
+  -- another event is skipped
   pub attempt_past : is_attempt e.what ≡ false → law.attempt_after (drop i events) ≡ law.attempt_after (drop (i + 1) events)
   attempt_past fails = ap law.attempt_after (rest_is events i e within is) ∙ rw fails refl
 
-  -- .. by a look ahead
+  -- events are skipped by a search ahead
   pub ahead_past : (from : ℕ) → ((k : ℕ) → from ≤ k → k ≤ i → law.attempt_after (drop k events) ≡ law.attempt_after (drop i events)) →
       is_attempt e.what ≡ false → (k : ℕ) → from ≤ k → k ≤ i + 1 → law.attempt_after (drop k events) ≡ law.attempt_after (drop (i + 1) events)
   ahead_past from ahead fails k low high = elim (cases_lt i k) [
@@ -188,34 +188,34 @@ module _ (events : List Event) (i : ℕ) (e : Event) (within : i < length events
     | inr by ↦ ahead k low by ∙ attempt_past fails
   ]
 
--- behind the last event there is none
+-- after the last event there is none
 pub attempt_none : (events : List Event) (i : ℕ) → length events ≤ i → law.attempt_after (drop i events) ≡ None
 attempt_none events i past = ap law.attempt_after (drop_all i events past)
 
 -- ---- leaks while none is open
 
--- leaks by their parts
+-- leaks from their parts
 abbrev leaks_of : Bool → Option Days → Leaks
 leaks_of delayed waiting = record { delayed = delayed; waiting = waiting }
 
--- where there is none, none is delayed and none waits
+-- without leaks, none is delayed and none waits
 parts_none : (delayed : Bool) (waiting : Option Days) → (delayed || is_some waiting) ≡ false → leaks_of delayed waiting ≡ no_leaks
 parts_none true waiting none = absurd (true≢false none)
 parts_none false (Some days) none = absurd (true≢false none)
 parts_none false None none = refl
 
--- where there is none, there are no leaks
+-- a summary without leaks is `no_leaks`
 none_is : (leaks : Leaks) → has_leaks leaks ≡ false → leaks ≡ no_leaks
 none_is leaks none = parts_none leaks.delayed leaks.waiting none
 
--- no leaks stay none where none is found
+-- no leaks stay none if no leak is found
 none_stay : (all late delays : Bool) (day : ℕ) → opened (reached (settled no_leaks all late) delays day) false day ≡ no_leaks
 none_stay true late true day = refl
 none_stay true late false day = refl
 none_stay false late true day = refl
 none_stay false late false day = refl
 
--- of no leaks nothing is settled
+-- settling no leaks changes nothing
 none_settled : (all late : Bool) → settled no_leaks all late ≡ no_leaks
 none_settled true late = refl
 none_settled false late = refl
@@ -232,7 +232,7 @@ none_of : (a b c : Bool) → a ≡ false → b ≡ false → c ≡ false → (a 
 none_of a b c x y z = rw (x, y, z) refl
 
 module _ (kind : Kind) (leaks : OpenLeaks) (e : Event) where
-  -- no leaks of a sort stay none at an event that is no leak
+  -- no leaks of a kind stay none at an event that is no leak
   sort_shut : (sort : Leaks) (all late of_sort : Bool) → is_leak e.what ≡ false → has_leaks sort ≡ false →
       has_leaks (leaks_with sort all late (is_leak e.what && of_sort) e) ≡ false
   sort_shut sort all late of_sort passes none =
@@ -240,7 +240,7 @@ module _ (kind : Kind) (leaks : OpenLeaks) (e : Event) where
       ∙ ap (λ x. has_leaks (leaks_with x all late false e)) (none_is sort none)
       ∙ ap has_leaks (none_stay all late (delays_with_reading e.what) e.key.day)
 
-  -- where none is open, none is at an event that is no leak
+  -- if no leak is open, none is open after an event that is no leak
   pub stays_shut : is_leak e.what ≡ false → is_open leaks ≡ false → is_open (with_event kind leaks e) ≡ false
   stays_shut passes shut =
       let parts = or_parts (has_leaks leaks.readings || has_leaks leaks.drips) (has_leaks leaks.sensors) shut in
@@ -252,13 +252,13 @@ module _ (kind : Kind) (leaks : OpenLeaks) (e : Event) where
       (sort_shut leaks.drips (settles_drips leaks e) late (is_look e.what) passes first.1)
       (sort_shut leaks.sensors (settles_sensors e) late (is_sensor e.what) passes parts.1)
 
-  -- there is one of a sort at a leak of the sort
+  -- a leak of a kind opens one of that kind
   sort_opens : (sort : Leaks) (all late opens : Bool) → opens ≡ true → has_leaks (leaks_with sort all late opens e) ≡ true
   sort_opens sort all late opens finds =
       ap (λ b. has_leaks (leaks_with sort all late b e)) finds
       ∙ or_true (reached (settled sort all late) (delays_with_reading e.what) e.key.day).delayed
 
-  -- at a leak one is open
+  -- after a leak, one is open
   pub leak_opens : is_leak e.what ≡ true → is_open (with_event kind leaks e) ≡ true
   leak_opens finds =
       let late = settles_delayed kind leaks e in
@@ -275,19 +275,19 @@ module _ (kind : Kind) (leaks : OpenLeaks) (e : Event) where
         | inr x ↦ inr (inr (sort_opens leaks.sensors (settles_sensors e) late s x))
       ])
 
-  -- of no leaks of a sort, what is settled does not matter
+  -- without leaks of a kind, it does not matter what is settled
   sort_anew : (sort : Leaks) (all late all2 late2 opens : Bool) → has_leaks sort ≡ false →
       leaks_with no_leaks all late opens e ≡ leaks_with sort all2 late2 opens e
   sort_anew sort all late all2 late2 opens none =
       ap (λ x. opened (reached x (delays_with_reading e.what) e.key.day) opens e.key.day)
       (none_settled all late ∙ sym (none_settled all2 late2) ∙ ap (λ x. settled x all2 late2) (sym (none_is sort none)))
 
-  -- open leaks by their parts
+  -- open leaks from their parts
   abbrev open_of : Leaks → Leaks → Leaks → Bool → BelowMonths → OpenLeaks
   open_of readings drips sensors attempted below =
       record { readings = readings; drips = drips; sensors = sensors; attempted = attempted; below = below }
 
-  -- where none is open, a leak begins anew
+  -- if no leak is open, a leak starts over
   pub leak_begins : is_leak e.what ≡ true → is_open leaks ≡ false → with_event kind none_open e ≡ with_event kind leaks e
   leak_begins finds shut =
       let parts = or_parts (has_leaks leaks.readings || has_leaks leaks.drips) (has_leaks leaks.sensors) shut in
@@ -314,22 +314,22 @@ module _ (kind : Kind) (events : List Event) (i : ℕ) (e : Event) (within : i <
       ∙ ap (λ x. cons_option (law.span_at kind events (take i events) x (drop (i + 1) events)) (tags_from kind events (i + 1))) (sym is)
 
   module _ (walk : Walk) (walks : Walks kind walk events i) where
-    -- where none opens
+    -- no tag opens here
     tags_later : (is_leak e.what && not (is_open walks.seen)) ≡ false → tags_from kind events i ≡ tags_from kind events (i + 1)
     tags_later opens =
         tags_here
         ∙ ap (λ given. cons_option given (tags_from kind events (i + 1)))
         (span_none kind walks.seen events i walks.at e within is e (stands_there events i e is within) opens)
 
-    -- nothing is open without a tag
+    -- without a tag, no leak is open
     shut_is : walk.tag ≡ None → is_open walks.seen ≡ false
     shut_is none = sym walks.has_tag ∙ ap is_some none
 
-    -- .. and something is with one
+    -- with a tag, some leak is open
     open_is_so : (tag : OpenTag) → walk.tag ≡ Some tag → is_open walks.seen ≡ true
     open_is_so tag some = sym walks.has_tag ∙ ap is_some some
 
-    -- the next attempt is so from the next place on
+    -- the next attempt is valid from the next place on
     next_still : IsNext walk.next events (i + 1)
     next_still k low high = walks.next k (omega (arith, low)) high
 
@@ -356,7 +356,7 @@ module _ (kind : Kind) (events : List Event) (i : ℕ) (e : Event) (within : i <
       pair = subst (λ o. IfSome o (λ pair. IsPairFor kind pair events)) (sym pair_is) walks.pair;
     }
 
-    -- .. and is the first of the rest
+    -- the new tag is the first of the rest
     pub rest_open : (attempted : Option ℕ) → walk.tag ≡ None → is_leak e.what ≡ true → attempted ≡ law.attempt_after (drop (i + 1) events) →
         rest_of kind events walk.tag i ≡ rest_of kind events (Some (record { detected = e.key; attempted = attempted })) (i + 1)
     rest_open attempted none finds attempted_is =
@@ -381,7 +381,7 @@ module _ (kind : Kind) (events : List Event) (i : ℕ) (e : Event) (within : i <
           pair = subst (λ o. IfSome o (λ pair. IsPairFor kind pair events)) (sym pair_is) walks.pair;
         }
 
-    -- .. and is still the first of the rest
+    -- the tag is still the first of the rest
     pub rest_on : (leaks : OpenLeaks) (tag : OpenTag) → walk.tag ≡ Some tag → leaks ≡ with_event kind walk.leaks e → is_open leaks ≡ true →
         rest_of kind events (Some tag) i ≡ rest_of kind events (Some tag) (i + 1)
     rest_on leaks tag some leaks_are open_still =
@@ -405,7 +405,7 @@ module _ (kind : Kind) (events : List Event) (i : ℕ) (e : Event) (within : i <
           pair = pair;
         }
 
-    -- .. with this event
+    -- the tag closes with this event
     pub rest_shut : (leaks : OpenLeaks) (tag : OpenTag) → walk.tag ≡ Some tag → leaks ≡ with_event kind walk.leaks e → is_open leaks ≡ false →
         rest_of kind events (Some tag) i ≡ closed_tag kind events tag (Some e.key) ∷ tags_from kind events (i + 1)
     rest_shut leaks tag some leaks_are shut =
@@ -415,7 +415,7 @@ module _ (kind : Kind) (events : List Event) (i : ℕ) (e : Event) (within : i <
         ∙ ap (λ x. closed_tag kind events tag (Some e.key) ∷ x)
         (tags_later (ap (λ b. is_leak e.what && not b) (open_is_so tag some) ∙ and_false (is_leak e.what)))
 
--- behind the last event
+-- after the last event
 pub rest_end : (kind : Kind) (events : List Event) (tag : OpenTag) → rest_of kind events (Some tag) (length events) ≡ closed_tag kind events tag None ∷ []
 rest_end kind events tag =
     let closes : closing_from kind events (length events) ≡ None =

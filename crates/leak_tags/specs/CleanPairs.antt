@@ -1,4 +1,4 @@
--- The last two months in a row of some events that are both clean, looked for from the last event on.
+-- The last two months in a row that are both clean, searched from the last event backward.
 use Rattle.std.specs.Prelude.{◌≡◌, ℕ, ◌+◌, ◌<◌, ◌≤◌, Bool, true, false, not, ◌&&◌, ◌||◌, nat_eq, nat_le, if◌then◌else◌, List, length, take, drop}
 use Rattle.std.specs.List.{AllByRecursion, list_any}
 use Rattle.ldar_days.specs.Calendar.{month_of}
@@ -9,15 +9,15 @@ use Rattle.ldar_law.specs.Months.{has_leak_in, is_clean, is_clean_twice, is_clea
 use Rattle.ldar_law.specs.Spans.{is_valve}
 use Rattle.leak_tags.specs.declared.clean_months.CleanMonths.{CleanMonths}
 
--- the month is clean, as far as it was looked at
+-- the month is clean, by the events so far
 abbrev pub is_month_clean : CleanMonths → Bool
 is_month_clean months = months.read && not months.leak
 
--- .. and the one behind it is too
+-- the month and the next one are clean
 abbrev pub is_pair : CleanMonths → Bool
 is_pair months = is_month_clean months && months.followed
 
--- one event alone
+-- the months of a single event
 abbrev pub clean_of : Event → CleanMonths
 clean_of e = record { month = month_of e.key.day; read = is_routine_below e.what; leak = is_leak e.what; followed = false }
 
@@ -38,7 +38,7 @@ clean_with months e =
       followed = is_month_clean months && nat_eq (month_of e.key.day + 1) months.month;
     }
 
--- what is known of events by those from a place on: the first month of these, and that no two months behind it are both clean
+-- the summary of the events from a place on: their first month, and that no later two months in a row are clean
 pub record TellsLast (months : CleanMonths) (events : List Event) (place : ℕ) : Type 0 where
   pub within : place ≤ length events
   pub front : AllByRecursion (λ e. month_of e.key.day ≤ months.month) (take place events)
@@ -48,10 +48,10 @@ pub record TellsLast (months : CleanMonths) (events : List Event) (place : ℕ) 
   pub followed : is_clean events (months.month + 1) ≡ months.followed
   pub last : (k : ℕ) → months.month < k → is_clean_twice events k ≡ false
 
--- the first of the last two clean months in a row, or 0 where there are none
+-- the first of the last two clean months in a row, or 0 if there are none
 abbrev pub IsLastPair : ℕ → List Event → Type 0
 IsLastPair pair events = (first : ℕ) → 0 < first → is_clean_twice_from events first ≡ nat_le first pair
 
--- .. which is asked for of a valve only
+-- the same, needed only for a valve
 abbrev pub IsPairFor : Kind → ℕ → List Event → Type 0
 IsPairFor kind pair events = is_valve kind ≡ true → IsLastPair pair events

@@ -1,4 +1,4 @@
--- What is kept of the leaks that are not settled yet: as much of each sort as decides what settles them later.
+-- A summary of the unsettled leaks: for each kind of leak, what decides when it is settled.
 use Rattle.std.specs.Prelude.{ℕ, ◌+◌, ◌-◌, Bool, true, false, not, ◌&&◌, ◌||◌, nat_eq, nat_le, if◌then◌else◌, Option, Some, None, is_some}
 use Rattle.ldar_days.specs.Calendar.{month_of}
 use Rattle.fact_kinds.specs.declared.class.Kind.{Kind}
@@ -13,55 +13,55 @@ use Rattle.leak_tags.specs.declared.leaks.Days.{Days}
 use Rattle.leak_tags.specs.declared.leaks.Leaks.{Leaks}
 use Rattle.leak_tags.specs.declared.open_leaks.OpenLeaks.{OpenLeaks}
 
--- ---- the leaks of one sort
+-- ---- the leaks of one kind
 
 -- no leaks
 abbrev pub no_leaks : Leaks
 no_leaks = record { delayed = false; waiting = None }
 
--- there is one
+-- there is a leak
 abbrev pub has_leaks : Leaks → Bool
 has_leaks leaks = leaks.delayed || is_some leaks.waiting
 
--- a delay of this day comes at most fifteen days after one of those that wait
+-- a delay on this day is at most fifteen days after some waiting leak
 abbrev pub reaches : Option Days → ℕ → Bool
 reaches None day = false
 reaches (Some days) day = nat_le day (days.last + REPAIR_DAYS)
 
--- .. or more than fifteen days after one of them
+-- a delay on this day is more than fifteen days after some waiting leak
 abbrev pub misses : Option Days → ℕ → Bool
 misses None day = false
 misses (Some days) day = not (nat_le day (days.first + REPAIR_DAYS))
 
--- those that go on waiting: no later delay reaches them
+-- the leaks that keep waiting; no later delay reaches them
 abbrev pub missed_by : Option Days → ℕ → Option Days
 missed_by None day = None
 missed_by (Some days) day = if nat_le day (days.first + REPAIR_DAYS) then None else Some (record { first = days.first; last = days.first })
 
--- the first day of those that wait, with one more
+-- the first day of the waiting leaks, with one more
 abbrev pub first_with : Option Days → ℕ → ℕ
 first_with None day = day
 first_with (Some days) day = days.first
 
--- all of them are settled, or those that are delayed
+-- all of them are settled, or only the delayed ones
 abbrev pub settled : Leaks → Bool → Bool → Leaks
 settled leaks all late = if all then no_leaks else record { delayed = leaks.delayed && not late; waiting = leaks.waiting }
 
--- a delay comes, or none does
+-- the leaks after a delay, if there is one
 abbrev pub reached : Leaks → Bool → ℕ → Leaks
 reached leaks delays day =
     if delays
     then record { delayed = leaks.delayed || reaches leaks.waiting day; waiting = missed_by leaks.waiting day }
     else leaks
 
--- one more is found, or none is
+-- the leaks with one more, if one is found
 abbrev pub opened : Leaks → Bool → ℕ → Leaks
 opened leaks opens day =
     if opens
     then record { delayed = leaks.delayed; waiting = Some (record { first = first_with leaks.waiting day; last = day }) }
     else leaks
 
--- the leaks with one event more
+-- the leaks after one more event
 abbrev pub leaks_with : Leaks → Bool → Bool → Bool → Event → Leaks
 leaks_with leaks all late opens e = opened (reached (settled leaks all late) (delays_with_reading e.what) e.key.day) opens e.key.day
 
@@ -71,18 +71,18 @@ leaks_with leaks all late opens e = opened (reached (settled leaks all late) (de
 abbrev pub no_months : BelowMonths
 no_months = record { last = 0; before = false }
 
--- one lies in the month before this one, where none lies in a later month than this one
+-- such a reading is in the month before this one, if none is in a month after this one
 abbrev pub is_second : BelowMonths → ℕ → Bool
 is_second below month = if nat_eq month below.last then below.before else nat_eq (month - 1) below.last
 
--- the months with one event more
+-- the months after one more event
 abbrev pub months_with : BelowMonths → Event → BelowMonths
 months_with below e =
     if is_leak e.what
     then no_months
     else if is_below e.what then record { last = month_of e.key.day; before = is_second below (month_of e.key.day) } else below
 
--- ---- all of them
+-- ---- all leaks
 
 -- a reading
 abbrev pub is_reading : Happening → Bool
@@ -92,7 +92,7 @@ is_reading what = is_reading_or_drip what && not (is_look what)
 abbrev pub none_open : OpenLeaks
 none_open = record { readings = no_leaks; drips = no_leaks; sensors = no_leaks; attempted = false; below = no_months }
 
--- a leak of some sort is not settled
+-- some leak is not settled
 abbrev pub is_open : OpenLeaks → Bool
 is_open leaks = has_leaks leaks.readings || has_leaks leaks.drips || has_leaks leaks.sensors
 
@@ -100,19 +100,19 @@ is_open leaks = has_leaks leaks.readings || has_leaks leaks.drips || has_leaks l
 abbrev pub settles_readings : OpenLeaks → Event → Bool
 settles_readings leaks e = is_retire e.what || (is_below e.what && leaks.attempted)
 
--- .. each drip
+-- the event settles each drip
 abbrev pub settles_drips : OpenLeaks → Event → Bool
 settles_drips leaks e = settles_readings leaks e || (is_dry e.what && leaks.attempted)
 
--- .. what each sensor told
+-- the event settles each leak of a sensor
 abbrev pub settles_sensors : Event → Bool
 settles_sensors e = is_retire e.what || is_complete e.what
 
--- .. each delayed leak, as the second of two readings
+-- the event settles each delayed leak, as the second of two readings
 abbrev pub settles_delayed : Kind → OpenLeaks → Event → Bool
 settles_delayed kind leaks e = is_valve_or_pump kind && is_below e.what && is_second leaks.below (month_of e.key.day)
 
--- the open leaks with one event more
+-- the open leaks after one more event
 abbrev pub with_event : Kind → OpenLeaks → Event → OpenLeaks
 with_event kind leaks e = record {
   readings = leaks_with leaks.readings (settles_readings leaks e) (settles_delayed kind leaks e) (is_leak e.what && is_reading e.what) e;
@@ -122,13 +122,13 @@ with_event kind leaks e = record {
   below = months_with leaks.below e;
 }
 
--- ---- with an event of one kind
+-- ---- after an event of one kind
 
--- at a leak: attempts and readings before it settle nothing
+-- after a leak: attempts and readings before it settle nothing
 abbrev pub anew : OpenLeaks → OpenLeaks
 anew leaks = record { readings = leaks.readings; drips = leaks.drips; sensors = leaks.sensors; attempted = false; below = no_months }
 
--- with a reading below the leak definition
+-- after a reading below the leak definition
 abbrev pub with_below : Kind → OpenLeaks → ℕ → OpenLeaks
 with_below kind leaks day = record {
   readings = settled leaks.readings leaks.attempted (is_valve_or_pump kind && is_second leaks.below (month_of day));
@@ -138,7 +138,7 @@ with_below kind leaks day = record {
   below = record { last = month_of day; before = is_second leaks.below (month_of day) };
 }
 
--- with a reading that is a leak
+-- after a reading that is a leak
 abbrev pub with_reading_leak : OpenLeaks → ℕ → OpenLeaks
 with_reading_leak leaks day = record {
   readings = opened leaks.readings true day;
@@ -148,14 +148,14 @@ with_reading_leak leaks day = record {
   below = no_months;
 }
 
--- with a reading
+-- after a reading
 abbrev pub with_reading : Kind → OpenLeaks → Bool → Bool → ℕ → OpenLeaks
 with_reading kind leaks below leak day =
     if leak
     then with_reading_leak (if below then with_below kind leaks day else leaks) day
     else (if below then with_below kind leaks day else leaks)
 
--- with a visual inspection that settles drips or none
+-- after a visual inspection that settles drips or none
 abbrev pub with_dry : OpenLeaks → Bool → OpenLeaks
 with_dry leaks dry = record {
   readings = leaks.readings;
@@ -165,7 +165,7 @@ with_dry leaks dry = record {
   below = leaks.below;
 }
 
--- with a visual inspection
+-- after a visual inspection
 abbrev pub with_look : OpenLeaks → Bool → Bool → ℕ → OpenLeaks
 with_look leaks dry leak day =
     if leak
@@ -178,14 +178,14 @@ with_look leaks dry leak day =
     }
     else with_dry leaks dry
 
--- with what a sensor told
+-- after a sensor's indication
 abbrev pub with_indication : OpenLeaks → Bool → ℕ → OpenLeaks
 with_indication leaks leak day =
     if leak
     then record { readings = leaks.readings; drips = leaks.drips; sensors = opened leaks.sensors true day; attempted = false; below = no_months }
     else leaks
 
--- with an attempt
+-- after an attempt
 abbrev pub with_attempt : OpenLeaks → Bool → OpenLeaks
 with_attempt leaks complete = record {
   readings = leaks.readings;
@@ -195,7 +195,7 @@ with_attempt leaks complete = record {
   below = leaks.below;
 }
 
--- with a delay that counts, or one that does not
+-- after a delay that counts, or one that does not
 abbrev pub with_delay : OpenLeaks → Bool → ℕ → OpenLeaks
 with_delay leaks counts day =
     if counts
@@ -208,6 +208,6 @@ with_delay leaks counts day =
     }
     else leaks
 
--- out of service
+-- after the component goes out of service
 abbrev pub retired : OpenLeaks → OpenLeaks
 retired leaks = record { readings = no_leaks; drips = no_leaks; sensors = no_leaks; attempted = leaks.attempted; below = leaks.below }

@@ -1,4 +1,4 @@
--- What open leaks, and the next attempt, tell of a list of events.
+-- How a summary of open leaks, and the next attempt, relate to a list of events.
 use Rattle.std.specs.Prelude.{◌≡◌, ℕ, ◌+◌, ◌<◌, ◌≤◌, Bool, false, not, ◌&&◌, ◌||◌, nat_eq, nat_le, IfSome, List, [], ◌∷◌, take, drop}
 use Rattle.std.specs.List.{AllByRecursion, list_any}
 use Rattle.ldar_days.specs.Calendar.{month_of}
@@ -19,23 +19,23 @@ abbrev pub some_after : (Event → List Event → Bool) → List Event → Bool
 some_after p [] = false
 some_after p (e ∷ after) = p e after || some_after p after
 
--- some event passes that no leak follows
+-- some event passes and no leak follows it
 abbrev pub since_leak : (Event → Bool) → List Event → Bool
 since_leak p events = some_after (λ e after. p e && not (list_any (λ x. is_leak x.what) after)) events
 
--- some leak of a sort is not settled and passes, seen by whether it is delayed, and by its day
+-- some unsettled leak of a kind passes, by whether it is delayed and by its day
 abbrev pub some_open : Kind → (Happening → Bool) → List Event → (Bool → ℕ → Bool) → Bool
 some_open kind is_sort events p =
     some_after (λ e after. (is_leak e.what && is_sort e.what) && not (is_settled kind e after) && p (has_delay_between e after) e.key.day) events
 
--- what leaks tell of those of one sort: which are delayed, and which of the others a delay of today or later reaches
+-- the summary of the leaks of one kind: whether some are delayed, and which of the others a delay of today or later reaches
 pub record Told (some : (Bool → ℕ → Bool) → Bool) (leaks : Leaks) (today : ℕ) : Type 0 where
   pub delayed : some (λ late _. late) ≡ leaks.delayed
   pub reached : (day : ℕ) → today ≤ day → some (λ late from. not late && nat_le day (from + REPAIR_DAYS)) ≡ reaches leaks.waiting day
   pub missed : (day : ℕ) → today ≤ day → some (λ late from. not late && not (nat_le day (from + REPAIR_DAYS))) ≡ misses leaks.waiting day
   pub in_order : IfSome leaks.waiting (λ days. (days.first ≤ days.last) × (days.last ≤ today))
 
--- what open leaks tell of events up to today
+-- the summary of the leaks of the events up to today
 pub record Tells (kind : Kind) (leaks : OpenLeaks) (today : ℕ) (events : List Event) : Type 0 where
   pub readings : Told (some_open kind is_reading events) leaks.readings today
   pub drips : Told (some_open kind is_look events) leaks.drips today
@@ -46,7 +46,7 @@ pub record Tells (kind : Kind) (leaks : OpenLeaks) (today : ℕ) (events : List 
   pub months : leaks.below.last ≤ month_of today
   pub apart : AllByRecursion (λ e. (is_leak e.what && is_below e.what) ≡ false) events
 
--- the days don't fall, from a day on, and no reading is both a leak and below the leak definition
+-- the days do not decrease, from a day on, and no reading is both a leak and below the leak definition
 abbrev pub Rises : ℕ → List Event → Type 0
 Rises low [] = Unit {0}
 Rises low (e ∷ after) = (low ≤ e.key.day) × ((is_leak e.what && is_below e.what) ≡ false) × Rises e.key.day after
@@ -57,6 +57,6 @@ pub record IsAt (kind : Kind) (leaks : OpenLeaks) (events : List Event) (place :
   pub tells : Tells kind leaks today (take place events)
   pub rises : Rises today (drop place events)
 
--- the next attempt is the first one after each place from one on, up to where it was looked for
+-- the next attempt is the first one after each place from `from` to before the end of the search
 abbrev pub IsNext : NextAttempt → List Event → ℕ → Type 0
 IsNext next events from = (k : ℕ) → from ≤ k → k < next.end → attempt_after (drop k events) ≡ next.day

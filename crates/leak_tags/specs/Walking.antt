@@ -1,4 +1,4 @@
--- What a walk over the events of a component knows at a place, and has still to tell.
+-- The state of a walk over the events of a component at a place, and the tags that are still to come.
 use Rattle.std.specs.Prelude.{◌≡◌, ℕ, true, Option, Some, None, is_some, IfSome, option_map, List, ◌∷◌, take, drop}
 use Rattle.list_words.specs.Words.{first_from, each_from}
 use Rattle.fact_kinds.specs.declared.class.Kind.{Kind}
@@ -17,7 +17,7 @@ use Rattle.leak_tags.specs.Telling.{IsAt, IsNext}
 abbrev pub closing_from : Kind → List Event → ℕ → Option Key
 closing_from kind events place = option_map (λ e. e.key) (first_from (λ front e _. law.closes kind front e) (take place events) (drop place events))
 
--- the tag that was open, closed or not
+-- the tag that was open, closed or still open
 abbrev pub closed_tag : Kind → List Event → OpenTag → Option Key → Span
 closed_tag kind events tag closed = record {
   detected = tag.detected;
@@ -30,12 +30,12 @@ closed_tag kind events tag closed = record {
 abbrev pub tags_from : Kind → List Event → ℕ → List Span
 tags_from kind events place = each_from (law.span_at kind events) (take place events) (drop place events)
 
--- .. behind the one that is open before it
+-- the tags that open there, after the one that is open before, if there is one
 abbrev pub rest_of : Kind → List Event → Option OpenTag → ℕ → List Span
 rest_of kind events None place = tags_from kind events place
 rest_of kind events (Some tag) place = closed_tag kind events tag (closing_from kind events place) ∷ tags_from kind events place
 
--- a tag is open where leaks are; while none is, the walk keeps no account of leaks, since each leak begins anew
+-- a tag is open exactly if some leak is; without an open tag the walk keeps no summary of leaks, since each leak starts over
 pub record Walks (kind : Kind) (walk : Walk) (events : List Event) (place : ℕ) : Type 0 where
   pub seen : OpenLeaks
   pub at : IsAt kind seen events place

@@ -1,13 +1,13 @@
 ghost use Rattle.std.specs.Prelude.{◌≡◌};
 ghost use Rattle.leak_tags.specs.OpenLeaks as spec;
 
-/// The months since the last leak with a counting reading below the leak definition, as far as a later reading asks
-/// for them (40 CFR 60.482-9a(f)).
+/// The months since the last leak with a counting reading below the leak definition, as far as a later reading depends
+/// on them (40 CFR 60.482-9a(f)).
 #[derive(Clone, Copy)]
 pub struct BelowMonths {
-    /// The last such month, or 0 where there is none.
+    /// The last such month, or 0 if there is none.
     pub last: u32,
-    /// The month before it is one too.
+    /// Whether the month before it is one too.
     pub before: bool,
 }
 

@@ -4,21 +4,21 @@ ghost use Rattle.leak_tags.specs.Telling.{Rises};
 
 use ldar_law::Event;
 
-/// What the events from a place on tell of clean months (40 CFR 60.482-7a(c)(1)(i)).
+/// A summary of the events from a place on, about clean months (40 CFR 60.482-7a(c)(1)(i)).
 #[derive(Clone, Copy)]
 struct CleanMonths {
     /// The month of the first of these events.
     month: u32,
-    /// It has a counting routine reading below the leak definition.
+    /// Whether it has a counting routine reading below the leak definition.
     read: bool,
-    /// It has a leak.
+    /// Whether it has a leak.
     leak: bool,
-    /// The month behind it is clean.
+    /// Whether the next month is clean.
     followed: bool,
 }
 
 impl CleanMonths {
-    /// By one event alone.
+    /// The summary of a single event.
     fn of(event: &Event) -> CleanMonths
         ensures value { result ≡ spec.clean_of event.now }
     {
@@ -30,14 +30,14 @@ impl CleanMonths {
         }
     }
 
-    /// Whether the month is clean, and the one behind it too.
+    /// Whether the month and the next one are clean.
     fn is_pair(&self) -> bool
         ensures value { result ≡ spec.is_pair self.now }
     {
         self.read && !self.leak && self.followed
     }
 
-    /// What they tell with the event before them, of no later month.
+    /// The summary with the event before them, of a month that is not later.
     fn with(&self, event: &Event) -> CleanMonths
         ensures value { result ≡ spec.clean_with self.now event.now }
     {
@@ -59,8 +59,8 @@ impl CleanMonths {
     }
 }
 
-/// The first of the last two months in a row of some events that are clean, or 0 where there are none: the events are gone
-/// over from the last one on, up to those two months.
+/// The first of the last two months in a row that are both clean, or 0 if there are none. It goes over the events from the
+/// last one backward, until it finds those two months.
 pub fn last_clean_pair(events: &[Event]) -> u32
     requires rising { Rises 0 events.now }
     ensures value { spec.IsLastPair result events.now }

@@ -1,4 +1,4 @@
-//! The leaks of one sort that are not settled yet, as far as it matters which delays follow them.
+//! The unsettled leaks of one kind, as far as it matters which delays follow them.
 
 ghost use Rattle.std.specs.Prelude.{◌≡◌, true};
 ghost use Rattle.leak_tags.specs.OpenLeaks as spec;
@@ -13,12 +13,12 @@ pub struct Days {
     pub last: Day,
 }
 
-/// The leaks of one sort that are not settled yet.
+/// The unsettled leaks of one kind.
 #[derive(Clone, Copy)]
 pub struct Leaks {
-    /// Some of them is delayed: a delay of ground (a), (c), (d) or (e) followed it after at most fifteen days.
+    /// Whether some of them is delayed: a delay of ground (a), (c), (d) or (e) followed it within fifteen days.
     pub delayed: bool,
-    /// The days of those that are not. A leak that no later delay reaches counts as its first only.
+    /// The days of those that are not delayed. Of the leaks that no later delay reaches, only the first is kept.
     pub waiting: Option<Days>,
 }
 
@@ -33,14 +33,14 @@ impl Leaks {
         }
     }
 
-    /// Whether there is one.
+    /// Whether there is a leak.
     pub fn has_any(self) -> bool
         ensures value { result ≡ spec.has_leaks self }
     {
         self.delayed || self.waiting.is_some()
     }
 
-    /// Settles all of them, or those that are delayed.
+    /// Settles all of them, or only the delayed ones.
     pub fn settle(&mut self, all: bool, delayed: bool)
         ensures value { self.new ≡ spec.settled self.old all delayed }
     {
@@ -51,7 +51,7 @@ impl Leaks {
         self.delayed = self.delayed && !delayed;
     }
 
-    /// Whether a delay of the day comes at most fifteen days after one of those that wait.
+    /// Whether a delay on the day is at most fifteen days after some waiting leak.
     fn reaches(self, day: Day) -> bool
         ensures value { result ≡ spec.reaches self.waiting day }
     {
@@ -61,7 +61,7 @@ impl Leaks {
         }
     }
 
-    /// Those that go on waiting when a delay of the day has come, which no later one reaches.
+    /// The leaks that keep waiting after a delay on the day; no later delay reaches them.
     fn missed_by(self, day: Day) -> Option<Days>
         ensures value { result ≡ spec.missed_by self.waiting day }
     {
@@ -77,7 +77,7 @@ impl Leaks {
         }
     }
 
-    /// Lets a delay of the day come.
+    /// Adds a delay on the day.
     pub fn delay(&mut self, day: Day)
         ensures value { self.new ≡ spec.reached self.old true day }
     {
@@ -88,7 +88,7 @@ impl Leaks {
         self.waiting = self.missed_by(day);
     }
 
-    /// The first day of those that wait, with one of this day.
+    /// The first day of the waiting leaks, with one of this day.
     fn first_with(self, day: Day) -> Day
         ensures value { result ≡ spec.first_with self.waiting day }
     {

@@ -1,4 +1,6 @@
-//! The tags of a component: from the time from which a leak is known until nothing is left unsettled (40 CFR 60.486a(b)).
+//! The tags of a component: each from the detection of a leak until no leak is unsettled (40 CFR 60.486a(b)).
+//!
+//! Tests: `rule_tests::tags`.
 #![tactic(auto)]
 
 mod below_months;

@@ -4,17 +4,17 @@ ghost use Rattle.leak_tags.specs.Telling.{IsNext};
 use ldar_days::Day;
 use ldar_law::Event;
 
-/// The next attempt at a repair, found by one look ahead.
+/// The next attempt at a repair, from one search ahead.
 #[derive(Clone, Copy)]
 pub struct NextAttempt {
-    /// The place behind the attempt, or a place behind all events where none comes.
+    /// The place after the attempt, or a place past all events if there is none.
     pub end: usize,
     /// The day of the attempt.
     pub day: Option<Day>,
 }
 
 impl NextAttempt {
-    /// None is looked for yet.
+    /// No search was made yet.
     pub fn none() -> NextAttempt
         ensures value { result.end ≡ 0 }
     {
@@ -42,7 +42,7 @@ impl NextAttempt {
         }
     }
 
-    /// The first attempt from this place on, looked for only where it is not known.
+    /// The first attempt from this place on. It searches only if the attempt is not known.
     pub fn moved_to(self, events: &[Event], from: usize) -> NextAttempt
         requires in_range { from ≤ length events.now }
         requires known { IsNext self events.now from }

@@ -1,5 +1,4 @@
-//! The leaks that are not settled yet, as much of them as decides what settles them later: what they are known by
-//! takes no more room however many there are.
+//! A summary of the unsettled leaks: what decides when they are settled. Its size does not depend on their number.
 
 ghost use Rattle.std.specs.Prelude.{◌≡◌};
 ghost use Rattle.leak_tags.specs.OpenLeaks as spec;
@@ -10,16 +9,16 @@ use fact_kinds::Kind;
 use ldar_days::Day;
 use ldar_law::{Event, Happening, is_valve_or_pump};
 
-/// The leaks that are not settled yet, by their sort, and what else settles a leak.
+/// The unsettled leaks by kind, and what else decides when a leak is settled.
 #[derive(Clone, Copy)]
 pub struct OpenLeaks {
     /// Readings that are leaks.
     pub readings: Leaks,
     /// Drips.
     pub drips: Leaks,
-    /// What sensors told.
+    /// Leaks of sensors.
     pub sensors: Leaks,
-    /// An attempt came since the last leak.
+    /// Whether there was an attempt since the last leak.
     pub attempted: bool,
     pub below: BelowMonths,
 }
@@ -45,7 +44,7 @@ impl OpenLeaks {
         self.readings.has_any() || self.drips.has_any() || self.sensors.has_any()
     }
 
-    /// Begins anew at a leak: attempts and readings before it settle nothing.
+    /// Starts over at a leak: attempts and readings before it settle nothing.
     fn begin_anew(&mut self)
         ensures value { self.new ≡ spec.anew self.old }
     {
@@ -53,9 +52,9 @@ impl OpenLeaks {
         self.below = BelowMonths::none();
     }
 
-    /// Takes a reading below the leak definition. After an attempt it settles readings and drips (40 CFR 60.481a
-    /// "repaired"); as the second in two months in a row it settles each delayed leak of a valve or a pump (40 CFR
-    /// 60.482-9a(f)).
+    /// Adds a reading below the leak definition. After an attempt it settles readings and drips (40 CFR 60.481a
+    /// "repaired"). As the second of two in consecutive months it settles each delayed leak of a valve or a pump (40
+    /// CFR 60.482-9a(f)).
     fn take_below(&mut self, kind: Kind, day: Day)
         ensures value { self.new ≡ spec.with_below kind self.old day }
     {
@@ -71,7 +70,7 @@ impl OpenLeaks {
         };
     }
 
-    /// Takes a reading.
+    /// Adds a reading.
     fn take_reading(&mut self, kind: Kind, below: bool, leak: bool, day: Day)
         ensures value { self.new ≡ spec.with_reading kind self.old below leak day }
     {
@@ -84,7 +83,7 @@ impl OpenLeaks {
         }
     }
 
-    /// Takes a visual inspection. A dry one settles drips after an attempt.
+    /// Adds a visual inspection. A dry one after an attempt settles drips.
     fn take_look(&mut self, dry: bool, leak: bool, day: Day)
         ensures value { self.new ≡ spec.with_look self.old dry leak day }
     {
@@ -95,7 +94,7 @@ impl OpenLeaks {
         }
     }
 
-    /// Takes what a sensor told.
+    /// Adds a sensor's indication.
     fn take_indication(&mut self, leak: bool, day: Day)
         ensures value { self.new ≡ spec.with_indication self.old leak day }
     {
@@ -105,7 +104,7 @@ impl OpenLeaks {
         }
     }
 
-    /// Takes an attempt. A complete one settles what sensors told.
+    /// Adds an attempt. A complete one settles leaks of sensors.
     fn take_attempt(&mut self, complete: bool)
         ensures value { self.new ≡ spec.with_attempt self.old complete }
     {
@@ -113,7 +112,7 @@ impl OpenLeaks {
         self.attempted = true;
     }
 
-    /// Takes a delay of ground (a), (c), (d) or (e), or another one.
+    /// Adds a delay of ground (a), (c), (d) or (e), or another one.
     fn take_delay(&mut self, counts: bool, day: Day)
         ensures value { self.new ≡ spec.with_delay self.old counts day }
     {
@@ -124,7 +123,7 @@ impl OpenLeaks {
         }
     }
 
-    /// Takes that the component goes out of service, which settles all (our own rule).
+    /// The component goes out of service, which settles all leaks (our own rule).
     fn retire(&mut self)
         ensures value { self.new ≡ spec.retired self.old }
     {
@@ -133,7 +132,7 @@ impl OpenLeaks {
         self.sensors = Leaks::none();
     }
 
-    /// Takes one event more.
+    /// Adds one more event.
     #[inline(always)]
     pub fn take(&mut self, kind: Kind, event: &Event)
         ensures value { self.new ≡ spec.with_event kind self.old event.now }

@@ -4,15 +4,15 @@ ghost use Rattle.leak_tags.specs.Telling.{Rises};
 
 use ldar_law::Event;
 
-/// Whether an event lies before a day, or is both a leak and below the leak definition.
+/// Whether an event is before a day, or is both a leak and below the leak definition.
 fn is_out_of_order(event: &Event, today: u32) -> bool
     ensures value { result ≡ (nat_lt event.now.key.day today || (says_leak event.now.what && says_below event.now.what)) }
 {
     event.key.day.number() < today || (event.what.is_leak() && event.what.is_below())
 }
 
-/// Whether the days of events don't fall, and none of them is both a leak and below the leak definition. The events
-/// that are made of a component's facts are so.
+/// Whether the days of events do not decrease, and none of them is both a leak and below the leak definition. It is
+/// true for the events made from a component's facts.
 pub fn are_rising(events: &[Event]) -> bool
     ensures value { IsTrue result ↔ Rises 0 events.now }
 {

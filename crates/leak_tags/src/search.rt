@@ -1,4 +1,4 @@
-//! The tags as they are defined: each front of the events is looked through again.
+//! The tags as they are defined: each prefix of the events is searched again.
 
 ghost use Rattle.std.specs.Prelude.{◌≡◌, ◌+◌, ◌++◌, [], ◌∷◌, Some, OnOk, IfOk, ◌<◌, length, take, drop, slice_get, option_map};
 ghost use Rattle.std.specs.Option.{option_to_list};
@@ -11,14 +11,14 @@ use ldar_days::Day;
 use ldar_law::{Event, Span, is_clean_twice_from, is_valve};
 use std::alloc::Global;
 
-/// Whether a tag opens at the event: it is a leak, and nothing is unsettled before it.
+/// Whether a tag opens at the event: it is a leak, and no leak before it is unsettled.
 fn opens(kind: Kind, before: &[Event], leak: &Event) -> bool
     ensures value { result ≡ law.opens kind before.now leak.now }
 {
     leak.what.is_leak() && !is_unsettled(kind, before)
 }
 
-/// Whether with the event of this place no leak is left unsettled.
+/// Whether no leak is unsettled after the event at this place.
 #[tactic(auto, using(crate::proofs::Fronts::take_one_more))]
 fn closes(kind: Kind, events: &[Event], place: usize, event: &Event) -> bool
     requires in_range { place < length events.now }
@@ -28,7 +28,7 @@ fn closes(kind: Kind, events: &[Event], place: usize, event: &Event) -> bool
     !is_unsettled(kind, &events[..place + 1])
 }
 
-/// The first event from a place on with which no leak is left unsettled.
+/// The first event from a place on after which no leak is unsettled.
 fn closing_from(kind: Kind, events: &[Event], from: usize) -> Option<Key>
     ensures value { result ≡ option_map (λ e. e.key) (first_from (λ front e _. law.closes kind front e) (take from events.now) (drop from events.now)) }
 {
@@ -41,7 +41,7 @@ fn closing_from(kind: Kind, events: &[Event], from: usize) -> Option<Key>
     None
 }
 
-/// The first event after the leak of this place with which no leak is left unsettled.
+/// The first event after the leak at this place after which no leak is unsettled.
 #[tactic(auto, using(crate::proofs::Fronts::take_one_more))]
 fn closing_of(kind: Kind, events: &[Event], place: usize, leak: &Event) -> Option<Key>
     requires in_range { place < length events.now }
@@ -61,7 +61,7 @@ fn attempt_after(after: &[Event]) -> Option<Day>
         .map(|e| e.key.day)
 }
 
-/// Whether the identification may come off a tag that is closed or not (40 CFR 60.486a(b)(2), (3)).
+/// Whether the identification of a tag, closed or not, may be removed (40 CFR 60.486a(b)(2), (3)).
 pub fn is_removable(kind: Kind, events: &[Event], closed: &Option<Key>) -> bool
     ensures value { result ≡ law.is_removable kind events.now closed.now }
 {
@@ -71,7 +71,7 @@ pub fn is_removable(kind: Kind, events: &[Event], closed: &Option<Key>) -> bool
     }
 }
 
-/// The tag that opens at the event of this place, if one does.
+/// The tag that opens at the event at this place, if one does.
 fn span_at(kind: Kind, events: &[Event], place: usize, leak: &Event) -> Option<Span>
     requires in_range { place < length events.now }
     requires stands { slice_get events.now place ≡ Some leak.now }
@@ -91,7 +91,7 @@ fn span_at(kind: Kind, events: &[Event], place: usize, leak: &Event) -> Option<S
     })
 }
 
-/// Adds the tag that opens at the event of this place, if one does.
+/// Adds the tag that opens at the event at this place, if one does.
 fn push_span(
     spans: &mut Vec<Span>,
     kind: Kind,
@@ -110,9 +110,9 @@ fn push_span(
     Ok(())
 }
 
-/// The tags of a component, in the order of their detection (40 CFR 60.486a(b)), by a search of each front: the plain
-/// program beside the walk of `spans_of`, with the same clause, whose time grows much faster than the events do. An error: no
-/// memory for the tags.
+/// The tags of a component, in the order of their detection (40 CFR 60.486a(b)), by a search of each prefix. It is the plain
+/// program beside the walk of `spans_of`, with the same clause; its time grows much faster than the number of events. Returns
+/// an error if it is out of memory.
 #[tactic(auto, unfolding(ldar_law::specs::Spans::spans_of))]
 pub fn spans_by_search(alloc: Global, kind: Kind, events: &[Event]) -> Result<Vec<Span>, Memory>
     ensures value { IfOk result (λ spans. spans.items ≡ law.spans_of kind events.now) }

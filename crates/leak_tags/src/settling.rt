@@ -6,7 +6,7 @@ ghost use Rattle.ldar_law.specs.Settling as law;
 use fact_kinds::Kind;
 use ldar_law::{Event, REPAIR_DAYS, has_leak, is_valve_or_pump};
 
-/// Whether some attempt lies between, and no leak between it and what settles.
+/// Whether some attempt is between, and no leak is between the attempt and the event that settles.
 fn is_attempted(between: &[Event]) -> bool
     ensures value { result ≡ law.is_attempted between.now }
 {
@@ -18,7 +18,7 @@ fn is_attempted(between: &[Event]) -> bool
     false
 }
 
-/// Whether some delay of ground (a), (c), (d) or (e) lies between, at most fifteen days after the leak.
+/// Whether some delay of ground (a), (c), (d) or (e) is between, at most fifteen days after the leak.
 fn has_delay_between(leak: &Event, between: &[Event]) -> bool
     ensures value { result ≡ law.has_delay_between leak.now between.now }
 {
@@ -27,7 +27,7 @@ fn has_delay_between(leak: &Event, between: &[Event]) -> bool
     })
 }
 
-/// Whether an event is a counting reading below the leak definition, in the month before the later one.
+/// Whether an event is a counting reading below the leak definition, in the month before the later event.
 fn is_below_before(reading: &Event, later: &Event) -> bool
     ensures value { result ≡ (says_below reading.now.what && nat_eq (month_of reading.now.key.day + 1) (month_of later.now.key.day)) }
 {
@@ -35,8 +35,8 @@ fn is_below_before(reading: &Event, later: &Event) -> bool
         && reading.key.day.month().number() + 1 == later.key.day.month().number()
 }
 
-/// Whether some counting reading below the leak definition lies between, in the month before the later one, and no
-/// leak since.
+/// Whether some counting reading below the leak definition is between, in the month before the later event, and no leak
+/// is after it.
 fn was_below(between: &[Event], later: &Event) -> bool
     ensures value { result ≡ law.was_below between.now later.now }
 {
@@ -62,15 +62,15 @@ fn settles_by_dry_look(leak: &Event, between: &[Event], later: &Event) -> bool
     leak.what.is_look() && later.what.is_dry() && is_attempted(between)
 }
 
-/// Whether a sensor's leak is settled by an attempt that is complete.
+/// Whether a sensor's leak is settled by a complete attempt.
 fn settles_by_complete_attempt(leak: &Event, later: &Event) -> bool
     ensures value { result ≡ law.settles_by_complete_attempt leak.now later.now }
 {
     leak.what.is_sensor() && later.what.is_complete()
 }
 
-/// Whether a valve's or pump's leak that is delayed is settled by readings below the leak definition in two months
-/// in a row (40 CFR 60.482-9a(f)).
+/// Whether a delayed leak of a valve or pump is settled by readings below the leak definition in two months in a row
+/// (40 CFR 60.482-9a(f)).
 fn settles_by_two_readings(kind: Kind, leak: &Event, between: &[Event], later: &Event) -> bool
     ensures value { result ≡ law.settles_by_two_readings kind leak.now between.now later.now }
 {
@@ -80,8 +80,8 @@ fn settles_by_two_readings(kind: Kind, leak: &Event, between: &[Event], later: &
         && was_below(between, later)
 }
 
-/// Whether the later event settles the leak, with these events between them (40 CFR 60.481a "repaired",
-/// 60.482-9a(f); that going out of service settles a leak is our own rule).
+/// Whether the later event settles the leak, with these events between the two (40 CFR 60.481a "repaired",
+/// 60.482-9a(f)). Going out of service settles a leak by our own rule.
 fn settles(kind: Kind, leak: &Event, between: &[Event], later: &Event) -> bool
     ensures value { result ≡ law.settles kind leak.now between.now later.now }
 {
@@ -92,7 +92,7 @@ fn settles(kind: Kind, leak: &Event, between: &[Event], later: &Event) -> bool
         || later.what.is_retire()
 }
 
-/// Whether some of the events that follow settles the leak.
+/// Whether some event after the leak settles it.
 fn is_settled(kind: Kind, leak: &Event, after: &[Event]) -> bool
     ensures value { result ≡ law.is_settled kind leak.now after.now }
 {
@@ -104,7 +104,7 @@ fn is_settled(kind: Kind, leak: &Event, after: &[Event]) -> bool
     false
 }
 
-/// Whether some leak is settled by none of the events that follow it.
+/// Whether no event after some leak settles it.
 pub fn is_unsettled(kind: Kind, events: &[Event]) -> bool
     ensures value { result ≡ law.is_unsettled kind events.now }
 {

@@ -10,7 +10,7 @@ use fact_kinds::{Kind, Memory};
 use ldar_law::{Event, Span};
 use std::alloc::Global;
 
-/// Adds what is given, if it is.
+/// Adds the item, if there is one.
 fn put<T: Drop>(items: &mut Vec<T>, given: Option<T>) -> Result<(), Memory>
     ensures pushed { OnOk result (items.new.items ≡ items.old.items ++ option_to_list given) }
 {
@@ -36,8 +36,9 @@ fn spans_by_walk(alloc: Global, kind: Kind, events: &[Event]) -> Result<Vec<Span
     Ok(spans)
 }
 
-/// The tags of a component, in the order of their detection (40 CFR 60.486a(b)). Its events are in key order, and
-/// then the time that they take grows as their number does. An error: no memory for the tags.
+/// The tags of a component, in the order of their detection (40 CFR 60.486a(b)). If the days of the events do not
+/// decrease, the time grows in proportion to their number; otherwise it falls back to the search. Returns an error if
+/// it is out of memory.
 pub fn spans_of(alloc: Global, kind: Kind, events: &[Event]) -> Result<Vec<Span>, Memory>
     ensures value { IfOk result (λ spans. spans.items ≡ law.spans_of kind events.now) }
 {

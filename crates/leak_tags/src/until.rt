@@ -1,4 +1,4 @@
-//! The tags of a component as they are known on a day, made of the tags by all its events.
+//! The tags of a component as known on a day, from the tags by all its events.
 
 ghost use Rattle.std.specs.Prelude.{◌≡◌, ◌+◌, ◌++◌, ◌∷◌, [], ◌<◌, ◌≤◌, true, nat_le, if◌then◌else◌, OnOk, OnErr, IfSome};
 ghost use Rattle.std.specs.Prelude.{vec_len, vec_capacity, count_by, filter, map};
@@ -16,7 +16,7 @@ use fact_kinds::{Key, Kind, Memory};
 use ldar_days::Day;
 use ldar_law::{Event, Span, is_valve};
 
-/// A day, if it has come by another.
+/// A day, if it is not after another one.
 fn come_by(day: &Option<Day>, by: Day) -> Option<Day>
     ensures value { result ≡ if_come by day.now }
 {
@@ -26,7 +26,7 @@ fn come_by(day: &Option<Day>, by: Day) -> Option<Day>
     }
 }
 
-/// The key of a closing, if its day has come by another.
+/// The key of a closing, if its day is not after another one.
 fn closed_by(closed: &Option<Key>, by: Day) -> Option<Key>
     ensures value { result ≡ known.if_closed by closed.now }
 {
@@ -36,7 +36,8 @@ fn closed_by(closed: &Option<Key>, by: Day) -> Option<Key>
     }
 }
 
-/// The last pair of clean months of a valve's events, if their days don't fall; of another component none is looked for.
+/// The last pair of clean months of a valve's events, if their days do not decrease; for another component it is not
+/// searched.
 fn pair_of(kind: Kind, front: &[Event]) -> Option<u32>
     ensures value { IfSome result (λ pair. IsPairFor kind pair front.now) }
 {
@@ -46,7 +47,7 @@ fn pair_of(kind: Kind, front: &[Event]) -> Option<u32>
     None
 }
 
-/// Whether the identification may come off a tag that is closed or not (40 CFR 60.486a(b)(2), (3)).
+/// Whether the identification of a tag, closed or not, may be removed (40 CFR 60.486a(b)(2), (3)).
 fn is_removable(kind: Kind, front: &[Event], pair: Option<u32>, closed: &Option<Key>) -> bool
     requires pair { IfSome pair (λ pair. IsPairFor kind pair front.now) }
     ensures value { result ≡ law.is_removable kind front.now closed.now }
@@ -57,7 +58,7 @@ fn is_removable(kind: Kind, front: &[Event], pair: Option<u32>, closed: &Option<
     }
 }
 
-/// A tag as it is known on a day, by the events up to it.
+/// A tag as known on a day, by the events up to it.
 fn known_on(kind: Kind, front: &[Event], pair: Option<u32>, span: &Span, day: Day) -> Span
     requires pair { IfSome pair (λ pair. IsPairFor kind pair front.now) }
     ensures value { result ≡ known.span_on day kind front.now span.now }
@@ -72,7 +73,7 @@ fn known_on(kind: Kind, front: &[Event], pair: Option<u32>, span: &Span, day: Da
     }
 }
 
-/// How many of some tags were detected by a day.
+/// The number of tags that were detected by a day.
 fn count_detected(spans: &[Span], day: Day) -> usize
     ensures value { result ≡ count_by (λ span. nat_le span.detected.day day) spans.now }
 {
@@ -86,7 +87,7 @@ fn is_some_closed(spans: &[Span], day: Day) -> bool {
         .any(|span| closed_by(&span.closed, day).is_some())
 }
 
-/// The last pair of clean months, looked for only if some tag was closed by the day.
+/// The last pair of clean months, searched only if some tag was closed by the day.
 fn pair_on(kind: Kind, front: &[Event], spans: &[Span], day: Day) -> Option<u32>
     ensures value { IfSome result (λ pair. IsPairFor kind pair front.now) }
 {
@@ -105,7 +106,7 @@ fn front_of(events: &[Event], day: Day) -> &[Event]
     &events[..count]
 }
 
-/// Adds a tag as it is known on a day, if it was detected by then. There is room for it.
+/// Adds a tag as known on a day, if it was detected by then. There must be room for it.
 fn push_detected(
     out: &mut Vec<Span>,
     kind: Kind,
@@ -125,7 +126,7 @@ fn push_detected(
     }
 }
 
-/// Adds the tags that were detected by a day, each as it is known on the day. There is room for them.
+/// Adds the tags that were detected by a day, each as known on the day. There must be room for them.
 fn push_known(
     out: &mut Vec<Span>,
     kind: Kind,
@@ -143,10 +144,10 @@ fn push_known(
     }
 }
 
-/// Adds the tags of a component as they are known on a day: those by its events up to the day. `spans` are its tags by all
-/// its events, which are in key order. A tag that was detected later is left out, an attempt and a closing of a later day
-/// are taken off, and whether the identification may come off is asked of the events up to the day. If no tag was detected
-/// by the day, no event is looked at. An error: no memory for the tags; `out` has its elements then.
+/// Adds the tags of a component as known on a day, that is, by its events up to the day. `spans` are its tags by all its
+/// events, which are in key order. Tags that were detected later are left out, and so are attempts and closings on later
+/// days. Whether the identification may be removed is decided by the events up to the day. If no tag was detected by the
+/// day, no event is looked at. Returns an error if it is out of memory; `out` is then unchanged.
 pub fn spans_until(
     spans: &[Span],
     events: &[Event],

@@ -1,4 +1,4 @@
-//! One walk over the events of a component, which tells each tag where it closes.
+//! One walk over the events of a component, which finds the closing of each tag.
 
 ghost use Rattle.std.specs.Prelude.{◌≡◌, ◌+◌, ◌++◌, ◌<◌, IfSome, Some, None, length};
 ghost use Rattle.std.specs.Option.{option_to_list};
@@ -14,28 +14,28 @@ use fact_kinds::{Key, Kind};
 use ldar_days::Day;
 use ldar_law::{Event, Span, is_valve};
 
-/// A tag that is open.
+/// An open tag.
 #[derive(Clone, Copy)]
 pub struct OpenTag {
-    /// The leak with which it opens.
+    /// The leak at which it opens.
     pub detected: Key,
     /// The day of the first attempt after it.
     pub attempted: Option<Day>,
 }
 
-/// What a walk knows of the events before a place.
+/// The state of a walk before a place of the events.
 #[derive(Clone, Copy)]
 pub struct Walk {
-    /// The tag that is open, if one is.
+    /// The open tag, if there is one.
     pub tag: Option<OpenTag>,
-    /// The leaks that are open, where a tag is.
+    /// The open leaks, if a tag is open.
     pub leaks: OpenLeaks,
     pub next: NextAttempt,
-    /// The last pair of clean months, where it was asked for.
+    /// The last pair of clean months, if it was needed.
     pub pair: Option<u32>,
 }
 
-/// The last pair of clean months of a valve; of another component none is asked for.
+/// The last pair of clean months of a valve; for another component it is not needed.
 fn pair_for(kind: Kind, events: &[Event]) -> u32
     requires rising { Rises 0 events.now }
     ensures value { IsPairFor kind result events.now }
@@ -46,8 +46,8 @@ fn pair_for(kind: Kind, events: &[Event]) -> u32
     last_clean_pair(events)
 }
 
-/// Whether the identification may come off a tag that is closed (40 CFR 60.486a(b)(2), (3)). A valve's may where two
-/// months in a row are clean, the first of them the month of closing or a later one; this is the last such pair.
+/// Whether the identification of a closed tag may be removed (40 CFR 60.486a(b)(2), (3)). A valve's may be removed if
+/// two months in a row are clean, the first of them the month of closing or later; `pair` is the last such pair.
 pub fn is_removable(kind: Kind, events: &[Event], pair: u32, closed: &Key) -> bool
     requires pair { IsPairFor kind pair events.now }
     ensures value { result ≡ law.is_removable kind events.now (Some closed.now) }
@@ -56,7 +56,7 @@ pub fn is_removable(kind: Kind, events: &[Event], pair: u32, closed: &Key) -> bo
 }
 
 impl OpenTag {
-    /// The tag, closed by the event of this key.
+    /// The tag, closed by the event with this key.
     fn closed(self, kind: Kind, events: &[Event], pair: u32, key: Key) -> Span
         requires pair { IsPairFor kind pair events.now }
         ensures value { result ≡ closed_tag kind events.now self (Some key) }
@@ -70,7 +70,7 @@ impl OpenTag {
         }
     }
 
-    /// The tag, which stays open.
+    /// The tag, still open.
     fn unclosed(self) -> Span
         ensures value { (kind : _) (events : _) → result ≡ closed_tag kind events self None }
     {
@@ -84,7 +84,7 @@ impl OpenTag {
 }
 
 impl Walk {
-    /// Before the first event.
+    /// The state before the first event.
     #[tactic(auto, unfolding(ldar_law::specs::Spans::spans_of))]
     pub fn start(kind: Kind, events: &[Event]) -> Walk
         requires rising { Rises 0 events.now }
@@ -99,7 +99,7 @@ impl Walk {
         }
     }
 
-    /// The last pair of clean months, looked for where it is not known.
+    /// The last pair of clean months, searched only if it is not known.
     fn pair_of(&self, kind: Kind, events: &[Event]) -> u32
         requires rising { Rises 0 events.now }
         requires known { IfSome self.now.pair (λ pair. IsPairFor kind pair events.now) }
@@ -111,7 +111,7 @@ impl Walk {
         }
     }
 
-    /// Takes the event of this place. The tag that closes there, if one does.
+    /// Adds the event at this place. Returns the tag that closes there, if one does.
     pub fn step(&mut self, kind: Kind, events: &[Event], place: usize) -> Option<Span>
         requires in_range { place < length events.now }
         requires rising { Rises 0 events.now }
@@ -120,7 +120,7 @@ impl Walk {
         ensures rest { rest_of kind events.now self.old.tag place ≡ option_to_list result ++ rest_of kind events.now self.new.tag (place + 1) }
     {
         let event = &events[place];
-        // Most events close no tag, and none of it is copied for them.
+        // Most events close no tag; for these nothing is copied.
         if let Some(tag) = &self.tag {
             self.leaks.take(kind, event);
             if self.leaks.is_open() {
@@ -147,7 +147,7 @@ impl Walk {
         None
     }
 
-    /// The tag that stays open behind the last event, if one does.
+    /// The tag that is open after the last event, if there is one.
     pub fn rest(&self) -> Option<Span>
         ensures value { (kind : _) (events : _) → option_to_list result ≡ rest_of kind events self.now.tag (length events) }
     {

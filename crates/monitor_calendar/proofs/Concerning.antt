@@ -1,4 +1,4 @@
--- What cannot concern a component gives no duty of it.
+-- A component has no duty of a cause that cannot apply to it.
 use Rattle.std.proofs.Common.{◌≡◌, ℕ, ◌+◌, ◌-◌, ◌*◌, ◌%◌, Bool, true, false, not, ◌&&◌, ◌||◌, nat_eq, nat_le, nat_lt, min, Option, Some, None, option_map}
 use Rattle.std.proofs.Common.{unwrap_or, List, [], ◌∷◌, ◌++◌, cond, refl, sym, ap, subst, ◌∙◌}
 use Rattle.std.specs.List.{filter_map, list_any}
@@ -35,24 +35,24 @@ use Rattle.monitor_calendar.specs.declared.after_event.After.TheVariants.{Drips,
 use Rattle.monitor_calendar.specs.declared.asked.Asked.{Asked}
 use Rattle.monitor_calendar.proofs.Listing.{unowed}
 
--- ---- what gives nothing
+-- ---- no value
 
--- nothing is left where no element gives anything
+-- the list of values is empty if no element has a value
 filter_map_nothing : {X Y : Type 0} (f : X → Option Y) → ((x : X) → f x ≡ None) → (xs : List X) → filter_map f xs ≡ []
 filter_map_nothing f none [] = refl
 filter_map_nothing f none (x ∷ xs) = rw (none x) (filter_map_nothing f none xs)
 
--- .. seen among the others
+-- the same, with elements seen among the others
 each_nothing : {X Y : Type 0} (f : List X → X → List X → Option Y) → ((a : List X) (x : X) (b : List X) → f a x b ≡ None) → (front xs : List X) →
     each_from f front xs ≡ []
 each_nothing f none front [] = refl
 each_nothing f none front (x ∷ xs) = rw (none front x xs) (each_nothing f none (front ++ x ∷ []) xs)
 
--- what is done stays so
+-- a finished list stays the same if no element has a value
 pub left_so : {X Y : Type 0} (f : X → Option Y) (xs : List X) (done : List Y) → ((x : X) → f x ≡ None) → done ++ filter_map f xs ≡ done
 left_so f xs done none = ap (λ ys. done ++ ys) (filter_map_nothing f none xs) ∙ append-nil done
 
--- .. where each is seen among the others
+-- the same, with elements seen among the others
 pub each_left_so : {X Y : Type 0} (f : List X → X → List X → Option Y) (xs : List X) (done : List Y) →
     ((a : List X) (x : X) (b : List X) → f a x b ≡ None) → done ++ each_where f xs ≡ done
 each_left_so f xs done none = ap (λ ys. done ++ ys) (each_nothing f none [] xs) ∙ append-nil done
@@ -104,22 +104,22 @@ abbrev is_some_such : (Class → Bool) → List (Key × Class) → Bool
 is_some_such is_such classes = list_any (λ entered. is_such entered.1) classes
 
 module _ (is_such : Class → Bool) where
-  -- an entered class that does not
+  -- the class entered is not such a one
   abbrev NoneSuch : Option (Key × Class) → Type 0
   NoneSuch None = Unit {0}
   NoneSuch (Some entered) = is_such entered.1 ≡ false
 
-  -- the later of two
+  -- the later of two classes
   either : (later earlier : Option (Key × Class)) → NoneSuch later → NoneSuch earlier → NoneSuch (option_or later earlier)
   either None earlier a b = b
   either (Some entered) earlier a b = a
 
-  -- one that is tried
+  -- a class that is tested
   tried : (passes : Bool) (entered : Key × Class) → is_such entered.1 ≡ false → NoneSuch (cond passes (Some entered) None)
   tried true entered e = e
   tried false entered e = tt
 
-  -- the last that passes
+  -- the last class that passes
   last_safe : (p : Key × Class → Bool) (classes : List (Key × Class)) → is_some_such is_such classes ≡ false → NoneSuch (last_such p classes)
   last_safe p [] none = tt
   last_safe p (x ∷ xs) none =
@@ -127,13 +127,13 @@ module _ (is_such : Class → Bool) where
       subst NoneSuch (sym (last_such-cons p x xs))
       (either (last_such p xs) (cond (p x) (Some x) None) (last_safe p xs parts.1) (tried (p x) x parts.0))
 
-  -- .. or the one that stands in for it
+  -- the last class that passes, or the component's first class
   safe_or : (found : Option (Key × Class)) (class : Class) → NoneSuch found → is_such class ≡ false →
       is_such (unwrap_or (option_map (λ entered. entered.1) found) class) ≡ false
   safe_or None class safe own = own
   safe_or (Some entered) class safe own = safe
 
-  -- no class of it is such on any day
+  -- no class of the component is such a one on any day
   never_such : (item : Equipment) (classes : List (Key × Class)) (day : ℕ) → (is_such item.class || is_some_such is_such classes) ≡ false →
       is_such (class_on item classes day) ≡ false
   never_such item classes day none =
@@ -142,20 +142,20 @@ module _ (is_such : Class → Bool) where
 
 -- ---- duties
 
--- five parts of which the second fails
+-- a conjunction of five tests fails if the second fails
 second_fails : (a b c d e : Bool) → b ≡ false → (a && b && c && d && e) ≡ false
 second_fails a b c d e none = and_left (a && b && c && d) e (and_left (a && b && c) d (and_left (a && b) c (and_right a b none)))
 
--- six of which the fourth fails
+-- a conjunction of six tests fails if the fourth fails
 fourth_fails : (a b c d e f : Bool) → d ≡ false → (a && b && c && d && e && f) ≡ false
 fourth_fails a b c d e f none = and_left (a && b && c && d && e) f (and_left (a && b && c && d) e (and_right (a && b && c) d none))
 
--- .. or the third
+-- a conjunction of six tests fails if the third fails
 third_fails : (a b c d e f : Bool) → c ≡ false → (a && b && c && d && e && f) ≡ false
 third_fails a b c d e f none =
     and_left (a && b && c && d && e) f (and_left (a && b && c && d) e (and_left (a && b && c) d (and_right (a && b) c none)))
 
--- a valve is no pump
+-- a valve is not a pump
 valve_no_pump : (kind : Kind) → is_valve kind ≡ true → is_pump kind ≡ false
 valve_no_pump Valve e = refl
 valve_no_pump Pump e = cc
@@ -178,7 +178,7 @@ module _ (asked : Asked) where
       (or_from (is_under_pump_rules item classes day) (is_under_valve_rules item classes day && not (is_quarterly asked.startup asked.events.now month)) no_pump
       (and_right (is_under_valve_rules item classes day) (not (is_quarterly asked.startup asked.events.now month)) (ap not quarterly))))
 
-  -- a month that is no quarterly one has no quarterly duty
+  -- a month that is not quarterly has no quarterly duty
   pub not_quarterly : (month : ℕ) → is_quarterly asked.startup asked.events.now month ≡ false → causes.quarterly asked month ≡ None
   unfolding law.quarterly
   not_quarterly month none =
@@ -190,7 +190,7 @@ module _ (asked : Asked) where
       (is_quarterly asked.startup asked.events.now month) (nat_eq (class_on item classes day).month (month_in_quarter asked.startup month))
       (not (causes.is_month_skipped asked month)) none)
 
-  -- what is no valve has no quarterly duty
+  -- a component other than a valve has no quarterly duty
   pub never_quarterly : is_valve asked.item.now.kind ≡ false → (month : ℕ) → causes.quarterly asked month ≡ None
   unfolding law.quarterly
   never_quarterly none month =
@@ -202,7 +202,7 @@ module _ (asked : Asked) where
       (is_quarterly asked.startup asked.events.now month) (nat_eq (class_on item classes day).month (month_in_quarter asked.startup month))
       (not (causes.is_month_skipped asked month)) (no_valve_rules item.kind (class_on item classes day).service none))
 
-  -- what is never monitored each year has no yearly duty
+  -- a component that is never monitored yearly has no yearly duty
   pub never_yearly : has_yearly_class asked.item.now asked.classes.now ≡ false → (year : ℕ) → causes.yearly asked year ≡ None
   unfolding law.yearly
   never_yearly none year =
@@ -219,7 +219,7 @@ module _ (asked : Asked) where
       (or_from (valve && is_difficult_designated class.designation) (ruled && is_nde_designated class.designation)
       (and_right valve (is_difficult_designated class.designation) parts.0) (and_right ruled (is_nde_designated class.designation) parts.1)))
 
-  -- what is never unsafe has no duty by a plan
+  -- a component that is never unsafe to monitor has no duty by a plan
   pub never_planned : has_unsafe_class asked.item.now asked.classes.now ≡ false → (month : ℕ) → causes.planned asked month ≡ None
   unfolding law.planned
   never_planned none month =
@@ -231,7 +231,7 @@ module _ (asked : Asked) where
       (second_fails (is_in_service item day) (is_unsafe item classes day) (is_under_valve_rules item classes day || is_under_pump_rules item classes day)
       (nat_lt 0 plan) (nat_eq ((month - month_of item.begin) % plan) 0) (never_such (λ class. is_unsafe_designated class.designation) item classes day none))
 
-  -- on no day is it a pump that is looked at each week
+  -- a component other than a pump is on no day inspected each week
   no_pump : is_pump asked.item.now.kind ≡ false → (day : ℕ) →
       law.is_weekly asked.item.now asked.classes.now asked.startup asked.events.now asked.skipped.now asked.day day ≡ false
   no_pump none day =
@@ -240,14 +240,14 @@ module _ (asked : Asked) where
       and_left (is_in_service item day && is_under_pump_rules item classes day) (is_plain item classes day)
       (and_right (is_in_service item day) (is_under_pump_rules item classes day) (no_pump_rules item.kind (class_on item classes day).service none))
 
-  -- what is no pump has no weekly duty
+  -- a component other than a pump has no weekly duty
   pub never_weekly : is_pump asked.item.now.kind ≡ false → (week : ℕ) → causes.weekly asked week ≡ None
   unfolding law.weekly
   never_weekly none week =
       unowed asked.item.now asked.classes.now asked.startup asked.events.now asked.skipped.now asked.day 6 _ _ _ _
       (no_pump none (min (week_last week) asked.day))
 
-  -- .. and none after drips
+  -- a component other than a pump has no duty after drips
   never_drips : is_pump asked.item.now.kind ≡ false → (before : List Event) (e : Event) (later : List Event) → after_event asked Drips before e later ≡ None
   unfolding law.drip
   never_drips none before e later =
@@ -257,7 +257,7 @@ module _ (asked : Asked) where
       (and_right (has_undesignated_drips e.what)
       (law.is_weekly asked.item.now asked.classes.now asked.startup asked.events.now asked.skipped.now asked.day e.key.day) (no_pump none e.key.day)))
 
-  -- what is no relief device has none after a release
+  -- a component other than a relief device has no duty after a release
   never_release : is_relief asked.item.now.kind ≡ false → (before : List Event) (e : Event) (later : List Event) →
       after_event asked Release before e later ≡ None
   unfolding law.release
@@ -266,7 +266,7 @@ module _ (asked : Asked) where
       (and_right (is_release e.what && is_in_service asked.item.now e.key.day) (is_under_relief_rules asked.item.now asked.classes.now e.key.day)
       (no_relief_rules asked.item.now.kind (class_on asked.item.now asked.classes.now e.key.day).service none))
 
-  -- what is never in heavy liquid service has none after evidence of a leak
+  -- a component that is never in heavy liquid service has no duty after evidence of a leak
   never_evidence : has_heavy_liquid_class asked.item.now asked.classes.now ≡ false → (before : List Event) (e : Event) (later : List Event) →
       after_event asked Evidence before e later ≡ None
   unfolding law.evidence
@@ -275,7 +275,7 @@ module _ (asked : Asked) where
       (and_right (has_evidence e.what && is_in_service asked.item.now e.key.day) (is_under_heavy_liquid_rules asked.item.now asked.classes.now e.key.day)
       (never_such (is_heavy_liquid asked.item.now.kind) asked.item.now asked.classes.now e.key.day none))
 
-  -- nothing follows what cannot concern it
+  -- a component to which no duty after an event can apply has none
   pub never_after : (after : After) → concerns after asked.item.now asked.classes.now ≡ false → (before : List Event) (e : Event) (later : List Event) →
       after_event asked after before e later ≡ None
   never_after Drips none = never_drips none

@@ -1,4 +1,4 @@
--- Months, years and weeks before that of the earliest day on which a duty of the list can be due: the list holds none of their duties.
+-- Months, years and weeks before those of the earliest day on which a duty of the list can be due have no duty on the list.
 use Rattle.std.proofs.Common.{◌≡◌, ℕ, ◌+◌, ◌-◌, ◌*◌, ◌/◌, ◌<◌, ◌≤◌, None, refl, ap, subst, inl, inr, arith}
 use Rattle.std.specs.Prelude.{max, filter_map}
 use Rattle.std.proofs.lemmas.Bool.{cases_lt}
@@ -14,7 +14,7 @@ use Rattle.monitor_calendar.proofs.Ranges.{from_later}
 use Rattle.monitor_calendar.proofs.Rising.{month_low, month_rises}
 
 module _ (asked : Asked) (cut : ℕ) (is : cut ≡ max asked.item.now.begin (asked.day - 366)) (valid : IsDay cut) where
-  -- the day of the beginning
+  -- the day on which the component begins
   abbrev begin : ℕ
   begin = asked.item.now.begin
 
@@ -22,11 +22,11 @@ module _ (asked : Asked) (cut : ℕ) (is : cut ≡ max asked.item.now.begin (ask
   abbrev day : ℕ
   day = asked.day
 
-  -- a month before it ends too early
+  -- a month before the earliest day ends too early
   gone : (month : ℕ) → 23_640 ≤ month → month < month_of cut → begin < cut → last_day month + 366 < day
   gone month low lt later = omega (arith, ends_before month (month_of cut) low lt, month_of-is cut valid, is)
 
-  -- where there is a month between, it comes after the beginning
+  -- if a month is between, the earliest day is after the beginning
   comes_after : month_of begin < month_of cut → begin < cut
   comes_after lt =
       elim (cases_lt begin cut) [
@@ -38,17 +38,17 @@ module _ (asked : Asked) (cut : ℕ) (is : cut ≡ max asked.item.now.begin (ask
   gone_after : (month : ℕ) → month_of begin + 1 ≤ month → month < month_of cut → last_day month + 366 < day
   gone_after month after lt = gone month (omega (arith, month_low begin, after)) lt (comes_after (omega (arith, after, lt)))
 
-  -- it has no monthly duty
+  -- such a month has no monthly duty
   monthly_none : (month : ℕ) → month_of begin + 1 ≤ month → month < month_of cut → causes.monthly asked month ≡ None
   monthly_none month after lt =
       no_monthly asked.item.now asked.classes.now asked.startup asked.events.now asked.skipped.now asked.day month (gone_after month after lt)
 
-  -- .. no quarterly one
+  -- such a month has no quarterly duty
   quarterly_none : (month : ℕ) → month_of begin + 1 ≤ month → month < month_of cut → causes.quarterly asked month ≡ None
   quarterly_none month after lt =
       no_quarterly asked.item.now asked.classes.now asked.startup asked.events.now asked.skipped.now asked.day month (gone_after month after lt)
 
-  -- .. and no window that ends with it
+  -- no window that ends with such a month has a duty
   planned_none : (month : ℕ) → month_of begin + 1 ≤ month → month < month_of cut → causes.planned asked month ≡ None
   planned_none month after lt =
       not_planned asked.item.now asked.classes.now asked.startup asked.events.now asked.skipped.now asked.day month (omega (arith, gone_after month after lt))
@@ -66,7 +66,7 @@ module _ (asked : Asked) (cut : ℕ) (is : cut ≡ max asked.item.now.begin (ask
   weekly_none week after lt =
       no_weekly asked.item.now asked.classes.now asked.startup asked.events.now asked.skipped.now asked.day week (omega (arith, is, after, lt))
 
-  -- from the month of the earliest day on
+  -- the months from that of the earliest day on
   pub listed_from_cut : IsMonth (month_of cut) → month_of begin < month_of cut → IsFirstListed asked (month_of cut)
   listed_from_cut month lt = record {
     in_range = (omega (arith, month), omega (arith, month));
@@ -74,7 +74,7 @@ module _ (asked : Asked) (cut : ℕ) (is : cut ≡ max asked.item.now.begin (ask
     quarterly = from_later (causes.quarterly asked) (month_of begin + 1) (month_of cut) (month_of day + 1) (omega (arith, lt)) quarterly_none;
   }
 
-  -- .. or from the month after the beginning
+  -- the months from the one after the beginning on
   pub listed_from_begin : IsMonth (month_of begin) → month_of cut ≤ month_of begin → IsFirstListed asked (month_of begin + 1)
   listed_from_begin month le = record {
     in_range = (omega (arith, month), omega (arith, month));
@@ -82,7 +82,7 @@ module _ (asked : Asked) (cut : ℕ) (is : cut ≡ max asked.item.now.begin (ask
     quarterly = refl;
   }
 
-  -- windows end from the month of the earliest day on
+  -- windows that end from the month of the earliest day on
   pub windows_from_cut : month_of begin < month_of cut → filter_map (causes.planned asked) (until (month_of cut) (month_of day + 60))
       ≡ filter_map (causes.planned asked) (causes.window_ends asked)
   windows_from_cut lt =
@@ -91,7 +91,7 @@ module _ (asked : Asked) (cut : ℕ) (is : cut ≡ max asked.item.now.begin (ask
       (month_of day + 59 + 1))) end
       (from_later (causes.planned asked) (month_of begin + 1) (month_of cut) (month_of day + 59 + 1) (omega (arith, lt)) planned_none)
 
-  -- .. or from the month after the beginning
+  -- windows that end from the month after the beginning on
   pub windows_from_begin : filter_map (causes.planned asked) (until (month_of begin + 1) (month_of day + 60))
       ≡ filter_map (causes.planned asked) (causes.window_ends asked)
   windows_from_begin =

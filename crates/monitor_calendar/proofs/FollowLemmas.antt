@@ -29,18 +29,18 @@ use Rattle.monitor_calendar.specs.declared.asked.Asked.{Asked}
 use Rattle.monitor_calendar.specs.declared.drips.PastDrips.{PastDrips}
 use Rattle.monitor_calendar.proofs.Listing.{no_drip, no_release, no_evidence, unowed}
 
--- ---- the first that meets
+-- ---- the first event that meets a duty
 
--- where an element passes and comes by a day, or fails
+-- an element passes and is up to a day, or fails
 module _ (p : Event → Bool) (due : ℕ) where
-  -- an element that fails is passed over
+  -- an element that fails is skipped
   pass_over : (events : List Event) (i : ℕ) (d : Event) → i < length events → p (get_or events i d) ≡ false →
       find (λ x. p x && nat_le x.key.day due) (drop i events) ≡ find (λ x. p x && nat_le x.key.day due) (drop (i + 1) events)
   pass_over events i d within fails =
       ap (find (λ x. p x && nat_le x.key.day due)) (drop_more events i d within)
       ∙ rw (and_left (p (get_or events i d)) (nat_le (get_or events i d).key.day due) fails) refl
 
-  -- so many that fail
+  -- some elements that fail are skipped
   pass_all : (events : List Event) (i count : ℕ) (d : Event) → i + count ≤ length events →
       ((k : ℕ) → i ≤ k → k < i + count → p (get_or events k d) ≡ false) →
       find (λ x. p x && nat_le x.key.day due) (drop i events) ≡ find (λ x. p x && nat_le x.key.day due) (drop (i + count) events)
@@ -51,12 +51,12 @@ module _ (p : Event → Bool) (due : ℕ) where
       ∙ pass_all events (i + 1) count d (omega (arith, within)) (λ k from to. fail k (omega (arith, from)) (omega (arith, to)))
       ∙ rw on refl
 
-  -- none comes by the day where all are later
+  -- no element is up to the day if all are later
   none_by : (events : List Event) → AllByRecursion (λ x. due < x.key.day) events → find (λ x. p x && nat_le x.key.day due) events ≡ None
   none_by [] all = refl
   none_by (x ∷ xs) all = rw (and_right (p x) (nat_le x.key.day due) (lt-leb x.key.day due all.0)) (none_by xs all.1)
 
-  -- the first, where the next one that passes stands in front
+  -- the first element, if it is the next one that passes
   first_here : (e : Event) (events : List Event) → p e ≡ true → AllByRecursion (λ x. e.key.day ≤ x.key.day) events →
       find (λ x. p x && nat_le x.key.day due) (e ∷ events) ≡ comes_by (Some e) due
   first_here e events passes later =
@@ -67,7 +67,7 @@ module _ (p : Event → Bool) (due : ℕ) where
             (arith, le, leb-false e.key.day due late)) events later))
       ]
 
--- the days of later events are no earlier
+-- the days of later events are not earlier
 days_ahead : (events : List Event) (i : ℕ) (d : Event) → Ascends (λ a b. is_earlier a.key b.key) events → i < length events →
     AllByRecursion (λ e. (get_or events i d).key.day ≤ e.key.day) (drop (i + 1) events)
 days_ahead [] i d up within = absurd (omega arith)
@@ -76,20 +76,20 @@ days_ahead (e ∷ es) zero d up within =
 days_ahead (e ∷ es) (suc i) d up within =
     let next : suc i + 1 ≡ suc (i + 1) = omega arith in rw next (days_ahead es i d up.1 (omega (arith, within)))
 
--- an event at a place of a list
+-- the event at a place of a list
 got : (events : List Event) (i : ℕ) (d : Event) → i < length events → slice_get events i ≡ Some (get_or events i d)
 got [] i d within = absurd (omega arith)
 got (e ∷ es) zero d within = refl
 got (e ∷ es) (suc i) d within = got es i d (omega (arith, within))
 
--- behind the last there is none
+-- there is no event at a place after the last
 got_none : (events : List Event) (i : ℕ) → length events ≤ i → slice_get events i ≡ None
 got_none [] zero end = refl
 got_none [] (suc i) end = refl
 got_none (e ∷ es) zero end = absurd (omega arith)
 got_none (e ∷ es) (suc i) end = got_none es i (omega (arith, end))
 
--- at the next place stands the first that meets, if it comes in time
+-- the next place has the first event that meets the duty, if it is in time
 found_next : (after : After) (events : List Event) (i next due : ℕ) (d : Event) → Ascends (λ a b. is_earlier a.key b.key) events →
     IsNext after events i next →
     find (λ x. meets after x.what && nat_le x.key.day due) (drop i events) ≡ event_by events next due
@@ -107,7 +107,7 @@ found_next after events i next due d up is =
 
 -- ---- the duty of an event
 
--- three tests, joined either way
+-- a conjunction of three tests is associative
 and_assoc : (a b c : Bool) → ((a && b) && c) ≡ (a && (b && c))
 and_assoc true b c = refl
 and_assoc false b c = refl
@@ -133,14 +133,14 @@ module _ (asked : Asked) where
       (e.key.day + 5))) later))
       (and_assoc (has_evidence e.what) (is_in_service asked.item.now e.key.day) (is_under_heavy_liquid_rules asked.item.now asked.classes.now e.key.day))
 
-  -- what is told of drips suffices
+  -- the summary of drips is enough
   asked_alike : (after : After) (past : PastDrips) (before : List Event) (e : Event) → TellsFor after past before →
       is_asked_by asked after past.repeat e ≡ is_asked_by asked after (is_repeated before) e
   asked_alike Drips past before e tells = ap (λ b. is_asked_by asked Drips b e) tells.repeat
   asked_alike Release past before e tells = refl
   asked_alike Evidence past before e tells = refl
 
-  -- the duty that the next place gives is the one of the cause
+  -- the duty from the next place is the duty of the cause
   pub after_by_is : (after : After) (past : PastDrips) (place next : ℕ) (e : Event) → Ascends (λ a b. is_earlier a.key b.key) asked.events.now →
       TellsFor after past (take place asked.events.now) → (is_asked_by asked after past.repeat e ≡ true → IsNext after asked.events.now (place + 1) next) →
       after_by asked after past.repeat e next ≡ after_event asked after (take place asked.events.now) e (drop (place + 1) asked.events.now)
@@ -164,9 +164,9 @@ module _ (asked : Asked) where
             ∙ no_duty (find (λ x. meets after x.what && nat_le x.key.day due) (drop (place + 1) events)))
       ]
 
--- ---- events that give nothing
+-- ---- events without a duty
 
--- a front that gives nothing is passed over
+-- a prefix without a value is skipped
 pub each_passed_over : {X Y : Type 0} (f : List X → X → List X → Option Y) (xs : List X) (n : ℕ) (d : X) → n ≤ length xs →
     ((i : ℕ) → i < n → f (take i xs) (get_or xs i d) (drop (i + 1) xs) ≡ None) → each_where f xs ≡ each_from f (take n xs) (drop n xs)
 each_passed_over f xs zero d within none = refl
@@ -178,12 +178,12 @@ each_passed_over f xs (suc n) d within none =
 
 -- ---- steps of the walk
 
--- an event, to stand where there is none
+-- an event, as the default where there is none
 abbrev blank : Event
 blank = record { key = record { day = 0; minute = 0; handheld = 0; number = 0; index = 0 }; what = Retire }
 
 module _ (asked : Asked) (after : After) where
-  -- what was due so long before gives nothing
+  -- an event too long ago has no duty on the list
   gives_none : (which : After) (before : List Event) (e : Event) (later : List Event) → e.key.day + 5 + 366 < asked.day →
       after_event asked which before e later ≡ None
   gives_none Drips before e later gone =
@@ -193,7 +193,7 @@ module _ (asked : Asked) (after : After) where
   gives_none Evidence before e later gone =
       no_evidence asked.item.now asked.classes.now asked.startup asked.events.now asked.skipped.now asked.day before e later (omega (arith, gone))
 
-  -- the walk may begin at the first event whose duty the list can hold
+  -- the walk may begin at the first event whose duty the list can contain
   pub begins_at : (from : ℕ) → from ≤ length asked.events.now →
       IsPartitionPoint (λ e. nat_lt (e.key.day + 5 + 366) asked.day ≡ true) (λ e. nat_lt (e.key.day + 5 + 366) asked.day ≡ false) asked.events.now from →
       each_from (after_event asked after) (take from asked.events.now) (drop from asked.events.now) ≡ each_where (after_event asked after) asked.events.now
@@ -202,7 +202,7 @@ module _ (asked : Asked) (after : After) where
       (λ i lt. gives_none after (take i asked.events.now) (get_or asked.events.now i blank) (drop (i + 1) asked.events.now)
       (ltb-true ((get_or asked.events.now i blank).key.day + 5 + 366) asked.day (parts.0 i blank (omega arith) lt))))
 
-  -- an event more
+  -- one more event
   pub one_event_on : (past : PastDrips) (place next : ℕ) (e : Event) (done : List Duty) (given : Option Duty) →
       Ascends (λ a b. is_earlier a.key b.key) asked.events.now → place < length asked.events.now → get_or asked.events.now place e ≡ e →
       TellsFor after past (take place asked.events.now) → (is_asked_by asked after past.repeat e ≡ true → IsNext after asked.events.now (place + 1) next) →
@@ -217,7 +217,7 @@ module _ (asked : Asked) (after : After) where
       ap (λ o. (done ++ option_to_list o) ++ each_from f (take (place + 1) events) (drop (place + 1) events)) same
       ∙ each_pushed f done events place e within
 
-  -- what is told of drips goes on at a place of the events
+  -- the summary of drips with the event at a place
   pub tells_on : (past more : PastDrips) (events : List Event) (place : ℕ) (e : Event) → place < length events → get_or events place e ≡ e →
       TellsFor after past (take place events) → ((front : List Event) → TellsFor after past front → TellsFor after more (front ++ e ∷ [])) →
       TellsFor after more (take (place + 1) events)

@@ -1,4 +1,4 @@
--- What is owed, by what the component is on the day on which it is judged.
+-- What a component owes, from the component on the judging day.
 use Rattle.std.specs.Prelude.{if◌then◌else◌}
 use Rattle.std.proofs.Common.{◌≡◌, ℕ, ◌+◌, ◌-◌, ◌*◌, ◌%◌, ◌<◌, ◌≤◌, Bool, true, false, not, Option, Some, None, option_map}
 use Rattle.std.proofs.Common.{◌&&◌, ◌||◌, nat_lt, nat_eq, min, refl, sym, ap, ◌∙◌, inl, inr, mod-eq_of_lt, arith}
@@ -21,7 +21,7 @@ use Rattle.monitor_calendar.specs.declared.asked.Asked.{Asked}
 use Rattle.monitor_calendar.specs.declared.asked.Judged.{Judged}
 use Rattle.monitor_calendar.proofs.Listing.{unowed}
 
--- a whole number of windows has one at least
+-- a positive multiple of the window's length is at least that length
 one_window : (n p : ℕ) → 0 < n → n % p ≡ 0 → p ≤ n
 one_window n p some whole =
     elim (cases_lt n p) [
@@ -29,19 +29,19 @@ one_window n p some whole =
       | inr long ↦ long
     ]
 
--- what is under no rules for valves is owed in each month alike
+-- a component that is not under the rules for valves is monitored in quarterly months as in others
 either_month : (judged : Judged) (a b : Bool) → are_valve_rules judged.regime ≡ false → causes.is_monthly_judged judged a ≡ causes.is_monthly_judged judged b
 either_month judged a b none =
     ap (λ v. judged.serves && is_none_designated judged.class.designation && (are_pump_rules judged.regime || (v && not a))) none
     ∙ sym (ap (λ v. judged.serves && is_none_designated judged.class.designation && (are_pump_rules judged.regime || (v && not b))) none)
 
--- what is true beside a test leaves it
+-- a conjunction with true
 and_true : (a : Bool) → (a && true) ≡ a
 and_true true = refl
 and_true false = refl
 
 module _ (asked : Asked) where
-  -- an owed duty, by what met it or by its key
+  -- an owed duty, from the event that met it or from its key
   by_its_key : (cause first due : ℕ) (found : Option Event) →
       causes.duty_met_by asked cause first due (option_map (λ e. e.key) found) ≡ causes.duty asked cause first due true found
   by_its_key cause first due None =
@@ -51,13 +51,13 @@ module _ (asked : Asked) where
       ap (λ b. if b then Some (record { component = asked.item.now.component; cause = cause; due = due; met = Some e.key }) else None)
       (sym (and_true (law.is_listed asked.day first due false)))
 
-  -- .. where it is owed
+  -- a duty, if it is owed
   pub met_by_key : (cause first due : ℕ) (owed : Bool) (met : Option Key) (found : Option Event) → met ≡ option_map (λ e. e.key) found → owed ≡ true →
       causes.duty_met_by asked cause first due met ≡ causes.duty asked cause first due owed found
   met_by_key cause first due owed met found is so =
       ap (causes.duty_met_by asked cause first due) is ∙ by_its_key cause first due found ∙ ap (λ o. causes.duty asked cause first due o found) (sym so)
 
-  -- the judged component is that of a day where its class is the one in force then
+  -- the judged component is that of a day if its class is the one in force then
   pub judged_is : (judged : Judged) (class : Class) (judging day : ℕ) → judging ≡ day → class ≡ class_on asked.item.now asked.classes.now day →
       judged.serves ≡ is_in_service asked.item.now judging → judged.regime ≡ regime_of asked.item.now.kind class.service → judged.class ≡ class →
       IsOf asked judged day
@@ -67,7 +67,7 @@ module _ (asked : Asked) where
     class = same ∙ in_force;
   }
 
-  -- where a window ends, the plan has begun after the beginning
+  -- if a window ends, its plan began after the component's beginning
   pub plan_fits : (judged : Judged) (month : ℕ) → month_of asked.item.now.begin < month → causes.is_planned_judged asked judged month ≡ true →
       judged.class.plan + month_of asked.item.now.begin ≤ month
   plan_fits judged month after planned =
@@ -80,7 +80,7 @@ module _ (asked : Asked) where
             ((month - month_of asked.item.now.begin) % judged.class.plan) 0 whole),
       )
 
-  -- the monthly duty, by what is judged
+  -- the monthly duty, from the component on the judging day
   monthly_exact : (judged : Judged) (month first due : ℕ) → first ≡ first_day month → due ≡ last_day month → IsOf asked judged (min due asked.day) →
       causes.monthly asked month
       ≡ causes.duty asked CAUSE_MONTHLY first due (causes.is_monthly_judged judged (is_quarterly asked.startup asked.events.now month))
@@ -88,7 +88,7 @@ module _ (asked : Asked) where
   unfolding law.monthly
   monthly_exact judged month first due from to is = rw (is.serves, is.regime, is.class, from, to) refl
 
-  -- .. of which a month that is a quarterly one or not is asked of a valve alone
+  -- whether the month is quarterly matters only for a valve
   monthly_alike : (judged : Judged) (month due : ℕ) (quarterly : Bool) → IsOf asked judged (min due asked.day) →
       (is_valve asked.item.now.kind ≡ true → quarterly ≡ is_quarterly asked.startup asked.events.now month) →
       causes.is_monthly_judged judged (is_quarterly asked.startup asked.events.now month) ≡ causes.is_monthly_judged judged quarterly
@@ -108,7 +108,7 @@ module _ (asked : Asked) where
       monthly_exact judged month first due from to is
       ∙ ap (λ owed. causes.duty asked CAUSE_MONTHLY first due owed (law.routine_in asked.events.now first due)) (monthly_alike judged month due quarterly is says)
 
-  -- .. of a month of which none is owed
+  -- no monthly duty is owed for a month
   pub monthly_unowed : (judged : Judged) (month first due : ℕ) → first ≡ first_day month → due ≡ last_day month →
       (is_valve asked.item.now.kind ≡ true → false ≡ is_quarterly asked.startup asked.events.now month) → IsOf asked judged (min due asked.day) →
       causes.is_monthly_judged judged false ≡ false → causes.monthly asked month ≡ None
@@ -117,7 +117,7 @@ module _ (asked : Asked) where
       ∙ unowed asked.item.now asked.classes.now asked.startup asked.events.now asked.skipped.now asked.day 2 first due
       (causes.is_monthly_judged judged false) (law.routine_in asked.events.now first due) none
 
-  -- .. and of one of which it is, by the key of what met it
+  -- a monthly duty is owed for a month, with the key of the fact that met it
   pub monthly_met : (judged : Judged) (month first due : ℕ) (met : Option Key) → first ≡ first_day month → due ≡ last_day month →
       (is_valve asked.item.now.kind ≡ true → false ≡ is_quarterly asked.startup asked.events.now month) → IsOf asked judged (min due asked.day) →
       met ≡ option_map (λ e. e.key) (law.routine_in asked.events.now first due) → causes.is_monthly_judged judged false ≡ true →
@@ -126,7 +126,7 @@ module _ (asked : Asked) where
       met_by_key 2 first due (causes.is_monthly_judged judged false) met (law.routine_in asked.events.now first due) found owed
       ∙ sym (monthly_by judged month first due false from to says is)
 
-  -- the quarterly one
+  -- the quarterly duty
   pub quarterly_by : (judged : Judged) (month first due : ℕ) (quarterly : Bool) → first ≡ first_day month → due ≡ last_day month → quarterly
       ≡ is_quarterly asked.startup asked.events.now month →
       IsOf asked judged (min due asked.day) →
@@ -135,7 +135,7 @@ module _ (asked : Asked) where
   unfolding law.quarterly
   quarterly_by judged month first due quarterly from to same is = rw (is.serves, is.regime, is.class, same, from, to) refl
 
-  -- .. of a month of which none is owed
+  -- no quarterly duty is owed for a month
   pub quarterly_unowed : (judged : Judged) (month first due : ℕ) (quarterly : Bool) → first ≡ first_day month → due ≡ last_day month →
       quarterly ≡ is_quarterly asked.startup asked.events.now month → IsOf asked judged (min due asked.day) →
       causes.is_quarter_month_judged asked judged month quarterly ≡ false → causes.quarterly asked month ≡ None
@@ -144,7 +144,7 @@ module _ (asked : Asked) where
       ∙ unowed asked.item.now asked.classes.now asked.startup asked.events.now asked.skipped.now asked.day 3 first due
       (causes.is_quarter_month_judged asked judged month quarterly) (law.routine_in asked.events.now first due) none
 
-  -- .. and of one of which it is, by the key of what met it
+  -- a quarterly duty is owed for a month, with the key of the fact that met it
   pub quarterly_met : (judged : Judged) (month first due : ℕ) (quarterly : Bool) (met : Option Key) → first ≡ first_day month → due ≡ last_day month →
       quarterly ≡ is_quarterly asked.startup asked.events.now month → IsOf asked judged (min due asked.day) →
       met ≡ option_map (λ e. e.key) (law.routine_in asked.events.now first due) → causes.is_quarter_month_judged asked judged month quarterly ≡ true →
@@ -153,21 +153,21 @@ module _ (asked : Asked) where
       met_by_key 3 first due (causes.is_quarter_month_judged asked judged month quarterly) met (law.routine_in asked.events.now first due) found owed
       ∙ sym (quarterly_by judged month first due quarterly from to same is)
 
-  -- the yearly one
+  -- the yearly duty
   pub yearly_by : (judged : Judged) (year first due : ℕ) → first ≡ first_day (12 * year) → due ≡ last_day (12 * year + 11) →
       IsOf asked judged (min due asked.day) →
       causes.yearly asked year ≡ causes.duty asked CAUSE_YEARLY first due (causes.is_yearly_judged judged) (causes.yearly_reading_judged asked judged first due)
   unfolding law.yearly
   yearly_by judged year first due from to is = rw (is.serves, is.regime, is.class, from, to) refl
 
-  -- the one by a plan
+  -- the duty by a plan
   pub planned_by : (judged : Judged) (month due : ℕ) → due ≡ end_by (last_day month) → IsOf asked judged (min due asked.day) →
       causes.planned asked month ≡ causes.duty asked CAUSE_PLAN (first_day (month + 1 - judged.class.plan)) due (causes.is_planned_judged asked judged month)
       (law.routine_in asked.events.now (first_day (month + 1 - judged.class.plan)) due)
   unfolding law.planned
   planned_by judged month due to is = rw (is.serves, is.regime, is.class, to) refl
 
-  -- the weekly one
+  -- the weekly duty
   pub weekly_by : (judged : Judged) (week first due : ℕ) → first ≡ week_first week → due ≡ week_last week → IsOf asked judged (min due asked.day) →
       causes.weekly asked week ≡ causes.duty asked CAUSE_WEEKLY first due (causes.is_plain_pump judged) (law.look_in asked.events.now first due)
   unfolding law.weekly

@@ -9,29 +9,29 @@ use Rattle.ldar_law.specs.declared.equipment.Equipment.{Equipment}
 use Rattle.ldar_law.specs.declared.event.Event.{Event}
 use Rattle.ldar_law.specs.Duties.{duty, monthly, quarterly, yearly, planned, weekly, drip, release, evidence}
 
--- a test of a list fails where its last parts do
+-- a test of the list fails if its last parts fail
 fails : (a b u c o : Bool) → b ≡ false → c ≡ false → ((a && (b || (u && c))) && o) ≡ false
 fails a b u c o late gone = and_left (a && (b || (u && c))) o (and_right a (b || (u && c)) (or_from b (u && c) late (and_right u c gone)))
 
--- the last day of a month lies before a later month
+-- the last day of a month is before a later month
 pub ends_before : (month later : ℕ) → 23_640 ≤ month → month < later → last_day month < first_day later
 ends_before month later low lt = omega (arith, first_day-lt month later low lt, month_length_bounds month)
 
 module _ (item : Equipment) (classes : List (Key × Class)) (startup : ℕ) (events : List Event) (skipped : List Bool) (t : ℕ) where
-  -- a duty that was due so long before
+  -- a duty that was due too long ago is not listed
   pub unlisted : (cause first due : ℕ) (owed : Bool) (met : Option Event) → due + 366 < t →
       duty item classes startup events skipped t cause first due owed met ≡ None
   unlisted cause first due owed met gone =
       cond-false _ _ _ (fails (nat_le first t) (nat_le t due) (is_none met) (nat_le t (due + 366)) owed (lt-leb t due (omega (arith, gone))) (lt-leb t
       (due + 366) gone))
 
-  -- one that is not owed
+  -- a duty that is not owed is not listed
   pub unowed : (cause first due : ℕ) (owed : Bool) (met : Option Event) → owed ≡ false →
       duty item classes startup events skipped t cause first due owed met ≡ None
   unowed cause first due owed met none =
       cond-false _ _ _ (and_right (nat_le first t && (nat_le t due || (is_none met && nat_le t (due + 366)))) owed none)
 
-  -- one that has not begun
+  -- a duty that has not begun is not listed
   pub not_begun : (cause first due : ℕ) (owed : Bool) (met : Option Event) → t < first →
       duty item classes startup events skipped t cause first due owed met ≡ None
   not_begun cause first due owed met ahead =

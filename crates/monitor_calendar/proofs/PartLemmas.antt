@@ -17,34 +17,34 @@ use Rattle.ldar_law.specs.Duties as law
 use Rattle.ldar_law.specs.Units.{Known, due_list}
 use Rattle.monitor_calendar.specs.DutiesOfUnit.{own_skipped, PartStandsInList, PartIsOwn}
 
--- ---- all duties of a component are its own
+-- ---- all duties of a component have its number
 
 -- a duty of the component with this number
 abbrev Own : ℕ → Duty → Type 0
 Own number d = d.component ≡ number
 
--- a duty under a test is as it is written
+-- an optional duty under a test
 given : (number : ℕ) (b : Bool) (d : Duty) → Own number d → IfSome (cond b (Some d) None) (Own number)
 given number true d own = own
 given number false d own = tt
 
--- one in front, if there is one
+-- one more duty in front, if there is one
 one_own : (number : ℕ) (o : Option Duty) (ds : List Duty) → IfSome o (Own number) → AllByRecursion (Own number) ds →
     AllByRecursion (Own number) (cons_option o ds)
 one_own number None ds own all = all
 one_own number (Some d) ds own all = (own, all)
 
--- one alone
+-- a single duty, if there is one
 alone_own : (number : ℕ) (o : Option Duty) → IfSome o (Own number) → AllByRecursion (Own number) (option_to_list o)
 alone_own number None own = tt
 alone_own number (Some d) own = (own, tt)
 
--- what numbers give
+-- the duties of a range of numbers
 numbers_own : (number : ℕ) (f : ℕ → Option Duty) → ((n : ℕ) → IfSome (f n) (Own number)) → (ns : List ℕ) → AllByRecursion (Own number) (filter_map f ns)
 numbers_own number f own [] = tt
 numbers_own number f own (n ∷ ns) = one_own number (f n) (filter_map f ns) (own n) (numbers_own number f own ns)
 
--- what events give
+-- the duties of events
 events_own : (number : ℕ) (f : List Event → Event → List Event → Option Duty) → ((before : List Event) (e : Event) (after : List Event) →
     IfSome (f before e after) (Own number)) →
     (front events : List Event) → AllByRecursion (Own number) (each_from f front events)
@@ -57,54 +57,54 @@ module _ (item : Equipment) (classes : List (Key × Class)) (startup : ℕ) (eve
   abbrev number : ℕ
   number = item.component
 
-  -- the first monitoring is its own
+  -- the first monitoring has its number
   first_own : IfSome (law.first_monitoring item classes startup events skipped t) (Own number)
   unfolding law.first_monitoring
   first_own = given number _ _ refl
 
-  -- a monthly duty is
+  -- a monthly duty has its number
   monthly_own : (month : ℕ) → IfSome (law.monthly item classes startup events skipped t month) (Own number)
   unfolding law.monthly
   monthly_own month = given number _ _ refl
 
-  -- a quarterly one is
+  -- a quarterly duty has its number
   quarterly_own : (month : ℕ) → IfSome (law.quarterly item classes startup events skipped t month) (Own number)
   unfolding law.quarterly
   quarterly_own month = given number _ _ refl
 
-  -- a yearly one is
+  -- a yearly duty has its number
   yearly_own : (year : ℕ) → IfSome (law.yearly item classes startup events skipped t year) (Own number)
   unfolding law.yearly
   yearly_own year = given number _ _ refl
 
-  -- one by a plan is
+  -- a duty by a plan has its number
   planned_own : (month : ℕ) → IfSome (law.planned item classes startup events skipped t month) (Own number)
   unfolding law.planned
   planned_own month = given number _ _ refl
 
-  -- a weekly one is
+  -- a weekly duty has its number
   weekly_own : (week : ℕ) → IfSome (law.weekly item classes startup events skipped t week) (Own number)
   unfolding law.weekly
   weekly_own week = given number _ _ refl
 
-  -- one after drips is
+  -- a duty after drips has its number
   drip_own : (before : List Event) (e : Event) (after : List Event) → IfSome (law.drip item classes startup events skipped t before e after) (Own number)
   unfolding law.drip
   drip_own before e after = given number _ _ refl
 
-  -- one after a release is
+  -- a duty after a release has its number
   release_own : (before : List Event) (e : Event) (after : List Event) → IfSome (law.release item classes startup events skipped t before e after)
       (Own number)
   unfolding law.release
   release_own before e after = given number _ _ refl
 
-  -- one after evidence is
+  -- a duty after evidence has its number
   evidence_own : (before : List Event) (e : Event) (after : List Event) → IfSome (law.evidence item classes startup events skipped t before e after)
       (Own number)
   unfolding law.evidence
   evidence_own before e after = given number _ _ refl
 
-  -- each duty of the component is its own
+  -- each duty of the component has its number
   all_own : AllByRecursion (Own number) (law.duties_of item classes startup events skipped t)
   unfolding law.duties_of
   all_own =
@@ -140,7 +140,7 @@ module _ (startup t : ℕ) (skipped : List Bool) where
   abbrev part : Known → List Duty
   part c = law.duties_of c.item c.classes startup c.events skipped t
 
-  -- the list around one component
+  -- the list, split around one component
   around : (before : List Known) (c : Known) (after : List Known) →
       due_list startup t skipped (before ++ c ∷ after) ≡ due_list startup t skipped before ++ (part c ++ due_list startup t skipped after)
   around [] c after = refl
@@ -148,7 +148,7 @@ module _ (startup t : ℕ) (skipped : List Bool) where
       ap (λ ds. part b ++ ds) (around bs c after)
       ∙ sym (append_assoc (part b) (due_list startup t skipped bs) (part c ++ due_list startup t skipped after))
 
-  -- the parts of others have nothing of the component
+  -- the duties of other components have other numbers
   others_none : (wanted : ℕ) (cs : List Known) → AllByRecursion (λ c. nat_eq c.item.component wanted ≡ false) cs →
       filter (λ d. nat_eq d.component wanted) (due_list startup t skipped cs) ≡ []
   others_none wanted [] apart = refl
@@ -160,14 +160,14 @@ module _ (startup t : ℕ) (skipped : List Bool) where
       (all_own c.item c.classes startup c.events skipped t)))
       ∙ others_none wanted cs apart.1
 
-  -- the component's part has nothing else
+  -- all of the component's part has its number
   own_all : (c : Known) → filter (λ d. nat_eq d.component c.item.component) (part c) ≡ part c
   own_all c =
       filter_all (λ d. nat_eq d.component c.item.component) (part c)
       (all_weaker (λ d. d.component ≡ c.item.component) (λ d. nat_eq d.component c.item.component ≡ true)
       (λ d own. eq-eqb d.component c.item.component own) (part c) (all_own c.item c.classes startup c.events skipped t))
 
-  -- what the list has of the component is its part
+  -- the component's duties in the list are its part
   own_among : (before : List Known) (c : Known) (after : List Known) → AllByRecursion (λ other. nat_eq other.item.component c.item.component ≡ false) before →
       AllByRecursion (λ other. nat_eq other.item.component c.item.component ≡ false) after →
       filter (λ d. nat_eq d.component c.item.component) (due_list startup t skipped (before ++ c ∷ after)) ≡ part c
@@ -181,12 +181,12 @@ module _ (startup t : ℕ) (skipped : List Bool) where
       ∙ ap (λ ds. part c ++ ds) (others_none c.item.component after others)
       ∙ append-nil (part c)
 
--- the law of the part in the list
+-- the law about the part in the list
 pub part_stands_in_list : PartStandsInList
 part_stands_in_list unit t facts before c after split =
     ap (due_list unit.startup t (own_skipped unit t facts)) split ∙ around unit.startup t (own_skipped unit t facts) before c after
 
--- the law of the part alone
+-- the law about the part itself
 pub part_is_own : PartIsOwn
 part_is_own unit t facts before c after split apart others =
     ap (λ cs. filter (λ d. nat_eq d.component c.item.component) (due_list unit.startup t (own_skipped unit t facts) cs)) split

@@ -1,4 +1,4 @@
--- What the events of past months tell, with one event more.
+-- The summary of past months with one more event.
 use Rattle.std.proofs.Common.{◌≡◌, ◌⊎◌, ℕ, ◌+◌, ◌-◌, ◌<◌, ◌≤◌, Bool, true, false, ◌&&◌}
 use Rattle.std.proofs.Common.{◌||◌, nat_eq, nat_le, Option, Some, None, is_some, IfSome, List, [], ◌∷◌, ◌++◌}
 use Rattle.std.proofs.Common.{refl, sym, ap, subst, ◌∙◌, inl, inr, arith}
@@ -18,16 +18,16 @@ use Rattle.monitor_calendar.proofs.Rising.{month_low}
 
 -- ---- tests of events
 
--- a test or nothing
+-- a disjunction with false
 or_false : (b : Bool) → (b || false) ≡ b
 or_false true = refl
 or_false false = refl
 
--- a test with one event more
+-- a test of events with one more
 pub one_more : (p : Event → Bool) (events : List Event) (e : Event) → list_any p (events ++ e ∷ []) ≡ (list_any p events || p e)
 one_more p events e = list_any-append p events (e ∷ []) ∙ ap (λ b. list_any p events || b) (or_false (p e))
 
--- events of months up to one have none of a later month
+-- events of months up to one have nothing in a later month
 pub none_later : (q : Event → Bool) (events : List Event) (last low : ℕ) → AllByRecursion (λ e. month_of e.key.day ≤ last) events → last < low →
     list_any (λ e. q e && nat_le low (month_of e.key.day)) events ≡ false
 none_later q [] last low all lt = refl
@@ -36,7 +36,7 @@ none_later q (e ∷ es) last low all lt =
     (and_right (q e) (nat_le low (month_of e.key.day)) (lt-leb low (month_of e.key.day) (omega (arith, all.0, lt))))
     (none_later q es last low all.1 lt)
 
--- what is read in a month is read from it on
+-- a reading in a month is a reading from that month on
 pub read_from : (events : List Event) (month : ℕ) → reads_in events month ≡ true → reads_from events month ≡ true
 read_from events month read =
     list_any_implied (λ e. is_routine_below e.what && is_in_month month e) (λ e. is_routine_below e.what && nat_le month (month_of e.key.day))
@@ -46,12 +46,12 @@ read_from events month read =
     events
     read
 
--- at a number, but not behind it
+-- a bound that holds for a number but not for the next
 exactly : (b : Bool) (m n : ℕ) → (b && nat_le m n) ≡ true → (b && nat_le (m + 1) n) ≡ false → (b && nat_eq n m) ≡ true
 exactly true m n here none = eq-eqb n m (omega (arith, leb-true m n here, leb-false (m + 1) n none))
 exactly false m n here none = here
 
--- what is read from a month on, and not from the next one on, is read in it
+-- a reading from a month on, and not from the next one on, is in the month
 read_exactly : (events : List Event) (month : ℕ) → reads_from events month ≡ true → reads_from events (month + 1) ≡ false → reads_in events month ≡ true
 read_exactly [] month here none = here
 read_exactly (e ∷ es) month here none =
@@ -62,31 +62,31 @@ read_exactly (e ∷ es) month here none =
       | inr there ↦ or_right (is_routine_below e.what && is_in_month month e) (reads_in es month) (read_exactly es month there parts.1)
     ]
 
--- up to one of two numbers is up to the larger
+-- a bound by one of two numbers is a bound by the larger
 or_le : (a b low : ℕ) → a ≤ b → (nat_le low a || nat_le low b) ≡ nat_le low b
 or_le a b low le = grind (arith, nat_tests)
 
--- what follows for what there is
+-- a property of an optional value that follows from another
 if_some : {X : Type 0} (P Q : X → Type 0) (o : Option X) → ((x : X) → P x → Q x) → IfSome o P → IfSome o Q
 if_some P Q None implies h = h
 if_some P Q (Some x) implies h = implies x h
 
--- two months in a row that there are, with a month more
+-- two months in a row stay when a month is added
 keeps : (o : Option ℕ) (below month : ℕ) → is_some o ≡ true → pair_from o below month ≡ o
 keeps None below month e = absurd (false≢true e)
 keeps (Some p) below month e = refl
 
--- .. and where there are none with it, there were none
+-- if there are none with the new month, there were none before
 no_pair : (o : Option ℕ) (below month : ℕ) → pair_from o below month ≡ None → o ≡ None
 no_pair None below month e = refl
 no_pair (Some p) below month e = e
 
--- there are none, or there are some
+-- an option is not both `Some` and `None`
 not_both : (o : Option ℕ) → is_some o ≡ true → o ≡ None → (a b : Bool) → a ≡ b
 not_both None e none a b = absurd (false≢true e)
 not_both (Some p) e none a b = cc
 
--- no events tell nothing
+-- the summary of no events
 pub told_nothing : Tells (record { leak = 0; below = 0; pair = None }) 0 []
 told_nothing = record {
   up_to = tt;
@@ -99,7 +99,7 @@ told_nothing = record {
   pair = tt;
 }
 
--- what fails where a month is later, or the month is no later one
+-- a test that fails if a month is later, or the month is not later
 or_later : (b : Bool) (low month : ℕ) → (month < low → b ≡ false) → (b || nat_le low month) ≡ nat_le low month
 or_later b low month fails =
     elim (cases_lt month low) [
@@ -107,7 +107,7 @@ or_later b low month fails =
       | inr by ↦ or_right b (nat_le low month) (le-leb low month by) ∙ sym (le-leb low month by)
     ]
 
--- a leak tells the same whatever came before it, of no later month
+-- the summary after a leak is the same whatever came before it, in a month that is not earlier
 pub told_leak : (front : List Event) (e : Event) → AllByRecursion (λ x. month_of x.key.day ≤ month_of e.key.day) front → is_leak e.what ≡ true →
     Tells (record { leak = month_of e.key.day; below = 0; pair = None }) (month_of e.key.day) (front ++ e ∷ [])
 told_leak front e all leaks =
@@ -129,14 +129,14 @@ told_leak front e all leaks =
       pair = tt;
     }
 
--- ---- one event more
+-- ---- one more event
 
 module _ (past : PastMonths) (last : ℕ) (front : List Event) (e : Event) (tells : Tells past last front) (le : last ≤ month_of e.key.day) where
   -- the month of the new event
   abbrev month : ℕ
   month = month_of e.key.day
 
-  -- the events with it
+  -- the events with the new one
   abbrev more : List Event
   more = front ++ e ∷ []
 
@@ -147,27 +147,27 @@ module _ (past : PastMonths) (last : ℕ) (front : List Event) (e : Event) (tell
       (all_weaker (λ x. month_of x.key.day ≤ last) (λ x. month_of x.key.day ≤ month) (λ x by. omega (arith, by, le)) front tells.up_to)
       (omega arith, tt)
 
-  -- leaks from a month on, with it
+  -- leaks from a month on, with the new event
   leaks_more : (low : ℕ) → 0 < low → leaks_from more low ≡ (nat_le low past.leak || (is_leak e.what && nat_le low month))
   leaks_more low pos =
       one_more (λ x. is_leak x.what && nat_le low (month_of x.key.day)) front e
       ∙ ap (λ b. b || (is_leak e.what && nat_le low month)) (tells.leak low pos)
 
-  -- readings below from a month on, with it
+  -- readings below from a month on, with the new event
   reads_more : (low : ℕ) → past.leak < low → past.pair ≡ None → reads_from more low ≡ (nat_le low past.below || (is_routine_below e.what && nat_le low month))
   reads_more low lt none =
       one_more (λ x. is_routine_below x.what && nat_le low (month_of x.key.day)) front e
       ∙ ap (λ b. b || (is_routine_below e.what && nat_le low month)) (tells.below low lt none)
 
-  -- readings below in a month, with it
+  -- readings below in a month, with the new event
   read_more : (k : ℕ) → reads_in more k ≡ (reads_in front k || (is_routine_below e.what && nat_eq month k))
   read_more k = one_more (λ x. is_routine_below x.what && is_in_month k x) front e
 
-  -- what was read stays read
+  -- old readings stay
   stays : (k : ℕ) → reads_in front k ≡ true → reads_in more k ≡ true
   stays k read = read_more k ∙ or_left (reads_in front k) (is_routine_below e.what && nat_eq month k) read
 
-  -- what is read is read by the last month
+  -- a reading is in a month up to the last one
   by_last : (k : ℕ) → reads_in front k ≡ true → k ≤ last
   by_last k read =
       elim (cases_lt last k) [
@@ -175,7 +175,7 @@ module _ (past : PastMonths) (last : ℕ) (front : List Event) (e : Event) (tell
         | inr by ↦ by
       ]
 
-  -- .. nor with it
+  -- a reading, with the new one, is in a month up to the new event's
   by_month : (k : ℕ) → reads_in more k ≡ true → k ≤ month
   by_month k read =
       elim (cases_lt month k) [
@@ -183,7 +183,7 @@ module _ (past : PastMonths) (last : ℕ) (front : List Event) (e : Event) (tell
         | inr by ↦ by
       ]
 
-  -- what is no leak, and no reading below in a month after the last leak
+  -- the event is no leak, and no reading below in a month after the last leak
   nothing_read : (k : ℕ) → past.leak < k → (month ≤ past.leak) ⊎ (is_routine_below e.what ≡ false) → reads_in more k ≡ true → reads_in front k ≡ true
   nothing_read k lt none read =
       elim (or_cases (reads_in front k) (is_routine_below e.what && nat_eq month k) (sym (read_more k) ∙ read)) [
@@ -194,7 +194,7 @@ module _ (past : PastMonths) (last : ℕ) (front : List Event) (e : Event) (tell
         ]
       ]
 
-  -- .. and so from a month on
+  -- the same for all months from one on
   nothing_below : (low : ℕ) → past.leak < low → (month ≤ past.leak) ⊎ (is_routine_below e.what ≡ false) →
       (is_routine_below e.what && nat_le low month) ≡ false
   nothing_below low lt none =
@@ -203,7 +203,7 @@ module _ (past : PastMonths) (last : ℕ) (front : List Event) (e : Event) (tell
         | inr fails ↦ rw fails refl
       ]
 
-  -- such an event changes nothing
+  -- such an event does not change the summary
   pub told_same : is_leak e.what ≡ false → (month ≤ past.leak) ⊎ (is_routine_below e.what ≡ false) → Tells past month more
   told_same sound none = record {
     up_to = up_to;
@@ -219,7 +219,7 @@ module _ (past : PastMonths) (last : ℕ) (front : List Event) (e : Event) (tell
         (λ k h. (h.0, stays k h.1, stays (k + 1) h.2)) tells.pair;
   }
 
-  -- the last month that was read is read
+  -- the last month with a reading has one
   read_last : (k : ℕ) → past.pair ≡ None → past.leak < k → k ≡ past.below → reads_in front k ≡ true
   read_last k none lt e =
       read_exactly front k
@@ -241,7 +241,7 @@ module _ (past : PastMonths) (last : ℕ) (front : List Event) (e : Event) (tell
         | inr other ↦ absurd (old k lt here (read_last (k + 1) none (omega (arith, lt)) (omega (arith, low, high, other))))
       ]
 
-  -- .. and two that are there stay whatever follows, until a leak
+  -- two months in a row stay until a leak
   pub told_paired : is_some past.pair ≡ true → is_leak e.what ≡ false → Tells past month more
   told_paired paired sound = record {
     up_to = up_to;
@@ -267,12 +267,12 @@ module _ (past : PastMonths) (last : ℕ) (front : List Event) (e : Event) (tell
         (λ k h. (h.0, stays k h.1, stays (k + 1) h.2)) tells.pair;
   }
 
-  -- two months that are there stay
+  -- two months in a row stay
   old_pair : (o : Option ℕ) (k : ℕ) → IsBy o k → IsBy (pair_from o past.below month) k
   old_pair (Some p) k by = by
   old_pair None k by = absurd by
 
-  -- the first two months hold what they say
+  -- the first two months have such readings
   pair_holds : (o : Option ℕ) → past.pair ≡ o → past.leak < month → is_routine_below e.what ≡ true
       → IfSome o (λ k. (past.leak < k) × (reads_in front k ≡ true) × (reads_in front (k + 1) ≡ true))
       → IfSome (pair_from o past.below month) (λ k. (past.leak < k) × (reads_in more k ≡ true) × (reads_in more (k + 1) ≡ true))
@@ -292,7 +292,7 @@ module _ (past : PastMonths) (last : ℕ) (front : List Event) (e : Event) (tell
         | inr far ↦ rw far tt
       ]
 
-  -- a reading below in a month after the last leak
+  -- the summary after a reading below in a month after the last leak
   pub told_below : is_leak e.what ≡ false → past.leak < month → is_routine_below e.what ≡ true →
       Tells (record { leak = past.leak; below = month; pair = pair_with past month }) month more
   told_below sound after read = record {

@@ -1,4 +1,4 @@
--- The events of a period, as halving finds them.
+-- The events of a period, found by binary search.
 use Rattle.std.proofs.Common.{◌≡◌, ℕ, zero, suc, ◌≤◌, ◌<◌, Bool, true, false, not, ◌&&◌}
 use Rattle.std.proofs.Common.{◌||◌, cond, nat_le, nat_lt, ◌-◌, Option, Some, None, option_map, List, [], ◌∷◌}
 use Rattle.std.proofs.Common.{length, take, drop, filter, find, refl, sym, ap, ◌∙◌, inl, inr, arith}
@@ -15,7 +15,7 @@ use Rattle.fact_kinds.proofs.Cuts.{earlier_day}
 use Rattle.ldar_law.specs.declared.event.Event.{Event}
 use Rattle.monitor_calendar.specs.Following.{comes_by, key_by}
 
--- in front of a point stands what passes, and behind it what fails
+-- before a partition point all elements pass, and from it on all fail
 pub sides_of_point : {X : Type 0} (p : X → Bool) (xs : List X) (n : ℕ) → IsPartitionPoint (λ y. p y ≡ true) (λ y. p y ≡ false) xs n → n ≤ length xs →
     (take n xs ≡ filter p xs) × (drop n xs ≡ filter (λ x. not (p x)) xs)
 sides_of_point p [] zero parts le = (refl, refl)
@@ -33,11 +33,11 @@ sides_of_point p (x ∷ xs) (suc n) parts le =
     (omega (arith, le)) in
     (rw passes (ap (λ ys. x ∷ ys) rest.0), rw passes rest.1)
 
--- what is not before a day is from it on
+-- a day that is not before another is at or after it
 not_before : (a b : ℕ) → not (nat_lt a b) ≡ nat_le b a
 not_before a b = grind (arith, nat_tests)
 
--- behind the events before a day stand those from the day on
+-- the events after those before a day are those from the day on
 pub from_day : (events : List Event) (first n : ℕ) → IsPartitionPoint (λ e. nat_lt e.key.day first ≡ true) (λ e. nat_lt e.key.day first
     ≡ false) events n → n ≤ length events →
     drop n events ≡ filter (λ e. nat_le first e.key.day) events
@@ -45,7 +45,7 @@ from_day events first n parts le =
     (sides_of_point (λ e. nat_lt e.key.day first) events n parts le).1
     ∙ filter_agree (λ e. not (nat_lt e.key.day first)) (λ e. nat_le first e.key.day) (λ e. not_before e.key.day first) events
 
--- what passes two tests, one after the other
+-- two tests of a list, one after the other
 pub filter_twice : {X : Type 0} (p q : X → Bool) (xs : List X) → filter q (filter p xs) ≡ filter (λ x. p x && q x) xs
 filter_twice p q [] = refl
 filter_twice p q (x ∷ xs) =
@@ -54,7 +54,7 @@ filter_twice p q (x ∷ xs) =
       | inr f ↦ rw f (filter_twice p q xs)
     ]
 
--- the first of those that pass a test
+-- the first of the elements that pass a test
 pub find_among : {X : Type 0} (p q : X → Bool) (xs : List X) → find p (filter q xs) ≡ find (λ x. p x && q x) xs
 find_among p q [] = refl
 find_among p q (x ∷ xs) =
@@ -67,26 +67,26 @@ find_among p q (x ∷ xs) =
 pub to_end : {X : Type 0} (xs : List X) (n : ℕ) → take (length xs - n) (drop n xs) ≡ drop n xs
 to_end xs n = take_all (length xs - n) (drop n xs) (omega (arith, length-drop n xs))
 
--- ---- the first by a day
+-- ---- the first up to a day
 
--- an event comes by a day, or it does not
+-- an event is up to a day or not
 comes : (e : Event) (last : ℕ) → nat_le e.key.day last ≡ true → comes_by (Some e) last ≡ Some e
 comes e last by = rw by refl
 
 comes_late : (e : Event) (last : ℕ) → nat_le e.key.day last ≡ false → comes_by (Some e) last ≡ None
 comes_late e last late = rw late refl
 
--- .. and so does its key
+-- the key of an event is up to a day or not
 pub key_of_by : (found : Option Event) (last : ℕ) → option_map (λ e. e.key) (comes_by found last) ≡ key_by (option_map (λ e. e.key) found) last
 key_of_by None last = refl
 key_of_by (Some e) last = elim (cases_Bool (nat_le e.key.day last)) [ inl by ↦ rw by refl | inr late ↦ rw late refl ]
 
--- of events that are all later none is left
+-- no event is up to a day if all are later
 none_by_day : (last : ℕ) (events : List Event) → AllByRecursion (λ e. last < e.key.day) events → filter (λ e. nat_le e.key.day last) events ≡ []
 none_by_day last [] all = refl
 none_by_day last (e ∷ es) all = rw (lt-leb e.key.day last all.0) (none_by_day last es all.1)
 
--- the first that passes or is later tells of the first that passes by the day
+-- the first event that passes or is later decides which is the first that passes up to the day
 pub first_by : (p : Event → Bool) (last : ℕ) (events : List Event) → Ascends (λ a b. is_earlier a.key b.key) events →
     comes_by (find (λ e. nat_lt last e.key.day || p e) events) last ≡ find p (filter (λ e. nat_le e.key.day last) events)
 first_by p last [] up = refl

@@ -1,4 +1,4 @@
--- What the events of the months before a month tell decides whether it is a quarterly one.
+-- The summary of earlier months decides whether a month is quarterly.
 use Rattle.std.proofs.Common.{◌≡◌, ℕ, ◌+◌, ◌-◌, ◌<◌, ◌≤◌, Bool, true, false, not, ◌&&◌, ◌||◌, nat_lt, nat_le, Option, Some, None, IfSome, List, [], ◌∷◌, ◌++◌}
 use Rattle.std.proofs.Common.{take, drop, refl, sym, ap, ◌∙◌, inl, inr, arith}
 use Rattle.std.specs.List.{AllByRecursion}
@@ -17,23 +17,23 @@ use Rattle.monitor_calendar.specs.Behind.{Tells, IsBy, leaks_from, reads_in, let
 use Rattle.monitor_calendar.specs.declared.past_months.PastMonths.{PastMonths}
 use Rattle.monitor_calendar.proofs.Rising.{month_low}
 
--- two tests that pass together are one
+-- two tests that imply each other are equal
 same_test : (a b : Bool) → (a ≡ true → b ≡ true) → (b ≡ true → a ≡ true) → a ≡ b
 same_test true b to from = sym (to refl)
 same_test false true to from = from refl
 same_test false false to from = refl
 
--- where a test implies another that fails, it fails
+-- a test that implies a failing one fails
 fails_with : (a b : Bool) → (a ≡ true → b ≡ true) → b ≡ false → a ≡ false
 fails_with true b to fails = sym (to refl) ∙ fails
 fails_with false b to fails = refl
 
--- a test or all
+-- a disjunction with true
 or_true : (b : Bool) → (b || true) ≡ true
 or_true true = refl
 or_true false = refl
 
--- what holds in some month is a month's
+-- a month with a reading is a month of the calendar
 is_month : (events : List Event) (k : ℕ) → reads_in events k ≡ true → 23_640 ≤ k
 is_month events k read =
     let some = passing (λ e. is_routine_below e.what && is_in_month k e) events read in
@@ -43,7 +43,7 @@ is_month events k read =
 module _ (startup month : ℕ) (past : PastMonths) (last : ℕ) (front rest : List Event)
     (before : AllByRecursion (λ e. month_of e.key.day < month) front) (behind : AllByRecursion (λ e. month ≤ month_of e.key.day) rest)
     (tells : Tells past last front) where
-  -- none of the later events lies in an earlier month
+  -- no later event is in an earlier month
   none_read : (events : List Event) (k : ℕ) → AllByRecursion (λ e. month ≤ month_of e.key.day) events → k < month → reads_in events k ≡ false
   none_read [] k all lt = refl
   none_read (e ∷ es) k all lt =
@@ -51,7 +51,7 @@ module _ (startup month : ℕ) (past : PastMonths) (last : ℕ) (front rest : Li
       (and_right (is_routine_below e.what) (is_in_month k e) (ne_eqb (month_of e.key.day) k (λ at. omega (arith, at, all.0, lt))))
       (none_read es k all.1 lt)
 
-  -- .. nor does a leak of them
+  -- no later leak is in an earlier month
   none_leaks : (events : List Event) (low high : ℕ) → AllByRecursion (λ e. month ≤ month_of e.key.day) events → high < month →
       has_leak_in events low high ≡ false
   unfolding has_leak_in
@@ -62,7 +62,7 @@ module _ (startup month : ℕ) (past : PastMonths) (last : ℕ) (front rest : Li
       (arith, all.0, lt))))
       (none_leaks es low high all.1 lt)
 
-  -- what is read in an earlier month
+  -- a reading in an earlier month is among the earlier events
   read_before : (k : ℕ) → k < month → reads_in (front ++ rest) k ≡ true → reads_in front k ≡ true
   read_before k lt read =
       elim (or_cases (reads_in front k) (reads_in rest k) (sym (list_any-append (λ e. is_routine_below e.what && is_in_month k e) front rest) ∙ read)) [
@@ -70,11 +70,11 @@ module _ (startup month : ℕ) (past : PastMonths) (last : ℕ) (front rest : Li
         | inr later ↦ absurd (false≢true (sym (none_read rest k behind lt) ∙ later))
       ]
 
-  -- .. is read among all
+  -- a reading among the earlier events is among all
   read_after : (k : ℕ) → reads_in front k ≡ true → reads_in (front ++ rest) k ≡ true
   read_after k read = list_any-append (λ e. is_routine_below e.what && is_in_month k e) front rest ∙ or_left (reads_in front k) (reads_in rest k) read
 
-  -- the leaks from a month on, as far as the month before this one
+  -- the leaks from a month on, up to the month before this one
   leaks_before : (events : List Event) (low : ℕ) → AllByRecursion (λ e. month_of e.key.day < month) events → leaks_from events low ≡ true →
       has_leak_in events low (month - 1) ≡ true
   unfolding has_leak_in
@@ -89,7 +89,7 @@ module _ (startup month : ℕ) (past : PastMonths) (last : ℕ) (front rest : Li
             (month - 1)))
       ]
 
-  -- after the last leak there is none
+  -- no leak is after the last one
   no_leak : (low high : ℕ) → past.leak < low → high < month → has_leak_in (front ++ rest) low high ≡ false
   unfolding has_leak_in
   no_leak low high lt within =
@@ -103,7 +103,7 @@ module _ (startup month : ℕ) (past : PastMonths) (last : ℕ) (front rest : Li
       (tells.leak low (omega (arith, lt)) ∙ lt-leb low past.leak lt))
       (none_leaks rest low high behind within)
 
-  -- .. and a month up to which there is none is after it
+  -- a month from which on there is no leak is after the last leak
   after_leak : (low : ℕ) → 0 < low → has_leak_in (front ++ rest) low (month - 1) ≡ false → past.leak < low
   unfolding has_leak_in
   after_leak low pos none =
@@ -116,14 +116,14 @@ module _ (startup month : ℕ) (past : PastMonths) (last : ℕ) (front rest : Li
             ∙ or_left (has_leak_in front low (month - 1)) (has_leak_in rest low (month - 1)) (leaks_before front low before leaks))))
       ]
 
-  -- a month read below after the last leak is clean
+  -- a month after the last leak with a reading below is clean
   clean_after : (k : ℕ) → past.leak < k → k < month → reads_in front k ≡ true → is_clean (front ++ rest) k ≡ true
   unfolding is_clean
   clean_after k lt within read =
       and_from (reads_in (front ++ rest) k) (not (has_leak_in (front ++ rest) k k)) (read_after k read) (not_from_false (has_leak_in
       (front ++ rest) k k) (no_leak k k lt within))
 
-  -- a clean month is read below
+  -- a clean month has a reading below
   clean_reads : (k : ℕ) → is_clean (front ++ rest) k ≡ true → reads_in (front ++ rest) k ≡ true
   unfolding is_clean
   clean_reads k clean = (and_parts (reads_in (front ++ rest) k) (not (has_leak_in (front ++ rest) k k)) clean).0
@@ -132,13 +132,14 @@ module _ (startup month : ℕ) (past : PastMonths) (last : ℕ) (front rest : Li
   starts_by : first_quarter startup ≤ month → quarter_start startup month ≤ month
   starts_by from = omega arith
 
+  -- two months in a row before the quarter make the month quarterly, and so do earlier ones
   lets_by : (o : Option ℕ) (k : ℕ) → IsBy o k → first_quarter startup ≤ month → k + 1 < quarter_start startup month → lets_after o startup month ≡ true
   lets_by None k by from lt = absurd by
   lets_by (Some p) k by from lt =
       and_from (nat_le (first_quarter startup) month) (nat_lt p (quarter_start startup month - 1))
       (le-leb (first_quarter startup) month from) (lt-ltb p (quarter_start startup month - 1) (omega (arith, by, lt)))
 
-  -- where the month is quarterly, the first two months let it be
+  -- if the month is quarterly, the first two months make it so
   to_let : is_quarterly startup (front ++ rest) month ≡ true → lets_be_quarterly past startup month ≡ true
   to_let is =
       let there = (quarterly_decides startup (front ++ rest) month).0 is in
@@ -156,7 +157,7 @@ module _ (startup month : ℕ) (past : PastMonths) (last : ℕ) (front rest : Li
       let after : past.leak < k = after_leak k (omega (arith, pos)) (not-true (has_leak_in (front ++ rest) k (month - 1)) parts.1) in
       lets_by past.pair k (tells.first k after here next) from lt
 
-  -- .. and where they let it be, it is
+  -- if the first two months make it quarterly, it is
   from_pair : (o : Option ℕ) → IfSome o (λ k. (past.leak < k) × (reads_in front k ≡ true) × (reads_in front (k + 1) ≡ true))
       → lets_after o startup month ≡ true → is_quarterly startup (front ++ rest) month ≡ true
   from_pair None holds lets = absurd (false≢true lets)
@@ -179,12 +180,12 @@ module _ (startup month : ℕ) (past : PastMonths) (last : ℕ) (front rest : Li
         ),
       )
 
-  -- what is told decides
+  -- the summary decides
   pub quarterly_told : lets_be_quarterly past startup month ≡ is_quarterly startup (front ++ rest) month
   quarterly_told =
       same_test (lets_be_quarterly past startup month) (is_quarterly startup (front ++ rest) month) (from_pair past.pair tells.pair) to_let
 
--- the same of a place among events
+-- the same for a place among events
 pub quarterly_at : (startup month : ℕ) (past : PastMonths) (last : ℕ) (events : List Event) (place : ℕ)
     → AllByRecursion (λ e. month_of e.key.day < month) (take place events) → AllByRecursion (λ e. month ≤ month_of e.key.day) (drop place events)
     → Tells past last (take place events) → lets_be_quarterly past startup month ≡ is_quarterly startup events month

@@ -1,4 +1,4 @@
--- Events in key order stand by their days, and so by their months.
+-- Events in key order are in the order of their days and months.
 use Rattle.std.proofs.Common.{◌≡◌, ℕ, zero, suc, ◌+◌, ◌-◌, ◌<◌, ◌≤◌, true, List, [], ◌∷◌, length, take, drop, get_or, refl, ap, inl, inr, arith}
 use Rattle.std.specs.List.{AllByRecursion}
 use Rattle.std.specs.List.Sorted.{IsNonDecreasingBy}
@@ -12,14 +12,14 @@ use Rattle.fact_kinds.specs.Facts.{is_earlier}
 use Rattle.fact_kinds.proofs.Cuts.{earlier_day}
 use Rattle.ldar_law.specs.declared.event.Event.{Event}
 
--- what is before all of some is before each
+-- an element before all others is before each of them
 before_each : (x : Event) (ys : List Event) (j : ℕ) (d : Event) → AllByRecursion (λ y. is_earlier x.key y.key ≡ true) ys → j < length ys →
     is_earlier x.key (get_or ys j d).key ≡ true
 before_each x [] j d all within = absurd (omega arith)
 before_each x (y ∷ ys) zero d all within = all.0
 before_each x (y ∷ ys) (suc j) d all within = before_each x ys j d all.1 (omega (arith, within))
 
--- the days of events in key order do not fall
+-- the days of events in key order do not decrease
 pub days_rise : (events : List Event) → Ascends (λ a b. is_earlier a.key b.key) events → IsNonDecreasingBy (λ e. e.key.day) events
 days_rise [] up i j d le within = absurd (omega arith)
 days_rise (e ∷ es) up zero zero d le within = omega arith
@@ -27,12 +27,12 @@ days_rise (e ∷ es) up zero (suc j) d le within = earlier_day e.key (get_or es 
 days_rise (e ∷ es) up (suc i) zero d le within = absurd (omega arith)
 days_rise (e ∷ es) up (suc i) (suc j) d le within = days_rise es up.1 i j d (omega (arith, le)) (omega (arith, within))
 
--- the month of a later day is no earlier one
+-- the month of a later day is not earlier
 pub month_rises : (a b : ℕ) → a ≤ b → month_of a ≤ month_of b
 unfolding month_of
 month_rises a b le = grind (arith, nat_tests)
 
--- months begin with January 1970
+-- no month is before January 1970
 pub month_low : (n : ℕ) → 23_640 ≤ month_of n
 unfolding month_of
 month_low n = grind (arith, nat_tests)
@@ -42,7 +42,7 @@ december : month_of 13_878 ≡ 24_095
 unfolding month_of first_day
 december = refl
 
--- the day is of a month before one where it lies before its first day, and of no such month from there on
+-- the day is in an earlier month if it is before the month's first day, and not from there on
 pub before_first : (month day : ℕ) → IsDay day → 23_640 ≤ month → day < first_day month → month_of day < month
 before_first month day is low lt =
     elim (cases_lt (month_of day) month) [
@@ -58,7 +58,7 @@ from_first month day is le =
       | inr late ↦ late
     ]
 
--- whatever lies before a month of the calendar is of a month before it
+-- a day before a month of the calendar is in an earlier month
 pub before_month : (month day : ℕ) → IsMonth month → day < first_day month → month_of day < month
 before_month month day is lt =
     elim (cases_lt 24_096 month) [
@@ -74,7 +74,7 @@ before_month month day is lt =
           omega (arith, month_rises day 13_878 by, december, same)
     ]
 
--- .. and what is of no month before it does not
+-- a day that is not in an earlier month is not before the month
 pub no_earlier : (month day : ℕ) → IsMonth month → month ≤ month_of day → first_day month ≤ day
 no_earlier month day is late =
     elim (cases_lt day (first_day month)) [
@@ -82,7 +82,7 @@ no_earlier month day is late =
       | inr from ↦ from
     ]
 
--- what is of a month before it lies before it
+-- a day in an earlier month is before the month
 pub earlier : (month day : ℕ) → IsMonth month → month_of day < month → day < first_day month
 earlier month day is lt =
     elim (cases_lt day (first_day month)) [
@@ -90,7 +90,7 @@ earlier month day is lt =
       | inr from ↦ absurd (omega (arith, lt, month_rises (first_day month) day from, month_of-first_day month is))
     ]
 
--- of events in key order each later one is of no earlier month
+-- each later event in key order is of a month that is not earlier
 pub months_ahead : (events : List Event) (i : ℕ) (d : Event) → Ascends (λ a b. is_earlier a.key b.key) events → i < length events →
     AllByRecursion (λ e. month_of (get_or events i d).key.day ≤ month_of e.key.day) (drop (i + 1) events)
 months_ahead [] i d up within = absurd (omega arith)
@@ -100,7 +100,7 @@ months_ahead (e ∷ es) zero d up within =
 months_ahead (e ∷ es) (suc i) d up within =
     let next : suc i + 1 ≡ suc (i + 1) = omega arith in rw next (months_ahead es i d up.1 (omega (arith, within)))
 
--- .. and each earlier one of no later month
+-- each earlier event in key order is of a month that is not later
 pub months_behind : (events : List Event) (i : ℕ) (d : Event) → Ascends (λ a b. is_earlier a.key b.key) events → i < length events →
     AllByRecursion (λ e. month_of e.key.day ≤ month_of (get_or events i d).key.day) (take i events)
 months_behind [] i d up within = absurd (omega arith)
@@ -110,7 +110,7 @@ months_behind (e ∷ es) (suc i) d up within = (
   months_behind es i d up.1 (omega (arith, within)),
 )
 
--- the first events, each before a month, are of months before it
+-- the first events, each before a month, are of earlier months
 pub months_before : (events : List Event) (month count : ℕ) → IsMonth month → count ≤ length events →
     ((k : ℕ) (d : Event) → k < count → (get_or events k d).key.day < first_day month) →
     AllByRecursion (λ e. month_of e.key.day < month) (take count events)
@@ -122,7 +122,7 @@ months_before (e ∷ es) month (suc count) is within days = (
   months_before es month count is (omega (arith, within)) (λ k d lt. days (suc k) d (omega (arith, lt))),
 )
 
--- a part of events in key order is in key order
+-- a tail of events in key order is in key order
 pub ascends_drop : (n : ℕ) (events : List Event) → Ascends (λ a b. is_earlier a.key b.key) events → Ascends (λ a b. is_earlier a.key b.key) (drop n events)
 ascends_drop zero events up = up
 ascends_drop (suc n) [] up = up

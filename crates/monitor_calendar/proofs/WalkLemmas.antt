@@ -1,4 +1,4 @@
--- A walk over events, one event on, and where it stops.
+-- A walk over events: one more event, and where it ends.
 use Rattle.std.proofs.Common.{◌≡◌, ℕ, zero, suc, ◌+◌, ◌-◌, ◌<◌, ◌≤◌, nat_le, filter, List, []}
 use Rattle.std.proofs.Common.{◌∷◌, ◌++◌, length, take, drop, get_or, refl, sym, ap, ◌∙◌, subst, arith}
 use Rattle.std.specs.List.{AllByRecursion}
@@ -15,18 +15,18 @@ use Rattle.monitor_calendar.specs.declared.past_months.PastMonths.{PastMonths}
 use Rattle.monitor_calendar.proofs.PeriodLemmas.{to_end}
 use Rattle.monitor_calendar.proofs.Rising.{earlier, months_ahead, months_behind, no_earlier}
 
--- each month is from 0 on
+-- each month is at least 0
 from_zero : (es : List Event) → AllByRecursion (λ e. 0 ≤ month_of e.key.day) es
 from_zero [] = tt
 from_zero (e ∷ es) = (omega arith, from_zero es)
 
--- so many elements behind a place stands the one at both together
+-- the element at a place after some elements is the one at the sum of the two places
 pub behind_at : {X : Type 0} (xs : List X) (from i place : ℕ) (x : X) → place ≡ from + i → i < length (take (length xs - from) (drop from xs)) →
     (place < length xs) × (get_or xs place x ≡ get_or (take (length xs - from) (drop from xs)) i x)
 behind_at xs from i place x at within =
     (omega (arith, at, within, ap length (to_end xs from), length-drop from xs), rw (at, to_end xs from, get_or-drop from xs i x) refl)
 
--- nothing is in front of the first event
+-- no event is before the first one
 pub on_start : (past : PastMonths) (events : List Event) (month : ℕ) → Tells past 0 [] → IsOn past events 0 month
 on_start past events month tells = record {
   within = omega arith;
@@ -37,7 +37,7 @@ on_start past events month tells = record {
   tells = tells;
 }
 
--- a walk on its way to a month is on its way to each later one
+-- a walk to a month is also a walk to each later one
 pub on_to : (past : PastMonths) (events : List Event) (place before month : ℕ) → IsOn past events place before → before ≤ month → IsOn past events place month
 on_to past events place before month on le = record {
   within = on.within;
@@ -50,20 +50,20 @@ on_to past events place before month on le = record {
 
 module _ (events : List Event) (place month : ℕ) (e : Event) (up : Ascends (λ a b. is_earlier a.key b.key) events) (within : place < length events)
     (stands : get_or events place e ≡ e) where
-  -- the event stands first behind the place
+  -- the event is the first from the place on
   split : drop place events ≡ e ∷ drop (place + 1) events
   split = drop_more events place e within ∙ ap (λ x. x ∷ drop (place + 1) events) stands
 
-  -- .. and last in front of the next
+  -- the event is the last before the next place
   longer : take (place + 1) events ≡ take place events ++ e ∷ []
   longer = take_more events place e within ∙ ap (λ x. take place events ++ x ∷ []) stands
 
-  -- those behind it are of no earlier month
+  -- the events after it are of months that are not earlier
   later : AllByRecursion (λ x. month_of e.key.day ≤ month_of x.key.day) (drop (place + 1) events)
   later =
       subst (λ x. AllByRecursion (λ y. month_of x.key.day ≤ month_of y.key.day) (drop (place + 1) events)) stands (months_ahead events place e up within)
 
-  -- one event on
+  -- one more event
   pub on_next : (past next : PastMonths) → IsOn past events place month → month_of e.key.day < month →
       ((last : ℕ) (front : List Event) → Tells past last front → last ≤ month_of e.key.day → Tells next (month_of e.key.day) (front ++ e ∷ [])) →
       IsOn next events (place + 1) month
@@ -80,7 +80,7 @@ module _ (events : List Event) (place month : ℕ) (e : Event) (up : Ascends (λ
         (goes on.last (take place events) on.tells (subst (AllByRecursion (λ x. on.last ≤ month_of x.key.day)) split on.ahead).0);
   }
 
-  -- behind the event, whose past is told whatever came before it
+  -- after an event whose summary is the same whatever came before it
   pub on_behind : (past : PastMonths) → AllByRecursion (λ x. month_of x.key.day < month) (take (place + 1) events) → month_of e.key.day < month →
       ((front : List Event) → AllByRecursion (λ x. month_of x.key.day ≤ month_of e.key.day) front → Tells past (month_of e.key.day) (front ++ e ∷ [])) →
       IsOn past events (place + 1) month
@@ -95,7 +95,7 @@ module _ (events : List Event) (place month : ℕ) (e : Event) (up : Ascends (λ
         (subst (λ x. AllByRecursion (λ y. month_of y.key.day ≤ month_of x.key.day) (take place events)) stands (months_behind events place e up within)));
   }
 
-  -- the event is not of a month before
+  -- the event is not of an earlier month
   pub at_event : (past : PastMonths) → IsOn past events place month → month ≤ month_of e.key.day → IsAt past events place month
   at_event past on le = record {
     on = on;
@@ -107,7 +107,7 @@ module _ (events : List Event) (place month : ℕ) (e : Event) (up : Ascends (λ
         );
   }
 
--- behind a place where a month begins stand the events from its first day on
+-- the events from a place at which a month begins are those from its first day on
 pub rest_from : (events : List Event) (place month : ℕ) → IsMonth month → AllByRecursion (λ e. month_of e.key.day < month) (take place events) →
     AllByRecursion (λ e. month ≤ month_of e.key.day) (drop place events) → drop place events ≡ filter (λ e. nat_le (first_day month) e.key.day) events
 rest_from [] zero month is front rest = refl
@@ -117,7 +117,7 @@ rest_from (e ∷ es) zero month is front rest =
 rest_from (e ∷ es) (suc place) month is front rest =
     rw (lt-leb (first_day month) e.key.day (earlier month e.key.day is front.0)) (rest_from es place month is front.1 rest)
 
--- .. or there is none
+-- there are no events from a place at the end
 pub at_end : (past : PastMonths) (events : List Event) (place month : ℕ) → length events ≤ place → IsOn past events place month → IsAt past events place month
 at_end past events place month end on = record {
   on = on;

@@ -1,4 +1,4 @@
--- Which causes can concern a component at all, by its kind and by its classes.
+-- Which causes can apply to a component at all, by its kind and by its classes.
 use Rattle.std.specs.Prelude.{Bool, true, false, ◌||◌, List}
 use Rattle.std.specs.List.{list_any}
 use Rattle.fact_kinds.specs.declared.class.Class.{Class}
@@ -13,23 +13,23 @@ use Rattle.ldar_law.specs.Standing.{are_heavy_liquid_rules, is_unsafe_designated
 use Rattle.monitor_calendar.specs.declared.after_event.After.{After}
 use Rattle.monitor_calendar.specs.declared.after_event.After.TheVariants.{Drips, Release, Evidence}
 
--- some entered class is one of what is unsafe to monitor
+-- some entered class is unsafe to monitor
 abbrev pub is_some_unsafe : List (Key × Class) → Bool
 is_some_unsafe classes = list_any (λ entered. is_unsafe_designated entered.1.designation) classes
 
--- .. or the one with which the component was entered
+-- the component was entered with a class that is unsafe to monitor, or some entered class is
 abbrev pub has_unsafe_class : Equipment → List (Key × Class) → Bool
 has_unsafe_class item classes = is_unsafe_designated item.class.designation || is_some_unsafe classes
 
--- .. or of what is monitored each year, in some years at least: a difficult valve, or what has no detectable emissions
+-- the designation leads to yearly monitoring for some kind: difficult to monitor, or no detectable emissions
 abbrev pub is_yearly_designated : Designation → Bool
 is_yearly_designated designation = is_difficult_designated designation || is_nde_designated designation
 
--- some entered class is one of these
+-- some entered class has such a designation
 abbrev pub is_some_yearly : List (Key × Class) → Bool
 is_some_yearly classes = list_any (λ entered. is_yearly_designated entered.1.designation) classes
 
--- .. or the one with which the component was entered
+-- the component was entered with such a designation, or some entered class has one
 abbrev pub has_yearly_class : Equipment → List (Key × Class) → Bool
 has_yearly_class item classes = is_yearly_designated item.class.designation || is_some_yearly classes
 
@@ -38,19 +38,19 @@ abbrev pub is_relief : Kind → Bool
 is_relief Relief = true
 is_relief _ = false
 
--- a component of this kind is under the rules for heavy liquid service by a class
+-- a component of this kind and class is under the rules for heavy liquid service
 abbrev pub is_heavy_liquid : Kind → Class → Bool
 is_heavy_liquid kind class = are_heavy_liquid_rules (regime_of kind class.service)
 
--- .. by some entered class
+-- a component of this kind is under the rules for heavy liquid service by some entered class
 abbrev pub is_some_heavy_liquid : Kind → List (Key × Class) → Bool
 is_some_heavy_liquid kind classes = list_any (λ entered. is_heavy_liquid kind entered.1) classes
 
--- .. or by the one with which the component was entered
+-- the component is under the rules for heavy liquid service by its first class or by some entered one
 abbrev pub has_heavy_liquid_class : Equipment → List (Key × Class) → Bool
 has_heavy_liquid_class item classes = is_heavy_liquid item.kind item.class || is_some_heavy_liquid item.kind classes
 
--- something can follow an event of a component
+-- a duty after such an event is possible for the component
 abbrev pub concerns : After → Equipment → List (Key × Class) → Bool
 concerns Drips item classes = is_pump item.kind
 concerns Release item classes = is_relief item.kind

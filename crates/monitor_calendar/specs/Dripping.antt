@@ -1,4 +1,4 @@
--- What past events tell of drips.
+-- A summary of past events about drips.
 use Rattle.std.specs.Prelude.{◌≡◌, Bool, not, ◌&&◌, List}
 use Rattle.std.specs.List.{list_any}
 use Rattle.list_words.specs.Words.{somewhere}
@@ -11,7 +11,7 @@ use Rattle.monitor_calendar.specs.declared.drips.PastDrips.{PastDrips}
 abbrev pub drips_wait : List Event → Bool
 drips_wait events = somewhere (λ _ drips since. has_drips drips.what && not (list_any (λ e. is_dry e.what) since)) events
 
--- this tells of the drips among some events
+-- the summary of the drips among some events
 pub record TellsOfDrips (past : PastDrips) (events : List Event) : Type 0 where
   pub wait : past.wait ≡ drips_wait events
   pub repeat : past.repeat ≡ is_repeated events

@@ -1,4 +1,4 @@
--- What is true of the duties of a component among those of its process unit: the statements of `laws`.
+-- Laws about the duties of a component among those of its process unit: the statements of `laws`.
 use Rattle.std.specs.Prelude.{◌≡◌, ℕ, Bool, false, nat_eq, List, ◌∷◌, ◌++◌, filter}
 use Rattle.std.specs.List.{AllByRecursion}
 use Rattle.fact_kinds.specs.Facts.{Entry}
@@ -8,7 +8,7 @@ use Rattle.ldar_law.specs.Duties.{duties_of}
 use Rattle.ldar_law.specs.Equipment.{elections_of}
 use Rattle.ldar_law.specs.Units.{Known, components_of, skipped_on, due_list, duties_of_unit}
 
--- which quarters of the unit are skipped, from the first to the one of the day, by its own counts and elections
+-- which quarters of the unit are skipped, from quarter 1 to the one of the day, by the unit's counts and elections
 abbrev pub own_skipped : UnitEntry → ℕ → List Entry → List Bool
 own_skipped unit t facts = skipped_on unit.startup t (components_of unit.unit facts) (elections_of unit.unit facts)
 
@@ -16,7 +16,7 @@ own_skipped unit t facts = skipped_on unit.startup t (components_of unit.unit fa
 abbrev pub part_of : UnitEntry → ℕ → List Entry → Known → List Duty
 part_of unit t facts c = duties_of c.item c.classes unit.startup c.events (own_skipped unit t facts) t
 
--- in the unit's list the component's part stands between those of the components before it and after it
+-- the component's duties are in the unit's list, between those of the components before it and after it
 abbrev pub PartStandsInList : Type 0
 PartStandsInList =
     (unit : UnitEntry) (t : ℕ) (facts : List Entry) (before : List Known) (c : Known) (after : List Known)
@@ -24,7 +24,7 @@ PartStandsInList =
     → duties_of_unit unit t facts
     ≡ due_list unit.startup t (own_skipped unit t facts) before ++ (part_of unit t facts c ++ due_list unit.startup t (own_skipped unit t facts) after)
 
--- .. and it is what the list has of the component, where no other component of the unit has its number
+-- the component's duties are all that the unit's list has for it, if no other component of the unit has its number
 abbrev pub PartIsOwn : Type 0
 PartIsOwn =
     (unit : UnitEntry) (t : ℕ) (facts : List Entry) (before : List Known) (c : Known) (after : List Known)

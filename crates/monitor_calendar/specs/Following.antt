@@ -1,4 +1,4 @@
--- What follows drips, a pressure release or evidence of a potential leak.
+-- Duties after drips, a pressure release or evidence of a potential leak.
 use Rattle.std.specs.Prelude.{◌≡◌, ℕ, ◌+◌, ◌<◌, ◌≤◌, Bool, true, false, not, ◌&&◌, ◌||◌, nat_le}
 use Rattle.std.specs.Prelude.{if◌then◌else◌, Option, Some, None, List, length, slice_get, slice_index_or}
 use Rattle.ldar_days.specs.Calendar.{end_by}
@@ -30,24 +30,24 @@ meets Drips what = happenings.is_counting what || happenings.is_designating what
 meets Release what = happenings.is_near_background what
 meets Evidence what = happenings.is_counting what || happenings.is_evidence_gone what
 
--- the place of the first event from one on that would meet it, or the number of events
+-- the place of the first event from `from` on that would meet it, or the number of events
 pub record IsNext (after : After) (events : List Event) (from next : ℕ) : Type 0 where
   pub behind : from ≤ next
   pub within : next ≤ length events
   pub none : (k : ℕ) (d : Event) → from ≤ k → k < next → meets after (slice_index_or events k d).what ≡ false
   pub here : (d : Event) → next < length events → meets after (slice_index_or events next d).what ≡ true
 
--- none from one place up to another would meet it
+-- no event from one place up to another would meet it
 pub record NoneMeets (after : After) (events : List Event) (from to : ℕ) : Type 0 where
   pub within : to ≤ length events
   pub none : (k : ℕ) (d : Event) → from ≤ k → k < to → meets after (slice_index_or events k d).what ≡ false
 
--- an event, if there is one, and it comes by a day
+-- the event, if it exists and its day is at most this one
 abbrev pub comes_by : Option Event → ℕ → Option Event
 comes_by None due = None
 comes_by (Some e) due = if nat_le e.key.day due then Some e else None
 
--- .. and a key
+-- the key, if it exists and its day is at most this one
 abbrev pub key_by : Option Key → ℕ → Option Key
 key_by None due = None
 key_by (Some key) due = if nat_le key.day due then Some key else None
@@ -65,7 +65,7 @@ module _ (asked : Asked) where
   abbrev pub is_served_heavy_liquid : ℕ → Bool
   is_served_heavy_liquid day = is_in_service asked.item.now day && standing.is_under_heavy_liquid_rules asked.item.now asked.classes.now day
 
-  -- an event asks for what follows; of drips it is told whether they repeat earlier ones
+  -- the event leads to a duty; for drips, the flag is whether they repeat earlier ones
   abbrev pub is_asked_by : After → Bool → Event → Bool
   is_asked_by Drips is_repeated e =
       happenings.has_undesignated_drips e.what
@@ -73,19 +73,19 @@ module _ (asked : Asked) where
   is_asked_by Release is_repeated e = happenings.is_release e.what && is_served_relief e.key.day
   is_asked_by Evidence is_repeated e = happenings.has_evidence e.what && is_served_heavy_liquid e.key.day
 
-  -- the duty, where the first later event that would meet it stands at a place
+  -- the duty, where the first later event that would meet it is at this place
   abbrev pub after_by : After → Bool → Event → ℕ → Option Duty
   after_by after is_repeated e next =
       causes.duty asked (cause_of after) e.key.day (end_by (e.key.day + 5)) (is_asked_by after is_repeated e)
       (event_by asked.events.now next (end_by (e.key.day + 5)))
 
-  -- the duty after an event that stands between others
+  -- the duty after an event, seen with the events before it and after it
   abbrev pub after_event : After → List Event → Event → List Event → Option Duty
   after_event Drips = law.drip asked.item.now asked.classes.now asked.startup asked.events.now asked.skipped.now asked.day
   after_event Release = law.release asked.item.now asked.classes.now asked.startup asked.events.now asked.skipped.now asked.day
   after_event Evidence = law.evidence asked.item.now asked.classes.now asked.startup asked.events.now asked.skipped.now asked.day
 
--- this tells what a duty after drips asks of the events before
+-- the summary has what a duty after drips needs to know about earlier events
 abbrev pub TellsFor : After → PastDrips → List Event → Type 0
 TellsFor Drips past events = TellsOfDrips past events
 TellsFor _ past events = Unit {0}

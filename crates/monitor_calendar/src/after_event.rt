@@ -1,6 +1,6 @@
-//! What follows drips, a pressure release or evidence of a potential leak (40 CFR 60.482-2a(b)(2), 60.482-4a(b)(2),
-//! 60.482-8a(a)). One walk over the events for each, in which the next event that meets such a duty is looked for where an
-//! event asks for it, and none is looked at twice.
+//! Duties after drips, a pressure release or evidence of a potential leak (40 CFR 60.482-2a(b)(2), 60.482-4a(b)(2),
+//! 60.482-8a(a)). There is one walk over the events for each. For an event that leads to a duty, the walk looks for the
+//! next event that meets it, and it looks at no event twice.
 
 ghost use Rattle.std.specs.Prelude.{◌≡◌, ◌+◌, ◌<◌, ◌≤◌, ◌++◌, Bool, List, [], ◌∷◌, OnOk, option_map, true, false, length, take, nat_lt};
 ghost use Rattle.std.specs.List.Sorted.{IsPartitionPoint};
@@ -22,7 +22,7 @@ use ldar_law::{
     Regime, is_pump,
 };
 
-/// What a duty follows.
+/// The event that a duty follows.
 #[derive(Clone, Copy)]
 pub enum After {
     Drips,
@@ -42,7 +42,7 @@ impl After {
         }
     }
 
-    /// Whether a later event meets it, if it comes in time.
+    /// Whether a later event meets the duty, if it is in time.
     fn is_met_by(self, what: &Happening) -> bool
         ensures value { result ≡ following.meets self what.now }
     {
@@ -53,7 +53,7 @@ impl After {
         }
     }
 
-    /// What the events up to one tell, as far as what follows asks for it: of drips alone.
+    /// The summary of the events up to and including this one, as far as the duty needs it: only for drips.
     fn told_with(self, past: PastDrips, e: &Event) -> PastDrips
         ensures value { (front : List SomeEvent) → following.TellsFor self past front → following.TellsFor self result (front ++ e.now ∷ []) }
     {
@@ -64,7 +64,7 @@ impl After {
         }
     }
 
-    /// The place of the first event from one on that would meet it, or the number of events where there is none.
+    /// The place of the first event from `from` on that would meet the duty, or the number of events if there is none.
     fn next_place(self, events: &[Event], from: usize) -> usize
         requires from { from ≤ length events.now }
         ensures value { following.IsNext self events.now from result }
@@ -77,8 +77,8 @@ impl After {
         events.len()
     }
 
-    /// The same behind a place, where the event there asks for it; else a place up to which none would meet it. None is
-    /// looked at twice.
+    /// The place of the first event after `place` that would meet the duty, if the event at `place` leads to one;
+    /// otherwise a place before which none would. No event is looked at twice.
     fn next_after(self, events: &[Event], place: usize, next: usize, is_asked: bool) -> usize
         requires place { place < length events.now }
         requires next { following.NoneMeets self events.now place next }
@@ -93,14 +93,14 @@ impl After {
     }
 }
 
-/// Whether a component of this kind is under the rules for heavy liquid service by a class.
+/// Whether a component of this kind and class is under the rules for heavy liquid service.
 fn is_heavy_liquid(kind: Kind, class: Class) -> bool
     ensures value { result ≡ concern.is_heavy_liquid kind class }
 {
     Regime::of(kind, class.service).are_heavy_liquid_rules()
 }
 
-/// Whether it is by some entered class.
+/// Whether a component of this kind is under the rules for heavy liquid service by some entered class.
 fn is_some_heavy_liquid(kind: Kind, classes: &[(Key, Class)]) -> bool
     ensures value { result ≡ concern.is_some_heavy_liquid kind classes.now }
 {
@@ -109,7 +109,7 @@ fn is_some_heavy_liquid(kind: Kind, classes: &[(Key, Class)]) -> bool
         .any(|entered| is_heavy_liquid(kind, entered.1))
 }
 
-/// The key of the event at a place, if it comes by a day.
+/// The key of the event at a place, if its day is at most `due`.
 fn key_by(events: &[Event], place: usize, due: Day) -> Option<Key>
     ensures value { result ≡ option_map (λ e. e.key) (following.event_by events.now place due) }
 {
@@ -120,7 +120,7 @@ fn key_by(events: &[Event], place: usize, due: Day) -> Option<Key>
 }
 
 impl Asked<'_> {
-    /// Whether it is in heavy liquid service by a class: that with which it was entered, or a later one.
+    /// Whether it is under the rules for heavy liquid service by its first class or by an entered one.
     fn has_heavy_liquid_class(&self) -> bool
         ensures value { result ≡ concern.has_heavy_liquid_class self.now.item.now self.now.classes.now }
     {
@@ -128,7 +128,7 @@ impl Asked<'_> {
         is_heavy_liquid(item.kind, item.class) || is_some_heavy_liquid(item.kind, self.classes)
     }
 
-    /// Whether what follows can concern the component at all, by its kind or by its classes.
+    /// Whether a duty after such an event is possible for the component, by its kind or its classes.
     fn concerns(&self, after: After) -> bool
         ensures value { result ≡ concern.concerns after self.now.item.now self.now.classes.now }
     {
@@ -139,7 +139,7 @@ impl Asked<'_> {
         }
     }
 
-    /// Whether an event asks for what follows; `is_repeated` says of drips whether they repeat earlier ones.
+    /// Whether an event leads to a duty; `is_repeated` is whether drips repeat earlier ones.
     fn is_asked_by(&self, after: After, is_repeated: bool, e: &Event) -> bool
         ensures value { result ≡ following.is_asked_by self.now after is_repeated e.now }
     {
@@ -170,7 +170,7 @@ impl Asked<'_> {
         judged.serves && judged.regime.are_heavy_liquid_rules()
     }
 
-    /// The duty after an event that asks for it, where the first later event that would meet it stands at a place.
+    /// The duty after an event that leads to one, where the first later event that would meet it is at `next`.
     fn after_event(&self, after: After, is_asked: bool, e: &Event, next: usize) -> Option<Duty>
         ensures value { (is_repeated : Bool) → is_asked ≡ following.is_asked_by self.now after is_repeated e.now
             → result ≡ following.after_by self.now after is_repeated e.now next }
@@ -183,7 +183,7 @@ impl Asked<'_> {
         self.duty(after.cause(), e.key.day, due, &met)
     }
 
-    /// The place of the first event whose duty the list can hold.
+    /// The place of the first event whose duty the list can contain.
     fn first_listed(&self) -> usize
         ensures within { result ≤ length self.now.events.now }
         ensures value { IsPartitionPoint (λ e. nat_lt (e.key.day + 5 + 366) self.now.day ≡ true)
@@ -194,7 +194,7 @@ impl Asked<'_> {
             .partition_point(|e| e.key.day.number() + EVENT_DAYS + LISTED_DAYS < day)
     }
 
-    /// What the events before a place tell, as far as what follows asks for it.
+    /// The summary of the events before a place, as far as the duty needs it.
     fn drips_before(&self, after: After, place: usize) -> PastDrips
         requires within { place ≤ length self.now.events.now }
         ensures value { following.TellsFor after result (take place self.now.events.now) }
@@ -208,7 +208,7 @@ impl Asked<'_> {
         past
     }
 
-    /// Adds the duties that follow events of a sort. Where they cannot concern the component no event is looked at.
+    /// Adds the duties after events of this kind. If there can be none for the component, it looks at no event.
     pub fn put_after(&self, after: After, duties: &mut Vec<Duty>) -> Result<(), Memory>
         ensures put { OnOk result (duties.new.items ≡ duties.old.items ++ each_where (following.after_event self.now after) self.now.events.now) }
     {

@@ -11,7 +11,7 @@ use fact_kinds::{Class, Key};
 use ldar_days::Day;
 use ldar_law::{Equipment, Event, LISTED_DAYS, Regime};
 
-/// What is asked: what has to be done at a component, as the list of a day has it.
+/// A question: what must be done at a component, as the list of a day has it.
 #[derive(Clone, Copy)]
 pub struct Asked<'a> {
     pub item: &'a Equipment,
@@ -21,7 +21,7 @@ pub struct Asked<'a> {
     pub startup: Day,
     /// Its events, in key order.
     pub events: &'a [Event],
-    /// Which quarters of the unit are skipped, from the first on.
+    /// Which quarters of the unit are skipped, from quarter 1 on.
     pub skipped: &'a [bool],
     /// The day of the list.
     pub day: Day,
@@ -30,7 +30,7 @@ pub struct Asked<'a> {
     pub ghost events_ordered: { Ascends (λ a b. is_earlier a.key b.key) events.now } by { Ascends-prop (λ a b. is_earlier a.key b.key) events.now },
 }
 
-/// What the component is on a day.
+/// A component on a day.
 #[derive(Clone, Copy)]
 pub struct Judged {
     pub serves: bool,
@@ -39,7 +39,7 @@ pub struct Judged {
 }
 
 impl Asked<'_> {
-    /// What the component is on a day, its class found by halving.
+    /// The component on a day. Its class is found by binary search.
     pub fn judged(&self, day: Day) -> Judged
         ensures serves { result.serves ≡ force.is_in_service self.now.item.now day }
         ensures regime { result.regime ≡ force.regime_on self.now.item.now self.now.classes.now day }
@@ -48,7 +48,7 @@ impl Asked<'_> {
         self.judged_by(self.item.class_on(self.classes, day), day)
     }
 
-    /// What the component is on a day, by the class that it has then.
+    /// The component on a day, with the class that it has then.
     pub fn judged_by(&self, class: Class, day: Day) -> Judged
         ensures serves { result.serves ≡ force.is_in_service self.now.item.now day }
         ensures regime { result.regime ≡ regime_of self.now.item.now.kind class.service }
@@ -61,15 +61,15 @@ impl Asked<'_> {
         }
     }
 
-    /// The day on which a period is judged: its last day, or the day of the list where that is earlier.
+    /// The day on which a period is judged: its last day, or the day of the list if that is earlier.
     pub fn judging_day(&self, due: Day) -> Day
         ensures value { result ≡ min due self.now.day }
     {
         due.min(self.day)
     }
 
-    /// The first day since the component's beginning on which a duty of the list can be due. What was due before that
-    /// is not listed, so that no period of the years before is looked at.
+    /// The first day since the component's beginning on which a duty of the list can be due. Earlier duties are not
+    /// listed, so that no period of earlier years is looked at.
     pub fn earliest(&self) -> Day
         ensures value { result ≡ max self.now.item.now.begin (self.now.day - listed_days) }
         ensures in_range { IsDay result }

@@ -5,17 +5,17 @@ ghost use Rattle.monitor_calendar.specs.Dripping.{TellsOfDrips};
 
 use ldar_law::{Event, Happening};
 
-/// What the events before one tell of drips of a pump (40 CFR 60.482-2a(b)(2)).
+/// A summary of the events before one, about drips of a pump (40 CFR 60.482-2a(b)(2)).
 #[derive(Clone, Copy)]
 pub struct PastDrips {
     /// There were drips, and no dry visual inspection since.
     pub wait: bool,
-    /// There were such drips, and a counting reading below the leak definition since: drips now would repeat them.
+    /// There were such drips, and a counting reading below the leak definition since; drips now would repeat them.
     pub repeat: bool,
 }
 
 impl PastDrips {
-    /// What no events tell.
+    /// The summary of no events.
     pub fn none() -> PastDrips
         ensures value { TellsOfDrips result [] }
     {
@@ -25,7 +25,7 @@ impl PastDrips {
         }
     }
 
-    /// What they tell with one event more.
+    /// The summary with one more event.
     pub fn with(self, e: &Event) -> PastDrips
         ensures value { (front : List SomeEvent) → TellsOfDrips self front → TellsOfDrips result (front ++ e.now ∷ []) }
     {
@@ -35,14 +35,14 @@ impl PastDrips {
         }
     }
 
-    /// Whether with one event more there were drips, and no dry visual inspection since.
+    /// Whether, with one more event, there were drips and no dry visual inspection since.
     fn wait_with(self, what: &Happening) -> bool
         ensures value { result ≡ (not (is_dry what.now) && (self.wait || has_drips what.now)) }
     {
         !what.is_dry() && (self.wait || what.has_drips())
     }
 
-    /// .. and a counting reading below the leak definition since.
+    /// Whether, with one more event, there were such drips and a counting reading below the leak definition since.
     fn repeat_with(self, what: &Happening) -> bool
         ensures value { result ≡ (not (is_dry what.now) && (self.repeat || (self.wait && is_below what.now))) }
     {

@@ -12,12 +12,12 @@ use ldar_days::Day;
 use ldar_law::{Duty, Equipment, Event};
 use std::alloc::Global;
 
-/// What has to be done at a component, as the list of a day has it (40 CFR 60.482-2a, 60.482-3a, 60.482-4a, 60.482-7a,
-/// 60.482-8a): by cause, due day and event. `startup` is that of its process unit, and `skipped` says which of the
-/// unit's quarters are skipped, from the first on; the classes and the events are the component's own, in key order.
-/// An error: no memory for the duties.
+/// The duties of a component as the list of a day has them (40 CFR 60.482-2a, 60.482-3a, 60.482-4a, 60.482-7a,
+/// 60.482-8a), in order of cause, due day and event. `startup` is that of its process unit; `skipped` is which of the
+/// unit's quarters are skipped, from quarter 1 on. The classes and the events are the component's own, in key order.
+/// Returns an error if it is out of memory.
 ///
-/// What was due more than 366 days before the day is not listed, and is not looked at.
+/// Duties that were due more than 366 days before the day are not listed and not looked at.
 #[tactic(auto, unfolding(ldar_law::specs::Duties::duties_of))]
 pub fn duties_of(
     alloc: Global,
@@ -40,7 +40,7 @@ pub fn duties_of(
         skipped,
         day,
     };
-    // Those of a year of months, and what else a list has of most components.
+    // The duties of twelve months, and the others that most components have on a list.
     let mut duties = Vec::with_capacity(alloc, 16)?;
     put(&mut duties, &asked.first_monitoring())?;
     asked.put_months(alloc, &mut duties)?;

@@ -8,7 +8,7 @@ use ldar_days::Day;
 use ldar_law::{Duty, is_listed};
 
 impl Asked<'_> {
-    /// A duty that is owed, by the key of what met it, if it belongs on the list.
+    /// An owed duty, from the key of the fact that met it, if it belongs on the list.
     pub fn duty(&self, cause: u8, first: Day, due: Day, met: &Option<Key>) -> Option<Duty>
         ensures value { result ≡ causes.duty_met_by self.now cause first due met.now }
     {

@@ -1,4 +1,4 @@
-//! Whether classes and events stand in key order: what `ordered` asks for, where nobody knows.
+//! Whether classes and events are in key order. It decides the premise `ordered`.
 
 ghost use Rattle.std.specs.Prelude.{◌↔◌, IsTrue};
 ghost use Rattle.list_words.specs.Order.{Ascends};
@@ -7,7 +7,7 @@ ghost use Rattle.fact_kinds.specs.Facts.{is_earlier};
 use fact_kinds::{Class, Key, precedes};
 use ldar_law::Event;
 
-/// Whether classes stand in the order of the keys of their facts, each before all that follow it.
+/// Whether classes are in the order of the keys of their facts, each before all that follow it.
 pub fn are_classes_ordered(classes: &[(Key, Class)]) -> bool
     ensures value { IsTrue result ↔ Ascends (λ a b. is_earlier a.0 b.0) classes.now }
 {
@@ -19,7 +19,7 @@ pub fn are_classes_ordered(classes: &[(Key, Class)]) -> bool
     true
 }
 
-/// Whether events stand in the order of their keys, each before all that follow it.
+/// Whether events are in the order of their keys, each before all that follow it.
 pub fn are_events_ordered(events: &[Event]) -> bool
     ensures value { IsTrue result ↔ Ascends (λ a b. is_earlier a.key b.key) events.now }
 {

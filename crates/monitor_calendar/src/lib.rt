@@ -1,4 +1,6 @@
-//! What has to be done at a component: the nine causes of duties, as the list of a day has them.
+//! The duties of a component as the list of a day has them, for each of the nine causes.
+//!
+//! Tests: `rule_tests::duties`.
 #![tactic(auto)]
 
 mod after_event;

@@ -2,17 +2,17 @@ ghost use Rattle.monitor_calendar.specs.Covering.{IsFirstListed, Covers};
 
 use crate::asked::Asked;
 
-/// The months that a list can hold.
+/// The months whose duties a list can contain.
 #[derive(Clone, Copy)]
 pub struct ListedMonths {
-    /// The first of them.
+    /// The first month.
     pub low: u32,
-    /// The month behind the last of them.
+    /// The month after the last one.
     pub end: u32,
 }
 
 impl Asked<'_> {
-    /// The first of the months that the list can hold.
+    /// The first month whose duties the list can contain.
     fn first_month(&self) -> u32
         ensures value { IsFirstListed self.now result }
     {
@@ -25,7 +25,7 @@ impl Asked<'_> {
         }
     }
 
-    /// The months after the beginning whose duties the list can hold.
+    /// The months after the beginning whose duties the list can contain.
     pub fn listed_months(&self) -> ListedMonths
         ensures value { Covers self.now result }
     {

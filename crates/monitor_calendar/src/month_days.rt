@@ -19,7 +19,7 @@ pub struct MonthDays {
 }
 
 impl MonthDays {
-    /// Those of a month.
+    /// A month with its days.
     pub fn of(number: u32) -> MonthDays
         requires from { 24_096 ≤ number }
         requires to { number ≤ 25_199 }
@@ -33,7 +33,7 @@ impl MonthDays {
         }
     }
 
-    /// Those of the next month.
+    /// The next month with its days.
     pub fn next(&self) -> MonthDays
         requires to { self.now.month < 25_199 }
         ensures value { result.month ≡ self.now.month + 1 }
@@ -46,7 +46,7 @@ impl MonthDays {
         }
     }
 
-    /// Those of this month, or of the next one where that is asked.
+    /// This month, or the next one if that is the month wanted.
     pub fn moved_to(self, number: u32) -> MonthDays
         requires near { (self.month ≤ number) × (number ≤ self.month + 1) }
         requires to { number ≤ 25_199 }

@@ -22,7 +22,7 @@ use ldar_law::{
 };
 use std::alloc::Global;
 
-/// Whether a component so judged is monitored in each month that is not quarterly.
+/// Whether a component judged so is monitored in each month that is not quarterly.
 fn is_monthly(judged: Judged) -> bool
     ensures value { result ≡ causes.is_monthly_judged judged false }
 {
@@ -62,8 +62,8 @@ impl Asked<'_> {
         }
     }
 
-    /// Whether a component so judged is monitored in a month, quarterly or not, since it is the component's month of a quarter
-    /// that is not skipped.
+    /// Whether a component judged so is monitored in a month: the month is the component's month of its quarter, which is not
+    /// skipped.
     fn is_quarter_month(&self, judged: Judged, month: Month, is_quarterly: bool) -> bool
         ensures value { result ≡ causes.is_quarter_month_judged self.now judged month is_quarterly }
     {
@@ -75,7 +75,7 @@ impl Asked<'_> {
             && !self.is_month_skipped(month)
     }
 
-    /// What the component is in a month, by the class of the day on which the month is judged.
+    /// The component in a month, with the class of the day on which the month is judged.
     fn judged_in(&self, class: Class, days: &MonthDays) -> Judged
         requires class { class ≡ class_on self.now.item.now self.now.classes.now (min days.now.last self.now.day) }
         ensures value { causes.IsOf self.now result (min days.now.last self.now.day) }
@@ -83,7 +83,7 @@ impl Asked<'_> {
         self.judged_by(class, self.judging_day(days.last))
     }
 
-    /// The monthly monitoring of a component other than a valve, by the class of the day on which the month is judged.
+    /// The monthly duty of a component other than a valve, with the class of the day on which the month is judged.
     fn monthly_of_other(&self, class: Class, days: &MonthDays) -> Option<Duty>
         requires other { says_valve self.now.item.now.kind ≡ false }
         requires class { class ≡ class_on self.now.item.now self.now.classes.now (min days.now.last self.now.day) }
@@ -98,7 +98,7 @@ impl Asked<'_> {
         self.duty(CAUSE_MONTHLY, first, due, &met)
     }
 
-    /// That of a valve, for which the month's events are known.
+    /// The monthly duty of a valve, after a walk to the month.
     fn monthly_of_valve(&self, class: Class, days: &MonthDays, walked: &WalkedMonth) -> Option<Duty>
         requires valve { says_valve self.now.item.now.kind ≡ true }
         requires class { class ≡ class_on self.now.item.now self.now.classes.now (min days.now.last self.now.day) }
@@ -117,7 +117,7 @@ impl Asked<'_> {
         self.duty(CAUSE_MONTHLY, first, due, &met)
     }
 
-    /// Its quarterly monitoring.
+    /// The quarterly duty of a valve.
     fn quarterly(&self, class: Class, days: &MonthDays, walked: &WalkedMonth) -> Option<Duty>
         requires class { class ≡ class_on self.now.item.now self.now.classes.now (min days.now.last self.now.day) }
         requires walked { IsWalked self.now.startup self.now.events.now days.now.month walked.now }
@@ -135,7 +135,7 @@ impl Asked<'_> {
         self.duty(CAUSE_QUARTERLY, first, due, &met)
     }
 
-    /// Adds the monthly monitorings of a component other than a valve.
+    /// Adds the monthly duties of a component other than a valve.
     #[tactic(auto, using(list_words::proofs::RangeLemmas::ranges))]
     fn put_monthly(&self, months: &ListedMonths, duties: &mut Vec<Duty>) -> Result<(), Memory>
         requires covered { Covers self.now months.now }
@@ -155,7 +155,7 @@ impl Asked<'_> {
         Ok(())
     }
 
-    /// Adds the monthly monitorings of a valve to one list and the quarterly ones to another, by one walk over its events.
+    /// Adds the monthly duties of a valve to one list and its quarterly duties to another, by one walk over its events.
     #[tactic(auto, using(list_words::proofs::RangeLemmas::ranges))]
     fn put_walked(
         &self,
@@ -186,7 +186,7 @@ impl Asked<'_> {
         Ok(())
     }
 
-    /// Adds the monthly monitorings and after them the quarterly ones, which only a valve can have.
+    /// Adds the monthly duties, followed by the quarterly ones, which only a valve can have.
     pub fn put_months(&self, alloc: Global, duties: &mut Vec<Duty>) -> Result<(), Memory>
         ensures put { OnOk result (duties.new.items ≡ (duties.old.items ++ filter_map (causes.monthly self.now) (causes.months_after self.now))
             ++ filter_map (causes.quarterly self.now) (causes.months_after self.now)) }

@@ -9,21 +9,21 @@ ghost use Rattle.monitor_calendar.specs.Behind.{Tells, pair_with, lets_be_quarte
 use ldar_days::{Day, first_quarter};
 use ldar_law::{Event, quarter_start};
 
-/// What the events of the months before one tell of those months, as far as they decide which of the later months are
-/// quarterly ones of a valve (40 CFR 60.482-7a(c)(1)).
+/// A summary of the events of earlier months, as far as it decides which later months of a valve are quarterly (40 CFR
+/// 60.482-7a(c)(1)).
 #[derive(Clone, Copy)]
 pub struct PastMonths {
-    /// The month of the last leak, or 0 where there is none.
+    /// The month of the last leak, or 0 if there is none.
     pub leak: u32,
-    /// The last month after it with a counting routine reading below the leak definition, or 0 where there is none; what it is
-    /// does not matter once two months in a row are known.
+    /// The last month after it with a counting routine reading below the leak definition, or 0 if there is none. It does not
+    /// matter after two months in a row are known.
     pub below: u32,
-    /// The first month after it that has such a reading, as the next month has.
+    /// The first month after it that has such a reading and is followed by a month that has one.
     pub pair: Option<u32>,
 }
 
 impl PastMonths {
-    /// What no events tell.
+    /// The summary of no events.
     pub fn none() -> PastMonths
         ensures value { Tells result 0 [] }
     {
@@ -34,7 +34,7 @@ impl PastMonths {
         }
     }
 
-    /// What a leak tells, whatever came before it, of no later month.
+    /// The summary after a leak, whatever came before it, in a month that is not earlier.
     pub fn of_leak(e: &Event) -> PastMonths
         requires leak { is_leak e.now.what ≡ true }
         ensures value { (front : List SomeEvent) → AllByRecursion (λ x. month_of x.key.day ≤ month_of e.now.key.day) front
@@ -47,7 +47,7 @@ impl PastMonths {
         }
     }
 
-    /// What they tell with one event more, of no earlier month.
+    /// The summary with one more event, of a month that is not earlier.
     pub fn with(self, e: &Event) -> PastMonths
         ensures value { (last : ℕ) (front : List SomeEvent) → Tells self last front → last ≤ month_of e.now.key.day
             → Tells result (month_of e.now.key.day) (front ++ e.now ∷ []) }
@@ -58,13 +58,13 @@ impl PastMonths {
         self.with_sound(e)
     }
 
-    /// The same with one that is no leak.
+    /// The summary with one more event that is no leak.
     pub fn with_sound(self, e: &Event) -> PastMonths
         requires sound { is_leak e.now.what ≡ false }
         ensures value { (last : ℕ) (front : List SomeEvent) → Tells self last front → last ≤ month_of e.now.key.day
             → Tells result (month_of e.now.key.day) (front ++ e.now ∷ []) }
     {
-        // The first two months in a row stay until a leak: no later reading is asked for its month.
+        // The first two months in a row stay until a leak; the months of later readings do not matter.
         if self.pair.is_some() {
             return self;
         }
@@ -82,7 +82,7 @@ impl PastMonths {
         }
     }
 
-    /// The first two months in a row, where the later of them may be this one.
+    /// The first of two months in a row, the second of which may be this one.
     fn pair_with(self, month: u32) -> Option<u32>
         requires month { 23_640 ≤ month }
         ensures value { result ≡ pair_with self month }
@@ -99,7 +99,7 @@ impl PastMonths {
         }
     }
 
-    /// Whether they let the next month be a quarterly one.
+    /// Whether they make the month quarterly.
     pub fn let_be_quarterly(self, startup: Day, month: u32) -> bool
         requires startup { startup ≤ LAST_FACT_DAY }
         ensures value { result ≡ lets_be_quarterly self startup month }

@@ -1,5 +1,5 @@
-//! The events of a period, and the key of what meets a duty in it. Events in key order stand by their days, so that the first of a
-//! period is found by halving, and from there on they are few.
+//! The events of a period, and the key of the fact that meets a duty in it. Events in key order are in the order of their days, so
+//! the first event of a period is found by binary search; few others follow in the period.
 
 ghost use Rattle.std.specs.Prelude.{◌≡◌, ◌≤◌, ◌&&◌, ◌||◌, ℕ, true, false, drop, filter, find, length, nat_le, nat_lt, option_map};
 ghost use Rattle.std.specs.List.Sorted.{IsPartitionPoint};
@@ -13,7 +13,7 @@ use fact_kinds::Key;
 use ldar_days::Day;
 use ldar_law::Event;
 
-/// How many events lie before a day.
+/// The number of events before a day.
 pub fn count_before(events: &[Event], first: Day) -> usize
     requires ordered { Ascends (λ a b. is_earlier a.key b.key) events.now }
     ensures within { result ≤ length events.now }
@@ -31,7 +31,7 @@ pub fn events_from(events: &[Event], first: Day) -> &[Event]
     &events[count_before(events, first)..]
 }
 
-/// The key of the first event that is a counting routine reading, or of a day after the last.
+/// The key of the first event that is a counting routine reading or after the day `last`.
 fn routine_or_later(events: &[Event], last: Day) -> Option<Key>
     ensures value { result ≡ option_map (λ e. e.key) (find (λ e. nat_lt last e.key.day || (is_routine e.what)) events.now) }
 {
@@ -41,7 +41,8 @@ fn routine_or_later(events: &[Event], last: Day) -> Option<Key>
         .map(|e| e.key)
 }
 
-/// The first that is such a reading less than 500 parts per million above the background, or of a later day.
+/// The key of the first event that is such a reading less than 500 parts per million above the background, or after the
+/// day.
 fn near_background_or_later(events: &[Event], last: Day) -> Option<Key>
     ensures value { result ≡ option_map (λ e. e.key) (find (λ e. nat_lt last e.key.day || (is_routine e.what && is_near_background e.what)) events.now) }
 {
@@ -51,7 +52,7 @@ fn near_background_or_later(events: &[Event], last: Day) -> Option<Key>
         .map(|e| e.key)
 }
 
-/// The first that is a visual inspection, or of a later day.
+/// The key of the first event that is a visual inspection or after the day.
 fn look_or_later(events: &[Event], last: Day) -> Option<Key>
     ensures value { result ≡ option_map (λ e. e.key) (find (λ e. nat_lt last e.key.day || (is_look e.what)) events.now) }
 {
@@ -61,7 +62,7 @@ fn look_or_later(events: &[Event], last: Day) -> Option<Key>
         .map(|e| e.key)
 }
 
-/// The key, if there is one, and it comes by a day.
+/// The key, if it exists and its day is at most `last`.
 fn by_day(found: Option<Key>, last: Day) -> Option<Key>
     ensures value { result ≡ key_by found last }
 {
@@ -71,7 +72,7 @@ fn by_day(found: Option<Key>, last: Day) -> Option<Key>
     }
 }
 
-/// The key of the first counting routine reading of a period, behind a place where the events from its first day on stand.
+/// The key of the first counting routine reading of a period whose events begin at a place.
 pub fn routine_behind(events: &[Event], place: usize, last: Day) -> Option<Key>
     requires within { place ≤ length events.now }
     requires ordered { Ascends (λ a b. is_earlier a.key b.key) events.now }
@@ -89,7 +90,7 @@ pub fn routine_in(events: &[Event], first: Day, last: Day) -> Option<Key>
     routine_behind(events, count_before(events, first), last)
 }
 
-/// .. that is less than 500 parts per million above the background.
+/// The key of the first such reading of a period that is less than 500 parts per million above the background.
 pub fn routine_near_background(events: &[Event], first: Day, last: Day) -> Option<Key>
     requires ordered { Ascends (λ a b. is_earlier a.key b.key) events.now }
     ensures value { result ≡ option_map (λ e. e.key) (law.routine_near_background events.now first last) }

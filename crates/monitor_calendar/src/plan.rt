@@ -1,4 +1,4 @@
-//! Monitoring by a written plan of what is unsafe to monitor (40 CFR 60.482-2a(g)(2), 60.482-7a(g)(2)).
+//! Monitoring by a written plan of components that are unsafe to monitor (40 CFR 60.482-2a(g)(2), 60.482-7a(g)(2)).
 
 ghost use Rattle.std.specs.Prelude.{◌≡◌, ◌+◌, ◌++◌, ◌<◌, ◌≤◌, OnOk, filter_map};
 ghost use Rattle.list_words.specs.Ranges.{until};
@@ -14,10 +14,10 @@ use fact_kinds::{Class, Key, Memory};
 use ldar_days::{Day, Month};
 use ldar_law::{CAUSE_PLAN, Duty, is_unsafe_designated};
 
-/// A window that has begun ends at most so many months after the month of the list: a plan has at most sixty months.
+/// Months from the month of the list to the latest end of a window that has begun: a plan has at most sixty months.
 const PLAN_MONTHS: u32 = 60;
 
-/// The last day of a month, or of the calendar where the month lies after it.
+/// The last day of a month, or of the calendar if the month is after it.
 fn last_day_by(month: u32) -> Day
     requires from { 24_096 ≤ month }
     ensures value { result ≡ end_by (last_day month) }
@@ -28,7 +28,7 @@ fn last_day_by(month: u32) -> Day
     Month::at(month).last_day()
 }
 
-/// Whether some entered class is one of what is unsafe to monitor.
+/// Whether some entered class is unsafe to monitor.
 fn is_some_unsafe(classes: &[(Key, Class)]) -> bool
     ensures value { result ≡ concern.is_some_unsafe classes.now }
 {
@@ -38,7 +38,7 @@ fn is_some_unsafe(classes: &[(Key, Class)]) -> bool
 }
 
 impl Asked<'_> {
-    /// Whether what is so judged has a plan by which a window ends with the month.
+    /// Whether a component judged so has a plan with a window that ends with the month.
     fn is_planned(&self, judged: Judged, month: u32) -> bool
         requires after { month_of self.now.item.now.begin < month }
         ensures value { result ≡ causes.is_planned_judged self.now judged month }
@@ -54,7 +54,7 @@ impl Asked<'_> {
             && (month - begin) % plan == 0
     }
 
-    /// The monitoring in the window that ends with a month, by the plan of the day on which it is judged.
+    /// The duty of the window that ends with a month, by the plan of the day on which the window is judged.
     fn planned(&self, month: u32) -> Option<Duty>
         requires in_range { 24_096 ≤ month_of self.now.item.now.begin }
         requires after { month_of self.now.item.now.begin < month }
@@ -75,14 +75,14 @@ impl Asked<'_> {
         self.duty(CAUSE_PLAN, first, due, &met)
     }
 
-    /// Whether it has a class of what is unsafe to monitor: that with which it was entered, or a later one.
+    /// Whether it was entered with a class that is unsafe to monitor, or some entered class is.
     fn has_unsafe_class(&self) -> bool
         ensures value { result ≡ concern.has_unsafe_class self.now.item.now self.now.classes.now }
     {
         is_unsafe_designated(self.item.class.designation) || is_some_unsafe(self.classes)
     }
 
-    /// The first of the months with which a window can end that the list can hold.
+    /// The first month that can end a window whose duty the list can contain.
     fn first_window_end(&self) -> u32
         ensures after { month_of self.now.item.now.begin < result }
         ensures in_range { 24_096 ≤ month_of self.now.item.now.begin }
@@ -98,7 +98,7 @@ impl Asked<'_> {
         }
     }
 
-    /// Adds the monitorings by a plan. Of what no class has unsafe to monitor no month is looked at.
+    /// Adds the duties by a plan. If no class of the component is unsafe to monitor, it looks at no month.
     pub fn put_planned(&self, duties: &mut Vec<Duty>) -> Result<(), Memory>
         ensures put { OnOk result (duties.new.items ≡ duties.old.items ++ filter_map (causes.planned self.now) (causes.window_ends self.now)) }
     {

@@ -1,5 +1,5 @@
-//! Which months are quarterly ones of a valve (40 CFR 60.482-7a(c)(1)), and where their events begin, by one pass over its
-//! events since the last leak before the first of them.
+//! Which months of a valve are quarterly (40 CFR 60.482-7a(c)(1)), and where their events begin: one pass over its events
+//! since the last leak before the first of these months.
 
 ghost use Rattle.std.specs.Prelude.{◌≡◌, ℕ, ◌<◌, ◌≤◌, false, List, length, slice_index_or};
 ghost use Rattle.list_words.specs.Order.{Ascends};
@@ -16,15 +16,15 @@ use crate::period::count_before;
 use ldar_days::Day;
 use ldar_law::Event;
 
-/// What a walk over the events of a valve tells of a month.
+/// The result of a walk to a month of a valve.
 #[derive(Clone, Copy)]
 pub struct WalkedMonth {
-    /// The place of the first event that is of no earlier month, or the number of events.
+    /// The place of the first event that is not of an earlier month, or the number of events.
     pub place: usize,
     pub is_quarterly: bool,
 }
 
-/// A place among events, and what those before it tell.
+/// A place among events, with the summary of those before it.
 #[derive(Clone, Copy)]
 pub struct Walk {
     pub place: usize,
@@ -32,7 +32,7 @@ pub struct Walk {
 }
 
 impl Walk {
-    /// What a walk up to a month tells of it.
+    /// The result of a walk to a month.
     pub fn told_of(self, startup: Day, month: u32) -> WalkedMonth
         requires startup { startup ≤ LAST_FACT_DAY }
         ensures value { (events : List SomeEvent) → IsMonth month → IsAt self.past events self.place month → IsWalked startup events month result }
@@ -44,7 +44,7 @@ impl Walk {
     }
 }
 
-/// The place behind the last leak of so many events, or that of the first event where none of them is a leak.
+/// The place after the last leak of the first `count` events, or 0 if none of them is a leak.
 fn behind_leak(events: &[Event], count: usize) -> usize
     requires count { count ≤ length events.now }
     ensures value { IsBehindLeak events.now count result }
@@ -59,8 +59,8 @@ fn behind_leak(events: &[Event], count: usize) -> usize
     0
 }
 
-/// A walk on its way to a month, behind the last of so many events that is a leak: what a leak tells is the same whatever came
-/// before it.
+/// A walk to a month that begins after the last leak among the first `count` events. The summary after a leak is the same
+/// whatever came before it.
 fn behind_last_leak(events: &[Event], days: &MonthDays, count: usize) -> Walk
     requires ordered { Ascends (λ a b. is_earlier a.key b.key) events.now }
     requires within { count ≤ length events.now }
@@ -82,7 +82,7 @@ fn behind_last_leak(events: &[Event], days: &MonthDays, count: usize) -> Walk
     }
 }
 
-/// A walk up to a month, begun behind the last leak before it, so that none of the other events on the way is a leak.
+/// A walk to a month that begins after the last leak before it, so that no other event on the way is a leak.
 pub fn begun(events: &[Event], days: &MonthDays) -> Walk
     requires ordered { Ascends (λ a b. is_earlier a.key b.key) events.now }
     ensures value { IsOn result.past events.now result.place days.now.month }
@@ -95,7 +95,7 @@ pub fn begun(events: &[Event], days: &MonthDays) -> Walk
     Walk { place: count, past }
 }
 
-/// The walk, gone on to the first event that is not of a month before this one.
+/// The walk, continued to the first event that is not of an earlier month.
 pub fn walked_to(walk: Walk, events: &[Event], days: &MonthDays) -> Walk
     requires ordered { Ascends (λ a b. is_earlier a.key b.key) events.now }
     requires on { IsOn walk.past events.now walk.place days.now.month }

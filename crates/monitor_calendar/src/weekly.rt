@@ -12,7 +12,7 @@ use fact_kinds::Memory;
 use ldar_days::Day;
 use ldar_law::{CAUSE_WEEKLY, Duty, is_none_designated, is_pump};
 
-/// Whether a component so judged is a pump without a designation.
+/// Whether a component judged so is a pump without a designation.
 pub fn is_plain_pump(judged: Judged) -> bool
     ensures value { result ≡ causes.is_plain_pump judged }
 {
@@ -28,7 +28,7 @@ fn week_of(day: Day) -> u32
 }
 
 impl Asked<'_> {
-    /// The visual inspection of a week.
+    /// The duty of a week: a visual inspection.
     fn weekly(&self, week: u32) -> Option<Duty>
         requires in_range { IsDay (week_first week) }
         ensures value { result ≡ causes.weekly self.now week }
@@ -43,7 +43,7 @@ impl Asked<'_> {
         self.duty(CAUSE_WEEKLY, first, due, &met)
     }
 
-    /// The first of the weeks that the list can hold.
+    /// The first week whose duty the list can contain.
     fn first_week(&self) -> u32
         ensures in_range { 1_984 ≤ result }
         ensures value { filter_map (causes.weekly self.now) (until result (week_number self.now.day + 1))
@@ -58,7 +58,7 @@ impl Asked<'_> {
         }
     }
 
-    /// Adds the weekly inspections. For a component other than a pump no week is looked at.
+    /// Adds the weekly duties. For a component other than a pump, it looks at no week.
     pub fn put_weekly(&self, duties: &mut Vec<Duty>) -> Result<(), Memory>
         ensures put { OnOk result (duties.new.items ≡ duties.old.items ++ filter_map (causes.weekly self.now) (causes.weeks_after self.now)) }
     {

@@ -13,7 +13,7 @@ use fact_kinds::{Class, Designation, Key, Memory};
 use ldar_days::{Day, Month};
 use ldar_law::{CAUSE_YEARLY, Duty, is_difficult_designated, is_nde_designated};
 
-/// Whether a designation is one of what is monitored each year.
+/// Whether a designation leads to yearly monitoring for some kind.
 fn is_yearly_designated(designation: Designation) -> bool
     ensures value { result ≡ concern.is_yearly_designated designation }
 {
@@ -29,7 +29,7 @@ fn is_some_yearly(classes: &[(Key, Class)]) -> bool
         .any(|entered| is_yearly_designated(entered.1.designation))
 }
 
-/// Whether what is so judged is monitored each year.
+/// Whether a component judged so is monitored yearly.
 fn is_yearly(judged: Judged) -> bool
     ensures value { result ≡ causes.is_yearly_judged judged }
 {
@@ -43,7 +43,7 @@ fn is_yearly(judged: Judged) -> bool
 }
 
 impl Asked<'_> {
-    /// The key of what meets a yearly monitoring of the component, as it is judged.
+    /// The key of the reading that meets the yearly duty of a component judged so.
     fn yearly_reading(&self, judged: Judged, first: Day, due: Day) -> Option<Key>
         ensures value { result ≡ option_map (λ e. e.key) (causes.yearly_reading_judged self.now judged first due) }
     {
@@ -54,7 +54,7 @@ impl Asked<'_> {
         }
     }
 
-    /// The yearly monitoring of a calendar year.
+    /// The duty of a calendar year.
     fn yearly(&self, year: u32) -> Option<Duty>
         requires low { 2_008 ≤ year }
         requires high { year ≤ 2_099 }
@@ -70,7 +70,7 @@ impl Asked<'_> {
         self.duty(CAUSE_YEARLY, first, due, &met)
     }
 
-    /// The first of the years that the list can hold.
+    /// The first year whose duty the list can contain.
     fn first_year(&self) -> u32
         ensures in_range { 2_008 ≤ result }
         ensures value { filter_map (causes.yearly self.now) (until result (month_of self.now.day / 12 + 1))
@@ -81,14 +81,14 @@ impl Asked<'_> {
         if first < earliest { earliest } else { first }
     }
 
-    /// Whether it has a class of such a designation: that with which it was entered, or a later one.
+    /// Whether it was entered with such a designation, or some entered class has one.
     fn has_yearly_class(&self) -> bool
         ensures value { result ≡ concern.has_yearly_class self.now.item.now self.now.classes.now }
     {
         is_yearly_designated(self.item.class.designation) || is_some_yearly(self.classes)
     }
 
-    /// Adds the yearly monitorings. Of what no class has monitored each year no year is looked at.
+    /// Adds the yearly duties. If no class of the component leads to yearly monitoring, it looks at no year.
     pub fn put_yearly(&self, duties: &mut Vec<Duty>) -> Result<(), Memory>
         ensures put { OnOk result (duties.new.items ≡ duties.old.items ++ filter_map (causes.yearly self.now) (causes.years_after self.now)) }
     {

@@ -1,4 +1,4 @@
--- A batch behind a history and others of its group: where its identity stands, and the verdict on it.
+-- A batch after a history and others of its group: the position of its identity, and the verdict on it.
 use Rattle.std.proofs.Common.{◌≡◌, ◌≢◌, inl, inr, ℕ, zero, suc, ◌+◌, ◌<◌, ◌≤◌, Bool, true, false, ◌&&◌, Option, Some, None, List, [], ◌∷◌, ◌++◌}
 use Rattle.std.proofs.Common.{length, take, drop, get_or, refl, sym, ◌∙◌, ap, subst, arith, append_assoc}
 use Rattle.std.specs.Prelude.{◌-◌, ◌↔◌, IsTrue, IfSome, IsNone, cond, codes, slice_get, nat_lt}
@@ -31,9 +31,9 @@ use Rattle.office_book.specs.Archive.{IsKeptAt, MayCome}
 use Rattle.office_book.specs.Grouped.{IsOfHandheld, IsAmong}
 use Rattle.office_book.proofs.HistoryLemmas.{found_from, cut_at as cut_behind}
 
--- ---- places in two lists
+-- ---- positions in two lists
 
--- the first that passes, where it is in the first list
+-- the first element that passes, if it is in the first list
 position_front : {X : Type 0} (p : X → Bool) (i : ℕ) (xs ys : List X) (k : ℕ) → position_from p i xs ≡ Some k → position_from p i (xs ++ ys) ≡ Some k
 position_front p i [] ys k e = absurd cc
 position_front {X = X} p i (x ∷ xs) ys k e = by (p x) (λ later. position_front p (i + 1) xs ys k later) e
@@ -43,7 +43,7 @@ position_front {X = X} p i (x ∷ xs) ys k e = by (p x) (λ later. position_fron
     by true rest e = e
     by false rest e = rest e
 
--- .. and where it is not
+-- the first element that passes, if it is in the second list
 pub position_behind : {X : Type 0} (p : X → Bool) (i : ℕ) (xs ys : List X) (j : ℕ) → j ≡ i + length xs → position_from p i xs ≡ None
     → position_from p i (xs ++ ys) ≡ position_from p j ys
 position_behind p i [] ys j is none = let same : i ≡ j = omega arith in ap (λ (n : ℕ). position_from p n ys) same
@@ -54,20 +54,22 @@ position_behind {X = X} p i (x ∷ xs) ys j is none = by (p x) (λ later. positi
     by true rest e = absurd cc
     by false rest e = rest e
 
+-- an element of the first list keeps its place
 get_front : {X : Type 0} (xs ys : List X) (n : ℕ) (x : X) → slice_get xs n ≡ Some x → slice_get (xs ++ ys) n ≡ Some x
 get_front [] ys n x e = absurd cc
 get_front (y ∷ xs) ys zero x e = e
 get_front (y ∷ xs) ys (suc n) x e = get_front xs ys n x e
 
+-- an element of the second list is after the first list
 pub get_behind : {X : Type 0} (xs ys : List X) (n m : ℕ) → m ≡ length xs + n → slice_get (xs ++ ys) m ≡ slice_get ys n
 get_behind [] ys n m is = let same : m ≡ n = omega arith in ap (λ (j : ℕ). slice_get ys j) same
 get_behind (x ∷ xs) ys n m is =
     let next : m ≡ suc (length xs + n) = omega arith in
     ap (λ (j : ℕ). slice_get (x ∷ (xs ++ ys)) j) next ∙ get_behind xs ys n (length xs + n) refl
 
--- ---- where a batch is kept
+-- ---- the position of a kept batch
 
--- what is kept in a history is kept with more batches behind it
+-- a batch kept in a history is kept with more batches after it
 pub standing_more : (history others : List Batch) (batch : Batch) (position : ℕ) (same : Bool) → IsKeptAt history batch position same
     → IsKeptAt (history ++ others) batch position same
 standing_more history others batch position same stands = (
@@ -80,7 +82,7 @@ standing_more history others batch position same stands = (
   stands.3,
 )
 
--- what is new in a history, and is found among those behind it
+-- a batch that is new in a history and is found among the batches after it
 pub standing_among : (history others : List Batch) (batch : Batch) (first position : ℕ) (same : Bool) → IsNew history batch → first ≡ length history + 1
     → IsAmong first others batch position same → IsKeptAt (history ++ others) batch position same
 standing_among history others batch first position same new is among =
@@ -96,18 +98,19 @@ standing_among history others batch first position same new is among =
       λ no same_batch. false≢true (sym no ∙ among.same_if.1 same_batch),
     )
 
--- what is new in a history, and not among those behind it
+-- a batch that is new in a history and is not among the batches after it
 pub new_behind : (history others : List Batch) (batch : Batch) (first : ℕ) → IsNew history batch → first ≡ length history + 1
     → position_from (is_of (identity_of batch)) first others ≡ None → IsNew (history ++ others) batch
 new_behind history others batch first new is none =
     position_behind (is_of (identity_of batch)) 1 history others first (omega arith) new ∙ none
 
--- where the others were searched for a batch that is new in a history
+-- the result of a search among the other batches, for a batch that is new in a history
 pub kept_among : (history others : List Batch) (batch : Batch) (first : ℕ) (found : Option (ℕ × Bool)) → IsNew history batch → first ≡ length history + 1
     → IfSome found (λ kept. IsAmong first others batch kept.0 kept.1) → IfSome found (λ kept. IsKeptAt (history ++ others) batch kept.0 kept.1)
 kept_among history others batch first None new is among = tt
 kept_among history others batch first (Some kept) new is among = standing_among history others batch first kept.0 kept.1 new is among
 
+-- the batch is new if the search among the others finds nothing
 pub new_among : (history others : List Batch) (batch : Batch) (first : ℕ) (found : Option (ℕ × Bool)) → IsNew history batch → first ≡ length history + 1
     → (IsNone found → position_from (is_of (identity_of batch)) first others ≡ None) → IsNone found → IsNew (history ++ others) batch
 new_among history others batch first found new is none missing = new_behind history others batch first new is (none missing)
@@ -133,7 +136,7 @@ any_among p (x ∷ xs) e = elim (cases_Bool (p x)) [
 abbrev sixteenth : Rule
 sixteenth = numbered 16 (codes "P1") denials.entered_by_a_handheld
 
--- a fact of a batch of a handheld that passes enters nothing
+-- a passing batch of a handheld makes no entry in the register
 no_entry : (history : List Batch) (batch : Batch) → verdict_on history batch ≡ Pass → IsOfHandheld batch
     → list_any (λ (e : Entry). is_registered e.1.body) (entries_of batch) ≡ false
 no_entry history batch passes handheld =
@@ -154,7 +157,7 @@ no_entry history batch passes handheld =
     entered : (b : Bool) (n : ℕ) → b ≡ true → (b && nat_lt 0 n) ≡ false → n ≢ 0 → ⊥
     entered b n is denies other = other (grind (arith, nat_tests))
 
--- batches of handhelds behind a history leave the register as it is
+-- batches of handhelds after a history do not change the register
 pub register_stays : (history others : List Batch) → MayCome history others → AllByRecursion IsOfHandheld others
     → register_facts (facts_of (history ++ others)) ≡ register_facts (facts_of history)
 register_stays history [] may alike = ap (λ (l : List Batch). register_facts (facts_of l)) (append-nil history)
@@ -167,12 +170,12 @@ register_stays history (batch ∷ others) may alike =
     ∙ register_stays (history ++ batch ∷ []) others (record { kept = kept; ruly = subst (λ (l : List Batch). IsTrue (is_ruly l)) (sym whole) may.ruly }) alike.1
     ∙ part_stays (λ (e : Entry). is_registered e.1.body) history batch front.differ (no_entry history batch passes alike.0)
 
--- how many facts there are with them
+-- the number of facts with them
 pub facts_behind : (history others : List Batch) → length (facts_of (history ++ others)) ≡ length (facts_of history) + fact_count others
 facts_behind history others =
     omega (arith, facts_count (history ++ others), facts_count history, sum_by-append (λ (batch : Batch). length batch.facts) history others)
 
--- .. and they are few enough
+-- the facts fit
 pub facts_fit : (history others : List Batch) → MayCome history others → length (facts_of history) + fact_count others ≤ 8_000_000
 facts_fit history others may =
     let fits = may.kept.fits in
@@ -182,7 +185,7 @@ facts_fit history others may =
 
 -- ---- the search for an identity
 
--- the first that has the identity is found
+-- the first batch with the identity is found
 pub among_here : (first : ℕ) (others : List Batch) (batch : Batch) (i : ℕ) (other : Batch) (position : ℕ) (same : Bool) → i < length others
     → other ≡ get_or others i other → position ≡ first + i → position_from (is_of (identity_of batch)) first (take i others) ≡ None
     → is_of (identity_of batch) other ≡ true → IsTrue same ↔ (other ≡ batch) → IsAmong first others batch position same
@@ -201,7 +204,7 @@ among_here first others batch i other position same within is place none has tel
       same_if = tells;
     }
 
--- .. and nothing up to one that has another
+-- no batch with the identity is found up to one with another identity
 pub none_next : (first : ℕ) (others : List Batch) (batch : Batch) (i : ℕ) (other : Batch) → i < length others → other ≡ get_or others i other
     → position_from (is_of (identity_of batch)) first (take i others) ≡ None → is_of (identity_of batch) other ≡ false
     → position_from (is_of (identity_of batch)) first (take (i + 1) others) ≡ None

@@ -1,4 +1,4 @@
--- A call that asks a group.
+-- A call for a group of requests.
 use Rattle.std.proofs.Common.{◌≡◌, ◌≢◌, ℕ, zero, suc, ◌+◌, ◌-◌, ◌<◌, ◌≤◌, Option, List, [], ◌∷◌, ◌++◌, length, take, replicate, refl, sym, ◌∙◌, ap, subst}
 use Rattle.std.proofs.Common.{arith, append_assoc, length-append}
 use Rattle.std.proofs.lemmas.List.{take_at, length-map}
@@ -30,6 +30,7 @@ each_more faulty history request requests (NoSuch what) replies next rest serves
 each_more faulty history request requests Fault replies next rest serves = serves.each
 each_more faulty history request requests Memory replies next rest serves = rest history serves.1
 
+-- each request has a reply
 pub serves_each : (faulty : Type 0) (history : List Batch) (requests : List Request) (replies : List Reply) (next : State)
     → Serves faulty history requests replies next → length replies ≡ length requests
 serves_each faulty history [] [] next serves = refl
@@ -39,7 +40,7 @@ serves_each faulty history (request ∷ requests) (reply ∷ replies) next serve
     let rest = each_more faulty history request requests reply replies next (λ after more. serves_each faulty after requests replies next more) serves in
     omega arith
 
--- faults are faults, and need no rule
+-- disk errors are disk errors, and name no rule
 pub faults_are : (n : ℕ) → AllByRecursion (λ (reply : Reply). reply ≡ Fault) (replicate n Fault)
 faults_are zero = tt
 faults_are (suc n) = (refl, faults_are n)
@@ -59,7 +60,7 @@ said_each call requests said asked answered =
     ap (λ (l : List Reply). length l) (sym answered) ∙ length-map call.turns (λ turn. turn.reply) ∙ sym (length-map call.turns (λ turn. turn.request))
     ∙ ap (λ (l : List Request). length l) asked
 
--- replies whose end was lent, to be answered: those in front stay, and behind them stands what was said
+-- the earlier replies are unchanged, and the new ones follow them
 tail_said : (count : ℕ) (begins front said post rest : List Reply) → begins ≡ front → count ≡ length front + length said
     → take count ((begins ++ (said ++ post)) ++ rest) ≡ front ++ said
 tail_said count begins front said post rest begins_so long =
@@ -68,6 +69,7 @@ tail_said count begins front said post rest begins_so long =
     ∙ sym (append_assoc front said (post ++ rest)))
     ∙ take_at (front ++ said) (post ++ rest) count (length-append front said ∙ sym long)
 
+-- the replies of a call follow the earlier ones
 pub tail_answered : (call : Call) (requests : List Request) (count start : ℕ) (front reserved items lent said post rest : List Reply)
     → reserved ≡ front → start ≡ length reserved → items ≡ reserved ++ replicate (length requests) Fault → lent ≡ items → count ≡ length items
     → requests_of call ≡ requests → replies_of call ≡ said → take count ((take start lent ++ (said ++ post)) ++ rest) ≡ front ++ said
@@ -80,7 +82,7 @@ tail_answered call requests count start front reserved items lent said post rest
     ∙ ap (λ (k : ℕ). length front + k) (faults_each (length requests) ∙ sym each) in
     tail_said count (take start lent) front said post rest first (whole ∙ long)
 
--- faults from the first place on are all
+-- disk errors from the first place on are all disk errors
 pub all_faults : (new old : List Reply) → new ≡ take 0 old ++ replicate (length old - 0) Fault → new ≡ replicate (length old) Fault
 all_faults new old is = let whole : length old - 0 ≡ length old = omega arith in is ∙ ap (λ (n : ℕ). replicate n Fault) whole
 
@@ -97,7 +99,7 @@ module _ {D : Type 0} (content_of : D → Option (List ℕ)) (images_of : D → 
       (faults_call content_of images_of left_of clock_of name_of faults_of only_now old new request requests (replicate (length requests) Fault) moves rose
       doubt stays (faults_are (length requests)) (faults_each (length requests)) few)
 
-  -- a settling, if there had to be one, and what was said then
+  -- a settling, if it was needed, and the replies after it
   pub serves_group : (old middle new : Shelf D) (found : Finding) (requests : List Request) (replies : List Reply)
       → 0 < length requests → length requests ≤ 16 → IsFound found (state_of old) (state_of middle)
       → Moves content_of images_of left_of clock_of name_of faults_of old middle 0
@@ -112,7 +114,7 @@ module _ {D : Type 0} (content_of : D → Option (List ℕ)) (images_of : D → 
       serves_call content_of images_of left_of clock_of name_of faults_of only_now (Rose (faults_of middle.disk) (faults_of new.disk)) old middle new found
       request requests reply replies is_found one two (λ why. why) serves (omega arith) few
 
-  -- a view that is asked alone
+  -- a single view
   pub view_group : (old new : Shelf D) (requests : List Request) (replies' : List Reply) (request : Request) (reply : Reply)
       → requests ≡ request ∷ [] → replies' ≡ reply ∷ []
       → IsCall content_of images_of left_of clock_of name_of faults_of only_now old (request ∷ []) (reply ∷ []) new

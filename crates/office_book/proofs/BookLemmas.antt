@@ -1,4 +1,4 @@
--- What an office keeps, after each call of its journal.
+-- The state of an office after each call of its journal.
 use Rattle.std.proofs.Common.{◌≡◌, ◌≢◌, inl, inr, ℕ, ◌+◌, ◌≤◌, Option, List, [], ◌∷◌, ◌++◌, length, take, refl, sym}
 use Rattle.std.proofs.Common.{◌∙◌, ap, subst, arith, append_assoc, length-append}
 use Rattle.std.specs.Prelude.{IsTrue}
@@ -23,32 +23,32 @@ use Rattle.office_views.specs.Held.{Held}
 
 -- ---- histories
 
--- the front of a ruly history is ruly
+-- a prefix of a ruly history is ruly
 ruly_front : (history more : List Batch) → IsTrue (is_ruly (history ++ more)) → IsTrue (is_ruly history)
 ruly_front history more ruly =
     (ruly_is_each history).1 (λ before batch after stands.
     (ruly_is_each (history ++ more)).0 ruly before batch (after ++ more) (ap (λ (l : List Batch). l ++ more) stands ∙ append_assoc before (batch ∷ after) more))
 
--- without the batches that may come
+-- without the batches that may follow
 pub may_stay : (history more : List Batch) → MayCome history more → MayCome history []
 may_stay history more may = record {
   kept = subst (λ (l : List Batch). IsKept l) (sym (append-nil history)) (IsKept-front history more may.kept);
   ruly = subst (λ (l : List Batch). IsTrue (is_ruly l)) (sym (append-nil history)) (ruly_front history more may.ruly);
 }
 
--- .. and with them
+-- with the batches that may follow
 pub may_join : (history more : List Batch) → MayCome history more → MayCome (history ++ more) []
 may_join history more may = record {
   kept = subst (λ (l : List Batch). IsKept l) (sym (append-nil (history ++ more))) may.kept;
   ruly = subst (λ (l : List Batch). IsTrue (is_ruly l)) (sym (append-nil (history ++ more))) may.ruly;
 }
 
--- some batches are at least one
+-- a non-empty list of batches has at least one
 some_in : (batches : List Batch) → batches ≢ [] → 1 ≤ length batches
 some_in [] some = absurd (some refl)
 some_in (batch ∷ batches) some = omega arith
 
--- ---- what an office keeps
+-- ---- the state of an office
 
 -- the state of a journal with nothing in doubt, and with batches in doubt
 pub certain_state : {D : Type 0} (journal : Shelf D) (history : List Batch) → batches_of journal.frames ≡ history → journal.doubt ≡ []
@@ -56,12 +56,13 @@ pub certain_state : {D : Type 0} (journal : Shelf D) (history : List Batch) → 
 certain_state journal history same none =
     ap (λ (l : List Batch). uncertain l journal.doubt) same ∙ ap (λ (l : List Batch). uncertain history l) none
 
+-- the state of a journal with batches in doubt
 pub doubtful_state : {D : Type 0} (journal : Shelf D) (history doubt : List Batch) → batches_of journal.frames ≡ history → journal.doubt ≡ doubt
     → state_of journal ≡ uncertain history doubt
 doubtful_state journal history doubt same is =
     ap (λ (l : List Batch). uncertain l journal.doubt) same ∙ ap (λ (l : List Batch). uncertain history l) is
 
--- .. and with a frame added
+-- the state of a journal with one more frame
 pub added_state : {D : Type 0} (old new : Shelf D) (batches : List Batch) → new.frames ≡ old.frames ++ batches ∷ [] → new.doubt ≡ []
     → state_of new ≡ certain (batches_of old.frames ++ batches)
 added_state old new batches frames none =
@@ -97,7 +98,7 @@ module _ {D : Type 0} (content_of : D → Option (List ℕ)) (images_of : D → 
     stands = stands;
   }
 
-  -- a settling that failed leaves it
+  -- a failed settling does not change it
   pub book_still : (old new : Shelf D) (archive : Held) (copies : List Batch) → IsBook content_of images_of old archive copies
       → new.frames ≡ old.frames → new.doubt ≡ old.doubt
       → OnDisk (content_of new.disk) (images_of new.disk) (λ image. OpensAs image new.frames new.doubt) → IsBook content_of images_of new archive copies
@@ -110,7 +111,7 @@ module _ {D : Type 0} (content_of : D → Option (List ℕ)) (images_of : D → 
     stands = stands_on new opens;
   }
 
-  -- batches that are gone
+  -- batches in doubt that are gone
   pub book_gone : (old new : Shelf D) (archive : Held) (copies left : List Batch) → IsBook content_of images_of old archive copies
       → new.frames ≡ old.frames → new.doubt ≡ [] → left ≡ []
       → OnDisk (content_of new.disk) (images_of new.disk) (λ image. OpensAs image new.frames new.doubt) → IsBook content_of images_of new archive left
@@ -120,7 +121,7 @@ module _ {D : Type 0} (content_of : D → Option (List ℕ)) (images_of : D → 
       (book.adopted ∙ ap batches_of (sym frames)) empty (stands_on new opens)
 
   module _ (left_of : D → ℕ → List ℕ → Type 0) (clock_of name_of faults_of : D → ℕ) where
-    -- what a settling did
+    -- the effect of a settling
     settle_moves : (old new : Shelf D) → frames_written new ≤ frames_written old + 0 → Keeps clock_of name_of faults_of old.disk new.disk
         → BothTold (content_of old.disk) (content_of new.disk) (λ old new. new ≡ old)
         → LeavesOnly clock_of left_of old.disk new.disk (λ image. Told (content_of old.disk) (λ _. OpensToEither image old.frames old.doubt))
@@ -163,7 +164,7 @@ module _ {D : Type 0} (content_of : D → Option (List ℕ)) (images_of : D → 
         let some = some_in old.doubt doubt in
         settle_moves old new (omega arith)
 
-    -- a frame that stands
+    -- a frame that is kept
     pub moves_added : (old new : Shelf D) (batches : List Batch) → new.frames ≡ old.frames ++ batches ∷ [] → new.doubt ≡ []
         → Keeps clock_of name_of faults_of old.disk new.disk
         → BothTold (content_of old.disk) (content_of new.disk) (λ old new. length old ≤ length new)
@@ -196,7 +197,7 @@ module _ {D : Type 0} (content_of : D → Option (List ℕ)) (images_of : D → 
         (subst (λ (d : List Batch). OpensToEither image new.frames d) (sym doubt)
         (subst (λ (l : List (List Batch)). OpensToEither image l batches) (sym frames) either)))) keeps grows (omega arith) leaves opens
 
-    -- nothing of a frame
+    -- a frame that is not written
     pub moves_shut : (old new : Shelf D) → old.doubt ≡ [] → new.frames ≡ old.frames → new.doubt ≡ [] → Keeps clock_of name_of faults_of old.disk new.disk
         → BothTold (content_of old.disk) (content_of new.disk) (λ old new. length old ≤ length new)
         → LeavesOnly clock_of left_of old.disk new.disk (λ image. Told (content_of old.disk) (λ _. OpensTo image old.frames))

@@ -1,4 +1,4 @@
--- Batches that are asked to be kept at once: what is said to each, behind those before it.
+-- Batches that are sent in one call: the reply to each, after those before it.
 use Rattle.std.proofs.Common.{◌≡◌, ◌≢◌, ◌⊎◌, inl, inr, ℕ, zero, suc, ◌+◌, ◌<◌, ◌≤◌, Bool, true, false, ◌&&◌, ◌==◌, Option, Some, None, is_none, List}
 use Rattle.std.proofs.Common.{[], ◌∷◌, ◌++◌}
 use Rattle.std.proofs.Common.{length, take, drop, get_or, replicate, refl, sym, ◌∙◌, ap, subst, arith, add-one, append_assoc, length-append}
@@ -30,9 +30,9 @@ use Rattle.office_views.specs.Answers.{IsView}
 use Rattle.office_book.proofs.HistoryLemmas.{kept_more, ruly_more}
 use Rattle.office_book.proofs.KeepLemmas.{adds_it, adds_one, receipted, serves_said}
 
--- ---- requests one after the other
+-- ---- consecutive requests
 
--- the first of some requests, and those behind it
+-- the first of some requests, and those after it
 serve_more : (faulty : Type 0) (history between : List Batch) (request : Request) (asked : List Request) (reply : Reply) (said : List Reply)
     (requests : List Request) (replies : List Reply) (next : State)
     → ((after : List Batch) → Serves ⊥ after asked said (certain between) → Serves faulty after (asked ++ requests) (said ++ replies) next)
@@ -47,7 +47,7 @@ serve_more faulty history between request asked (NoSuch what) said requests repl
 serve_more faulty history between request asked Fault said requests replies next rest one = absurd one.why
 serve_more faulty history between request asked Memory said requests replies next rest one = (one.0, rest history one.1)
 
--- requests without a fault, and others behind them
+-- requests without a disk error, followed by others
 pub serves_join : (faulty : Type 0) (history between : List Batch) (asked : List Request) (said : List Reply) (requests : List Request)
     (replies : List Reply) (next : State)
     → Serves ⊥ history asked said (certain between) → Serves faulty between requests replies next
@@ -60,7 +60,7 @@ serves_join faulty history between (request ∷ asked) (reply ∷ said) requests
     serve_more faulty history between request asked reply said requests replies next
     (λ after rest. serves_join faulty after between asked said requests replies next rest two) one
 
--- .. and nothing behind them
+-- requests without a disk error, followed by none
 pub serves_whole : (faulty : Type 0) (history between : List Batch) (asked : List Request) (said : List Reply) (next : State)
     → Serves ⊥ history asked said (certain between) → next ≡ certain between → Serves faulty history asked said next
 serves_whole faulty history between asked said next one stays =
@@ -68,7 +68,7 @@ serves_whole faulty history between asked said next one stays =
     (subst (λ (l : List Request). Serves faulty history l (said ++ []) next) (append-nil asked)
     (serves_join faulty history between asked said [] [] next one stays))
 
--- what requests add, and what others add behind them
+-- the batches that requests add, and those that later ones add
 pub added_join : (history : List Batch) (asked requests : List Request)
     → added history (asked ++ requests) ≡ added history asked ++ added (history ++ added history asked) requests
 added_join history [] requests = ap (λ (l : List Batch). added l requests) (sym (append-nil history))
@@ -89,7 +89,7 @@ added_join history (request ∷ asked) requests =
           (append_assoc history (batch ∷ []) (added (history ++ batch ∷ []) asked)))
     ]
 
--- how many requests stand before the first that adds a batch, with one request more
+-- the number of requests before the first one that adds a batch, with one more request
 pub before_next : (history : List Batch) (asked : List Request) (request : Request)
     → (added history (asked ++ request ∷ []) ≡ [] → before_adding history (asked ++ request ∷ []) ≡ before_adding history asked + 1)
     × (added history (asked ++ request ∷ []) ≢ [] → before_adding history (asked ++ request ∷ []) ≡ before_adding history asked)
@@ -124,6 +124,7 @@ before_next history (other ∷ asked) request =
 
 -- ---- a request that adds nothing
 
+-- a batch that adds nothing leaves the history unchanged
 batch_same : (history : List Batch) (batch : Batch) (reply : Reply) (after : List Batch) → batch_added history (Sync batch) ≡ None
     → AnswersBatch history batch reply after → after ≡ history
 batch_same history batch (Receipt handheld number position) after none answers = elim answers.2 [
@@ -138,7 +139,7 @@ batch_same history batch (NoSuch what) after none answers = absurd answers
 batch_same history batch Fault after none answers = absurd answers
 batch_same history batch Memory after none answers = absurd answers
 
--- its answer leaves the history
+-- its reply leaves the history unchanged
 answers_same : (history : List Batch) (request : Request) (reply : Reply) (after : List Batch) → batch_added history request ≡ None
     → Answers history request reply after → after ≡ history
 answers_same history (Sync batch) reply after none answers = batch_same history batch reply after none answers
@@ -149,9 +150,9 @@ answers_same history (Route unit day stops) reply after none answers = answers.1
 answers_same history (Percent unit quarter day) reply after none answers = answers.1
 answers_same history (ReportView unit half day) reply after none answers = answers.1
 
--- ---- a frame that failed
+-- ---- a frame that was not written
 
--- the answer before the first fault
+-- the reply before the first disk error
 follow_none : (faulty : Type 0) (history : List Batch) (request : Request) (requests : List Request) (reply : Reply) (said : List Reply) (after : List Batch)
     (replies : List Reply) (next : State) → batch_added history request ≡ None → Serves ⊥ history (request ∷ requests) (reply ∷ said) (certain after)
     → (Serves ⊥ history requests said (certain after) → Serves faulty history requests replies next)
@@ -195,7 +196,7 @@ follow_none faulty history request requests (NoSuch what) said after replies nex
 follow_none faulty history request requests Fault said after replies next none serves rest = absurd serves.why
 follow_none faulty history request requests Memory said after replies next none serves rest = (serves.0, rest serves.1)
 
--- the first fault, and those behind it
+-- the first disk error, and the replies after it
 follow_some : (faulty : Type 0) (history : List Batch) (request : Request) (requests : List Request) (faults : List Reply) (next : State) (batch : Batch)
     → batch_added history request ≡ Some batch → faulty
     → (next ≡ certain history) ⊎ (next ≡ uncertain history (added history (request ∷ requests)))
@@ -209,7 +210,7 @@ follow_some faulty history request requests (one ∷ faults) next batch adds why
 take_one_more : (n : ℕ) (reply : Reply) (said : List Reply) → take (n + 1) (reply ∷ said) ≡ reply ∷ take n said
 take_one_more n reply said = rw add-one refl
 
--- what was said before the first request that adds a batch stays, and the others are answered by faults
+-- the replies before the first request that adds a batch are unchanged, and the others are disk errors
 pub faults_follow : (faulty : Type 0) (history : List Batch) (requests : List Request) (said : List Reply) (after : List Batch) (next : State) (first : ℕ)
     (faults : List Reply) → Serves ⊥ history requests said (certain after) → first ≡ before_adding history requests → faulty
     → (next ≡ certain history) ⊎ (next ≡ uncertain history (added history requests)) → added history requests ≢ []
@@ -245,7 +246,7 @@ faults_follow faulty history (request ∷ requests) (reply ∷ said) after next 
           (follow_some faulty history request requests faults next one.0 one.1 why leaves each (omega arith))
     ]
 
--- ---- one batch behind others of its group
+-- ---- one batch after others of its group
 
 not_added : (b : Bool) (batch : Batch) → b ≡ false → (if b then Some batch else None) ≡ None
 not_added b batch is = rw is refl
@@ -257,14 +258,14 @@ judged_refused : (o : Option ℕ) (v : Verdict) → is_pass v ≡ false → (is_
 judged_refused None v denied = denied
 judged_refused (Some position) v denied = refl
 
--- a history is not itself with one batch more
+-- a history with one more batch is a different one
 not_longer : (history : List Batch) (batch : Batch) → history ≡ history ++ batch ∷ [] → ⊥
 not_longer history batch is =
     let long = ap length is in
     let more = length-append history (batch ∷ []) in
     omega arith
 
--- what is said to a batch that is not added
+-- the reply to a batch that is not added
 said_adds : (history : List Batch) (batch : Batch) (reply : Reply) → AnswersBatch history batch reply history → is_accepted history batch ≡ false
 said_adds history batch (Receipt handheld number position) answers = elim answers.2 [
   | inl kept ↦ kept_refused (position_of (identity_of batch) history) (verdict_on history batch) position kept.0.0
@@ -281,12 +282,13 @@ said_adds history batch (NoSuch what) answers = absurd answers
 said_adds history batch Fault answers = absurd answers
 said_adds history batch Memory answers = absurd answers
 
--- it adds nothing
+-- such a batch adds nothing
 adds_none : (history : List Batch) (batch : Batch) (reply : Reply) → IsSaid history batch reply → added history (Sync batch ∷ []) ≡ []
 adds_none history batch reply said =
     ap (λ (o : Option Batch). elim o as (λ _. List Batch) [ None ↦ [] | Some more ↦ more ∷ [] ])
     (not_added (is_accepted history batch) batch (said_adds history batch reply said.answers))
 
+-- the reply to a batch that is not added, after others of its group
 pub told_said : (history : List Batch) (batch : Batch) (others : List Batch) (reply : Reply) → MayCome history others
     → IsSaid (history ++ others) batch reply → IsTold history batch others others reply
 told_said history batch others reply may said = record {
@@ -296,12 +298,12 @@ told_said history batch others reply may said = record {
   ruled = said.ruled;
 }
 
--- something holds of each with one more
+-- a property of each element, with one more
 all_push : {X : Type 0} (P : X → Type 0) (xs : List X) (x : X) → AllByRecursion P xs → P x → AllByRecursion P (xs ++ x ∷ [])
 all_push P [] x each p = (p, tt)
 all_push P (y ∷ xs) x each p = (each.0, all_push P xs x each.1 p)
 
--- a batch that is new and passes behind the others goes behind them
+-- a batch that is new and passes after the others is added to them
 pub told_added : (history : List Batch) (batch : Batch) (others : List Batch) (position : ℕ) → MayCome history others
     → IsNew (history ++ others) batch → verdict_on (history ++ others) batch ≡ Pass → position ≡ length (history ++ others) + 1
     → IsTold history batch others (others ++ batch ∷ []) (Receipt batch.handheld batch.number position)
@@ -363,31 +365,32 @@ unwritten_next history asked said batch reply unwritten serves rule = record {
   ruled = all_push HasRule said reply unwritten.ruled rule;
 }
 
--- ---- the requests of a group, by their places
+-- ---- the requests of a group, by place
 
--- something holds of the element at a place
+-- a property of each element, for the one at a place
 at_place : {X : Type 0} (P : X → Type 0) (xs : List X) (i : ℕ) (x : X) → AllByRecursion P xs → i < length xs → x ≡ get_or xs i x → P x
 at_place P [] i x each within is = absurd (omega arith)
 at_place P (y ∷ xs) zero x each within is = subst P (sym is) each.0
 at_place P (y ∷ xs) (suc i) x each within is = at_place P xs i x each.1 (omega arith) is
 
--- a request of a group is to keep a batch
+-- a request of a group is a batch
 pub asks_batch : (requests : List Request) (i : ℕ) (request : Request) → AllByRecursion IsSync requests → i < length requests
     → request ≡ get_or requests i request → IsSync request
 asks_batch requests i request syncs within is = at_place IsSync requests i request syncs within is
 
--- the requests up to one, and it
+-- the requests up to one, including it
 next_request : (requests : List Request) (i : ℕ) (request : Request) (batch : Batch) → i < length requests → request ≡ get_or requests i request
     → request ≡ Sync batch → take (i + 1) requests ≡ take i requests ++ Sync batch ∷ []
 next_request requests i request batch within is asks =
     rw (add-one, take-suc requests i request within) (ap (λ (r : Request). take i requests ++ r ∷ []) (sym is ∙ asks))
 
--- a list stays as long where one element is put in its place
+-- replacing an element does not change the length
 pub length_set : {X : Type 0} (xs : List X) (i : ℕ) (x : X) → length (slice_set xs i x) ≡ length xs
 length_set [] i x = refl
 length_set (y ∷ xs) zero x = refl
 length_set (y ∷ xs) (suc i) x = ap suc (length_set xs i x)
 
+-- the replies so far, with one more, if no batch is added
 pub unwritten_at : (history : List Batch) (requests : List Request) (i : ℕ) (request : Request) (batch : Batch) (replies : List Reply) (reply : Reply)
     → i < length replies → i < length requests → request ≡ get_or requests i request → request ≡ Sync batch → IsUnwritten history (take i requests) (take i replies)
     → Serves ⊥ history (Sync batch ∷ []) (reply ∷ []) (certain history) → HasRule reply
@@ -401,6 +404,7 @@ unwritten_at history requests i request batch replies reply room within is asks 
 pub unwritten_none : (history : List Batch) → IsUnwritten history [] []
 unwritten_none history = record { serves = refl; ruled = tt }
 
+-- the replies so far, with one more
 pub sorted_at : (history : List Batch) (requests : List Request) (i : ℕ) (request : Request) (batch : Batch) (replies : List Reply) (reply : Reply)
     (old new : List Batch) (first more : ℕ) → i < length replies → i < length requests → request ≡ get_or requests i request → request ≡ Sync batch
     → IsSorted history (take i requests) (take i replies) old first → IsTold history batch old new reply
@@ -411,7 +415,7 @@ sorted_at history requests i request batch replies reply old new first more room
     (subst (λ (l : List Request). IsSorted history l (take i replies ++ reply ∷ []) new more) (sym (next_request requests i request batch within is asks))
     (sorted_next history (take i requests) (take i replies) old new first more batch reply sorted told none some))
 
--- something holds of each of a front, and of two lists together
+-- a property of each element, for a prefix and for two lists
 all_take : {X : Type 0} (P : X → Type 0) (n : ℕ) (xs : List X) → AllByRecursion P xs → AllByRecursion P (take n xs)
 all_take P zero xs each = tt
 all_take P (suc n) [] each = tt
@@ -421,11 +425,12 @@ all_append : {X : Type 0} (P : X → Type 0) (xs ys : List X) → AllByRecursion
 all_append P [] ys one two = two
 all_append P (x ∷ xs) ys one two = (one.0, all_append P xs ys one.1 two)
 
--- a batch that a request adds is its own
+-- the batch that a request adds is its own
 own_batch : (b : Bool) (one batch : Batch) → (if b then Some one else None) ≡ Some batch → one ≡ batch
 own_batch true one batch is = same_Some one batch is
 own_batch false one batch is = absurd cc
 
+-- the batch that a request of a handheld adds is of a handheld
 added_own : (history : List Batch) (request : Request) (batch : Batch) → IsFromHandheld request → batch_added history request ≡ Some batch → IsOfHandheld batch
 added_own history (Sync one) batch from is = subst IsOfHandheld (own_batch (is_accepted history one) one batch is) from
 added_own history (Due unit day) batch from is = absurd from
@@ -435,7 +440,7 @@ added_own history (Route unit day stops) batch from is = absurd from
 added_own history (Percent unit quarter day) batch from is = absurd from
 added_own history (ReportView unit half day) batch from is = absurd from
 
--- what batches of handhelds add is of handhelds
+-- batches added by requests of handhelds are of handhelds
 added_alike : (history : List Batch) (requests : List Request) → AllByRecursion IsFromHandheld requests → AllByRecursion IsOfHandheld (added history requests)
 added_alike history [] alike = tt
 added_alike history (request ∷ requests) alike =
@@ -450,7 +455,7 @@ added_alike history (request ∷ requests) alike =
     by None own none some = none
     by (Some batch) own none some = (own batch refl, some batch)
 
--- so is what stands before one of a group: before the first of it nothing stands
+-- the batches before one of a group are of handhelds; there are none before the first
 pub alike_before : (history : List Batch) (requests : List Request) (i : ℕ) (batches : List Batch) → MayShareFrame requests → i < length requests
     → added history (take i requests) ≡ batches → AllByRecursion IsOfHandheld batches
 alike_before history requests zero batches share within adds = subst (λ (l : List Batch). AllByRecursion IsOfHandheld l) adds tt
@@ -458,7 +463,7 @@ alike_before history requests (suc i) batches share within adds =
     subst (λ (l : List Batch). AllByRecursion IsOfHandheld l) adds
     (added_alike history (take (suc i) requests) (all_take IsFromHandheld (suc i) requests (share (omega arith))))
 
--- a request adds one batch at most
+-- a request adds at most one batch
 pub one_told : (history : List Batch) (batch : Batch) (old new : List Batch) (reply : Reply) → IsTold history batch old new reply → length new ≤ length old + 1
 one_told history batch old new reply told =
     let one = one_added (batch_added (history ++ old) (Sync batch)) in
@@ -470,7 +475,7 @@ one_told history batch old new reply told =
     one_added None = omega arith
     one_added (Some more) = omega arith
 
--- .. so that it stands before no more requests than there are
+-- the requests before the first one that adds a batch are at most all requests
 pub before_within : (history : List Batch) (requests : List Request) → before_adding history requests ≤ length requests
 before_within history [] = omega arith
 before_within history (request ∷ requests) = by (batch_added history request) (before_within history requests)
@@ -480,14 +485,14 @@ before_within history (request ∷ requests) = by (batch_added history request) 
     by None rest = omega arith
     by (Some batch) rest = omega arith
 
--- ---- replies without a fault
+-- ---- replies without a disk error
 
--- so it is where faults follow what was said
+-- replies name a rule if disk errors follow them
 pub cut_ruled : (first : ℕ) (said faults : List Reply) → AllByRecursion HasRule said → AllByRecursion HasRule faults
     → AllByRecursion HasRule (take first said ++ faults)
 cut_ruled first said faults one two = all_append HasRule (take first said) faults (all_take HasRule first said one) two
 
--- requests add no more batches than they are
+-- requests add at most as many batches as there are requests
 pub added_within : (history : List Batch) (requests : List Request) → length (added history requests) ≤ length requests
 added_within history [] = omega arith
 added_within history (request ∷ requests) =
@@ -501,12 +506,12 @@ added_within history (request ∷ requests) =
     by None none some = omega arith
     by (Some batch) none some = let rest = some batch in omega arith
 
--- one more or none
+-- one more batch or none
 pub more_within : (batches : List Batch) (first more i : ℕ) → first ≤ i → (batches ≡ [] → more ≡ first + 1) → (batches ≢ [] → more ≡ first) → more ≤ i + 1
 more_within [] first more i within none some = let is = none refl in omega arith
 more_within (batch ∷ batches) first more i within none some = let is = some (λ empty. cc) in omega arith
 
--- what a test of the length says
+-- a test of the length
 pub none_held : (batches : List Batch) (n : ℕ) → n ≡ length batches → (n == 0) ≡ true → batches ≡ []
 none_held [] n long test = refl
 none_held (batch ∷ batches) n long test = absurd (let none : n ≡ 0 = grind (arith, nat_tests) in omega arith)
@@ -515,26 +520,26 @@ pub some_held : (batches : List Batch) (n : ℕ) → n ≡ length batches → (n
 some_held [] n long test empty = let some : n ≢ 0 = grind (arith, nat_tests) in some (omega arith)
 some_held (batch ∷ batches) n long test empty = cc
 
--- ---- faults in place of replies
+-- ---- disk errors in place of replies
 
 replicate_more : (n : ℕ) → replicate n Fault ++ Fault ∷ [] ≡ Fault ∷ replicate n Fault
 replicate_more zero = refl
 replicate_more (suc n) = ap (λ (l : List Reply). Fault ∷ l) (replicate_more n)
 
--- one fault more behind a front and faults
+-- one more disk error after some replies and disk errors
 pub faults_more : (front : List Reply) (n m : ℕ) → m ≡ n + 1 → (front ++ replicate n Fault) ++ Fault ∷ [] ≡ front ++ replicate m Fault
 faults_more front n m more =
     let next : suc n ≡ m = omega arith in
     append_assoc front (replicate n Fault) (Fault ∷ [])
     ∙ ap (λ (l : List Reply). front ++ l) (replicate_more n ∙ ap (λ (k : ℕ). replicate k Fault) next)
 
--- no fault yet
+-- no disk errors yet
 pub faults_none : (front : List Reply) (n : ℕ) → n ≡ 0 → front ≡ front ++ replicate n Fault
 faults_none front n none = sym (append-nil front) ∙ ap (λ (k : ℕ). front ++ replicate k Fault) (sym none)
 
 -- ---- a group that adds nothing
 
--- the first of some replies, where its request adds nothing
+-- the first of some replies, if its request adds nothing
 quiet_step : (faulty : Type 0) (history : List Batch) (request : Request) (requests : List Request) (reply : Reply) (replies : List Reply) (next : State)
     (P : Type 0) → batch_added history request ≡ None → (Serves faulty history requests replies next → P)
     → Serves faulty history (request ∷ requests) (reply ∷ replies) next → IsNoFault reply × P
@@ -554,7 +559,7 @@ quiet_step faulty history request requests Fault replies next P none rest serves
     absurd (let clash : Some serves.batch ≡ None = sym serves.adds ∙ none in cc)
 quiet_step faulty history request requests Memory replies next P none rest serves = (λ is. cc, rest serves.1)
 
--- requests that add nothing have no fault, and leave the state
+-- requests that add nothing have no disk error, and leave the state unchanged
 quiet_added : (faulty : Type 0) (history : List Batch) (requests : List Request) (replies : List Reply) (next : State)
     → Serves faulty history requests replies next → added history requests ≡ [] → AllByRecursion IsNoFault replies × (next ≡ certain history)
 quiet_added faulty history [] [] next serves none = (tt, serves)
@@ -580,7 +585,7 @@ quiet_added faulty history (request ∷ requests) (reply ∷ replies) next serve
           absurd (let clash : one.0 ∷ added (history ++ one.0 ∷ []) requests ≡ [] = sym full ∙ none in cc)
     ]
 
--- so do requests that are all answered by want of memory
+-- requests that all ran out of memory leave the state unchanged too
 quiet_memory : (faulty : Type 0) (history : List Batch) (requests : List Request) (replies : List Reply) (next : State)
     → Serves faulty history requests replies next → AllByRecursion (λ (reply : Reply). reply ≡ Memory) replies
     → AllByRecursion IsNoFault replies × (next ≡ certain history)
@@ -592,7 +597,7 @@ quiet_memory faulty history (request ∷ requests) (reply ∷ replies) next serv
     let rest = quiet_memory faulty history requests replies next wanting.1 all.1 in
     ((λ is. let clash : Fault ≡ Memory = sym is ∙ all.0 in cc, rest.0), rest.1)
 
--- in each of these ways
+-- each of these ways
 pub quiet : (faulty : Type 0) (history : List Batch) (requests : List Request) (replies : List Reply) (next : State)
     → Serves faulty history requests replies next → AddsNothing history next.history requests replies
     → AllByRecursion IsNoFault replies × (next.history ≡ history)
@@ -602,7 +607,7 @@ quiet faulty history requests replies next serves (inr (inl all)) =
     let both = quiet_memory faulty history requests replies next serves all in (both.0, ap (λ (s : State). s.history) both.1)
 quiet faulty history requests replies next serves (inr (inr both)) = both
 
--- a history is not itself with some batches more
+-- a history with some more batches is a different one
 pub not_grown : (history batches : List Batch) → batches ≢ [] → history ++ batches ≡ history → ⊥
 not_grown history [] some is = some refl
 not_grown history (batch ∷ batches) some is =
@@ -610,13 +615,13 @@ not_grown history (batch ∷ batches) some is =
     let more = length-append history (batch ∷ batches) in
     omega arith
 
--- there is a fault among the replies
+-- some reply is a disk error
 pub fault_among : (front : List Reply) (n : ℕ) → 0 < n → AllByRecursion IsNoFault (front ++ replicate n Fault) → ⊥
 fault_among [] zero some each = omega arith
 fault_among [] (suc n) some each = each.0 refl
 fault_among (reply ∷ front) n some each = fault_among front n some each.1
 
--- a group that adds a batch has a request that is the first to do so
+-- if a group adds a batch, some request is the first to add one
 pub before_some : (history : List Batch) (requests : List Request) → added history requests ≢ [] → before_adding history requests < length requests
 before_some history [] some = absurd (some refl)
 before_some history (request ∷ requests) some =
@@ -645,21 +650,21 @@ from_syncs : (requests : List Request) → AllByRecursion IsFromHandheld request
 from_syncs [] each = tt
 from_syncs (request ∷ requests) each = (from_sync request each.0, from_syncs requests each.1)
 
--- a group that begins with a batch is of batches
+-- a group that begins with a batch consists of batches
 pub all_sync : (requests : List Request) (first : Request) → MayShareFrame requests → first ≡ get_or requests 0 first → IsSync first
     → AllByRecursion IsSync requests
 all_sync [] first share is sync = tt
 all_sync (request ∷ []) first share is sync = (subst IsSync is sync, tt)
 all_sync (request ∷ other ∷ requests) first share is sync = from_syncs (request ∷ other ∷ requests) (share (omega arith))
 
--- one that begins with another request is that request
+-- a group that begins with another request consists only of it
 pub alone : (requests : List Request) (first : Request) → MayShareFrame requests → 0 < length requests → first ≡ get_or requests 0 first
     → (IsFromHandheld first → ⊥) → requests ≡ first ∷ []
 alone [] first share some is other = absurd (omega arith)
 alone (request ∷ []) first share some is other = ap (λ (r : Request). r ∷ []) (sym is)
 alone (request ∷ one ∷ requests) first share some is other = absurd (other (subst IsFromHandheld (sym is) (share (omega arith)).0))
 
--- a view is no batch of a handheld
+-- a view is not a batch of a handheld
 pub view_alone : (request : Request) → IsView request → IsFromHandheld request → ⊥
 view_alone (Sync batch) view from = view
 view_alone (Due unit day) view from = from
@@ -673,7 +678,7 @@ drop_front : (front said : List Reply) → drop (length front) (front ++ said) �
 drop_front [] said = refl
 drop_front (reply ∷ front) said = drop_front front said
 
--- none of what was put behind others is a fault
+-- no added reply is a disk error
 pub own_part : (front all said : List Reply) → all ≡ front ++ said → PutsNoFault front all → AllByRecursion IsNoFault said
 own_part front all said is puts =
     let same : puts.0 ≡ said =

@@ -1,4 +1,4 @@
--- Histories with more batches behind them: what may be kept, what passes, and what is new.
+-- Histories with more batches after them: which may be kept, which pass, and which are new.
 use Rattle.std.proofs.Common.{◌≡◌, inl, inr, ℕ, suc, ◌+◌, ◌<◌, ◌≤◌, Bool, true, false, Option, Some, None, is_some, List, [], ◌∷◌, ◌++◌, length}
 use Rattle.std.proofs.Common.{take, drop}
 use Rattle.std.proofs.Common.{get_or, map, refl, sym, ◌∙◌, ap, subst, arith, append_assoc}
@@ -24,14 +24,14 @@ use Rattle.ldar_law.proofs.VerdictLemmas.{ruly_is_each, passes_undenied}
 use Rattle.history_laws.proofs.Passing.{one_more_passes}
 use Rattle.office_book.specs.Archive.{IsKeptAt}
 
--- nothing is where nothing is found
+-- nothing was found, so there is none
 none_where : (o : Option ℕ) → is_some o ≡ false → o ≡ None
 none_where None none = refl
 none_where (Some n) none = absurd (false≢true (sym none))
 
--- ---- one of the batches behind a history
+-- ---- one of the batches after a history
 
--- the batches before it, and those behind it
+-- the batches before it, and those after it
 pub cut_at : (history batches : List Batch) (i : ℕ) (batch : Batch) → i < length batches → batch ≡ get_or batches i batch
     → history ++ batches ≡ (history ++ take i batches) ++ batch ∷ drop (i + 1) batches
 cut_at history batches i batch within is =
@@ -55,7 +55,7 @@ kept_to history batches i batch within is kept =
     (subst (λ (l : List Batch). IsKept l) (cut_at history batches i batch within is
     ∙ sym (append_assoc (history ++ take i batches) (batch ∷ []) (drop (i + 1) batches))) kept)
 
--- a batch that may be kept behind a history is new there
+-- a batch that may be kept after a history is new there
 pub new_where_kept : (history : List Batch) (batch : Batch) → IsKept (history ++ batch ∷ []) → IsNew history batch
 new_where_kept history batch kept =
     elim (cases_Bool (is_some (position_of (identity_of batch) history))) [
@@ -68,13 +68,13 @@ pub new_at : (history batches : List Batch) (i : ℕ) (batch : Batch) → i < le
     → IsNew (history ++ take i batches) batch
 new_at history batches i batch within is kept = new_where_kept (history ++ take i batches) batch (kept_to history batches i batch within is kept)
 
--- .. and so is its identity
+-- its identity is new after those before it
 pub new_identity : (history : List Batch) (identities : List Identity) (batch : Batch) → identities ≡ map identity_of history → IsNew history batch
     → position_in (identity_of batch) identities ≡ None
 new_identity history identities batch known new =
     ap (λ (l : List Identity). position_in (identity_of batch) l) known ∙ sym (position_of-is (identity_of batch) history) ∙ new
 
--- ---- one batch more
+-- ---- one more batch
 
 -- a batch that is new and passes may be kept
 pub kept_more : (history : List Batch) (batch : Batch) → IsKept history → IsNew history batch → verdict_on history batch ≡ Pass → IsKept (history ++ batch ∷ [])
@@ -85,9 +85,9 @@ kept_more history batch kept new passes =
 pub ruly_more : (history : List Batch) (batch : Batch) → IsTrue (is_ruly history) → verdict_on history batch ≡ Pass → IsTrue (is_ruly (history ++ batch ∷ []))
 ruly_more history batch ruly passes = (one_more_passes history batch).onward ruly passes
 
--- ---- where a batch is kept
+-- ---- the position of a kept batch
 
--- the first that passes stands where it was found
+-- the first element that passes is at the place where it was found
 pub found_from : {X : Type 0} (p : X → Bool) (i : ℕ) (xs : List X) (k : ℕ) → position_from p i xs ≡ Some k → (i ≤ k) × (x : X) × (slice_get xs (k - i) ≡ Some x)
 found_from p i [] k e = absurd cc
 found_from {X = X} p i (x ∷ xs) k e = by (p x) (λ later. found_from p (i + 1) xs k later) e
@@ -104,7 +104,7 @@ found_from {X = X} p i (x ∷ xs) k e = by (p x) (λ later. found_from p (i + 1)
         let next : suc (k - (i + 1)) ≡ k - i = omega arith in
         (omega arith, found.1, subst (λ (j : ℕ). slice_get (x ∷ xs) j ≡ Some found.1) next found.2)
 
--- a batch whose identity was found stands there, with this content or with other
+-- a batch whose identity was found is kept there, with equal or with other content
 pub standing_kept : (history : List Batch) (identities : List Identity) (batch : Batch) (position : ℕ) (same : Bool) → identities ≡ map identity_of history
     → position_in (identity_of batch) identities ≡ Some position → IsTrue same ↔ (batch_at history position ≡ Some batch)
     → IsKeptAt history batch position same
@@ -118,7 +118,7 @@ standing_kept history identities batch position same known found tells =
       λ no is. false≢true (sym no ∙ tells.1 (there.2 ∙ ap Some is)),
     )
 
--- one whose identity was not found is new
+-- a batch whose identity was not found is new
 pub standing_new : (history : List Batch) (identities : List Identity) (batch : Batch) → identities ≡ map identity_of history
     → position_in (identity_of batch) identities ≡ None → IsNew history batch
 standing_new history identities batch known none =
@@ -126,7 +126,7 @@ standing_new history identities batch known none =
 
 -- ---- batches with room, one after the other
 
--- the first of those with room that are left
+-- the first of the remaining batches with room
 pub next_spare : (spare batches : List Batch) (i : ℕ) (batch : Batch) → take (length batches) spare ≡ batches → i < length batches
     → batch ≡ get_or batches i batch
     → slice_get (drop i spare) 0 ≡ Some batch

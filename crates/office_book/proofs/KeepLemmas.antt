@@ -1,4 +1,4 @@
--- What one batch is answered.
+-- The reply to one batch.
 use Rattle.std.proofs.Common.{◌≡◌, inl, inr, ℕ, ◌+◌, Bool, true, false, ◌&&◌, Option, Some, None, List, [], ◌∷◌, ◌++◌, length, refl, sym}
 use Rattle.std.proofs.Common.{◌∙◌, ap, subst}
 use Rattle.std.specs.Prelude.{IsTrue, is_none, if◌then◌else◌, Result, Ok, Err, is_err, OnErr}
@@ -18,9 +18,9 @@ use Rattle.office_book.specs.Kept.{kept_reply}
 use Rattle.office_book.specs.Serving.{certain, added, Serves}
 use Rattle.office_book.proofs.RuleLemmas.{rule_in_range}
 
--- ---- a batch that is kept, or denied, or too much
+-- ---- a batch that is kept, denied, or too large
 
--- what is said to a batch whose identity is kept
+-- the reply to a batch whose identity is kept
 pub said_kept : (history : List Batch) (batch : Batch) (position : ℕ) (same : Bool) (reply : Reply) → IsKeptAt history batch position same
     → reply ≡ kept_reply batch position same → IsSaid history batch reply
 said_kept history batch position true reply stands is =
@@ -31,15 +31,17 @@ said_kept history batch position true reply stands is =
 said_kept history batch position false reply stands is =
     subst (λ (r : Reply). IsSaid history batch r) (sym is) (record { answers = (stands.0, stands.1, stands.3 refl, refl); ruled = tt })
 
+-- the reply to a batch that is denied
 pub said_denied : (history : List Batch) (batch : Batch) (fact rule : ℕ) → IsNew history batch → verdict_on history batch ≡ DeniedBatch fact rule
     → IsSaid history batch (Denied fact rule)
 said_denied history batch fact rule new denied = record { answers = (new, denied, refl); ruled = rule_in_range history batch fact rule denied }
 
+-- the reply to a batch that is too large
 pub said_full : (history : List Batch) (batch : Batch) (facts : ℕ) → IsNew history batch → verdict_on history batch ≡ FullOffice facts
     → IsSaid history batch (Full facts)
 said_full history batch facts new full = record { answers = (new, full, refl); ruled = tt }
 
--- the state is left as it is
+-- the state is unchanged
 pub serves_said : (faulty : Type 0) (history : List Batch) (batch : Batch) (reply : Reply) (next : State) → Answers history (Sync batch) reply history
     → next ≡ certain history → Serves faulty history (Sync batch ∷ []) (reply ∷ []) next
 serves_said faulty history batch (Receipt handheld number position) next answers stays = (history, answers, stays)
@@ -63,15 +65,16 @@ accepted history batch new passes = accepted_by (position_of (identity_of batch)
 added_by : (b : Bool) (batch : Batch) → b ≡ true → (if b then Some batch else None) ≡ Some batch
 added_by b batch is = rw is refl
 
--- .. and so it is added
+-- such a batch is added
 pub adds_it : (history : List Batch) (batch : Batch) → IsNew history batch → verdict_on history batch ≡ Pass → batch_added history (Sync batch) ≡ Some batch
 adds_it history batch new passes = added_by (is_accepted history batch) batch (accepted history batch new passes)
 
--- it alone is added
+-- only this batch is added
 pub adds_one : (history : List Batch) (batch : Batch) → batch_added history (Sync batch) ≡ Some batch → added history (Sync batch ∷ []) ≡ batch ∷ []
 adds_one history batch adds =
     ap (λ (o : Option Batch). elim o as (λ _. List Batch) [ None ↦ [] | Some more ↦ more ∷ [] ]) adds
 
+-- the reply to a batch that is added: its receipt
 pub receipted : (faulty : Type 0) (history : List Batch) (batch : Batch) (position : ℕ) (next : State) → IsNew history batch → verdict_on history batch ≡ Pass
     → position ≡ length history + 1 → next ≡ certain (history ++ batch ∷ [])
     → Serves faulty history (Sync batch ∷ []) (Receipt batch.handheld batch.number position ∷ []) next

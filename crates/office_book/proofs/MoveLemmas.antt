@@ -1,4 +1,4 @@
--- Parts of a call one after the other, and the call that they make up.
+-- Consecutive parts of a call, and the call that they make up.
 use Rattle.std.proofs.Common.{◌≡◌, ◌≢◌, ◌⊎◌, inl, inr, ℕ, ◌+◌, ◌≤◌, Bool, false, Option, Some, None, List, [], ◌∷◌, ◌++◌, length, refl}
 use Rattle.std.proofs.Common.{sym, ◌∙◌, ap, subst, arith}
 use Rattle.std.specs.List.{AllByRecursion}
@@ -22,19 +22,19 @@ use Rattle.office_book.specs.Moves.{Moves}
 use Rattle.office_book.specs.Serving.{Serves, IsFound, turns_of, certain, has_some}
 use Rattle.office_book.proofs.ServingLemmas.{serves_steps, faults_steps, of_call, requests_asked, replies_given}
 
--- ---- what is told
+-- ---- exposed values
 
 told_map : {T : Type 0} (P Q : Type 0) → (P → Q) → (x : Option T) → Told x (λ _. P) → Told x (λ _. Q)
 told_map P Q f None told = tt
 told_map P Q f (Some now) told = f told
 
--- what is said where bytes are told later is said where they are told before
+-- a statement under the condition that bytes are exposed, from a later value to an earlier one
 told_back : {T : Type 0} (P : Type 0) (x y : Option T) → BothTold x y (λ _ _. Unit {0}) → Told y (λ _. P) → Told x (λ _. P)
 told_back P None y both told = tt
 told_back P (Some now) None both told = absurd both
 told_back P (Some now) (Some later) both told = told
 
--- two values tell both, whatever else holds of them
+-- both values are exposed, whatever else holds of them
 pub both_tell : {T : Type 0} (P : T → T → Type 0) (x y : Option T) → BothTold x y P → BothTold x y (λ _ _. Unit {0})
 both_tell P None None both = tt
 both_tell P None (Some new) both = absurd both
@@ -62,11 +62,12 @@ stands_either image frames doubt opens = elim opens [
   | inr after ↦ inr (frames ++ doubt ∷ [], batches_of-push frames doubt, after)
 ]
 
+-- an image of a journal opens to its history, with or without the batches in doubt
 pub stands_as : (image : List ℕ) (frames : List (List Batch)) (doubt : List Batch) → OpensAs image frames doubt → OpensEither image (batches_of frames) doubt
 stands_as image frames [] opens = inl (frames, refl, opens)
 stands_as image frames (batch ∷ doubt) opens = stands_either image frames (batch ∷ doubt) opens
 
--- what stands once a state is settled stood in it before
+-- an image in a settled state was in the state before
 pub stands_settled : (found : Finding) (state : State) (image : List ℕ) → StandsIn (settled found state) image → StandsIn state image
 stands_settled not_asked state image stands = stands
 stands_settled they_stand state image stands = elim stands [
@@ -78,12 +79,12 @@ stands_settled they_are_gone state image stands = elim stands [
   | inr more ↦ inl (subst (λ (l : List Batch). Opens image l) (append-nil state.history) more)
 ]
 
--- a count that rose from a later value on rose
+-- a count that rose since a later moment rose since an earlier one
 earlier_rise : (old middle new : ℕ) → old ≤ middle → Rose middle new → Rose old new
 earlier_rise old middle new le (inl rose) = inl (omega arith)
 earlier_rise old middle new le (inr full) = inr full
 
--- no more turns than requests
+-- there are at most as many turns as requests
 turns_within : (found : Finding) (doubt : Bool) (before : ℕ) (end : Moment) (requests : List Request) (replies : List Reply)
     → length (turns_of found doubt before end requests replies) ≤ length requests
 turns_within found doubt before end [] replies = omega arith
@@ -91,7 +92,7 @@ turns_within found doubt before end (request ∷ requests) [] = omega arith
 turns_within found doubt before end (request ∷ requests) (reply ∷ replies) =
     let rest = turns_within not_asked doubt before end requests replies in omega arith
 
--- .. and so few
+-- there are at most 16 turns
 few_turns : (found : Finding) (doubt : Bool) (before : ℕ) (end : Moment) (requests : List Request) (replies : List Reply)
     → length requests ≤ 16 → length (turns_of found doubt before end requests replies) ≤ 16
 few_turns found doubt before end requests replies few =
@@ -110,7 +111,7 @@ module _ {D : Type 0} (content_of : D → Option (List ℕ)) (images_of : D → 
     stands = stands;
   }
 
-  -- nothing was done where a frame might have been written
+  -- nothing was done, although a frame might have been written
   pub moves_nothing : (shelf : Shelf D) → OnDisk (content_of shelf.disk) (images_of shelf.disk) (StandsIn (state_of shelf))
       → Moves content_of images_of left_of clock_of name_of faults_of shelf shelf 1
   moves_nothing shelf stands = record {
@@ -121,7 +122,7 @@ module _ {D : Type 0} (content_of : D → Option (List ℕ)) (images_of : D → 
     stands = stands;
   }
 
-  -- what a call of a journal did, by what may stand in between
+  -- the effect of a call of a journal, from the images that are possible in between
   pub moves_by : (old new : Shelf D) (written : ℕ) (may : List ℕ → Type 0) (both : List ℕ → List ℕ → Type 0)
       → ((image : List ℕ) → may image → StandsIn (state_of old) image ⊎ StandsIn (state_of new) image)
       → Keeps clock_of name_of faults_of old.disk new.disk → BothTold (content_of old.disk) (content_of new.disk) both
@@ -137,7 +138,7 @@ module _ {D : Type 0} (content_of : D → Option (List ℕ)) (images_of : D → 
     stands = OnDisk-weaker _ _ (λ image. stands_as image new.frames new.doubt) (content_of new.disk) (images_of new.disk) opens;
   }
 
-  -- a settling, and what follows it
+  -- a settling, and the part after it
   pub moves_join : (old middle new : Shelf D) (written : ℕ) → ((image : List ℕ) → StandsIn (state_of middle) image → StandsIn (state_of old) image)
       → Moves content_of images_of left_of clock_of name_of faults_of old middle 0
       → Moves content_of images_of left_of clock_of name_of faults_of middle new written
@@ -179,7 +180,7 @@ module _ {D : Type 0} (content_of : D → Option (List ℕ)) (images_of : D → 
       behind = (λ image now. stands.1 image (only_now new.disk image now), tt);
     }
 
-    -- the turns of one call lead from the value before it to the value after it
+    -- the turns of one call lead from the value before to the value after
     leads_call : (old new : Shelf D) (turns : List Turn) → turns ≢ [] → length turns ≤ 16 → Steps (state_of old) turns (state_of new)
         → AllByRecursion (IsOfCall (faults_of old.disk) (moment_of clock_of faults_of new)) turns
         → Moves content_of images_of left_of clock_of name_of faults_of old new 1
@@ -203,13 +204,13 @@ module _ {D : Type 0} (content_of : D → Option (List ℕ)) (images_of : D → 
       safe = safe_call (content_of old.disk) (content_of new.disk) old new turns moves.tells moves.leaves moves.stands;
     }
 
-    -- what a call of an office ensures: these requests were asked at once, and these are their replies
+    -- what a call of an office ensures: these requests were sent in one call, and these are the replies
     abbrev pub IsCall : Shelf D → List Request → List Reply → Shelf D → Type 0
     IsCall old requests replies new =
         (call : Call) × Leads content_of left_of clock_of name_of faults_of old (call ∷ []) new × (requests_of call ≡ requests) × (replies_of call ≡ replies)
         × (call.end.clock ≤ clock_of new.disk)
 
-    -- a call that settled, if it had to, and then answered
+    -- a call that settled, if needed, and then answered
     pub serves_call : (faulty : Type 0) (old middle new : Shelf D) (found : Finding) (request : Request) (requests : List Request) (reply : Reply)
         (replies : List Reply)
         → IsFound found (state_of old) (state_of middle)

@@ -1,4 +1,4 @@
--- A history grows at its end, so what was receipted stays where it stands.
+-- A history grows at its end, so a batch with a receipt stays at its position.
 use Rattle.std.proofs.Common.{◌≡◌, inl, inr, ℕ, ◌-◌, Option, Some, None, List, [], ◌∷◌, ◌++◌, length, refl, sym, ◌∙◌, ap, subst, arith}
 use Rattle.std.proofs.Common.{append_assoc}
 use Rattle.std.specs.Prelude.{slice_get}
@@ -19,9 +19,9 @@ use Rattle.ldar_law.specs.Machine.{IsAnswered, IsWanting, BreaksOff, Step, Steps
 use Rattle.office_book.specs.Safe.{StandsIn, StandsInRun, AreBehind, IsSafe, Leads, moment_of}
 use Rattle.office_book.specs.Receipts.{HoldsAt, IsReceipted, IsReceiptKept, AreReceiptsKept}
 
--- ---- histories that go on
+-- ---- histories that grow
 
--- one history goes on from another
+-- one history begins with another
 abbrev pub GoesFrom : List Batch → List Batch → Type 0
 GoesFrom old new = (more : List Batch) × (new ≡ old ++ more)
 
@@ -31,19 +31,20 @@ from_itself old new same = ([], same ∙ sym (append-nil old))
 from_both : (a b c : List Batch) → GoesFrom a b → GoesFrom b c → GoesFrom a c
 from_both a b c one two = (one.0 ++ two.0, two.1 ∙ ap (λ (l : List Batch). l ++ two.0) one.1 ∙ append_assoc a one.0 two.0)
 
--- what stands at a place stands there in a longer list
+-- an element keeps its place in a longer list
 stays_at : {X : Type 0} (xs more : List X) (i : ℕ) (x : X) → slice_get xs i ≡ Some x → slice_get (xs ++ more) i ≡ Some x
 stays_at xs more i x stands =
     let within = slice_get_within xs i x stands in
     let longer = length-append xs more in
     slice_get-get_or (xs ++ more) i x (omega arith) ∙ ap Some (get_or-append xs more x i within ∙ get_or_from_slice_get xs i x x stands)
 
--- the last of a list stands at its end
+-- the last element of a list is at its end
 last_at : {X : Type 0} (xs : List X) (x : X) → slice_get (xs ++ x ∷ []) (length xs) ≡ Some x
 last_at xs x =
     let longer = length-append xs (x ∷ []) in
     slice_get-get_or (xs ++ x ∷ []) (length xs) x (omega arith) ∙ ap Some (get_or-append_seam xs x [] x)
 
+-- a batch at a position is there in a later history
 pub holds_later : (old new : List Batch) (position : ℕ) (batch : Batch) → GoesFrom old new → batch_at old position ≡ Some batch
     → batch_at new position ≡ Some batch
 holds_later old new position batch from stands =
@@ -51,6 +52,7 @@ holds_later old new position batch from stands =
 
 -- ---- steps of the machine
 
+-- the history after a batch begins with the one before
 batch_goes : (history : List Batch) (batch : Batch) (reply : Reply) (after : List Batch) → AnswersBatch history batch reply after → GoesFrom history after
 batch_goes history batch (Receipt handheld number position) after answers = elim answers.2 [
   | inl kept ↦ from_itself history after kept.1
@@ -64,6 +66,7 @@ batch_goes history batch (NoSuch what) after answers = absurd answers
 batch_goes history batch Fault after answers = absurd answers
 batch_goes history batch Memory after answers = absurd answers
 
+-- the history after a request begins with the one before
 answer_goes : (history : List Batch) (request : Request) (reply : Reply) (after : List Batch) → Answers history request reply after → GoesFrom history after
 answer_goes history (Sync batch) reply after answers = batch_goes history batch reply after answers
 answer_goes history (Due unit day) reply after answers = from_itself history after answers.1
@@ -73,6 +76,7 @@ answer_goes history (Route unit day stops) reply after answers = from_itself his
 answer_goes history (Percent unit quarter day) reply after answers = from_itself history after answers.1
 answer_goes history (ReportView unit half day) reply after answers = from_itself history after answers.1
 
+-- the history after a settling begins with the one before
 settled_goes : (found : Finding) (state : State) → GoesFrom state.history (settled found state).history
 settled_goes not_asked state = from_itself state.history state.history refl
 settled_goes they_stand state = (state.doubt, refl)
@@ -82,6 +86,7 @@ settled_goes they_are_gone state = from_itself state.history state.history refl
 abbrev GoesBy : Reply → State → Turn → State → Type 0
 GoesBy reply state turn next = elim reply [ Fault ↦ ⊥ | Memory ↦ IsWanting state turn next | other ↦ IsAnswered state turn next ]
 
+-- the steps of a group, by its first reply
 abbrev StepsBy : Reply → State → Turn → List Turn → State → Type 0
 StepsBy reply state turn turns next = elim reply [
   | Fault ↦ BreaksOff state turn turns next
@@ -132,14 +137,14 @@ steps_go_by (NoSuch what) state turn turns next rest steps = on_goes state turn 
 steps_go_by Fault state turn turns next rest steps = break_goes state turn turns next steps
 steps_go_by Memory state turn turns next rest steps = on_goes state turn turns next rest steps
 
--- the history goes on in the steps of a group
+-- the history grows in the steps of a group
 pub steps_go : (turns : List Turn) (state next : State) → Steps state turns next → GoesFrom state.history next.history
 steps_go [] state next steps = from_itself state.history next.history (ap (λ (s : State). s.history) steps)
 steps_go (turn ∷ turns) state next steps = steps_go_by turn.reply state turn turns next (λ between rest. steps_go turns between next rest) steps
 
 -- ---- receipts
 
--- what a receipt says stands in the history after it
+-- the batch of a receipt is at its position in the history after it
 receipt_holds : (history : List Batch) (batch : Batch) (handheld number position : ℕ) (after : List Batch)
     → AnswersBatch history batch (Receipt handheld number position) after → batch_at after position ≡ Some batch
 receipt_holds history batch handheld number position after answers = elim answers.2 [
@@ -148,7 +153,7 @@ receipt_holds history batch handheld number position after answers = elim answer
       (subst (λ (i : ℕ). slice_get (history ++ batch ∷ []) i ≡ Some batch) (let at = new.1 in omega arith) (last_at history batch))
 ]
 
--- a turn that receipted
+-- a turn with a receipt
 turn_holds : (state : State) (turn : Turn) (turns : List Turn) (next : State) (batch : Batch) (position : ℕ) → IsReceipted turn batch position
     → Steps state (turn ∷ turns) next → batch_at next.history position ≡ Some batch
 turn_holds state turn turns next batch position receipt steps =
@@ -160,7 +165,7 @@ turn_holds state turn turns next batch position receipt steps =
     holds_later by.0.history next.history position batch (steps_go turns by.0 next by.2)
     (receipt_holds (settled turn.found state).history batch receipt.handheld receipt.number position by.0.history answers)
 
--- what stands in each image that stands in some states stands in all
+-- a batch at its position in some states is there in each image of these states
 stands_holds : (state : State) (position : ℕ) (batch : Batch) (image : List ℕ) → batch_at state.history position ≡ Some batch → StandsIn state image
     → HoldsAt image position batch
 stands_holds state position batch image holds stands = elim stands [
@@ -168,6 +173,7 @@ stands_holds state position batch image holds stands = elim stands [
   | inr after ↦ record { history = state.history ++ state.doubt; opens = after; stands = stays_at state.history state.doubt (position - 1) batch holds }
 ]
 
+-- a batch at its position in a state of a run is there in all later states
 run_holds : (start end : Moment) (calls : List Call) (position : ℕ) (batch : Batch) (image : List ℕ) → Runs start calls end
     → batch_at start.state.history position ≡ Some batch → StandsInRun start.state calls image → HoldsAt image position batch
 run_holds start end [] position batch image run holds stands = stands_holds start.state position batch image holds stands
@@ -177,7 +183,7 @@ run_holds start end (call ∷ calls) position batch image run holds stands = eli
       (holds_later start.state.history call.end.state.history position batch (steps_go call.turns start.state call.end.state run.0.steps) holds) later
 ]
 
--- a fault receipts nothing
+-- a disk error has no receipt
 no_receipts : (images : List ℕ → Type 0) (turns : List Turn) → AllByRecursion (λ (turn : Turn). turn.reply ≡ Fault) turns
     → AllByRecursion (IsReceiptKept images) turns
 no_receipts images [] faults = tt
@@ -186,7 +192,7 @@ no_receipts images (turn ∷ turns) faults = (
   no_receipts images turns faults.1,
 )
 
--- the receipts behind a turn, by its reply
+-- the receipts after a turn, by its reply
 kept_by : (images : List ℕ → Type 0) (reply : Reply) (state : State) (turn : Turn) (turns : List Turn) (next : State)
     → ((between : State) → Steps between turns next → AllByRecursion (IsReceiptKept images) turns) → StepsBy reply state turn turns next
     → AllByRecursion (IsReceiptKept images) turns
@@ -219,7 +225,7 @@ receipts_of_run left start end (call ∷ calls) run behind = (
   receipts_of_run left call.end end calls run.1 behind.1,
 )
 
--- the receipts of what led from one value of an office to another
+-- the receipts of calls that lead from an office to its later value
 told_receipts : {D : Type 0} (left_of : D → ℕ → List ℕ → Type 0) (clock_of faults_of : D → ℕ) (old new : Shelf D) (calls : List Call) (x : Option (List ℕ))
     → Runs (moment_of clock_of faults_of old) calls (moment_of clock_of faults_of new) → Told x (λ _. IsSafe clock_of left_of old calls new)
     → Told x (λ _. AreReceiptsKept (left_of new.disk) calls)

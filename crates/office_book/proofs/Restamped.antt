@@ -1,4 +1,4 @@
--- A call of one turn, told with the count of faults of the moment before it, and with the count and clock of a later moment after it.
+-- A call of one turn, with the count of errors of the moment before it, and with the count and the clock of a later moment after it.
 use Rattle.std.proofs.Common.{◌≡◌, ℕ, ◌-◌, ◌<◌, ◌≤◌, ◌^◌, [], ◌∷◌, refl, sym, ◌∙◌, subst, arith, inl, inr, ⊎_elim}
 use mathlib.Core.Logic.{dite}
 use native.Mathlib.Decide.{ℕ_discrete}
@@ -8,11 +8,11 @@ use Rattle.ldar_law.specs.Machine.{State, Turn, Moment, HasFault, IsAnswered, Is
 use Rattle.ldar_law.specs.Machine.{GroupStep, IsOfCall, settled}
 use Rattle.office_book.specs.Restamps.{restamped}
 
--- what a turn is by its reply
+-- a turn, by its reply
 abbrev GoesAt : State → Turn → State → Reply → Type 0
 GoesAt state turn next reply = elim reply [ Fault ↦ ⊥ | Memory ↦ IsWanting state turn next | _ ↦ IsAnswered state turn next ]
 
--- and the only turn of a call
+-- the only turn of a call
 abbrev StepsAt : State → Turn → State → Reply → Type 0
 StepsAt state turn next reply = elim reply [
   | Fault ↦ BreaksOff state turn [] next
@@ -20,7 +20,7 @@ StepsAt state turn next reply = elim reply [
 ]
 
 module _ (turn : Turn) (before after clock : ℕ) (earlier : before ≤ turn.before) (rises : turn.before ≤ turn.after) (later : turn.after ≤ after) where
-  -- a fault is one with these counts too
+  -- a disk error is still one with these counts
   fault_still : HasFault turn → HasFault (restamped turn before after clock)
   fault_still fault =
       ⊎_elim
@@ -32,10 +32,11 @@ module _ (turn : Turn) (before after clock : ℕ) (earlier : before ≤ turn.bef
       (λ (other : ¬ (after ≡ turn.after)). inl (omega (arith, earlier, rises, later, other))))
       fault
 
-  -- so is each other reply what it was
+  -- each other reply is still correct
   answered_still : (state next : State) → IsAnswered state turn next → IsAnswered state (restamped turn before after clock) next
   answered_still state next is = record { nothing_in_doubt = is.nothing_in_doubt; none_left = is.none_left; certain = is.certain; answers = is.answers }
 
+  -- running out of memory is still that
   wanting_still : (state next : State) → IsWanting state turn next → IsWanting state (restamped turn before after clock) next
   wanting_still state next is = record { nothing_in_doubt = is.nothing_in_doubt; certain = is.certain; takes = is.takes; stays = is.stays }
 
@@ -52,9 +53,11 @@ module _ (turn : Turn) (before after clock : ℕ) (earlier : before ≤ turn.bef
   step_still : (state next : State) → Step state turn next → Step state (restamped turn before after clock) next
   step_still state next step = record { can = step.can; goes_on = goes_still (settled turn.found state) next turn.reply step.goes_on }
 
+  -- an error that leaves the state is still one
   state_still : (state next : State) → LeavesState state turn next → LeavesState state (restamped turn before after clock) next
   state_still state next is = record { faulty = fault_still is.faulty; certain = is.certain; why = is.why; stays = is.stays }
 
+  -- an error that leaves batches in doubt is still one
   doubt_still : (state next : State) → LeavesDoubt state turn [] next → LeavesDoubt state (restamped turn before after clock) [] next
   doubt_still state next is = record {
     faulty = fault_still is.faulty;
@@ -76,7 +79,7 @@ module _ (turn : Turn) (before after clock : ℕ) (earlier : before ≤ turn.bef
     others = is.others;
   }
 
-  -- and so is the call
+  -- the call is still a step
   steps_at : (state next : State) (reply : Reply) → StepsAt state turn next reply → StepsAt state (restamped turn before after clock) next reply
   steps_at state next (Receipt handheld number position) is = (is.0, step_still state is.0 is.1, is.2)
   steps_at state next (Conflict position) is = (is.0, step_still state is.0 is.1, is.2)
@@ -90,7 +93,7 @@ module _ (turn : Turn) (before after clock : ℕ) (earlier : before ≤ turn.bef
   pub steps_still : (state next : State) → Steps state (turn ∷ []) next → Steps state (restamped turn before after clock ∷ []) next
   steps_still state next is = steps_at state next turn.reply is
 
--- from a moment to a later one: the turn begins with the count of the first, and ends at the last
+-- from a moment to a later one: the turn begins with the count of errors at the first, and ends at the last
 pub restamps : (start end last : Moment) (turn : Turn) → GroupStep start (turn ∷ []) end → last.state ≡ end.state → end.faults ≤ last.faults → end.clock ≤ last.clock
     → GroupStep start (restamped turn start.faults last.faults last.clock ∷ []) last
 restamps start end last turn group same up on =

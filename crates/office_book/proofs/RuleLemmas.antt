@@ -1,4 +1,4 @@
--- What a verdict says of the rules: a denial names one of them, and a batch of a handheld that passes enters nothing into the register.
+-- What a verdict implies about the rules: a denial names one of them, and a passing batch of a handheld makes no entry in the register.
 use Rattle.std.proofs.Common.{◌≡◌, ℕ, ◌+◌, ◌≤◌, true, ◌&&◌, Option, Some, None, List, length, refl}
 use Rattle.std.proofs.Common.{ap, subst, arith}
 use Rattle.std.specs.Prelude.{nat_le}
@@ -46,7 +46,7 @@ rule_named : Option (ℕ × ℕ) → Option ℕ
 rule_named None = None
 rule_named (Some denial) = Some denial.1
 
--- what a fact is denied by
+-- the rule that denies a fact
 denied_by : (earlier : List Entry) (rule : Option ℕ) (fact number : ℕ) → option_map {U = ℕ × ℕ} (λ n. (length earlier + 1, n)) rule ≡ Some (fact, number)
     → rule ≡ Some number
 unfolding rule_named

@@ -1,4 +1,4 @@
--- What is answered to the requests of a group are steps of the machine.
+-- The replies to the requests of a group are steps of the machine.
 use Rattle.std.proofs.Common.{◌≡◌, ◌≢◌, inl, inr, ℕ, Bool, true, false, Option, Some, None, List, [], ◌∷◌, ◌++◌, length, map, refl, sym, ◌∙◌, ap}
 use Rattle.std.proofs.Common.{subst, arith}
 use Rattle.std.specs.List.{AllByRecursion}
@@ -28,7 +28,7 @@ added_by_turns found doubt before end history (request ∷ requests) (reply ∷ 
       | Some batch ↦ ap (λ (l : List Batch). batch ∷ l) (added_by_turns not_asked doubt before end (history ++ batch ∷ []) requests replies (omega arith))
     ]
 
--- turns whose replies are faults
+-- turns whose replies are disk errors
 faults_by_turns : (found : Finding) (doubt : Bool) (before : ℕ) (end : Moment) (requests : List Request) (replies : List Reply)
     → AllByRecursion (λ (reply : Reply). reply ≡ Fault) replies
     → AllByRecursion (λ (turn : Turn). turn.reply ≡ Fault) (turns_of found doubt before end requests replies)
@@ -37,7 +37,7 @@ faults_by_turns found doubt before end (request ∷ requests) [] each = tt
 faults_by_turns found doubt before end (request ∷ requests) (reply ∷ replies) each =
     (each.0, faults_by_turns not_asked doubt before end requests replies each.1)
 
--- an answer after what was found
+-- a reply after a finding
 answered : (found : Finding) (state : State) (history after : List Batch) (turn : Turn) → settled found state ≡ certain history → turn.in_doubt ≡ false
     → Answers history turn.request turn.reply after → IsAnswered (settled found state) turn (certain after)
 answered found state history after turn is sure answers = record {
@@ -47,7 +47,7 @@ answered found state history after turn is sure answers = record {
   answers = subst (λ (h : List Batch). Answers h turn.request turn.reply after) (sym (ap (λ (s : State). s.history) is)) answers;
 }
 
--- want of memory after what was found
+-- out of memory after a finding
 wanting : (found : Finding) (state : State) (history : List Batch) (turn : Turn) → settled found state ≡ certain history → turn.in_doubt ≡ false
     → TakesMemory history turn.request → IsWanting (settled found state) turn (certain history)
 wanting found state history turn is sure takes = record {
@@ -57,7 +57,7 @@ wanting found state history turn is sure takes = record {
   stays = sym is;
 }
 
--- what a request adds is some batch in doubt
+-- what a request adds is one of the batches in doubt
 some_added : (history : List Batch) (request : Request) (requests : List Request) (batch : Batch) → batch_added history request ≡ Some batch
     → has_some (added history (request ∷ requests)) ≡ true
 some_added history request requests batch adds = subst (λ (one : Option Batch). has_some (elim one [
@@ -66,7 +66,7 @@ some_added history request requests batch adds = subst (λ (one : Option Batch).
 ]) ≡ true) (sym adds) refl
 
 module _ (faulty : Type 0) (before : ℕ) (end : Moment) (rises : faulty → Rose before end.faults) where
-  -- the first fault
+  -- the first disk error
   stopped : (found : Finding) (state : State) (history : List Batch) (request : Request) (requests : List Request) (replies : List Reply)
       → CanBeFound found state → settled found state ≡ certain history → Stops faulty history request requests replies end.state
       → BreaksOff state (turn_of found (has_some end.state.doubt) before end request Fault)
@@ -101,7 +101,7 @@ module _ (faulty : Type 0) (before : ℕ) (end : Moment) (rises : faulty → Ros
         others = faults_by_turns not_asked (has_some end.state.doubt) before end requests replies stops.others;
       }
 
-  -- the first reply, and the steps behind it
+  -- the first reply, and the steps after it
   first_step : (found : Finding) (state : State) (history : List Batch) (request : Request) (requests : List Request) (reply : Reply) (replies : List Reply)
       → CanBeFound found state → settled found state ≡ certain history
       → ((after : List Batch) → Serves faulty after requests replies end.state
@@ -133,7 +133,7 @@ module _ (faulty : Type 0) (before : ℕ) (end : Moment) (rises : faulty → Ros
   steps_behind history (request ∷ requests) (reply ∷ replies) serves =
       first_step not_asked (certain history) history request requests reply replies tt refl (λ after rest. steps_behind after requests replies rest) serves
 
-  -- the steps of a group, with what was found before it
+  -- the steps of a group after a finding
   pub serves_steps : (found : Finding) (state : State) (history : List Batch) (request : Request) (requests : List Request) (reply : Reply)
       (replies : List Reply)
       → CanBeFound found state → settled found state ≡ certain history → Serves faulty history (request ∷ requests) (reply ∷ replies) end.state
@@ -141,7 +141,7 @@ module _ (faulty : Type 0) (before : ℕ) (end : Moment) (rises : faulty → Ros
   serves_steps found state history request requests reply replies can is serves =
       first_step found state history request requests reply replies can is (λ after rest. steps_behind after requests replies rest) serves
 
--- a settling that failed: all are faults, and the state stays
+-- a failed settling: all replies are disk errors, and the state is unchanged
 pub faults_steps : (before : ℕ) (end : Moment) (state : State) (request : Request) (requests : List Request) (replies : List Reply)
     → Rose before end.faults → state.doubt ≢ [] → end.state ≡ state → AllByRecursion (λ (reply : Reply). reply ≡ Fault) replies
     → Steps state (turns_of not_asked false before end (request ∷ requests) (Fault ∷ replies)) end.state
@@ -151,7 +151,7 @@ faults_steps before end state request requests replies rose doubt stays each = r
   others = faults_by_turns not_asked false before end requests replies each;
 }
 
--- each turn is of its call
+-- each turn belongs to its call
 pub of_call : (found : Finding) (doubt : Bool) (before : ℕ) (end : Moment) (requests : List Request) (replies : List Reply)
     → AllByRecursion (IsOfCall before end) (turns_of found doubt before end requests replies)
 of_call found doubt before end [] replies = tt

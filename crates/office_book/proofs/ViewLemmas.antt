@@ -1,4 +1,4 @@
--- What a view is answered.
+-- The reply to a view.
 use Rattle.std.proofs.Common.{◌≡◌, inr, Some, List, [], ◌∷◌, refl, sym, ap, subst, ◌∙◌}
 use Rattle.std.specs.Prelude.{Result, Ok, Err}
 use Rattle.std.specs.declared.alloc.AllocError.{AllocError}
@@ -17,7 +17,7 @@ use Rattle.office_views.specs.Answers.{IsShown, IsView}
 use Rattle.office_views.specs.declared.shown.Shown.{Shown as View}
 use Rattle.office_views.specs.declared.shown.Shown.TheVariants.{Text, NoSuch as NoneOf}
 
--- what is shown of the history is an answer that leaves it
+-- what is shown of the history is a reply that leaves it unchanged
 answers_view : (history : List Batch) (request : Request) (reply : Reply) → IsView request → shown history request ≡ Some reply
     → Answers history request reply history
 answers_view history (Sync batch) reply view is = absurd view
@@ -28,7 +28,7 @@ answers_view history (Route unit day stops) reply view is = (is, refl)
 answers_view history (Percent unit quarter day) reply view is = (is, refl)
 answers_view history (ReportView unit half day) reply view is = (is, refl)
 
--- what is shown is answered, and a text for which memory is wanting
+-- the reply is what is shown, or that it ran out of memory for a text
 pub serves_shown : (faulty : Type 0) (history : List Batch) (request : Request) (next : State) → IsView request → next ≡ certain history
     → (result : Result View AllocError) (reply : Reply) → reply ≡ reply_shown result → IsShown result (shown history request)
     → Serves faulty history (request ∷ []) (reply ∷ []) next
@@ -48,7 +48,7 @@ shown_ruled (Ok (Text text)) reply is = subst HasRule (sym is) tt
 shown_ruled (Ok (NoneOf what)) reply is = subst HasRule (sym is) tt
 shown_ruled (Err e) reply is = subst HasRule (sym is) tt
 
--- it is no fault
+-- it is no disk error
 pub shown_faultless : {E : Type 0} (result : Result View E) (reply : Reply) → reply ≡ reply_shown result → IsNoFault reply
 shown_faultless (Ok (Text text)) reply is = subst IsNoFault (sym is) (λ fault. cc)
 shown_faultless (Ok (NoneOf what)) reply is = subst IsNoFault (sym is) (λ fault. cc)

@@ -1,4 +1,4 @@
--- What is asked of an office at once, and what its answers keep to.
+-- The requests and replies of one call of an office.
 use Rattle.std.specs.Prelude.{◌≢◌, ◌<◌, List, length, map}
 use Rattle.std.specs.List.{AllByRecursion}
 use Rattle.ldar_law.specs.declared.request.Request.{Request}
@@ -14,7 +14,7 @@ requests_of call = map (λ turn. turn.request) call.turns
 abbrev pub replies_of : Call → List Reply
 replies_of call = map (λ turn. turn.reply) call.turns
 
--- a batch of a handheld other than 0: none of its facts enters equipment, so no denial behind it in its group rests on it
+-- a batch of a handheld other than 0: it makes no entry in the register, so denials of later batches in its group do not depend on it
 abbrev pub IsFromHandheld : Request → Type 0
 IsFromHandheld (Sync batch) = batch.handheld ≢ 0
 IsFromHandheld (Due unit day) = ⊥

@@ -1,4 +1,4 @@
--- Batches that are asked to be kept at once: what is answered to them if those that are added all stand.
+-- Batches that are sent in one call: the replies to them if all of the added ones are kept.
 use Rattle.std.specs.Prelude.{◌≡◌, ◌≢◌, ◌↔◌, ℕ, ◌+◌, ◌-◌, Bool, IsTrue, Some, None, List, [], ◌∷◌, ◌++◌, slice_get}
 use Rattle.std.specs.List.{AllByRecursion, position_from}
 use Rattle.fact_kinds.specs.declared.batch.Batch.{Batch}
@@ -15,24 +15,24 @@ use Rattle.office_book.specs.Serving.{certain, added, Serves}
 abbrev pub IsOfHandheld : Batch → Type 0
 IsOfHandheld batch = batch.handheld ≢ 0
 
--- this is said to a batch that is not added
+-- the reply to a batch that is not added
 pub record IsSaid (history : List Batch) (batch : Batch) (reply : Reply) : Type 0 where
   pub answers : Answers history (Sync batch) reply history
   pub ruled : HasRule reply
 
--- what is said to a batch behind others of its group, if those stand; it goes behind them where it is added
+-- the reply to a batch after others of its group, if those are kept; the batch follows them if it is added
 pub record IsTold (history : List Batch) (batch : Batch) (old new : List Batch) (reply : Reply) : Type 0 where
   pub serves : Serves ⊥ (history ++ old) (Sync batch ∷ []) (reply ∷ []) (certain (history ++ new))
   pub adds : new ≡ old ++ added (history ++ old) (Sync batch ∷ [])
   pub may_come : MayCome history new
   pub ruled : HasRule reply
 
--- how many requests stand before the first that adds a batch
+-- the number of requests before the first one that adds a batch
 abbrev pub before_adding : List Batch → List Request → ℕ
 before_adding history [] = 0
 before_adding history (request ∷ requests) = elim (batch_added history request) [ None ↦ before_adding history requests + 1 | Some batch ↦ 0 ]
 
--- what is said to requests if the batches that they add all stand, and these batches
+-- the replies to requests if all the batches that they add are kept, and these batches
 pub record IsSorted (history : List Batch) (requests : List Request) (said : List Reply) (batches : List Batch) (first : ℕ) : Type 0 where
   pub serves : Serves ⊥ history requests said (certain (history ++ batches))
   pub adds : added history requests ≡ batches
@@ -40,12 +40,13 @@ pub record IsSorted (history : List Batch) (requests : List Request) (said : Lis
   pub ruled : AllByRecursion HasRule said
   pub before : first ≡ before_adding history requests
 
--- what is said to requests of which none adds a batch, as memory is wanting
+-- the replies to requests of which none adds a batch, because it is out of memory
 pub record IsUnwritten (history : List Batch) (requests : List Request) (said : List Reply) : Type 0 where
   pub serves : Serves ⊥ history requests said (certain history)
   pub ruled : AllByRecursion HasRule said
 
--- the first batch with the identity of this one among others, of which the first has this position: where it stands, and whether it is the same
+-- the first of the other batches with the identity of this one, where the first of them has position `first`: its position, and whether it
+-- is the same batch
 pub record IsAmong (first : ℕ) (others : List Batch) (batch : Batch) (position : ℕ) (same : Bool) : Type 0 where
   pub stands : position_from (is_of (identity_of batch)) first others ≡ Some position
   pub kept : Batch

@@ -1,4 +1,4 @@
--- What an office keeps of its journal, and what comes of a frame that it writes.
+-- The state of an office over its journal, and the results of writing a frame.
 use Rattle.std.specs.Prelude.{◌≡◌, ◌⊎◌, ℕ, Bool, if◌then◌else◌, Option, List, ◌++◌, length, take}
 use Rattle.fact_kinds.specs.declared.batch.Batch.{Batch}
 use Rattle.ldar_journal.specs.Crash.{OnDisk}
@@ -14,8 +14,8 @@ use Rattle.office_book.specs.Safe.{StandsIn, state_of}
 use Rattle.office_book.specs.Serving.{certain, uncertain}
 use Rattle.office_views.specs.Held.{Held}
 
--- the batches of the journal and those in doubt are a ruly history; the archive has those of the journal, and room for those in doubt, of which there
--- are copies; and what a crash may leave stands in this state
+-- the batches of the journal and those in doubt are a ruly history. The archive has those of the journal, room for those in doubt, and
+-- copies of them. A crash leaves this state.
 pub record IsBook {D : Type 0} (content_of : D → Option (List ℕ)) (images_of : D → List ℕ → Type 0) (journal : Shelf D) (archive : Held)
     (copies : List Batch) : Type 0 where
   pub may_come : MayCome (batches_of journal.frames) journal.doubt
@@ -24,12 +24,12 @@ pub record IsBook {D : Type 0} (content_of : D → Option (List ℕ)) (images_of
   pub copied : copies ≡ journal.doubt
   pub stands : OnDisk (content_of journal.disk) (images_of journal.disk) (StandsIn (state_of journal))
 
--- a frame of these batches was written behind a history, or not, or may stand, or memory was wanting before it
+-- a frame of these batches was written after a history, or not, or may have been, or it was out of memory before
 abbrev pub IsWritten : Type 0 → List Batch → List Batch → Written → State → Type 0
 IsWritten faulty history batches Stands new = new ≡ certain (history ++ batches)
 IsWritten faulty history batches Fault new = faulty × ((new ≡ certain history) ⊎ (new ≡ uncertain history batches))
 IsWritten faulty history batches Memory new = new ≡ certain history
 
--- what is said to a batch whose identity is kept at a position, with the same content or with other
+-- the reply to a batch whose identity is kept at a position, with equal or with other content
 abbrev pub kept_reply : Batch → ℕ → Bool → Reply
 kept_reply batch position same = if same then Receipt batch.handheld batch.number position else Conflict position

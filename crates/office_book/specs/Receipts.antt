@@ -1,4 +1,4 @@
--- The receipts of a run of calls, and what a crash leaves of them.
+-- The receipts of a run of calls, and their batches after a crash.
 use Rattle.std.specs.Prelude.{◌≡◌, ℕ, Some, List}
 use Rattle.std.specs.List.{AllByRecursion}
 use Rattle.fact_kinds.specs.declared.batch.Batch.{Batch}
@@ -13,17 +13,17 @@ pub record HoldsAt (image : List ℕ) (position : ℕ) (batch : Batch) : Type 0 
   pub opens : Opens image history
   pub stands : batch_at history position ≡ Some batch
 
--- the turn was asked to keep this batch, and receipted it at this position
+-- the turn's request was to keep this batch, and the reply was a receipt for this position
 pub record IsReceipted (turn : Turn) (batch : Batch) (position : ℕ) : Type 0 where
   pub handheld : ℕ
   pub number : ℕ
   pub asked : turn.request ≡ Sync batch
   pub told : turn.reply ≡ Receipt handheld number position
 
--- what a turn receipted stands in each of these images
+-- the batch of the turn's receipt is at its position in each of these images
 abbrev pub IsReceiptKept : (List ℕ → Type 0) → Turn → Type 0
 IsReceiptKept images turn = (batch : Batch) (position : ℕ) → IsReceipted turn batch position → (image : List ℕ) → images image → HoldsAt image position batch
 
--- what the turns of calls receipted stands in each image that was left since the call returned
+-- the batches of the receipts of these calls are at their positions in each image left since their call returned
 abbrev pub AreReceiptsKept : (ℕ → List ℕ → Type 0) → List Call → Type 0
 AreReceiptsKept left calls = AllByRecursion (λ call. AllByRecursion (IsReceiptKept (left call.end.clock)) call.turns) calls

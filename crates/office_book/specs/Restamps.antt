@@ -1,8 +1,8 @@
--- A turn told with other counts and another clock.
+-- A turn with other counts of errors and another clock.
 use Rattle.std.specs.Prelude.{ℕ}
 use Rattle.ldar_law.specs.Machine.{Turn}
 
--- the turn with these counts of faults before and after it, and this clock
+-- the turn with these counts of errors before and after it, and this clock
 abbrev pub restamped : Turn → ℕ → ℕ → ℕ → Turn
 restamped turn before after clock = record {
   request = turn.request;

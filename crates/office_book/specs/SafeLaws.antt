@@ -1,4 +1,4 @@
--- Runs of calls join: no call leads nowhere, and stretches one after the other are one.
+-- Runs of calls can be joined: no calls are a run, and two consecutive runs are one.
 use Rattle.std.specs.Prelude.{◌≡◌, ℕ, ◌≤◌, ◌⊎◌, Option, Some, None, List, [], ◌∷◌, ◌++◌}
 use Rattle.std.proofs.Common.{inl, inr, refl, ◌∙◌, subst, arith, length-append}
 use Rattle.disk_model.specs.Told.{Told, BothTold}
@@ -24,7 +24,7 @@ group_earlier start later turns end same faults clock step =
       call = step.call;
     }
 
--- two runs one after the other are one
+-- two consecutive runs are one
 runs_join : (a b c : Moment) (first second : List Call) → Runs a first b → Runs b second c → Runs a (first ++ second) c
 runs_join a b c [] [] one two =
     let early = one.1 in
@@ -35,7 +35,7 @@ runs_join a b c [] [] one two =
 runs_join a b c [] (call ∷ second) one two = (group_earlier a b call.turns call.end one.0 one.1 one.2 two.0, two.1)
 runs_join a b c (call ∷ first) second one two = (one.0, runs_join call.end b c first second one.1 two)
 
--- the clock never falls in a run
+-- the clock does not fall in a run
 runs_time : (start end : Moment) (calls : List Call) → Runs start calls end → start.clock ≤ end.clock
 runs_time start end [] run = run.2
 runs_time start end (call ∷ calls) run =
@@ -43,22 +43,22 @@ runs_time start end (call ∷ calls) run =
     let rest = runs_time call.end end calls run.1 in
     omega arith
 
--- ---- what a crash leaves of two stretches
+-- ---- what a crash leaves of two runs
 
--- what stands in a run stands in a longer one
+-- an image in a state of a run is in a state of a longer run
 stands_before : (state : State) (first second : List Call) (image : List ℕ) → StandsInRun state first image → StandsInRun state (first ++ second) image
 stands_before state [] [] image stands = stands
 stands_before state [] (call ∷ second) image stands = inl stands
 stands_before state (call ∷ first) second image stands =
     elim stands [ inl here ↦ inl here | inr later ↦ inr (stands_before call.end.state first second image later) ]
 
--- what stands in a run stands in one that began earlier
+-- an image in a state of a run is in a state of a run that began earlier
 stands_after : (start end : Moment) (first second : List Call) (image : List ℕ) → Runs start first end
     → StandsInRun end.state second image → StandsInRun start.state (first ++ second) image
 stands_after start end [] second image run stands = subst (λ (state : State). StandsInRun state second image) run.0 stands
 stands_after start end (call ∷ first) second image run stands = inr (stands_after call.end end first second image run.1 stands)
 
--- what is behind each call of a stretch is so once another follows
+-- images after each call of a run are still in its states when another run follows
 behind_more : (left left' : ℕ → List ℕ → Type 0) (start middle : Moment) (first second : List Call) → Runs start first middle
     → ((t : ℕ) (image : List ℕ) → t ≤ middle.clock → left' t image → left t image ⊎ StandsInRun middle.state second image)
     → AreBehind left first → AreBehind left' second → AreBehind left' (first ++ second)
@@ -72,7 +72,7 @@ behind_more left left' start middle (call ∷ first) second run since one two = 
 )
 
 module _ {D : Type 0} (left_of : D → ℕ → List ℕ → Type 0) (clock_of faults_of : D → ℕ) where
-  -- two safe stretches are one
+  -- two safe runs are one safe run
   safe_joins : (a b c : Shelf D) (first second : List Call) → Runs (moment_of clock_of faults_of a) first (moment_of clock_of faults_of b)
       → IsSafe clock_of left_of a first b → IsSafe clock_of left_of b second c → IsSafe clock_of left_of a (first ++ second) c
   safe_joins a b c first second run one two = record {
@@ -92,16 +92,19 @@ module _ {D : Type 0} (left_of : D → ℕ → List ℕ → Type 0) (clock_of fa
         one.behind two.behind;
   }
 
--- ---- what is told
+-- ---- exposed values
 
+-- a statement that holds anyway holds for an exposed value
 told_all : {T P : Type 0} (x : Option T) → P → Told x (λ _. P)
 told_all None p = tt
 told_all (Some now) p = p
 
+-- a value is exposed before and after if nothing changes
 both_told_itself : {T : Type 0} (x : Option T) → BothTold x x (λ _ _. Unit {0})
 both_told_itself None = tt
 both_told_itself (Some now) = tt
 
+-- whether a value is exposed does not change over two steps
 both_told_join : {T : Type 0} (x y z : Option T) → BothTold x y (λ _ _. Unit {0}) → BothTold y z (λ _ _. Unit {0}) → BothTold x z (λ _ _. Unit {0})
 both_told_join None None z one two = two
 both_told_join None (Some now) z one two = absurd one
@@ -111,6 +114,7 @@ both_told_join (Some now) (Some later) z one two = elim z as (λ z. BothTold (So
   | Some last ↦ λ both. tt
 ] two
 
+-- a statement for an exposed value that follows from one before and one after
 told_join : {T : Type 0} (P Q R : Type 0) → (P → Q → R) → (x y : Option T) → BothTold x y (λ _ _. Unit {0})
     → Told x (λ _. P) → Told y (λ _. Q) → Told x (λ _. R)
 told_join P Q R joins None y both p q = tt
@@ -120,7 +124,7 @@ told_join P Q R joins (Some now) (Some later) both p q = joins p q
 -- ---- stretches of calls
 
 module _ {D : Type 0} (content_of : D → Option (List ℕ)) (left_of : D → ℕ → List ℕ → Type 0) (clock_of name_of faults_of : D → ℕ) where
-  -- no call leads nowhere
+  -- no calls lead from an office to itself
   pub leads_stays : (office : Shelf D) → Leads content_of left_of clock_of name_of faults_of office [] office
   leads_stays office = record {
     runs = (refl, omega arith, omega arith);
@@ -130,7 +134,7 @@ module _ {D : Type 0} (content_of : D → Option (List ℕ)) (left_of : D → �
     safe = told_all (content_of office.disk) (record { since = record { since = λ t image le left. inl left }; behind = tt });
   }
 
-  -- stretches of calls join
+  -- two consecutive runs of calls are one
   pub leads_joins : (a b c : Shelf D) (first second : List Call) → Leads content_of left_of clock_of name_of faults_of a first b
       → Leads content_of left_of clock_of name_of faults_of b second c → Leads content_of left_of clock_of name_of faults_of a (first ++ second) c
   leads_joins a b c first second one two =

@@ -1,4 +1,4 @@
--- What an office with nothing in doubt answers to the requests of a group, and the state that it leaves; the turns of such a call.
+-- The replies of an office with nothing in doubt to the requests of a group, the state that it leaves, and the turns of such a call.
 use Rattle.std.specs.Prelude.{◌≡◌, ◌⊎◌, ℕ, Bool, true, false, Some, None, List, [], ◌∷◌, ◌++◌, length}
 use Rattle.std.specs.List.{AllByRecursion}
 use Rattle.fact_kinds.specs.declared.batch.Batch.{Batch}
@@ -15,7 +15,7 @@ certain history = record { history = history; doubt = [] }
 abbrev pub uncertain : List Batch → List Batch → State
 uncertain history doubt = record { history = history; doubt = doubt }
 
--- the batches that requests add to a history, each with those before it
+-- the batches that requests add to a history, each after those before it
 abbrev pub added : List Batch → List Request → List Batch
 added history [] = []
 added history (request ∷ requests) = elim (batch_added history request) [
@@ -23,7 +23,8 @@ added history (request ∷ requests) = elim (batch_added history request) [
   | Some batch ↦ batch ∷ added (history ++ batch ∷ []) requests
 ]
 
--- the first fault of a group that writes: its request adds a batch, and nothing stands of the frame, or it is in doubt; what follows are faults
+-- the first disk error of a group that writes: its request adds a batch, and the frame is not written or is in doubt; the replies after it
+-- are disk errors
 pub record Stops (faulty : Type 0) (history : List Batch) (request : Request) (requests : List Request) (replies : List Reply) (next : State) : Type 0 where
   pub why : faulty
   pub batch : Batch
@@ -32,7 +33,7 @@ pub record Stops (faulty : Type 0) (history : List Batch) (request : Request) (r
   pub others : AllByRecursion (λ reply. reply ≡ Fault) replies
   pub each : length replies ≡ length requests
 
--- These replies to these requests, one each, with nothing in doubt before the first; a fault has this cause.
+-- Exactly one reply to each request, with nothing in doubt before the first; `faulty` holds at a disk error.
 abbrev pub Serves : Type 0 → List Batch → List Request → List Reply → State → Type 0
 Serves faulty history [] [] next = next ≡ certain history
 Serves faulty history [] (reply ∷ replies) next = ⊥
@@ -43,7 +44,7 @@ Serves faulty history (request ∷ requests) (reply ∷ replies) next = elim rep
   | other ↦ (after : List Batch) × Answers history request other after × Serves faulty after requests replies next
 ]
 
--- what was found of the batches in doubt before a call went on
+-- what was found about the batches in doubt before a call continued
 pub record IsFound (found : Finding) (old new : State) : Type 0 where
   pub can : CanBeFound found old
   pub is : new ≡ settled found old
@@ -51,7 +52,7 @@ pub record IsFound (found : Finding) (old new : State) : Type 0 where
 
 -- ---- the turns of a call
 
--- a fault may leave batches in doubt
+-- a disk error may leave batches in doubt
 abbrev pub doubts : Bool → Reply → Bool
 doubts doubt (Receipt handheld number position) = false
 doubts doubt (Conflict position) = false
@@ -62,7 +63,7 @@ doubts doubt (NoSuch what) = false
 doubts doubt Fault = doubt
 doubts doubt Memory = false
 
--- a request and its reply, in a call that began with this count of faults and ended at this moment
+-- a request and its reply, in a call that began with this count of errors and ended at this moment
 abbrev pub turn_of : Finding → Bool → ℕ → Moment → Request → Reply → Turn
 turn_of found doubt before end request reply = record {
   request = request;
@@ -74,7 +75,7 @@ turn_of found doubt before end request reply = record {
   clock = end.clock;
 }
 
--- the turns of these requests and replies; what was found was found before the first
+-- the turns of these requests and replies; the finding is that of the first
 abbrev pub turns_of : Finding → Bool → ℕ → Moment → List Request → List Reply → List Turn
 turns_of found doubt before end [] replies = []
 turns_of found doubt before end (request ∷ requests) [] = []

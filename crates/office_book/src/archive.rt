@@ -22,8 +22,8 @@ use office_views::{AskError, Shown, Views, ask_views, report_views};
 use std::marker::{Brand, Model};
 use std::sync::ledger::{Blank, Ledger};
 
-/// The batches that an office keeps, in order, with what they show and where each stands. Contracts see them beside those that
-/// have room.
+/// The batches that an office keeps, in order, with what views show of them and with their positions. In contracts it is these
+/// batches, and the spare ones, for which there is room.
 #[derive(Drop)]
 pub struct Archive {
     views: Views,
@@ -42,7 +42,7 @@ impl Model for Archive {
 }
 
 impl Archive {
-    /// The batches that were taken in, and where they stand.
+    /// The batches that were adopted, with their positions.
     pub fn of(views: Views, positions: Positions) -> Archive
         requires kept { IsKept views.adopted }
         requires ruly { IsTrue (is_ruly views.adopted) }
@@ -53,7 +53,7 @@ impl Archive {
         Archive { views, positions }
     }
 
-    /// How many batches there are, and how many facts they have.
+    /// The numbers of batches and of their facts.
     pub fn counts(&self) -> (u32, u64)
         ensures batches { result.0 ≡ length self.now.adopted }
         ensures facts { result.1 ≡ length (facts_of self.now.adopted) }
@@ -61,7 +61,7 @@ impl Archive {
         self.views.counts()
     }
 
-    /// Makes room for these batches. Want of memory leaves the batches that are kept.
+    /// Reserves room for these batches. If it runs out of memory, the kept batches are unchanged.
     pub fn reserve(&mut self, batches: &[Batch]) -> Result<(), Memory>
         ensures roomy { OnOk result (self.new.spare ≡ batches.now) }
         ensures adopted { self.new.adopted ≡ self.old.adopted }
@@ -70,7 +70,7 @@ impl Archive {
         self.views.reserve(batches)
     }
 
-    /// Adds batches that have room. It takes no memory.
+    /// Adds batches that have room. Allocates nothing.
     pub fn adopt(&mut self, batches: &[Batch])
         requires roomy { take (length batches.now) self.old.spare ≡ batches.now }
         requires may_come { MayCome self.old.adopted batches.now }
@@ -80,7 +80,7 @@ impl Archive {
         adopt_all::<Brand>(&mut self.views, &mut self.positions, batches, Blank::new(1));
     }
 
-    /// Where a batch with the identity of this one is kept, from 1, and whether it is the same batch.
+    /// The position, from 1, of a kept batch with the identity of this one, and whether it is the same batch.
     pub fn kept_at(&self, batch: &Batch) -> Option<(u32, bool)>
         ensures kept { IfSome result (λ kept. IsKeptAt self.now.adopted batch.now kept.0 kept.1) }
         ensures is_new { IsNone result → IsNew self.now.adopted batch.now }
@@ -94,7 +94,8 @@ impl Archive {
         }
     }
 
-    /// The verdict on a batch after those that are kept and others, which enter no equipment and have this many facts.
+    /// The verdict on a batch after the kept ones and others that make no entry in the register and have this many
+    /// facts.
     pub fn judged_behind(&self, facts: u64, batch: &Batch) -> Verdict
         requires fits { length (facts_of self.now.adopted) + facts ≤ MOST_FACTS }
         ensures value { (history : List FactBatch) → register_facts (facts_of history) ≡ register_facts (facts_of self.now.adopted)
@@ -104,7 +105,7 @@ impl Archive {
         verdict(self.views.register(), kept + facts, batch)
     }
 
-    /// What a view shows of the batches that are kept, as known on its day.
+    /// What a view shows of the kept batches, as of its day.
     pub fn show(&mut self, request: &Request) -> Result<Shown, Memory>
         requires view { IsView request.now }
         ensures value { IsShown result (law.shown self.old.adopted request.now) }
@@ -113,7 +114,7 @@ impl Archive {
         ask_views::<Brand>(&mut self.views, request, Blank::new(1))
     }
 
-    /// The report of a half of a process unit as known on a day, of the batches that are kept.
+    /// The report of a half of a process unit as of a day, from the kept batches.
     pub fn report(&mut self, unit: u16, half: u16, day: Day) -> Result<Report, AskError>
         ensures value { Tells result (report_asked unit half day (facts_to day self.old.adopted)) }
         ensures unchanged { self.new ≡ self.old }
@@ -122,7 +123,7 @@ impl Archive {
     }
 }
 
-/// The verdict on a batch after those that were adopted.
+/// The verdict on a batch after the adopted ones.
 pub(crate) fn judged_after(views: &Views, batch: &Batch) -> Verdict
     ensures value { result ≡ verdict_on views.now.adopted batch.now }
 {
@@ -130,7 +131,7 @@ pub(crate) fn judged_after(views: &Views, batch: &Batch) -> Verdict
     verdict(views.register(), facts, batch)
 }
 
-/// Adopts batches that have room, one after the other, and says where they stand.
+/// Adopts batches that have room, one after the other, and records their positions.
 fn adopt_all<L: Ledger>(
     views: &mut Views,
     positions: &mut Positions,
@@ -156,7 +157,7 @@ fn adopt_all<L: Ledger>(
     }
 }
 
-/// Whether the batch that is kept at a position, from 1, is just this one.
+/// Whether the batch kept at a position, from 1, is the same as this one.
 fn is_kept_at<L: Ledger>(views: &Views, position: u32, batch: &Batch, blank: Blank) -> bool
     requires name { blank.name ≡ L.name }
     requires parts { blank.parts ≡ L.parts }

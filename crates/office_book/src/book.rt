@@ -1,13 +1,13 @@
 //! An office over a journal, and its invariants (`IsBook` carries 1 to 5):
 //!
 //! 1. The batches of the journal are a history that may be kept and is ruly: no identity occurs twice, and each batch passes
-//!    after those before it. With the batches in doubt they are one too (`may_come`).
+//!    after those before it. This holds with the batches in doubt too (`may_come`).
 //! 2. The archive has exactly the batches of the journal (`adopted`); batches in doubt do not count.
-//! 3. The archive has room for the batches in doubt, so that a settling takes no memory (`roomy`).
-//! 4. There is a copy of each batch in doubt, for the settling to adopt (`copied`).
-//! 5. Each image that a crash may leave now opens to the history, or to it and the batches in doubt (`stands`; told outside
-//!    by `Book::stands`).
-//! 6. Where the archive finds a batch is where the journal has it (`IsArchive`: `known`).
+//! 3. The archive has room for the batches in doubt, so that settling them takes no memory (`roomy`).
+//! 4. There is a copy of each batch in doubt, to be adopted when it is settled (`copied`).
+//! 5. Each image that a crash may leave now opens to the history, with or without the batches in doubt (`stands`; callers
+//!    use `Book::stands`).
+//! 6. The archive finds a batch at its position in the journal (`IsArchive`: `known`).
 
 ghost use Rattle.std.specs.Prelude.{◌≡◌, ◌+◌, ◌<◌, ◌^◌, [], length};
 ghost use Rattle.fact_kinds.specs.declared.limits.TheConstants.{FRAME_BATCHES};
@@ -24,12 +24,12 @@ use fact_kinds::Batch;
 use ldar_journal::Journal;
 use std::marker::Model;
 
-/// One office over one journal. Contracts see the journal: its disk, its frames, and the batches of a frame in doubt.
+/// An office over a journal. In contracts it is the journal: its disk, its frames, and the batches of a frame in doubt.
 #[derive(Drop)]
 pub struct Book<D: Disk> {
     pub(crate) journal: Journal<D>,
     pub(crate) archive: Archive,
-    /// Copies of the batches in doubt, which a settling adopts without memory.
+    /// Copies of the batches in doubt, to be adopted without memory when they are settled.
     pub(crate) copies: Vec<Batch>,
 }
 
@@ -45,7 +45,7 @@ impl<D: Disk> Model for Book<D> {
 }
 
 impl<D: Disk> Book<D> {
-    /// How many batches are kept, and how many facts they have. Batches in doubt do not count.
+    /// The numbers of kept batches and of their facts. Batches in doubt do not count.
     pub fn counts(&self) -> (u32, u64)
         ensures batches { result.0 ≡ length (batches_of self.now.frames) }
         ensures facts { result.1 ≡ length (facts_of (batches_of self.now.frames)) }
@@ -53,7 +53,7 @@ impl<D: Disk> Book<D> {
         self.archive.counts()
     }
 
-    /// The position of the next batch to be kept, from 1.
+    /// The position of the next kept batch, from 1.
     pub(crate) fn next_position(&self) -> u32
         ensures value { result ≡ length (batches_of self.now.frames) + 1 }
         ensures fits { result + FRAME_BATCHES < 2 ^ 32 }
@@ -73,14 +73,14 @@ impl<D: Disk> Book<D> {
         self.journal.disk()
     }
 
-    /// A law: what each image opens to that a crash may leave now. It is the history, or that and the batches in doubt.
+    /// A law: each image that a crash may leave now opens to the history, with or without the batches in doubt.
     pub fn stands(&self)
         ensures law { OnDisk (D.content self.now.disk) (D.images self.now.disk) (StandsIn (state_of self.now)) }
     {
         let _disk = self.journal.disk();
     }
 
-    /// Gives the disk back.
+    /// Returns the disk.
     pub fn into_disk(self) -> D
         ensures value { result ≡ self.disk }
         ensures stands { OnDisk (D.content result) (D.images result) (StandsIn (state_of self)) }

@@ -4,7 +4,7 @@ use crate::Memory;
 use fact_kinds::Batch;
 use std::alloc::{AllocError, Global};
 
-/// A batch with the same content.
+/// A copy of a batch.
 pub fn copy_of(alloc: Global, batch: &Batch) -> Result<Batch, Memory>
     ensures value { IfOk result (λ copy. copy ≡ batch.now) }
 {

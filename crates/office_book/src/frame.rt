@@ -17,17 +17,17 @@ use fact_kinds::Batch;
 use ldar_journal::{Frame, Torn, prepare};
 use std::alloc::Global;
 
-/// What came of a frame.
+/// The result of writing a frame.
 pub(crate) enum Written {
     Stands,
-    /// The disk failed; the frame may stand or not.
+    /// A disk error. The frame may or may not be kept.
     Fault,
-    /// Memory was wanting, and nothing was written.
+    /// Out of memory. Nothing was written.
     Memory,
 }
 
 impl<D: Disk> Book<D> {
-    /// Writes batches as one frame, behind those that are kept. All memory is taken before the first write.
+    /// Writes batches as one frame, after the kept ones. All memory is allocated before the first write.
     pub(crate) fn write(&mut self, alloc: Global, batches: Vec<Batch>) -> Written
         requires settled { self.old.doubt ≡ [] }
         requires some { 0 < length batches.items }
@@ -58,7 +58,7 @@ impl<D: Disk> Book<D> {
     }
 }
 
-/// Makes room for batches, and makes their frame ready.
+/// Reserves room for batches and prepares their frame.
 fn make_ready(alloc: Global, archive: &mut Archive, batches: &[Batch]) -> Result<Frame, Memory>
     requires some { 0 < length batches.now }
     requires fits { length batches.now ≤ FRAME_BATCHES }

@@ -32,9 +32,9 @@ struct Sorted {
 }
 
 impl<D: Disk> Book<D> {
-    /// Answers 1 to 16 batches that are asked at once, each in its place among the replies, and keeps those that are new and
-    /// pass as one frame of the journal. Settling comes first. If memory runs out, each batch that would be kept is answered so,
-    /// and nothing is written; all other replies take no memory.
+    /// Answers 1 to 16 batches that are sent in one call, and puts each reply in its place. The new ones that pass are kept as
+    /// one frame of the journal. Batches in doubt are settled first. If it runs out of memory, each batch that would be kept
+    /// gets the reply `Memory`, and nothing is written; all other replies take no memory.
     pub(crate) fn sync(&mut self, alloc: Global, requests: &[Request], replies: &mut [Reply])
         requires some { 0 < length requests.now }
         requires fits { length requests.now ≤ FRAME_BATCHES }
@@ -47,7 +47,7 @@ impl<D: Disk> Book<D> {
         ensures untouched { self.old.doubt ≡ []
             → AddsNothing (batches_of self.old.frames) (batches_of self.new.frames) requests.now replies.new → self.new ≡ self.old }
 
-        // Over a disk with told room.
+        // On a disk with a known room.
         ensures roomy { AnswersInRoom D.room D.clock 6 self.old.disk self.new.disk
             (λ room. HasRoomFor self.old requests.now room → AllByRecursion IsNoFault replies.new) }
     {
@@ -58,7 +58,7 @@ impl<D: Disk> Book<D> {
         self.keep(alloc, requests, replies);
     }
 
-    /// Answers batches that are asked at once, with nothing in doubt.
+    /// Answers batches that are sent in one call, with nothing in doubt.
     fn keep(&mut self, alloc: Global, requests: &[Request], replies: &mut [Reply])
         requires settled { self.old.doubt ≡ [] }
         requires fits { length requests.now ≤ FRAME_BATCHES }
@@ -80,7 +80,7 @@ impl<D: Disk> Book<D> {
         }
     }
 
-    /// Puts in each place what is answered if the batches that are added stand.
+    /// Puts in each place the reply if all added batches are kept.
     fn sort(
         &self,
         alloc: Global,
@@ -111,7 +111,7 @@ impl<D: Disk> Book<D> {
         Ok(Sorted { batches, first })
     }
 
-    /// The reply to a batch after others of its group, if those stand. One that is new and passes is added to them.
+    /// The reply to a batch after others of its group, if those are kept. If it is new and passes, it is added to them.
     fn told(
         &self,
         alloc: Global,
@@ -138,7 +138,8 @@ impl<D: Disk> Book<D> {
         })
     }
 
-    /// Writes the batches that a group adds, and puts faults and want of memory in place of what does not stand.
+    /// Writes the batches that a group adds. For batches that are not kept, it replaces the reply by `Fault` or
+    /// `Memory`.
     fn write_sorted(
         &mut self,
         alloc: Global,
@@ -174,7 +175,7 @@ impl<D: Disk> Book<D> {
         }
     }
 
-    /// Puts in each place what is answered if no batch is added, as memory ran out.
+    /// Puts in each place the reply if no batch is added, because it is out of memory.
     fn leave(&self, next: u32, requests: &[Request], replies: &mut [Reply])
         requires next { next ≡ length (batches_of self.now.frames) + 1 }
         requires room { next + FRAME_BATCHES < 2 ^ 32 }
@@ -207,7 +208,8 @@ impl<D: Disk> Book<D> {
     }
 }
 
-/// The number of requests before the first that adds a batch, after one request more, if these are the batches added.
+/// The number of requests before the first one that adds a batch, with one more request, if these are the added
+/// batches.
 fn more_before(first: usize, batches: &[Batch]) -> usize
     requires few { first < 2 ^ 32 }
     ensures none { batches.now ≡ [] → result ≡ first + 1 }
@@ -216,7 +218,7 @@ fn more_before(first: usize, batches: &[Batch]) -> usize
     if batches.is_empty() { first + 1 } else { first }
 }
 
-/// Puts a fault in the place of each reply from this place on.
+/// Replaces the replies from this place on by `Fault`.
 fn put_faults(replies: &mut [Reply], from: usize)
     requires within { from ≤ length replies.old }
     ensures items { replies.new ≡ take from replies.old ++ replicate (length replies.old - from) replied.Fault }

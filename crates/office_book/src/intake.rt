@@ -1,4 +1,4 @@
-//! The batches of a journal that is being read, taken in frame by frame.
+//! Adopting the batches of a journal while it is read, frame by frame.
 
 ghost use Rattle.std.specs.Prelude.{◌≡◌, ℕ, ◌<◌, ◌≤◌, IsTrue, [], ◌++◌, length, IfOk, IfSome, IsNone};
 ghost use Rattle.fact_kinds.specs.declared.limits.TheConstants.{MOST_FACTS};
@@ -16,8 +16,8 @@ use office_views::Views;
 use std::marker::Brand;
 use std::sync::ledger::{Blank, Ledger};
 
-/// Takes the batches of one frame more in, as long as they pass: where one is denied after those before it, its position, from
-/// 1 over the batches of all frames, and the rule.
+/// Adopts the batches of one more frame as long as they pass. If one is denied after those before it, returns its position,
+/// from 1 over the batches of all frames, and the rule.
 pub fn take_frame(views: &mut Views, batches: &[Batch]) -> Result<Option<(u32, u8)>, Memory>
     requires kept { IsKept (views.old.adopted ++ batches.now) }
     requires few { length (views.old.adopted ++ batches.now) ≤ MOST_FACTS }
@@ -52,7 +52,7 @@ fn take_in<L: Ledger>(views: &mut Views, batches: &[Batch], blank: Blank) -> Opt
     None
 }
 
-/// The least rule that denies a batch after those that were adopted, if one does.
+/// The least rule that denies a batch after the adopted ones, if one does.
 fn rule_against(views: &Views, batch: &Batch) -> Option<u8>
     ensures denied { IfSome result (λ rule. (fact : ℕ) × (verdict_on views.now.adopted batch.now ≡ verdicts.Denied fact rule)) }
     ensures passes { IsNone result → facts_with views.now.adopted batch.now ≤ MOST_FACTS

@@ -1,4 +1,6 @@
-//! The office that handhelds and people ask: batches are kept, and what is due is shown.
+//! An office over a journal: it keeps batches and answers views.
+//!
+//! Tests: `office_tests::book`.
 #![tactic(auto)]
 
 mod archive;
@@ -18,5 +20,5 @@ mod views;
 pub use book::Book;
 pub use office::Office;
 pub use opening::{BookError, BookWhy, open_book};
-/// Memory ran out.
+/// Out of memory.
 pub use std::alloc::AllocError as Memory;

@@ -9,15 +9,15 @@ use disk_model::Disk;
 use ldar_law::{Reply, Request};
 use std::alloc::Global;
 
-/// What can be asked to keep batches and to show what the rule says of them.
+/// An office: it keeps batches and answers views.
 pub trait Office: Drop {
-    /// The disk whose clock stamps what is written beside the office.
+    /// The disk whose clock stamps what is written for this office.
     type Beside: Disk;
 
-    /// From one value of the office these calls led to the other.
+    /// These calls lead from one value of the office to the other.
     ghost led: { Self → List Call → Self → Type 0 };
 
-    /// The disk beside it.
+    /// The disk of the office.
     ghost beside_of: { Self → Self.Beside };
 
     /// Answers one request.
@@ -27,8 +27,8 @@ pub trait Office: Drop {
             × (call.end.clock ≤ Self.Beside.clock (beside_of self.new)) }
         ensures ruled { HasRule result };
 
-    /// Answers 1 to 16 requests in order, behind the replies that stand there. Several are batches of handhelds
-    /// other than 0, and may share a frame of the journal. Want of memory asks nothing.
+    /// Answers 1 to 16 requests in order, and appends the replies. Several requests must be batches of handhelds other
+    /// than 0, and may share a frame of the journal. If it runs out of memory, no request is answered.
     fn ask_group(
         &mut self,
         alloc: Global,
@@ -44,14 +44,14 @@ pub trait Office: Drop {
             × (call.end.clock ≤ Self.Beside.clock (beside_of self.new))) }
         ensures unchanged { OnErr result ((self.new ≡ self.old) × (replies.new.items ≡ replies.old.items)) };
 
-    /// The disk beside it.
+    /// The disk of the office.
     fn beside(&self) -> &Self::Beside
         ensures value { result.now ≡ beside_of self.now };
 
-    /// No call leads nowhere.
+    /// No calls lead from an office to itself.
     ghost stays: { (office : Self) → led office [] office };
 
-    /// Stretches of calls join.
+    /// Two consecutive runs of calls are one.
     ghost joins: { (a b c : Self) (first second : List Call) → led a first b → led b second c → led a (first ++ second) c };
 }
 

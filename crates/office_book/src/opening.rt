@@ -26,40 +26,40 @@ use std::alloc::Global;
 /// Why no office was opened.
 #[derive(Clone, Copy, Debug, PartialEq, Eq)]
 pub enum BookWhy {
-    /// A call of the disk failed.
+    /// A disk error.
     Disk,
     /// The bytes do not begin with the header of a journal.
     NotAJournal,
     /// The first bad frame begins at this place, or the bytes end there without a closed gate.
     Damaged { at: u64 },
-    /// The batch at this position, from 1, is the first that is denied after those before it, by this rule.
+    /// The batch at this position, from 1, is the first that is denied after those before it, and this rule denies it.
     Unruly { position: u32, rule: u8 },
     Memory,
 }
 
-/// No office was opened. The disk is handed back.
+/// No office was opened. The disk is returned.
 #[derive(Drop)]
 pub struct BookError<D: Disk> {
     pub disk: D,
     pub why: BookWhy,
 }
 
-/// Opens the office over a journal. It begins with a sync. A damaged frame, wherever it stands, comes before a batch that is
-/// denied.
+/// Opens the office over a journal. It begins with a sync. If the journal has a damaged frame and a denied batch, the
+/// damaged frame is reported, wherever it is.
 pub fn open_book<D: Disk>(alloc: Global, disk: D) -> Result<Book<D>, BookError<D>>
     ensures opens { IfOk result (λ book. IsOpened (D.content disk) (D.content book.disk) book.frames) }
     ensures settled { IfOk result (λ book. book.doubt ≡ []) }
     ensures ruly { IfOk result (λ book. IsTrue (is_ruly (batches_of book.frames))) }
 
-    // Why it was not opened; the bytes stay.
+    // The reason why it was not opened; the bytes are unchanged.
     ensures refused { IfErr result (λ e. IsNoBook (D.content disk) (D.content e.disk) e.why) }
 
-    // Each image that a crash may leave of it was left before, or could have been left at entry; once it is opened, only the bytes.
+    // Each image that a crash may leave was possible before. If the office was opened, a crash leaves exactly the bytes.
     ensures any_moment { MatchResult result (λ book. LeavesOnly D.clock D.left disk book.disk (D.images disk))
         (λ e. LeavesOnly D.clock D.left disk e.disk (D.images disk)) }
     ensures durable { IfOk result (λ book. Told (D.content book.disk) (λ bytes. Only bytes (D.images book.disk))) }
 
-    // Over a disk with told room that is not at its last clock.
+    // On a disk with a known room, if the clock is not at its maximum.
     ensures roomy { MatchResult result (λ book. AnswersOverRoom D.room disk book.disk (Unit {0}))
         (λ e. AnswersOverRoom D.room disk e.disk (D.clock disk < 2 ^ 64 - 1 → e.why ≢ BookWhy.Disk)) }
 
@@ -75,14 +75,14 @@ pub fn open_book<D: Disk>(alloc: Global, disk: D) -> Result<Book<D>, BookError<D
     }
 }
 
-/// What was taken in of the batches of a journal: all, or those before the first that is denied, with its position and the rule.
+/// The batches of a journal that were adopted: all, or those before the first denied one, with its position and the rule.
 #[derive(Drop)]
 struct Intake {
     views: Views,
     denied: Option<(u32, u8)>,
 }
 
-/// Opens a journal, and takes its batches in frame by frame. It begins with a sync.
+/// Opens a journal and adopts its batches frame by frame. It begins with a sync.
 fn read_journal<D: Disk>(
     alloc: Global,
     disk: D,
@@ -114,7 +114,7 @@ fn read_journal<D: Disk>(
     }
 }
 
-/// Takes in the batches of all frames.
+/// Adopts the batches of all frames.
 fn read_frames<D: Disk>(alloc: Global, opening: &mut Opening<D>) -> Result<Intake, OpenWhy>
     requires first { opening.old.frames ≡ [] }
     ensures taken { IfOk result (λ intake. HasTaken (batches_of opening.new.frames) intake.views intake.denied) }
@@ -135,7 +135,7 @@ fn read_frames<D: Disk>(alloc: Global, opening: &mut Opening<D>) -> Result<Intak
     Ok(intake)
 }
 
-/// Reads the next frame, and takes its batches in unless one before was denied. It answers false where the closed gate stands.
+/// Reads the next frame, and adopts its batches unless an earlier one was denied. Returns false at the closed gate.
 fn read_frame<D: Disk>(
     alloc: Global,
     opening: &mut Opening<D>,
@@ -157,7 +157,7 @@ fn read_frame<D: Disk>(
     if !opening.next_frame(alloc, frame)? {
         return Ok(false);
     }
-    // Frames behind a batch that is denied are read too, since damage among them is told before it.
+    // The frames after a denied batch are read too, since damage among them is reported first.
     if intake.denied.is_some() {
         return Ok(true);
     }
@@ -165,7 +165,7 @@ fn read_frame<D: Disk>(
     Ok(true)
 }
 
-/// The office over a journal whose batches were taken in, unless one was denied.
+/// The office over a journal whose batches were adopted, unless one was denied.
 fn over_journal<D: Disk>(
     alloc: Global,
     journal: Journal<D>,
@@ -196,7 +196,7 @@ fn over_journal<D: Disk>(
     }
 }
 
-/// Why no office was opened, where no journal was.
+/// The reason why no office was opened, from the reason why no journal was.
 fn why_refused(why: OpenWhy) -> BookWhy
     ensures value { result ≡ why_no_book why }
 {

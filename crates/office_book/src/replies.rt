@@ -16,8 +16,8 @@ use fact_kinds::{Batch, FRAME_BATCHES};
 use ldar_law::{Reply, Verdict};
 
 impl<D: Disk> Book<D> {
-    /// The reply to a batch that is not added after those that are kept and others of its group. Returns `None` if it is new
-    /// and passes. The next batch to be kept gets the position `next`.
+    /// The reply to a batch that is not added after the kept ones and others of its group. Returns `None` if it is new and
+    /// passes. `next` is the position of the next kept batch.
     pub(crate) fn refusal(&self, next: u32, batch: &Batch, others: &[Batch]) -> Option<Reply>
         requires next { next ≡ length (batches_of self.now.frames) + 1 }
         requires fits { next + FRAME_BATCHES < 2 ^ 32 }
@@ -38,7 +38,7 @@ impl<D: Disk> Book<D> {
         }
     }
 
-    /// The position of the batch with the identity of this one among those that are kept and others after them, from 1, and
+    /// The position, from 1, of the batch with the identity of this one among the kept ones and others after them, and
     /// whether it is the same batch.
     fn kept_at(&self, next: u32, batch: &Batch, others: &[Batch]) -> Option<(u32, bool)>
         requires next { next ≡ length (batches_of self.now.frames) + 1 }
@@ -53,7 +53,7 @@ impl<D: Disk> Book<D> {
         }
     }
 
-    /// The verdict on a batch after those that are kept and others.
+    /// The verdict on a batch after the kept ones and others.
     fn judged_after(&self, others: &[Batch], batch: &Batch) -> Verdict
         requires may_come { MayCome (batches_of self.now.frames) others.now }
         requires alike { AllByRecursion IsOfHandheld others.now }
@@ -64,7 +64,7 @@ impl<D: Disk> Book<D> {
     }
 }
 
-/// The reply to a batch whose identity is kept at this position, with the same content or with other.
+/// The reply to a batch whose identity is kept at this position, with equal or with other content.
 fn reply_kept(batch: &Batch, position: u32, same: bool) -> Reply
     ensures value { result ≡ kept_reply batch.now position same }
 {
@@ -91,8 +91,8 @@ fn facts_in(batches: &[Batch]) -> u64
     facts
 }
 
-/// The position of the batch with the identity of this one among others, of which the first has this position, and whether it
-/// is the same batch.
+/// The position of the batch with the identity of this one among others, the first of which has position `first`, and whether
+/// it is the same batch.
 fn among(first: u32, others: &[Batch], batch: &Batch) -> Option<(u32, bool)>
     requires fits { first + length others.now < 2 ^ 32 }
     ensures none { IsNone result → position_from (is_of (identity_of batch.now)) first others.now ≡ None }

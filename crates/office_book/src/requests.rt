@@ -21,7 +21,7 @@ use std::alloc::Global;
 use std::slice::{from_mut, from_ref};
 
 impl<D: Disk> Book<D> {
-    /// Answers 1 to 16 requests that are asked at once, each in its place among the replies.
+    /// Answers 1 to 16 requests of one call, and puts each reply in its place.
     fn answer(&mut self, alloc: Global, requests: &[Request], replies: &mut [Reply])
         requires some { 0 < length requests.now }
         requires fits { length requests.now ≤ FRAME_BATCHES }
@@ -58,11 +58,11 @@ impl<D: Disk> Office for Book<D> {
             × (call.end.clock ≤ D.clock self.new.disk) }
         ensures ruled { HasRule result }
 
-        // Nothing is written for nothing: with nothing in doubt, want of memory or a request that adds no batch calls no disk.
+        // With nothing in doubt, a request that adds no batch, or that runs out of memory, does not call the disk.
         ensures untouched { self.old.doubt ≡ []
             → (result ≡ Reply.Memory) ⊎ (added (batches_of self.old.frames) (request.now ∷ []) ≡ []) → self.new ≡ self.old }
 
-        // Over a disk with told room.
+        // On a disk with a known room.
         ensures roomy { AnswersInRoom D.room D.clock 6 self.old.disk self.new.disk
             (λ room. HasRoomFor self.old (request.now ∷ []) room → IsNoFault result) }
     {
@@ -86,11 +86,11 @@ impl<D: Disk> Office for Book<D> {
             × (call.end.clock ≤ D.clock self.new.disk)) }
         ensures unchanged { OnErr result ((self.new ≡ self.old) × (replies.new.items ≡ replies.old.items)) }
 
-        // Nothing is written for nothing: with nothing in doubt, a group without a fault that adds no batch calls no disk.
+        // With nothing in doubt, a group that adds no batch and has no disk error does not call the disk.
         ensures untouched { self.old.doubt ≡ [] → PutsNoFault replies.old.items replies.new.items
             → batches_of self.new.frames ≡ batches_of self.old.frames → self.new ≡ self.old }
 
-        // Over a disk with told room.
+        // On a disk with a known room.
         ensures roomy { AnswersInRoom D.room D.clock 6 self.old.disk self.new.disk
             (λ room. HasRoomFor self.old requests.now room → PutsNoFault replies.old.items replies.new.items) }
     {
@@ -111,7 +111,7 @@ impl<D: Disk> Office for Book<D> {
         leads_joins D.content D.left D.clock D.name D.faults a b c first second one two };
 }
 
-/// Puts a number of faults after the replies, for which there is room. Each is replaced by an answer.
+/// Appends this many `Fault` replies, for which there must be room. Each one is replaced by an answer.
 fn push_faults(replies: &mut Vec<Reply>, count: usize)
     requires room { vec_len replies.old + count ≤ vec_capacity replies.old }
     ensures items { replies.new.items ≡ replies.old.items ++ replicate count replied.Fault }

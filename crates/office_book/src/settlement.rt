@@ -11,8 +11,8 @@ use disk_model::{Disk, DiskFault};
 use ldar_journal::Settled;
 
 impl<D: Disk> Book<D> {
-    /// Finds out whether batches in doubt stand, if there are any, and adopts them if so. It takes no memory. A fault leaves them
-    /// in doubt.
+    /// Finds out whether batches in doubt are kept, if there are any, and adopts them if so. Allocates nothing. After a disk
+    /// error they are still in doubt.
     pub(crate) fn settle_first(&mut self) -> Result<(), DiskFault>
         ensures found { OnOk result ((found : Finding) × IsFound found (state_of self.old) (state_of self.new)) }
         ensures frames { (self.new.frames ≡ self.old.frames) ⊎ ((self.old.doubt ≢ []) × (self.new.frames ≡ self.old.frames ++ self.old.doubt ∷ [])) }

@@ -22,7 +22,7 @@ use office_views::{AskError, Shown};
 use std::alloc::Global;
 
 impl<D: Disk> Book<D> {
-    /// Shows something as known on a day. A settling comes first; but for it the disk is not called.
+    /// Shows something as of a day. Batches in doubt are settled first; otherwise the disk is not called.
     pub fn view(&mut self, request: &Request) -> Reply
         requires view { IsView request.now }
         ensures value { (call : Call) × Leads D.content D.left D.clock D.name D.faults self.old (call ∷ []) self.new
@@ -30,10 +30,10 @@ impl<D: Disk> Book<D> {
             × (call.end.clock ≤ D.clock self.new.disk) }
         ensures ruled { HasRule result }
 
-        // With nothing in doubt the office stays as it was.
+        // With nothing in doubt, the office is unchanged.
         ensures unchanged { self.old.doubt ≡ [] → self.new ≡ self.old }
 
-        // Over a disk with told room.
+        // On a disk with a known room.
         ensures roomy { AnswersInRoom D.room D.clock 2 self.old.disk self.new.disk (λ _. IsNoFault result) }
     {
         if self.settle_first().is_err() {
@@ -42,7 +42,7 @@ impl<D: Disk> Book<D> {
         self.show(request)
     }
 
-    /// What a view shows as known on its day, with nothing in doubt. It calls no disk, and only a text takes memory.
+    /// What a view shows as of its day, with nothing in doubt. It does not call the disk, and only a text takes memory.
     pub fn shown(&mut self, request: &Request) -> Result<Shown, Memory>
         requires view { IsView request.now }
         requires settled { self.old.doubt ≡ [] }
@@ -67,8 +67,8 @@ impl<D: Disk> Book<D> {
         reply_to(self.shown(request))
     }
 
-    /// The report of a half of a process unit as known on a day (40 CFR 60.487a(c)), or what there is none of, which takes no
-    /// memory to say. Batches in doubt do not count, and the disk is not called.
+    /// The report of a half of a process unit as of a day (40 CFR 60.487a(c)), or what does not exist, for which it needs no
+    /// memory. Batches in doubt do not count, and the disk is not called.
     pub fn report(
         &mut self,
         _alloc: Global,
@@ -83,7 +83,7 @@ impl<D: Disk> Book<D> {
     }
 }
 
-/// The reply with what is shown, and want of memory where it could not be shown.
+/// The reply with what is shown, or `Memory` if it ran out of memory.
 fn reply_to(shown: Result<Shown, Memory>) -> Reply
     ensures value { result ≡ reply_shown shown }
 {

@@ -1,4 +1,6 @@
 //! The views over all adopted batches: what the office shows of a process unit, as known on a day.
+//!
+//! Tests: `view_tests`.
 #![tactic(auto)]
 
 mod answers;

@@ -14,26 +14,26 @@ use Rattle.ldar_law.specs.declared.report.Report.{Report}
 use Rattle.report_filing.specs.Answers.{filed_as, Follows}
 use Rattle.report_filing.specs.Revisions.{is_filed_for, revisions, latest_of, CountFrom, AreNumbered, IsNext}
 
--- ---- one revision more
+-- ---- one more revision
 
--- revisions that count on from a number, and the next one behind them
+-- revisions that count up from a number, with the next one at the end
 CountFrom-push : (number : ℕ) (filed : List Filed) (next : Filed) → CountFrom number filed → next.revision ≡ length filed + number
     → CountFrom number (filed ++ next ∷ [])
 CountFrom-push number [] next counted is = (omega (arith, is), tt)
 CountFrom-push number (first ∷ more) next counted is = (counted.0, CountFrom-push (number + 1) more next counted.1 (omega arith))
 
--- the revisions of a unit's half with one report more
+-- the revisions of a unit's half, with one more report
 pub revisions_put : (unit half : ℕ) (all : List Filed) (next : Filed)
     → revisions unit half (all ++ next ∷ []) ≡ revisions unit half all ++ filter (is_filed_for unit half) (next ∷ [])
 revisions_put unit half all next = filter-append (is_filed_for unit half) all (next ∷ [])
 
--- a report is filed for a unit and half that are its own
+-- a report is filed for its own unit and half
 own : (unit half : ℕ) (next : Filed) → is_filed_for unit half next ≡ true → (unit ≡ next.unit) × (half ≡ next.half)
 own unit half next is =
     let parts = and_parts (nat_eq next.unit unit) (nat_eq next.half half) is in
     (grind (arith, nat_tests), grind (arith, nat_tests))
 
--- the next revision keeps that they count from 1
+-- the revisions still count from 1 with the next one
 pub numbered_put : (all : List Filed) (next : Filed) → AreNumbered all → IsNext next all → AreNumbered (all ++ next ∷ [])
 numbered_put all next numbered is unit half = elim (cases_Bool (is_filed_for unit half next)) [
   | inl passes ↦
@@ -45,23 +45,23 @@ numbered_put all next numbered is unit half = elim (cases_Bool (is_filed_for uni
 
 -- ---- the last revision
 
--- the number after that of the last report, or another where there is none
+-- the number after that of the last report, or another one if there is none
 abbrev pub after : ℕ → Option Filed → ℕ
 after number None = number
 after number (Some last) = last.revision + 1
 
--- a report that has the number counts for it, if no other comes behind
+-- the first report counts if no other follows
 after_first : (number : ℕ) (last : Option Filed) (first : Filed) → first.revision ≡ number
     → after number (option_or last (Some first)) ≡ after (number + 1) last
 after_first number None first is = omega arith
 after_first number (Some last) first is = refl
 
--- no report behind the others
+-- no report follows
 or_none : (last : Option Filed) → option_or last None ≡ last
 or_none None = refl
 or_none (Some last) = refl
 
--- the last report has the number of how many there are
+-- the number of the last report is the number of reports
 pub last_counted : (p : Filed → Bool) (number : ℕ) (all : List Filed) → CountFrom number (filter p all)
     → after number (last_such p all) ≡ length (filter p all) + number
 last_counted p number [] counted = omega arith
@@ -76,12 +76,12 @@ last_counted p number (filed ∷ more) counted = elim (cases_Bool (p filed)) [
       rw (last_such-cons p filed more, fails, or_none) (last_counted p number more rest)
 ]
 
--- the revision that follows the last one comes after it
+-- the revision that follows the last one has the next number
 follows_after : (report : Report) (revision : ℕ) (last : Option Filed) → Follows report revision last → revision ≡ after 1 last
 follows_after report revision None follows = follows
 follows_after report revision (Some last) follows = follows.1
 
--- so it is the next one of its unit and half
+-- it is the next revision of its unit and half
 pub told_next : (report : Report) (revision : ℕ) (last : Option Filed) → Follows report revision last
     → (told : Option (List Filed)) → Told told (λ old. last ≡ latest_of report.unit report.half old) → Told told AreNumbered
     → Told told (IsNext (filed_as revision report))

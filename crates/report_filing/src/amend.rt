@@ -6,10 +6,10 @@ use fact_kinds::Memory;
 use ldar_law::{Amended, Cells};
 use std::alloc::Global;
 
-/// The numbers of a report: six of each of six months.
+/// The numbers of a report: six for each of six months.
 const PLACES: usize = 36;
 
-/// What is amended at a place of the 36, if anything is.
+/// The change at a place of the 36, if there is one.
 #[tactic(auto, unfolding(ldar_law::specs::Reports::amended_at))]
 fn amended_at(old: &[u32], new: &[u32], place: usize) -> Option<Amended>
     requires old { place < length old.now }
@@ -38,7 +38,8 @@ fn put(changes: &mut Vec<Amended>, change: Option<Amended>) -> Result<(), Memory
     Ok(())
 }
 
-/// The numbers that differ between two reports, by their places: what the later one amends (40 CFR 60.487a(c)(2)).
+/// The numbers that differ between two reports, in order of place: those that the later one amends (40 CFR
+/// 60.487a(c)(2)).
 #[tactic(auto, using(list_words::proofs::RangeLemmas::ranges))]
 pub fn amended_cells(alloc: Global, old: &Cells, new: &Cells) -> Result<Vec<Amended>, Memory>
     ensures value { IfOk result (λ changes. changes.items ≡ law.amended old.now new.now) }

@@ -27,7 +27,7 @@ pub enum FilingCall {
         unit: u8,
         half: u16,
     },
-    /// Asks for the revision of this number of a unit's half.
+    /// Asks for the revision with this number of a unit's half.
     Revision {
         unit: u8,
         half: u16,
@@ -35,16 +35,16 @@ pub enum FilingCall {
     },
 }
 
-/// What a filing answered to a call.
+/// The answer of a filing to a call.
 #[derive(Drop)]
 pub enum FilingAnswer {
-    /// The cells are on file as this revision.
+    /// The cells were filed as this revision.
     Put { revision: u32 },
     /// The last revision has the greatest number, so nothing was filed.
     Full,
-    /// The report that was asked for, if it is on file.
+    /// The report that was asked for, if it was filed.
     Found(Option<Filed>),
-    /// The call failed. The reports on file are as before.
+    /// The call failed. The filed reports are unchanged.
     Fault(FilingFault),
 }
 
@@ -58,7 +58,7 @@ fn number_after(last: &Option<Filed>) -> Option<u32>
     }
 }
 
-/// The report with these cells that is the next revision, if a number is left for it.
+/// The next revision with these cells, if a number is left for it.
 fn next_of<F: Filing>(
     alloc: Global,
     filing: &mut F,
@@ -121,7 +121,7 @@ fn put_filed<F: Filing>(alloc: Global, filing: &mut F, filed: &Filed) -> FilingA
     }
 }
 
-/// The answer with the report that was asked for.
+/// The answer to a question for a report.
 fn found_or_fault(found: Result<Option<Filed>, FilingFault>) -> FilingAnswer
     ensures value { result ≡ spec.found_or_fault found }
 {
@@ -141,7 +141,7 @@ fn ask_latest<F: Filing>(alloc: Global, filing: &mut F, unit: u8, half: u16) -> 
     found_or_fault(filing.latest(alloc, unit, half))
 }
 
-/// One revision of a unit's half.
+/// The revision with this number of a unit's half.
 fn ask_revision<F: Filing>(
     alloc: Global,
     filing: &mut F,
@@ -180,8 +180,8 @@ fn ask<F: Filing>(alloc: Global, filing: &mut F, call: &FilingCall) -> FilingAns
     }
 }
 
-/// Makes these calls one after the other. The answers are those of a map from a unit and half to a list of reports, and a call
-/// that fails leaves the map as it was. If memory runs out for an answer, the calls after it are not made.
+/// Makes these calls one after the other. The answers are those of a map from a unit and half to a list of reports; a call
+/// that fails leaves the map unchanged. If it runs out of memory for an answer, it does not make the remaining calls.
 pub fn ask_each<F: Filing>(
     alloc: Global,
     filing: &mut F,

@@ -4,7 +4,7 @@ use fact_kinds::Memory;
 use ldar_law::{Cells, DelayLine, Items, Stop};
 use std::alloc::Global;
 
-/// Whether two reports say the same.
+/// Whether two reports have equal cells.
 pub fn are_same(old: &Cells, new: &Cells) -> bool
     ensures value { IsTrue result ↔ (old.now ≡ new.now) }
 {
@@ -25,7 +25,7 @@ fn are_same_stops(old: &Items<Stop>, new: &Items<Stop>) -> bool
     old.as_slice() == new.as_slice()
 }
 
-/// The same cells once more.
+/// A copy of these cells.
 pub fn copy_of(alloc: Global, cells: &Cells) -> Result<Cells, Memory>
     ensures value { IfOk result (λ copy. copy ≡ cells.now) }
 {

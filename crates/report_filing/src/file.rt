@@ -12,14 +12,14 @@ use std::alloc::Global;
 /// The greatest number of a revision.
 pub const LAST_REVISION: u32 = 4_294_967_295;
 
-/// Why a report was not filed. The filing is as before.
+/// Why a report was not filed. The filing is unchanged.
 #[derive(Clone, Copy, Debug, PartialEq, Eq)]
 pub enum FileError {
     /// The last revision has the same cells, so nothing would be amended.
     Same { revision: u32 },
     /// The last revision has the greatest number, and other cells.
     Full,
-    /// The filing failed, and has counted it.
+    /// The filing failed, and counted the error.
     Fault,
     Memory,
 }
@@ -69,7 +69,7 @@ fn next_revision(last: &Option<Filed>, report: &Report) -> Result<u32, FileError
     }
 }
 
-/// Files a report as the next revision of its unit and half, and says its number.
+/// Files a report as the next revision of its unit and half, and returns its number.
 pub fn file_report<F: Filing>(
     alloc: Global,
     filing: &mut F,
@@ -79,7 +79,7 @@ pub fn file_report<F: Filing>(
         (λ old new. new ≡ old ++ filed_as revision report.now ∷ [])) }
     ensures unchanged { OnErr result (F.on_file filing.new ≡ F.on_file filing.old) }
 
-    // Which revision it is, and when there is none: the three exclude each other.
+    // The revision's number, and the cases without one; the three exclude each other.
     ensures value { IfOk result (λ revision. Told (F.on_file filing.old) (λ old.
         Follows report.now revision (latest_of report.now.unit report.now.half old))) }
     ensures next { IfOk result (λ revision. Told (F.on_file filing.old) (IsNext (filed_as revision report.now))) }

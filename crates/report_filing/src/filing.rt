@@ -8,10 +8,10 @@ use fact_kinds::Memory;
 use ldar_law::Filed;
 use std::alloc::Global;
 
-/// Why a call of a filing did not go through.
+/// Why a call of a filing failed.
 #[derive(Clone, Copy, Debug, PartialEq, Eq)]
 pub enum FilingFault {
-    /// The filing failed, and has counted it.
+    /// The filing failed, and counted the error.
     Failed,
     Memory,
 }
@@ -27,13 +27,13 @@ impl From<Memory> for FilingFault {
     }
 }
 
-/// Reports on file, and a count of faults. Each unit and half has its revisions, which count from 1.
+/// Filed reports, and a count of errors. The revisions of each unit and half count from 1.
 pub trait Filing {
-    /// The reports that were filed, in the order of filing, where the filing tells them. `revisions` is their map from a
-    /// unit and half to the revisions of it.
+    /// The reports in the order of filing, if the filing exposes them. `revisions` is their map from a unit and half to
+    /// its revisions.
     ghost on_file: { Self → Option (List Filed) };
 
-    /// How often a call of the filing failed. The count stays at 2^64 - 1 once it is there.
+    /// The number of failed calls. It stays at 2^64 - 1 once it reaches it.
     ghost faults: { Self → ℕ };
 
     /// The last revision of a unit's half, if one was filed.
@@ -44,7 +44,7 @@ pub trait Filing {
         ensures count { faults self.old ≤ faults self.new }
         ensures cause { result ≡ Err FilingFault.Failed → Rose (faults self.old) (faults self.new) };
 
-    /// The revision of this number of a unit's half, if it was filed.
+    /// The revision with this number of a unit's half, if it was filed.
     fn revision(
         &mut self,
         alloc: Global,
@@ -58,7 +58,7 @@ pub trait Filing {
         ensures count { faults self.old ≤ faults self.new }
         ensures cause { result ≡ Err FilingFault.Failed → Rose (faults self.old) (faults self.new) };
 
-    /// Files a revision, which has to be the next one of its unit and half.
+    /// Files a revision, which must be the next one of its unit and half.
     fn put(&mut self, alloc: Global, filed: &Filed) -> Result<(), FilingFault>
         requires next { Told (on_file self.old) (IsNext filed.now) }
         ensures put { OnOk result (BothTold (on_file self.old) (on_file self.new) (λ old new. new ≡ old ++ filed.now ∷ [])) }

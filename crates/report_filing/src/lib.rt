@@ -1,4 +1,6 @@
-//! Semiannual reports on file: what a filing keeps, and how a report becomes the next revision of its half.
+//! Filed semiannual reports: what a filing keeps, and how a report becomes the next revision of its reporting period.
+//!
+//! Tests: `text_tests::filings`.
 #![tactic(auto)]
 
 mod amend;

@@ -7,7 +7,7 @@ use ldar_law::Filed;
 use std::alloc::Global;
 use std::marker::Model;
 
-/// Reports on file in memory, which never fail. Contracts see them in the order of filing.
+/// Filed reports in memory, which never fail. In contracts they are in the order of filing.
 #[derive(Drop)]
 pub struct MapFiling {
     all: Vec<Filed>,
@@ -26,7 +26,7 @@ impl Model for MapFiling {
 }
 
 impl MapFiling {
-    /// A filing with no report. Takes no memory.
+    /// A filing without reports. Allocates nothing.
     pub fn new(alloc: Global) -> MapFiling
         ensures value { result ≡ [] }
     {
@@ -43,7 +43,7 @@ impl MapFiling {
         &self.all
     }
 
-    /// Puts the next revision of its unit and half behind the others.
+    /// Adds the next revision of its unit and half at the end.
     fn keep(&mut self, alloc: Global, filed: &Filed) -> Result<(), Memory>
         requires next { IsNext filed.now self.old }
         ensures put { OnOk result (self.new ≡ self.old ++ filed.now ∷ []) }
@@ -78,7 +78,7 @@ fn is_revision(filed: &Filed, unit: u8, half: u16, revision: u32) -> bool
     is_filed_for(filed, unit, half) && filed.revision == revision
 }
 
-/// The revision of this number of a unit's half.
+/// The revision with this number of a unit's half.
 fn revision_among(all: &[Filed], unit: u8, half: u16, revision: u32) -> Option<&Filed>
     ensures value { option_map (λ filed. filed.now) result ≡ revision_of unit half revision all.now }
 {
@@ -86,7 +86,7 @@ fn revision_among(all: &[Filed], unit: u8, half: u16, revision: u32) -> Option<&
         .find(|filed| is_revision(filed, unit, half, revision))
 }
 
-/// The same report on file once more.
+/// A copy of a filed report.
 fn copied(alloc: Global, filed: &Filed) -> Result<Filed, Memory>
     ensures value { IfOk result (λ copy. copy ≡ filed.now) }
 {

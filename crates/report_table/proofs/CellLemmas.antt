@@ -1,4 +1,4 @@
--- Bytes that stand at a place of others, and numbers among them.
+-- Bytes at a place in others, and numbers among them.
 use Rattle.std.proofs.Common.{◌≡◌, ℕ, ◌+◌, ◌*◌, ◌/◌, ◌%◌, ◌<◌, ◌≤◌, List, [], ◌∷◌, ◌++◌, take, drop, length, get_or, sym, ap, ap₂}
 use Rattle.std.proofs.Common.{◌∙◌, take-add, drop-drop, append_assoc, append-nil, Option, Some, None, IfSome, is_none, false, arith}
 use Rattle.std.proofs.lemmas.List.{drop_more}
@@ -7,14 +7,14 @@ use Rattle.std.specs.List.{flat_map}
 use Rattle.std.specs.Option.{option_to_list}
 use Rattle.fact_kinds.specs.Fields.{big_endian}
 
--- one piece and the piece behind it
+-- a piece and the next one
 pub joined : (xs a b : List ℕ) (at n m next : ℕ) → next ≡ at + n → take n (drop at xs) ≡ a → take m (drop next xs) ≡ b
     → take (n + m) (drop at xs) ≡ a ++ b
 joined xs a b at n m next is first second =
     take-add n m (drop at xs)
     ∙ ap₂ (λ (l r : List ℕ). l ++ r) first (ap (take m) (drop-drop n at xs ∙ ap (λ k. drop k xs) (sym is)) ∙ second)
 
--- a byte at a place
+-- the byte at a place
 pub one_spelled : (xs : List ℕ) (at : ℕ) → at < length xs → get_or xs at 0 < 256 → take 1 (drop at xs) ≡ big_endian 1 (get_or xs at 0)
 one_spelled xs at within small =
     let byte : get_or xs at 0 ≡ get_or xs at 0 / 1 % 256 = omega (arith, small) in
@@ -29,7 +29,7 @@ two_spelled xs at n within small is =
     ap (take 2) (drop_more xs at 0 (omega (arith, within)) ∙ ap (λ l. get_or xs at 0 ∷ l) (drop_more xs (at + 1) 0 (omega (arith, within))))
     ∙ ap₂ (λ a b. a ∷ b ∷ []) high low
 
--- so are four, as the two numbers of two bytes each
+-- four bytes at a place are those of two numbers of two bytes each
 pub four_spelled : (xs : List ℕ) (at high low n : ℕ) → take 2 (drop at xs) ≡ big_endian 2 high → take 2 (drop (at + 2) xs) ≡ big_endian 2 low
     → high < 65_536 → low < 65_536 → n ≡ high * 65_536 + low → take 4 (drop at xs) ≡ big_endian 4 n
 four_spelled xs at high low n front back small fits is =
@@ -43,7 +43,7 @@ four_spelled xs at high low n front back small fits is =
 
 -- ---- pieces one after the other
 
--- what was put behind what was put
+-- bytes appended after other appended bytes
 pub put_behind : (old mid new a b : List ℕ) → mid ≡ old ++ a → new ≡ mid ++ b → new ≡ old ++ (a ++ b)
 put_behind old mid new a b first second = second ∙ ap (λ (l : List ℕ). l ++ b) first ∙ append_assoc old a b
 
@@ -56,7 +56,7 @@ module _ {X : Type 0} (f : X → List ℕ) (done : List X) (bytes : List ℕ) (w
       ∙ ap₂ (λ (l r : List ℕ). l ++ r) so_far (next ∙ sym (append-nil (f x)))
       ∙ sym (flat_map-append f done (x ∷ []))
 
-  -- one that is there
+  -- a piece that exists
   pub one_given : (item : Option X) → is_none item ≡ false → IfSome item (λ x. take width (drop start bytes) ≡ f x)
       → take end bytes ≡ flat_map f (done ++ option_to_list item)
   one_given None given next = absurd cc

@@ -1,4 +1,4 @@
--- The bytes of cells stand for the cells that they spell.
+-- The bytes of cells are read back as those cells.
 use Rattle.std.proofs.Common.{◌≡◌, ℕ, zero, suc, ◌+◌, ◌*◌, ◌/◌, ◌%◌, ◌^◌, ◌<◌, ◌≤◌, List, [], ◌∷◌, ◌++◌, take, drop, length, Option}
 use Rattle.std.proofs.Common.{Some, None, refl, sym, ap, ap₂, ◌∙◌, take_at, drop_at, arith}
 use Rattle.std.specs.List.{flat_map, AllByRecursion}
@@ -23,7 +23,7 @@ one_back n small = omega (arith, small)
 two_back : (n : ℕ) → n < 2 ^ 16 → n / 256 % 256 * 256 + n / 1 % 256 ≡ n
 two_back n small = omega (arith, small)
 
--- four bytes, by the two numbers of two bytes
+-- four bytes, from two numbers of two bytes
 four_back : (n : ℕ) → n < 2 ^ 32
     → (n / 16_777_216 % 256 * 256 + n / 65_536 % 256) * 65_536 + (n / 256 % 256 * 256 + n / 1 % 256) ≡ n
 four_back n small =
@@ -36,12 +36,12 @@ abbrev day_number : Option ℕ → ℕ
 day_number None = 0
 day_number (Some day) = day
 
--- its bytes
+-- the bytes of a day or 0
 day_two : (day : Option ℕ) → day_bytes day ≡ big_endian 2 (day_number day)
 day_two None = refl
 day_two (Some day) = refl
 
--- a day that is one
+-- a day
 some_day : (day : ℕ) → IsDay day → day_in day ≡ Some day
 some_day zero is = absurd (omega (arith, is.0))
 some_day (suc day) is = refl
@@ -51,27 +51,28 @@ day_back : (day : Option ℕ) → IsDayOrNone day → day_in (day_number day / 2
 day_back None is = refl
 day_back (Some day) is = ap day_in (two_back day (omega (arith, is.0, is.1))) ∙ some_day day is
 
--- the kind of a repair's end, and its day
+-- the kind of a repair's due day, and its day
 abbrev kind_of : Until → ℕ
 kind_of (Date day) = 0
 kind_of Shutdown = 1
 kind_of WhileIsolated = 2
 kind_of NoDate = 3
 
+-- the day of a repair's due day, or 0
 abbrev end_of : Until → ℕ
 end_of (Date day) = day
 end_of Shutdown = 0
 end_of WhileIsolated = 0
 end_of NoDate = 0
 
--- its bytes
+-- the bytes of a repair's due day
 until_three : (until : Until) → until_bytes until ≡ big_endian 1 (kind_of until) ++ big_endian 2 (end_of until)
 until_three (Date day) = refl
 until_three Shutdown = refl
 until_three WhileIsolated = refl
 until_three NoDate = refl
 
--- a repair's end
+-- the due day of a repair
 until_back : (until : Until) → IsUntil until → until_in (kind_of until / 1 % 256) (end_of until / 256 % 256 * 256 + end_of until / 1 % 256) ≡ until
 until_back (Date day) is = ap Date (two_back day (omega (arith, is.0, is.1)))
 until_back Shutdown is = refl
@@ -80,7 +81,7 @@ until_back NoDate is = refl
 
 -- ---- lines
 
--- the bytes of a line, as those of its numbers
+-- the bytes of a line, from those of its numbers
 abbrev line_numbers : DelayLine → List ℕ
 line_numbers line =
     big_endian 2 line.component ++ (big_endian 2 line.detected ++ ((key_bytes line.delay.key ++ big_endian 1 line.delay.ground
@@ -92,11 +93,11 @@ line_is line = λ i.
     big_endian 2 line.component ++ (big_endian 2 line.detected ++ ((key_bytes line.delay.key ++ big_endian 1 line.delay.ground
     ++ big_endian 2 line.delay.signer ++ day_two line.delay.expected i) ++ (until_three line.until i ++ day_two line.closed i)))
 
--- a day has two bytes
+-- a day fits into two bytes
 small_day : (day : ℕ) → IsDay day → day < 2 ^ 16
 small_day day is = omega (arith, is.0, is.1)
 
--- a line stands for itself
+-- a line is read back
 line_back : (line : DelayLine) → IsLine line → line_in (line_bytes line) ≡ line
 line_back line is =
     let key = line.delay.key in
@@ -122,7 +123,7 @@ line_back line is =
       closed = closed i;
     })
 
--- so does a shutdown
+-- a shutdown is read back
 stop_back : (stop : Stop) → IsStop stop → stop_in (stop_bytes stop) ≡ stop
 stop_back stop is = λ i. record {
   first = two_back stop.first (small_day stop.first is.first) i;
@@ -133,7 +134,7 @@ stop_back stop is = λ i. record {
 
 module _ {X : Type 0} (spell : X → List ℕ) (read : List ℕ → X) (width : ℕ) (wide : (x : X) → length (spell x) ≡ width)
     (P : X → Type 0) (back : (x : X) → P x → read (spell x) ≡ x) where
-  -- pieces stand for what they spell
+  -- pieces are read back
   pieces_back : (xs : List X) → AllByRecursion P xs → pieces_in width read (length xs) (flat_map spell xs) ≡ xs
   pieces_back [] all = refl
   pieces_back (x ∷ xs) all =
@@ -148,7 +149,7 @@ months_back months are =
     ap (λ n. pieces_in 4 (λ piece. four_in piece 0) n (months_bytes months)) count
     ∙ pieces_back (big_endian 4) (λ piece. four_in piece 0) 4 (λ n. refl) (λ n. n < 2 ^ 32) four_back months are.small
 
--- the lines on delayed repairs
+-- the lines of delayed repairs
 pub delays_back : (lines : List DelayLine) → AllByRecursion IsLine lines → delays_in (delays_bytes lines) ≡ lines
 delays_back lines are =
     let long = pieces_long line_bytes 26 line_long lines in

@@ -1,4 +1,4 @@
--- What the statements that write do to the rows.
+-- How the statements that write change the rows.
 use Rattle.std.proofs.Common.{◌≡◌, ◌⊎◌, inl, inr, ℕ, suc, ◌+◌, ◌<◌, ℤ, pos, ◌+ℤ◌, List, [], ◌∷◌, ◌++◌, length, map, fold, Bool, true, false, cond, Some, None, Ok, Err, Result, OnOk, OnErr, IsTrue, refl, sym, ap, subst, ◌∙◌, arith, Less}
 use Rattle.std.proofs.lemmas.Bool.Decides.{nat_tests}
 use Rattle.std.proofs.lemmas.Int.{ints}
@@ -49,11 +49,11 @@ cast_number : (n : ℕ) → cast Integer (Int (pos n)) ≡ Int (pos n)
 unfolding unary
 cast_number n = either _ (Int (pos n))
 
--- the values of a report are of the types of their columns
+-- the values of a report have the types of their columns
 cast_values : (row : KeptRow) → cast_row filed (Null ∷ values_of row) ≡ Null ∷ values_of row
 cast_values row = rw (cast_null, cast_number row.unit, cast_number row.half, cast_number row.revision, cast_number row.day) refl
 
--- a part that gave a value did not stop on the way
+-- a part that returned a value did not stop
 went : {B E R : Type 0} {b : B} {Stops : E → Type 0} → ((stop : E) × Stops stop × (Ok b ≡ Err stop)) ⊎ R → R
 went (inl stopped) = absurd (let e = stopped.2 in cc)
 went (inr on) = on
@@ -61,27 +61,32 @@ went (inr on) = on
 same_value : {B E : Type 0} {a b : B} → ◌≡◌ {A = Result B E} (Ok a) (Ok b) → a ≡ b
 same_value e = cc
 
--- ---- rows that are numbered from 1
+-- ---- rows numbered from 1
 
+-- a smaller number is less as a value
 pub lower_id : (m n : ℕ) → m < n → value_cmp (Int (pos m)) (Int (pos n)) ≡ Less
 lower_id m n h = value_cmp-Int (pos m) (pos n) ∙ grind (arith, ints, nat_tests)
 
+-- a row with the next rowid is added at the end
 put_behind : (id : ℕ) (new : Row) (rows : List KeptRow) → rowid new ≡ Int (pos (id + length rows)) → put_row new (kept_from id rows) ≡ kept_from id rows ++ new ∷ []
 put_behind id new [] is = refl
 put_behind id new (row ∷ rows) is =
     rw (is, lower_id id (id + suc (length rows)) (omega arith)) (ap (λ x. (Int (pos id) ∷ values_of row) ∷ x) (put_behind (suc id) new rows (is ∙ ap (λ n. Int (pos n)) (omega arith))))
 
+-- the table's rows with one more
 kept_more : (id : ℕ) (rows : List KeptRow) (row : KeptRow) → kept_from id (rows ++ row ∷ []) ≡ kept_from id rows ++ (Int (pos (id + length rows)) ∷ values_of row) ∷ []
 kept_more id [] row = ap (λ n. (Int (pos n) ∷ values_of row) ∷ []) (omega arith)
 kept_more id (first ∷ rows) row =
     ap (λ x. (Int (pos id) ∷ values_of first) ∷ x) (kept_more (suc id) rows row ∙ ap (λ n. kept_from (suc id) rows ++ (Int (pos n) ∷ values_of row) ∷ []) (omega arith))
 
+-- the next rowid is one past the last
 next_id : (id : ℕ) (z : ℤ) (rows : List KeptRow) → z ≡ pos id → fold (λ _ r. (elim (rowid r) [ Int n ↦ n | _ ↦ pos 0 ]) +ℤ pos 1) z (kept_from id rows) ≡ pos (id + length rows)
 next_id id z [] is = is ∙ ap pos (omega arith)
 next_id id z (row ∷ rows) is = next_id (suc id) (pos id +ℤ pos 1) rows (omega (arith, ints)) ∙ ap pos (omega arith)
 
 -- ---- the state around a statement
 
+-- an unchanged state has the same rows
 pub keeps_unchanged : (rows : List KeptRow) (old new : State) → HasRows rows old → IsUnchanged old new → HasRows rows new
 keeps_unchanged rows old new h same = record {
   is_open = same.0.is_open;
@@ -91,6 +96,7 @@ keeps_unchanged rows old new h same = record {
   settled = same.0.now_is ∙ h.settled ∙ sym same.0.committed_is;
 }
 
+-- a state that was rolled back has the same rows
 pub keeps_undone : (rows : List KeptRow) (old new : State) → HasRows rows old → IsRolledBack old new → IsTrue new.is_open → HasRows rows new
 keeps_undone rows old new h back live =
     let both = back.undone live in
@@ -105,6 +111,7 @@ keeps_undone rows old new h back live =
 
 -- ---- the insert
 
+-- the query of the insert returns its parameters as one row
 given_row : (schema : Schema) (db : Trees) (params : Row) (rows : List Row) → Answers (record { schema = schema; trees = db }) (alone insert_query) params rows
     → rows ≡ eval_all insert_query.project (params ∷ []) ∷ []
 given_row schema db params rows h =
@@ -115,6 +122,7 @@ given_row schema db params rows h =
     let ordered = one_permutation o a.ordered (subst (λ k. IsPermutation k a.ordered) kept a.same) in
     a.shown ∙ ap (λ xs. page insert_query params (map (λ (p : Output). p.1) xs)) ordered
 
+-- the insert adds the row at the end
 pub adds : (rows : List KeptRow) (row : KeptRow) (old new : State) (count : ℕ) → HasRows rows old → Executes insert_text (values_of row) old new (Ok count) → HasRows (rows ++ row ∷ []) new
 adds rows row old new count h ran =
     let params = values_of row in
@@ -147,6 +155,7 @@ adds rows row old new count h ran =
 
 -- ---- the make
 
+-- the create statement makes an empty table
 pub makes : (old new : State) (count : ℕ) → IsBare old → Executes make_text [] old new (Ok count) → HasRows [] new
 makes old new count h ran =
     let w = subst (λ t. Writes old new None CreateTable t [] count) make_is.1 (runs_as make_text [] old new no_schema h.schema CreateTable make_is.0 make_plain count ran) in
@@ -166,40 +175,48 @@ makes old new count h ran =
       settled = sym (w.shown.committed_is ∙ rw h.alone refl);
     }
 
--- ---- what a statement leaves that went wrong
+-- ---- a failed statement
 
+-- after an error the rows are unchanged
 after_fault : (rows : List KeptRow) (old new : State) → HasRows rows old → IsUnchanged old new ⊎ IsRolledBack old new → IsTrue new.is_open → HasRows rows new
 after_fault rows old new h (inl same) live = keeps_unchanged rows old new h same
 after_fault rows old new h (inr back) live = keeps_undone rows old new h back live
 
+-- a statement that did not run leaves the state unchanged or rolled back
 not_run : (sql : List ℕ) (params : Row) (old new : State) (e : Error) → IsNotRun old new sql params e → IsUnchanged old new ⊎ IsRolledBack old new
 unfolding IsNotRun
 not_run sql params old new e (inl refused) = inl refused.1
 not_run sql params old new e (inr failed) = inr failed.3
 
+-- a command that failed leaves the state unchanged or rolled back
 command_failed : (sql : List ℕ) (params : Row) (old new : State) (c : Compiled) (e : Error) → RunsCommand old new sql c params (Err e) → IsUnchanged old new ⊎ IsRolledBack old new
 command_failed sql params old new c e (inl refused) = inl refused.1
 command_failed sql params old new c e (inr failed) = inr failed.3
 
+-- a command outside of a transaction that failed leaves the state unchanged or rolled back
 alone_failed : (b : Bool) (sql : List ℕ) (params : Row) (old new : State) (c : Compiled) (e : Error)
     → MatchBool b ((◌≡◌ {A = Result ℕ Error} (Err e) (Err ExecuteReturnedResults)) × IsUnchanged old new) (RunsCommand old new sql c params (Err e)) → IsUnchanged old new ⊎ IsRolledBack old new
 alone_failed true sql params old new c e h = inl h.1
 alone_failed false sql params old new c e h = command_failed sql params old new c e h
 
+-- a refused statement leaves the rows unchanged
 pub refused : (sql : List ℕ) (params : Row) (rows : List KeptRow) (old new : State) (e : Error) → HasRows rows old → Executes sql params old new (Err e) → IsTrue new.is_open → HasRows rows new
 unfolding ExecutesIn
 refused sql params rows old new e h (inl none) live = after_fault rows old new h (not_run sql params old new e none) live
 refused sql params rows old new e h (inr ran) live = after_fault rows old new h (alone_failed (shows_rows false ran.0) sql _ old new ran.0 e ran.2) live
 
+-- a query whose rows could not be returned leaves the state unchanged or rolled back
 show_failed : (sql : List ℕ) (params : Row) (old new : State) (c : Compiled) (e : Error) (what : Option Returning) → FailsToShow old new sql c params e what → IsUnchanged old new ⊎ IsRolledBack old new
 show_failed sql params old new c e None h = inl h.3
 show_failed sql params old new c e (Some what) h = command_failed sql params old new c e h
 
+-- a refused query leaves the rows unchanged
 pub query_refused : (sql : List ℕ) (params : Row) (rows : List KeptRow) (old new : State) (e : Error) → HasRows rows old → FailsToQuery sql params old new e → IsTrue new.is_open → HasRows rows new
 unfolding FailsToQuery
 query_refused sql params rows old new e h (inl none) live = after_fault rows old new h (not_run sql params old new e none) live
 query_refused sql params rows old new e h (inr ran) live = after_fault rows old new h (show_failed sql _ old new ran.0 e ran.0.returning ran.2) live
 
+-- a query that returns rows leaves the rows unchanged
 pub query_shown : (sql : List ℕ) (params : Row) (rows : List KeptRow) (old new : State) (out : List Row) → HasRows rows old → IsPlain (understood filed_schema sql)
     → Shown sql params old new out → HasRows rows new
 unfolding Shown
@@ -210,15 +227,18 @@ query_shown sql params rows old new out h plain shown =
 
 -- ---- by the result
 
+-- the table after the create statement, by its result
 pub make_made : (old new : State) (r : Result ℕ Error) → IsBare old → Executes make_text [] old new r → OnOk r (HasRows [] new)
 make_made old new (Ok count) h ran = makes old new count h ran
 make_made old new (Err e) h ran = tt
 
+-- the rows after the insert, if it succeeded
 pub insert_put : (rows : List KeptRow) (row : KeptRow) (old new : State) (r : Result ℕ Error) → HasRows rows old → Executes insert_text (values_of row) old new r
     → OnOk r (HasRows (rows ++ row ∷ []) new)
 insert_put rows row old new (Ok count) h ran = adds rows row old new count h ran
 insert_put rows row old new (Err e) h ran = tt
 
+-- the rows after the insert, if it failed
 pub insert_kept : (rows : List KeptRow) (row : KeptRow) (old new : State) (r : Result ℕ Error) → HasRows rows old → Executes insert_text (values_of row) old new r
     → OnErr r (IsTrue new.is_open → HasRows rows new)
 insert_kept rows row old new (Ok count) h ran = tt

@@ -1,4 +1,4 @@
--- Bytes at a place of others, taken apart again: what they were put together from.
+-- Bytes at a place in others, taken apart into the pieces of which they consist.
 use Rattle.std.proofs.Common.{◌≡◌, ℕ, ◌+◌, ◌*◌, ◌/◌, ◌%◌, ◌^◌, ◌<◌, ◌≤◌, List, [], ◌∷◌, ◌++◌, zero, suc, take, drop, length, get_or, Option}
 use Rattle.std.proofs.Common.{Some, None, IfSome, is_none, true, false, refl, sym, ap, ◌∙◌, take-take, take_at, drop_at, drop-drop, arith}
 use Rattle.std.proofs.lemmas.List.{drop_more, drop-take, length-append}
@@ -13,7 +13,7 @@ use Rattle.ldar_law.specs.declared.delay.Until.TheVariants.{Date, Shutdown, Whil
 use Rattle.report_table.specs.CellBytes.{day_bytes, key_bytes, until_bytes, delay_bytes, line_bytes, stop_bytes, months_bytes, delays_bytes, stops_bytes}
 use Rattle.report_table.specs.Ranges.{IsLine, IsStop, AreMonths}
 
--- two pieces, the one behind the other
+-- two pieces, one after the other
 pub parted : (xs a b : List ℕ) (at n m next : ℕ) → length a ≡ n → next ≡ at + n → take (n + m) (drop at xs) ≡ a ++ b
     → (take n (drop at xs) ≡ a) × (take m (drop next xs) ≡ b)
 parted xs a b at n m next long is both = (
@@ -49,12 +49,12 @@ four_parts n small =
 -- ---- pieces of one width
 
 module _ {X : Type 0} (f : X → List ℕ) (width : ℕ) (wide : (x : X) → length (f x) ≡ width) where
-  -- so many bytes
+  -- the length of the pieces
   pub pieces_long : (xs : List X) → length (flat_map f xs) ≡ width * length xs
   pieces_long [] = omega arith
   pieces_long (x ∷ xs) = length-append (f x) (flat_map f xs) ∙ omega (arith, wide x, pieces_long xs)
 
-  -- the piece at a place, and whose it is
+  -- the piece at a place, and its item
   pub piece_at : (P : X → Type 0) (xs : List X) (at : ℕ) → AllByRecursion P xs → at < length xs
       → (x : X) × (P x) × (take (at + 1) xs ≡ take at xs ++ x ∷ []) × (take width (drop (width * at) (flat_map f xs)) ≡ f x)
   piece_at P [] at all within = absurd (omega (arith, within))
@@ -74,26 +74,26 @@ module _ {X : Type 0} (f : X → List ℕ) (width : ℕ) (wide : (x : X) → len
             ∙ found.3,
       )
 
--- ---- what stands for a report's parts
+-- ---- the bytes of a report's parts
 
--- a day or none is in two bytes
+-- a day or none has two bytes
 pub day_long : (day : Option ℕ) → length (day_bytes day) ≡ 2
 day_long None = refl
 day_long (Some day) = refl
 
--- until when is in three
+-- the due day of a repair has three bytes
 pub until_long : (until : Until) → length (until_bytes until) ≡ 3
 until_long (Date day) = refl
 until_long Shutdown = refl
 until_long WhileIsolated = refl
 until_long NoDate = refl
 
--- a delay is in 17
+-- a delay has 17 bytes
 pub delay_long : (delay : DelayEntry) → length (delay_bytes delay) ≡ 17
 delay_long delay =
     ap (λ n. suc (suc (suc (suc (suc (suc (suc (suc (suc (suc (suc (suc (suc (suc (suc (n)))))))))))))))) (day_long delay.expected)
 
--- a line is in 26
+-- a line has 26 bytes
 pub line_long : (line : DelayLine) → length (line_bytes line) ≡ 26
 line_long line =
     let tail : length (until_bytes line.until ++ day_bytes line.closed) ≡ 5 =
@@ -111,7 +111,7 @@ module _ (xs : List ℕ) (at : ℕ) where
     pub number : take 4 (drop (at + 6) xs) ≡ big_endian 4 key.number
     pub index : take 2 (drop (at + 10) xs) ≡ big_endian 2 key.index
 
-  -- .. stand where the key stands
+  -- the parts of a key are at the key's place
   pub key_parts : (key : Key) → take 12 (drop at xs) ≡ key_bytes key → KeyParts key
   key_parts key is =
       let day = parted xs (big_endian 2 key.day) _ at 2 10 (at + 2) refl refl is in
@@ -127,7 +127,7 @@ module _ (xs : List ℕ) (at : ℕ) where
     pub signer : take 2 (drop (at + 13) xs) ≡ big_endian 2 delay.signer
     pub expected : take 2 (drop (at + 15) xs) ≡ day_bytes delay.expected
 
-  -- .. stand where the delay stands
+  -- the parts of a delay are at the delay's place
   pub delay_parts : (delay : DelayEntry) → take 17 (drop at xs) ≡ delay_bytes delay → DelayParts delay
   delay_parts delay is =
       let key = parted xs (key_bytes delay.key) _ at 12 5 (at + 12) refl refl is in
@@ -143,7 +143,7 @@ module _ (xs : List ℕ) (at : ℕ) where
     pub until : take 3 (drop (at + 21) xs) ≡ until_bytes line.until
     pub closed : take 2 (drop (at + 24) xs) ≡ day_bytes line.closed
 
-  -- .. stand where the line stands
+  -- the parts of a line are at the line's place
   pub line_parts : (line : DelayLine) → take 26 (drop at xs) ≡ line_bytes line → LineParts line
   line_parts line is =
       let component = parted xs (big_endian 2 line.component) _ at 2 24 (at + 2) refl refl is in
@@ -157,16 +157,16 @@ module _ (xs : List ℕ) (at : ℕ) where
       → (take 2 (drop at xs) ≡ big_endian 2 stop.first) × (take 2 (drop (at + 2) xs) ≡ big_endian 2 stop.last)
   stop_parts stop is = parted xs (big_endian 2 stop.first) (big_endian 2 stop.last) at 2 2 (at + 2) refl refl is
 
--- ---- the next piece of those that were given
+-- ---- the next piece of a list of items
 
--- the next item, which fits, and stands at its place
+-- the next item, which fits and is at its place
 pub record Next {X : Type 0} (f : X → List ℕ) (width : ℕ) (P : X → Type 0) (given : List X) (bytes : List ℕ) (at : ℕ) : Type 0 where
   pub item : X
   pub fits : P item
   pub follows : take (at + 1) given ≡ take at given ++ item ∷ []
   pub stands : take width (drop (width * at) bytes) ≡ f item
 
--- what is found at a place of the given ones is next
+-- the item at a place of the list is the next one
 pub next_of : {X : Type 0} (f : X → List ℕ) (width : ℕ) → ((x : X) → length (f x) ≡ width) → (P : X → Type 0) (given : List X) (bytes : List ℕ) (at : ℕ)
     → AllByRecursion P given → bytes ≡ flat_map f given → at < length given → Next f width P given bytes at
 next_of f width wide P given bytes at all is within =
@@ -191,62 +191,62 @@ pub next_number : (given : List ℕ) (bytes : List ℕ) (at : ℕ) → AreMonths
 next_number given bytes at are is within =
     next_of (big_endian 4) 4 (λ _. refl) (λ n. n < 2 ^ 32) given bytes at are.small is (omega (arith, within, are.places))
 
--- they are as many as the bytes say
+-- the number of lines, from the length of the bytes
 pub lines_long : (given : List DelayLine) (bytes : List ℕ) → bytes ≡ delays_bytes given → length bytes ≡ 26 * length given
 lines_long given bytes is = ap length is ∙ pieces_long line_bytes 26 line_long given
 
--- so are the shutdowns
+-- the number of shutdowns, from the length of the bytes
 pub stops_long : (given : List Stop) (bytes : List ℕ) → bytes ≡ stops_bytes given → length bytes ≡ 4 * length given
 stops_long given bytes is = ap length is ∙ pieces_long stop_bytes 4 (λ _. refl) given
 
--- so are the numbers
+-- the number of numbers, from the length of the bytes
 pub months_long : (given : List ℕ) (bytes : List ℕ) → AreMonths given → bytes ≡ months_bytes given → length bytes ≡ 144
 months_long given bytes are is = ap length is ∙ pieces_long (big_endian 4) 4 (λ _. refl) given ∙ omega (arith, are.places)
 
--- ---- what reads back is the same
+-- ---- what is read back is equal
 
--- the item, or another where there is none
+-- the item, or another one if there is none
 abbrev item_or : {X : Type 0} → X → Option X → X
 item_or other None = other
 item_or other (Some item) = item
 
--- two items of one answer are the same
+-- an option has only one item
 pub same_item : {X : Type 0} (a b : X) → Some a ≡ Some b → a ≡ b
 same_item a b is = ap (item_or a) is
 
--- no answer is no item
+-- `None` has no item
 pub no_item : {X Y : Type 0} (x : X) → None ≡ Some x → Y
 no_item x is = let none : true ≡ false = ap is_none is in absurd cc
 
--- four bytes are two numbers of two
+-- four bytes are two numbers of two bytes
 pub four_halves : (xs : List ℕ) (at n : ℕ) → n < 2 ^ 32 → take 4 (drop at xs) ≡ big_endian 4 n
     → (take 2 (drop at xs) ≡ big_endian 2 (n / 65_536)) × (take 2 (drop (at + 2) xs) ≡ big_endian 2 (n % 65_536))
 four_halves xs at n small is =
     parted xs (big_endian 2 (n / 65_536)) (big_endian 2 (n % 65_536)) at 2 2 (at + 2) refl refl (is ∙ four_parts n small)
 
--- keys whose parts are the same
+-- keys with equal parts are equal
 pub same_key : (a b : Key) → a.day ≡ b.day → a.minute ≡ b.minute → a.handheld ≡ b.handheld → a.number ≡ b.number → a.index ≡ b.index → a ≡ b
 same_key a b day minute handheld number index =
     λ i. record { day = day i; minute = minute i; handheld = handheld i; number = number i; index = index i }
 
--- delays whose parts are the same
+-- delays with equal parts are equal
 pub same_delay : (a b : DelayEntry) → a.key ≡ b.key → a.ground ≡ b.ground → a.signer ≡ b.signer → a.expected ≡ b.expected → a ≡ b
 same_delay a b key ground signer expected = λ i. record { key = key i; ground = ground i; signer = signer i; expected = expected i }
 
--- lines whose parts are the same
+-- lines with equal parts are equal
 pub same_line : (a b : DelayLine) → a.component ≡ b.component → a.detected ≡ b.detected → a.delay ≡ b.delay → a.until ≡ b.until → a.closed ≡ b.closed → a ≡ b
 same_line a b component detected delay until closed =
     λ i. record { component = component i; detected = detected i; delay = delay i; until = until i; closed = closed i }
 
--- shutdowns whose days are the same
+-- shutdowns with equal days are equal
 pub same_stop : (a b : Stop) → a.first ≡ b.first → a.last ≡ b.last → a ≡ b
 same_stop a b first last = λ i. record { first = first i; last = last i }
 
--- what holds of an item, if there is one, holds of it in other words
+-- a weaker property of an optional item
 pub if_some_then : {X : Type 0} (P Q : X → Type 0) (found : Option X) → ((x : X) → P x → Q x) → IfSome found P → IfSome found Q
 if_some_then P Q None step holds = holds
 if_some_then P Q (Some x) step holds = step x holds
 
--- what is an item is not none
+-- an option with an item is not `None`
 pub given_is_given : {X Y : Type 0} (found : Option X) (item : X) → found ≡ Some item → is_none found ≡ true → Y
 given_is_given found item is none = let both : false ≡ true = sym (ap is_none is) ∙ none in absurd cc

@@ -1,4 +1,4 @@
--- Reports and their rows: what is read of a row, and which report the row that was found is of.
+-- Reports and their rows: what is read from a row, and whose report a found row has.
 use Rattle.std.proofs.Common.{◌≡◌, ◌⊎◌, inl, inr, ℕ, ◌+◌, ◌<◌, ◌≤◌, List, [], ◌∷◌, ◌++◌, map, filter, length, Bool, true, false, cond, nat_eq, ◌&&◌, Option}
 use Rattle.std.proofs.Common.{Some, None, Result, Ok, Err, IfOk, OnOk, OnErr, refl, sym, ap, subst, ◌∙◌, arith}
 use Rattle.std.specs.Prelude.{find, option_map, is_ok}
@@ -24,7 +24,7 @@ use Rattle.report_table.proofs.MemoryRows.{chosen_has}
 
 -- ---- a report and its row
 
--- a report that can be kept is that of its row
+-- a report that can be kept is the report of its row
 pub filed_back : (filed : Filed) → CanBeKept filed → filed_in (spelled filed) ≡ filed
 filed_back filed can = λ i. record {
   unit = filed.unit;
@@ -50,7 +50,7 @@ row_is filed row is = λ i. record {
   stops = is.stops i;
 }
 
--- and back
+-- a kept row of a report is its row
 pub is_row : (filed : Filed) (row : FiledRow) → kept_as row ≡ spelled filed → IsRowOf filed row
 is_row filed row is = record {
   unit = ap (λ (r : KeptRow). r.unit) is;
@@ -62,7 +62,7 @@ is_row filed row is = record {
   stops = ap (λ (r : KeptRow). r.stops) is;
 }
 
--- ---- the rows of a half and its reports
+-- ---- the rows and the reports of a half
 
 -- the revisions of a half are the reports of its rows
 revisions_are : (unit half : ℕ) (rows : List KeptRow) → revisions unit half (filed_of rows) ≡ filed_of (filter (is_for unit half) rows)
@@ -72,7 +72,7 @@ revisions_are unit half (row ∷ rows) = elim (cases_Bool (is_for unit half row)
   | inr fails ↦ rw fails (revisions_are unit half rows)
 ]
 
--- rows that count from a number have none below it
+-- rows that count up from a number have no smaller one
 least : (first : ℕ) (rows : List KeptRow) (row : KeptRow) → CountFrom first (filed_of rows) → IsAmong row rows → first ≤ row.revision
 least first [] row counted among = absurd among
 least first (other ∷ rows) row counted (inl same) = let is = counted.0 in let revision = ap (λ (r : KeptRow). r.revision) same in omega (arith, is, revision)
@@ -84,7 +84,7 @@ greatest_ends : (first : ℕ) (row : KeptRow) (rows : List KeptRow) → row.revi
 greatest_ends first row [] is counted most = refl
 greatest_ends first row (other ∷ rows) is counted most = let next = counted.0 in let last = most.0 in absurd (omega (arith, is, next, last))
 
--- the greatest of rows that count up is the last
+-- the greatest of rows that count up is the last one
 greatest_last : (first : ℕ) (before : Option Filed) (rows : List KeptRow) (row : KeptRow) → CountFrom first (filed_of rows) → IsAmong row rows
     → AllByRecursion (λ other. other.revision ≤ row.revision) rows → last_or before (filed_of rows) ≡ Some (filed_in row)
 greatest_last first before [] row counted among most = absurd among
@@ -94,7 +94,7 @@ greatest_last first before (other ∷ rows) row counted (inl same) most =
 greatest_last first before (other ∷ rows) row counted (inr later) most =
     greatest_last (first + 1) (Some (filed_in other)) rows row counted.1 later most.1
 
--- the row of a number, of those that count up
+-- the row with a number, of rows that count up
 one_found : (first revision : ℕ) (rows : List KeptRow) (row : KeptRow) → CountFrom first (filed_of rows) → IsAmong row rows → row.revision ≡ revision
     → find (λ filed. nat_eq filed.revision revision) (filed_of rows) ≡ Some (filed_in row)
 one_found first revision [] row counted among is = absurd among
@@ -107,7 +107,7 @@ one_found first revision (other ∷ rows) row counted (inr later) is =
     let another : nat_eq other.revision revision ≡ false = grind (arith, nat_tests) in
     rw another (one_found (first + 1) revision rows row counted.1 later is)
 
--- the first that passes two tests is the first that passes the second of those that pass the first
+-- the first item that passes two tests is the first that passes the second among those that pass the first
 find_both : (p q : Filed → Bool) (all : List Filed) → find (λ x. p x && q x) all ≡ find q (filter p all)
 find_both p q [] = refl
 find_both p q (x ∷ xs) = elim (cases_Bool (p x)) [
@@ -115,7 +115,7 @@ find_both p q (x ∷ xs) = elim (cases_Bool (p x)) [
   | inr fails ↦ rw fails (find_both p q xs)
 ]
 
--- what is among the rows that pass both tests is among those that pass the first
+-- a row that passes both tests is among those that pass the first
 among_first : (p q : KeptRow → Bool) (rows : List KeptRow) (row : KeptRow) → IsAmong row (filter (λ r. p r && q r) rows) → IsAmong row (filter p rows)
 among_first p q [] row among = absurd among
 among_first p q (other ∷ rows) row among = elim (cases_Bool (p other)) [
@@ -128,7 +128,7 @@ among_first p q (other ∷ rows) row among = elim (cases_Bool (p other)) [
   | inr fails ↦ let later : IsAmong row (filter (λ r. p r && q r) rows) = rw fails at among in rw fails (among_first p q rows row later)
 ]
 
--- where no row passes none is found
+-- if no row passes, none is found
 none_passes : (p : KeptRow → Bool) (q : Filed → Bool) → ((row : KeptRow) → q (filed_in row) ≡ p row) → (rows : List KeptRow) → filter p rows ≡ []
     → find q (filed_of rows) ≡ None
 none_passes p q same [] none = refl
@@ -137,15 +137,15 @@ none_passes p q same (row ∷ rows) none = elim (cases_Bool (p row)) [
   | inr fails ↦ let rest : filter p rows ≡ [] = rw fails at none in rw (same row, fails) (none_passes p q same rows rest)
 ]
 
--- ---- the report of the row that was found
+-- ---- the report of the found row
 
--- what holds of each row holds of one of them
+-- a property of each row, for one of them
 each_has : (P : KeptRow → Type 0) (rows : List KeptRow) (row : KeptRow) → AllByRecursion P rows → IsAmong row rows → P row
 each_has P [] row all among = absurd among
 each_has P (other ∷ rows) row all (inl same) = subst P same all.0
 each_has P (other ∷ rows) row all (inr later) = each_has P rows row all.1 later
 
--- a chosen row is among all
+-- a selected row is among all rows
 chosen_among : (p : KeptRow → Bool) (rows : List KeptRow) (row : KeptRow) → IsAmong row (filter p rows) → IsAmong row rows
 chosen_among p [] row among = absurd among
 chosen_among p (other ∷ rows) row among = elim (cases_Bool (p other)) [
@@ -155,7 +155,7 @@ chosen_among p (other ∷ rows) row among = elim (cases_Bool (p other)) [
   | inr fails ↦ let later : IsAmong row (filter p rows) = rw fails at among in inr (chosen_among p rows row later)
 ]
 
--- a row that was chosen among those on file is read as its report
+-- a selected row of a filed report is read as its report
 read_one : (p : KeptRow → Bool) (rows : List KeptRow) (row : FiledRow) (found : Option Filed) → AreFiled rows → IsAmong (kept_as row) (filter p rows)
     → IsReadFrom (Ok (Some row)) found → found ≡ Some (filed_in (kept_as row))
 read_one p rows row found filed among reads =
@@ -181,7 +181,7 @@ one_is unit half revision rows row filed among =
     ∙ one_found 1 revision (filter (is_for unit half) rows) row (subst (CountFrom 1) are (filed.numbered unit half))
     (among_first (is_for unit half) (λ r. nat_eq r.revision revision) rows row among) is
 
--- what was read of the last row is the last revision
+-- the last row was read as the last revision
 pub last_read : (unit half : ℕ) (ran : Result (Option FiledRow) Error) (found : Option Filed) (rows : Option (List KeptRow)) → Told rows AreFiled
     → IfOk ran (λ row. Told rows (λ all. IsFoundLast (filter (is_for unit half) all) row)) → IsReadFrom ran found
     → Told (option_map filed_of rows) (λ old. found ≡ latest_of unit half old)
@@ -192,7 +192,7 @@ last_read unit half (Ok (Some row)) found (Some all) filed is reads =
     read_one (is_for unit half) all row found filed is.among reads ∙ sym (last_is unit half all (kept_as row) filed is)
 last_read unit half (Err error) found (Some all) filed is reads = absurd reads
 
--- what was read of the row of a revision is that revision
+-- the row of a revision was read as that revision
 pub one_read_back : (unit half revision : ℕ) (ran : Result (Option FiledRow) Error) (found : Option Filed) (rows : Option (List KeptRow)) → Told rows AreFiled
     → IfOk ran (λ row. Told rows (λ all. IsFoundOne (filter (is_at unit half revision) all) row)) → IsReadFrom ran found
     → Told (option_map filed_of rows) (λ old. found ≡ revision_of unit half revision old)
@@ -203,9 +203,9 @@ one_read_back unit half revision (Ok (Some row)) found (Some all) filed is reads
     read_one (is_at unit half revision) all row found filed is reads ∙ sym (one_is unit half revision all (kept_as row) filed is)
 one_read_back unit half revision (Err error) found (Some all) filed is reads = absurd reads
 
--- ---- one row more
+-- ---- one more row
 
--- what holds of each holds with one more
+-- a property of each element, with one more
 each_more : {X : Type 0} (P : X → Type 0) (xs : List X) (x : X) → AllByRecursion P xs → P x → AllByRecursion P (xs ++ x ∷ [])
 each_more P [] x all one = (one, tt)
 each_more P (y ∷ xs) x all one = (all.0, each_more P xs x all.1 one)
@@ -215,13 +215,13 @@ reports_more : (rows : List KeptRow) (row : KeptRow) → filed_of (rows ++ row �
 reports_more [] row = refl
 reports_more (other ∷ rows) row = ap (λ more. filed_in other ∷ more) (reports_more rows row)
 
--- the reports with one more, of which it is the row
+-- the reports of rows with one more, which is the row of a report
 pub reports_put : (filed : Filed) (row : FiledRow) (rows : List KeptRow) → CanBeKept filed → IsRowOf filed row
     → filed_of (rows ++ kept_as row ∷ []) ≡ filed_of rows ++ filed ∷ []
 reports_put filed row rows can is =
     reports_more rows (kept_as row) ∙ ap (λ one. filed_of rows ++ one ∷ []) (ap filed_in (row_is filed row is) ∙ filed_back filed can)
 
--- rows on file with that of the next report
+-- the rows of filed reports, with that of the next report
 pub filed_put : (filed : Filed) (row : FiledRow) (rows : List KeptRow) → CanBeKept filed → IsRowOf filed row → IsNext filed (filed_of rows) → AreFiled rows
     → AreFiled (rows ++ kept_as row ∷ [])
 filed_put filed row rows can is next are =
@@ -234,40 +234,40 @@ filed_put filed row rows can is next are =
       numbered = subst AreNumbered (sym (reports_put filed row rows can is)) (numbered_put (filed_of rows) filed are.numbered next);
     }
 
--- ---- what a filing over a table tells
+-- ---- the exposed reports of a filing over a table
 
--- a table without a row has the reports of none
+-- a table without rows has no reports
 none_filed : AreFiled []
 none_filed = record { spelled = tt; numbered = λ unit half. tt }
 
--- no row is on file yet
+-- no row is filed yet
 pub none_yet : (rows : Option (List KeptRow)) → Told rows (λ rows. rows ≡ []) → Told rows AreFiled
 none_yet rows none = Told-weaker (λ rows. rows ≡ []) AreFiled (λ rows is. subst AreFiled (sym is) none_filed) rows none
 
--- the reports that are told are numbered
+-- the exposed reports are numbered
 pub told_numbered : (rows : Option (List KeptRow)) → Told rows AreFiled → Told (option_map filed_of rows) AreNumbered
 told_numbered None filed = tt
 told_numbered (Some all) filed = filed.numbered
 
--- what was found is the last revision that is told
+-- the last exposed revision was found
 pub last_told : (unit half : ℕ) (ran : Result (Option FiledRow) Error) (result : Result (Option Filed) FilingFault) (rows : Option (List KeptRow))
     → Told rows AreFiled → IfOk ran (λ row. Told rows (λ all. IsFoundLast (filter (is_for unit half) all) row)) → IfOk result (IsReadFrom ran)
     → IfOk result (λ found. Told (option_map filed_of rows) (λ old. found ≡ latest_of unit half old))
 last_told unit half ran (Ok found) rows filed is reads = last_read unit half ran found rows filed is reads
 last_told unit half ran (Err fault) rows filed is reads = tt
 
--- what was found is the revision that is told
+-- the exposed revision was found
 pub one_told : (unit half revision : ℕ) (ran : Result (Option FiledRow) Error) (result : Result (Option Filed) FilingFault) (rows : Option (List KeptRow))
     → Told rows AreFiled → IfOk ran (λ row. Told rows (λ all. IsFoundOne (filter (is_at unit half revision) all) row)) → IfOk result (IsReadFrom ran)
     → IfOk result (λ found. Told (option_map filed_of rows) (λ old. found ≡ revision_of unit half revision old))
 one_told unit half revision ran (Ok found) rows filed is reads = one_read_back unit half revision ran found rows filed is reads
 one_told unit half revision ran (Err fault) rows filed is reads = tt
 
--- the next report of those that are told can be kept, since its revision is at least 1
+-- the report after the exposed ones can be kept, since its revision is at least 1
 pub next_can : (filed : Filed) (rows : List KeptRow) → IsNext filed (filed_of rows) → IsDay filed.day → AreCells filed.cells → CanBeKept filed
 next_can filed rows next day cells = record { numbered = omega (arith, next); day = day; cells = cells }
 
--- a row was put, or the rows are as before
+-- a row was added, or the rows are unchanged
 pub put_kept : {X : Type 0} (filed : Filed) (row : FiledRow) (result : Result X Error) (old new : Option (List KeptRow)) → IsDay filed.day → AreCells filed.cells
     → IsRowOf filed row → Told (option_map filed_of old) (IsNext filed) → Told old AreFiled
     → OnOk result (BothTold old new (λ old new. new ≡ old ++ kept_as row ∷ [])) → OnErr result (new ≡ old) → Told new AreFiled
@@ -278,7 +278,7 @@ put_kept filed row (Ok x) (Some old) None day cells is next are put same = absur
 put_kept filed row (Ok x) (Some old) (Some new) day cells is next are put same =
     subst AreFiled (sym put) (filed_put filed row old (next_can filed old next day cells) is next are)
 
--- the reports with the one that was put
+-- the reports with the added one
 pub put_told : {X : Type 0} (filed : Filed) (row : FiledRow) (result : Result X Error) (old new : Option (List KeptRow)) → IsDay filed.day → AreCells filed.cells
     → IsRowOf filed row → Told (option_map filed_of old) (IsNext filed) → OnOk result (BothTold old new (λ old new. new ≡ old ++ kept_as row ∷ []))
     → OnOk result (BothTold (option_map filed_of old) (option_map filed_of new) (λ old new. new ≡ old ++ filed ∷ []))
@@ -289,7 +289,7 @@ put_told filed row (Ok x) (Some old) None day cells is next put = absurd put
 put_told filed row (Ok x) (Some old) (Some new) day cells is next put =
     ap filed_of put ∙ reports_put filed row old (next_can filed old next day cells) is
 
--- what holds of an answer that went through holds of one that went through with it
+-- a property of a successful result, for a result that is successful with it
 pub on_ok_with : {X E D : Type 0} (P : Type 0) (first : Result X E) (result : Result X D) → is_ok result ≡ is_ok first → OnOk first P → OnOk result P
 on_ok_with P first (Err e) both holds = tt
 on_ok_with P (Ok x) (Ok y) both holds = holds

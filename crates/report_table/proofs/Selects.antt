@@ -1,4 +1,4 @@
--- What the statements that read show of the rows.
+-- The results of the statements that read.
 use Rattle.std.proofs.Common.{◌≡◌, ◌⊎◌, inl, inr, ℕ, zero, suc, ◌+◌, ◌<◌, ◌≤◌, pos, List, [], ◌∷◌, ◌++◌, map, filter, take, Bool, true, false, ◌&&◌, cond, nat_eq, slice_index_or, All, Some, Ok, refl, sym, ap, subst, ◌∙◌, arith, Equal}
 use Rattle.std.proofs.lemmas.Bool.Decides.{nat_tests}
 use Rattle.std.proofs.lemmas.Int.{ints}
@@ -51,10 +51,11 @@ is_number : (a b : ℕ) → is_true (binary (Compare Eq Binary) (Int (pos a)) (I
 unfolding binary
 is_number a b = truthy _ ∙ ap is_eq (value_cmp-Int (pos a) (pos b)) ∙ grind (arith, ints, nat_tests)
 
+-- a row matches the query exactly if it is of the unit and half
 matches_half : (unit half id : ℕ) (row : KeptRow) → list_all (holds (key_of unit half ∷ (Int (pos id) ∷ values_of row) ∷ [])) latest_query.filter ≡ is_for unit half row
 matches_half unit half id row = rw (is_number row.unit unit, is_number row.half half) (ap (λ c. nat_eq row.unit unit && c) (and_true _))
 
--- ---- all by recursion, and by places
+-- ---- properties of all, by recursion and by places
 
 each_at : {X : Type 0} (P : X → Type 0) (xs : List X) → AllByRecursion P xs → All P xs
 each_at P [] all k d within = absurd (omega arith)
@@ -68,11 +69,13 @@ at_each P (x ∷ xs) all = (all 0 x (omega arith), at_each P xs (λ k d within. 
 permuted : {X : Type 0} (P : X → Type 0) (xs ys : List X) → IsPermutation xs ys → AllByRecursion P xs → AllByRecursion P ys
 permuted P xs ys same all = at_each P ys (All-permutation P xs ys same (each_at P xs all))
 
--- ---- what is shown of each row
+-- ---- the result for each row
 
+-- the output of the query for a row
 abbrev out_of : KeptRow → Output
 out_of row = (number row.revision ∷ [], shown_of row)
 
+-- the revision in an output
 abbrev revision_in : Output → ℕ
 revision_in o = nat_in (column o.0 0)
 
@@ -85,6 +88,7 @@ map_if : (b : Bool) (row : KeptRow) (rows : List KeptRow) → cond b (out_of row
 map_if true row rows = refl
 map_if false row rows = refl
 
+-- the outputs of the query are those of the matching rows
 outputs : (lost : Value) (db : Trees) (unit half id : ℕ) (rows : List KeptRow)
     → map (output latest_query) (flat_map (λ r. matches_as lost db latest_query.filter end (key_of unit half ∷ r ∷ [])) (kept_from id rows)) ≡ map out_of (filter (is_for unit half) rows)
 outputs lost db unit half id [] = refl
@@ -96,8 +100,9 @@ outputs lost db unit half id (row ∷ rows) =
     ∙ put_if (is_for unit half row) latest_query env rest (out_of row) (map out_of (filter (is_for unit half) rows)) refl (outputs lost db unit half (suc id) rows)
     ∙ map_if (is_for unit half row) row (filter (is_for unit half) rows)
 
--- ---- the first of the outputs in order
+-- ---- the first of the results in order
 
+-- the output is that of one of these rows
 abbrev IsOut : List KeptRow → Output → Type 0
 IsOut rows o = (row : KeptRow) × IsAmong row rows × (o ≡ out_of row)
 
@@ -116,6 +121,7 @@ not_less a b h = elim (below_or_not a b) [
   | inr least ↦ least
 ]
 
+-- outputs in order have falling revisions
 falls : (rows : List KeptRow) (most : ℕ) (o : Output) (os : List Output) → AllByRecursion (IsOut rows) (o ∷ os) → IsSorted (output_cmp latest_query) (o ∷ os)
     → revision_in o ≤ most → AllByRecursion (λ x. revision_in x ≤ most) (o ∷ os)
 falls rows most o [] outs sorted first = (first, tt)
@@ -133,6 +139,7 @@ unmapped : (most : ℕ) (rows : List KeptRow) → AllByRecursion (λ x. revision
 unmapped most [] all = tt
 unmapped most (row ∷ rows) all = (all.0, unmapped most rows all.1)
 
+-- the first output is that of the row with the greatest revision
 first_shown : (chosen : List KeptRow) (ordered : List Output) → IsPermutation (map out_of chosen) ordered → IsSorted (output_cmp latest_query) ordered
     → ShowsLast chosen (take 1 (map (λ o. o.1) ordered))
 first_shown [] [] same sorted = refl
@@ -145,6 +152,7 @@ first_shown chosen (o ∷ os) same sorted =
     let back = permuted (λ x. revision_in x ≤ it.0.revision) (o ∷ os) (map out_of chosen) (IsPermutation-sym _ _ same) below in
     (it.0, record { among = it.1; last = unmapped it.0.revision chosen back }, ap (λ (p : Output). p.1) it.2)
 
+-- the query returns the last row of a unit's half
 pub latest_shows : (rows : List KeptRow) (unit half : ℕ) (old new : State) (out : List Row) → HasRows rows old → Shown latest_text (key_of unit half) old new out
     → ShowsLast (filter (is_for unit half) rows) out
 latest_shows rows unit half old new out h shown =
@@ -161,11 +169,13 @@ latest_shows rows unit half old new out h shown =
 
 -- ---- by the result
 
+-- the result of the query, if it succeeded
 pub latest_told : (rows : List KeptRow) (unit half : ℕ) (old new : State) (r : Result (Vec Row Global) Error) → HasRows rows old
     → IfOk r (λ out. Shown latest_text (key_of unit half) old new out.items) → IfOk r (λ out. ShowsLast (filter (is_for unit half) rows) out.items)
 latest_told rows unit half old new (Ok out) h shown = latest_shows rows unit half old new out.items h shown
 latest_told rows unit half old new (Err e) h shown = tt
 
+-- the rows after the query
 pub latest_kept : (rows : List KeptRow) (unit half : ℕ) (old new : State) (r : Result (Vec Row Global) Error) → HasRows rows old
     → IfOk r (λ out. Shown latest_text (key_of unit half) old new out.items) → IfErr r (FailsToQuery latest_text (key_of unit half) old new)
     → IsTrue new.is_open → HasRows rows new
@@ -174,12 +184,14 @@ latest_kept rows unit half old new (Err e) h shown failed live = query_refused l
 
 -- ---- the row of a revision
 
+-- a row matches the query exactly if it is of the unit, half and revision
 matches_place : (unit half revision id : ℕ) (row : KeptRow)
     → list_all (holds (place_of unit half revision ∷ (Int (pos id) ∷ values_of row) ∷ [])) revision_query.filter ≡ is_at unit half revision row
 matches_place unit half revision id row =
     rw (is_number row.unit unit, is_number row.half half, is_number row.revision revision)
     (ap (λ c. nat_eq row.unit unit && (nat_eq row.half half && c)) (and_true _) ∙ and_joins (nat_eq row.unit unit) (nat_eq row.half half) (nat_eq row.revision revision))
 
+-- the output of the query for a row
 abbrev plain_of : KeptRow → Output
 plain_of row = ([], shown_of row)
 
@@ -187,6 +199,7 @@ map_plain : (b : Bool) (row : KeptRow) (rows : List KeptRow) → cond b (plain_o
 map_plain true row rows = refl
 map_plain false row rows = refl
 
+-- the outputs of the query are those of the matching rows
 outputs_at : (lost : Value) (db : Trees) (unit half revision id : ℕ) (rows : List KeptRow)
     → map (output revision_query) (flat_map (λ r. matches_as lost db revision_query.filter end (place_of unit half revision ∷ r ∷ [])) (kept_from id rows))
     ≡ map plain_of (filter (is_at unit half revision) rows)
@@ -199,6 +212,7 @@ outputs_at lost db unit half revision id (row ∷ rows) =
     (outputs_at lost db unit half revision (suc id) rows)
     ∙ map_plain (is_at unit half revision row) row (filter (is_at unit half revision) rows)
 
+-- the output is that of one of these rows
 abbrev IsPlainOut : List KeptRow → Output → Type 0
 IsPlainOut rows o = (row : KeptRow) × IsAmong row rows × (o ≡ plain_of row)
 
@@ -206,6 +220,7 @@ plain_outs : (all rows : List KeptRow) → ((row : KeptRow) → IsAmong row rows
 plain_outs all [] there = tt
 plain_outs all (row ∷ rows) there = ((row, there row (inl refl), refl), plain_outs all rows (λ other h. there other (inr h)))
 
+-- the returned rows, from the outputs of the selected rows
 one_shown : (chosen : List KeptRow) (ordered : List Output) → IsPermutation (map plain_of chosen) ordered → ShowsOne chosen (map (λ o. o.1) ordered)
 one_shown [] [] same = refl
 one_shown (row ∷ rows) [] same = absurd (let e = length_permutation _ _ same in omega arith)
@@ -213,6 +228,7 @@ one_shown chosen (o ∷ os) same =
     let it = (permuted (IsPlainOut chosen) (map plain_of chosen) (o ∷ os) same (plain_outs chosen chosen (λ row h. h))).0 in
     (it.0, it.1, ap (λ (p : Output). p.1) it.2)
 
+-- the query returns the row of a revision
 pub revision_shows : (rows : List KeptRow) (unit half revision : ℕ) (old new : State) (out : List Row) → HasRows rows old → Shown revision_text (place_of unit half revision) old new out
     → ShowsOne (filter (is_at unit half revision) rows) out
 revision_shows rows unit half revision old new out h shown =
@@ -227,11 +243,13 @@ revision_shows rows unit half revision old new out h shown =
     ∙ outputs_at Null (overlay old.now.trees []) unit half revision 1 rows in
     subst (ShowsOne chosen) (sym a.shown) (one_shown chosen a.ordered (subst (λ k. IsPermutation k a.ordered) kept a.same))
 
+-- the result of the query, if it succeeded
 pub revision_told : (rows : List KeptRow) (unit half revision : ℕ) (old new : State) (r : Result (Vec Row Global) Error) → HasRows rows old
     → IfOk r (λ out. Shown revision_text (place_of unit half revision) old new out.items) → IfOk r (λ out. ShowsOne (filter (is_at unit half revision) rows) out.items)
 revision_told rows unit half revision old new (Ok out) h shown = revision_shows rows unit half revision old new out.items h shown
 revision_told rows unit half revision old new (Err e) h shown = tt
 
+-- the rows after the query
 pub revision_kept : (rows : List KeptRow) (unit half revision : ℕ) (old new : State) (r : Result (Vec Row Global) Error) → HasRows rows old
     → IfOk r (λ out. Shown revision_text (place_of unit half revision) old new out.items) → IfErr r (FailsToQuery revision_text (place_of unit half revision) old new)
     → IsTrue new.is_open → HasRows rows new

@@ -1,4 +1,4 @@
--- What the four texts mean.
+-- The meaning of the four texts.
 use Rattle.std.proofs.Common.{◌≡◌, ℕ, pos, negsuc, List, [], ◌∷◌, codes, true, false, None, Ok, refl}
 use Rattle.sqlite.specs.Collation.TheVariants.{Binary}
 use Rattle.sqlite.specs.declared.types.Value.TheVariants.{Null, Int}
@@ -68,6 +68,7 @@ alone query = record { lets = []; body = query }
 abbrev pub names : List (List ℕ)
 names = codes "revision" ∷ codes "day" ∷ codes "months" ∷ codes "delays" ∷ codes "stops" ∷ []
 
+-- the create statement makes the table
 pub make_is : (command_of (understood no_schema make_text) ≡ CreateTable) × (statement_of make_text (understood no_schema make_text) ≡ make_text) × (table_defined_by make_text ≡ Ok filed)
 unfolding understood everything
 make_is = (refl, refl, refl)
@@ -76,6 +77,7 @@ pub make_plain : IsPlain (understood no_schema make_text)
 unfolding understood everything
 make_plain = (refl, refl)
 
+-- the insert statement adds one row
 pub insert_is : command_of (understood filed_schema insert_text) ≡ Insert 0 (Queried (alone insert_query))
 unfolding understood everything
 insert_is = refl
@@ -84,6 +86,7 @@ pub insert_plain : IsPlain (understood filed_schema insert_text)
 unfolding understood everything
 insert_plain = (refl, refl)
 
+-- the first select lists the last row of a unit's half
 pub latest_is : (command_of (understood filed_schema latest_text) ≡ Select (alone latest_query) names) × (reads_listing filed_schema latest_text ≡ false)
 unfolding understood everything
 latest_is = (refl, refl)
@@ -92,6 +95,7 @@ pub latest_plain : IsPlain (understood filed_schema latest_text)
 unfolding understood everything
 latest_plain = (refl, refl)
 
+-- the second select lists the row of a revision
 pub revision_is : (command_of (understood filed_schema revision_text) ≡ Select (alone revision_query) names) × (reads_listing filed_schema revision_text ≡ false)
 unfolding understood everything
 revision_is = (refl, refl)

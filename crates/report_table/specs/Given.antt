@@ -1,4 +1,4 @@
--- The row that is given to the table, and the one that is read from it.
+-- The row that is added to the table, and the row that is read from it.
 use Rattle.std.specs.Prelude.{◌≡◌, List, [], Option, Some, None}
 use Rattle.sqlite_value.specs.declared.value.Value.TheVariants.{Blob}
 use Rattle.sqlite_value.specs.Order.{Row, column}
@@ -6,10 +6,11 @@ use Rattle.report_table.specs.declared.filed_row.FiledRow.{FiledRow}
 use Rattle.report_table.specs.Kept.{KeptRow}
 use Rattle.report_table.specs.Statements.{number, IsAmong, IsLast}
 
+-- the row as the table keeps it
 abbrev pub kept_as : FiledRow → KeptRow
 kept_as row = record { unit = row.unit; half = row.half; revision = row.revision; day = row.day; months = row.months.items; delays = row.delays.items; stops = row.stops.items }
 
--- what a row that was found reads as
+-- the row that was found, as it is read
 pub record ReadsAs (kept : Row) (found : FiledRow) : Type 0 where
   pub revision : column kept 0 ≡ number found.revision
   pub day : column kept 1 ≡ number found.day

@@ -1,4 +1,4 @@
--- What a table can keep of a report: numbers within the widths of their bytes, and days of the calendar.
+-- The reports that a table can keep: numbers that fit into their bytes, and days of the calendar.
 use Rattle.std.specs.Prelude.{◌≡◌, ℕ, ◌<◌, ◌^◌, List, length, Option, Some, None}
 use Rattle.std.specs.List.{AllByRecursion}
 use Rattle.ldar_days.specs.Calendar.{IsDay}
@@ -14,7 +14,7 @@ abbrev pub IsDayOrNone : Option ℕ → Type 0
 IsDayOrNone None = Unit {0}
 IsDayOrNone (Some day) = IsDay day
 
--- a place among all facts
+-- the key of a fact
 pub record IsKey (key : Key) : Type 0 where
   pub day : IsDay key.day
   pub minute : key.minute < 2 ^ 16
@@ -29,14 +29,14 @@ pub record IsDelay (delay : DelayEntry) : Type 0 where
   pub signer : delay.signer < 2 ^ 16
   pub expected : IsDayOrNone delay.expected
 
--- until when a repair is due
+-- the due day of a repair
 abbrev pub IsUntil : Until → Type 0
 IsUntil (Date day) = IsDay day
 IsUntil Shutdown = Unit {0}
 IsUntil WhileIsolated = Unit {0}
 IsUntil NoDate = Unit {0}
 
--- a line on a delayed repair
+-- the line of a delayed repair
 pub record IsLine (line : DelayLine) : Type 0 where
   pub component : line.component < 2 ^ 16
   pub detected : IsDay line.detected

@@ -1,4 +1,4 @@
--- The row that the table keeps of a report, the report that a row is of, and the reports that the table can keep.
+-- The row of a report, the report of a row, and the reports that the table can keep.
 use Rattle.std.specs.Prelude.{◌≡◌, ◌≤◌, ◌⊎◌, ℕ, List, map, Option, Some, None, Result, Ok, Err}
 use Rattle.std.specs.List.{AllByRecursion}
 use Rattle.ldar_days.specs.Calendar.{IsDay}
@@ -26,7 +26,7 @@ spelled filed = record {
   stops = stops_bytes filed.cells.stops;
 }
 
--- the report that a row is of
+-- the report of a row
 abbrev pub filed_in : KeptRow → Filed
 filed_in row = record {
   unit = row.unit;
@@ -36,7 +36,7 @@ filed_in row = record {
   cells = record { months = months_in row.months; delays = delays_in row.delays; stops = stops_in row.stops };
 }
 
--- its numbers are the report's, and its bytes spell the report's cells
+-- the row's numbers are the report's, and its bytes spell the report's cells
 pub record IsRowOf (filed : Filed) (row : FiledRow) : Type 0 where
   pub unit : row.unit ≡ filed.unit
   pub half : row.half ≡ filed.half
@@ -46,25 +46,25 @@ pub record IsRowOf (filed : Filed) (row : FiledRow) : Type 0 where
   pub delays : row.delays.items ≡ delays_bytes filed.cells.delays
   pub stops : row.stops.items ≡ stops_bytes filed.cells.stops
 
--- cells that its bytes can spell
+-- cells that bytes can spell
 pub record AreCells (cells : Cells) : Type 0 where
   pub months : AreMonths cells.months
   pub delays : AllByRecursion IsLine cells.delays
   pub stops : AllByRecursion IsStop cells.stops
 
--- a report that it can keep: a revision, with its day and cells
+-- a report that the table can keep: a revision with its day and cells
 pub record CanBeKept (filed : Filed) : Type 0 where
   pub numbered : 1 ≤ filed.revision
   pub day : IsDay filed.day
   pub cells : AreCells filed.cells
 
--- it is read back, but for want of memory
+-- it is read back, unless it ran out of memory
 abbrev pub IsReadBack : {X : Type 0} → Result X FilingFault → X → Type 0
 IsReadBack result given = (result ≡ Ok given) ⊎ (result ≡ Err Memory)
 
--- ---- what a table has on file
+-- ---- the reports in a table
 
--- a row of a report that the table can keep
+-- the row of a report that the table can keep
 abbrev pub IsSpelled : KeptRow → Type 0
 IsSpelled row = CanBeKept (filed_in row) × (row ≡ spelled (filed_in row))
 
@@ -77,7 +77,7 @@ pub record AreFiled (rows : List KeptRow) : Type 0 where
 abbrev pub filed_of : List KeptRow → List Filed
 filed_of rows = map filed_in rows
 
--- the reports that a filing has, if it tells them, and its count of faults
+-- the reports in a filing, if it exposes them, and its count of errors
 pub record OnFile : Type 0 where
   pub reports : Option (List Filed)
   pub faults : ℕ

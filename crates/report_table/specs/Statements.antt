@@ -1,4 +1,4 @@
--- The statements on the table of reports on file, and what is given to them and read from them.
+-- The statements on the table of filed reports, their parameters, and the rows that they return.
 use Rattle.std.specs.Prelude.{◌≡◌, ◌≤◌, ◌⊎◌, ℕ, pos, Bool, ◌&&◌, nat_eq, List, [], ◌∷◌, codes}
 use Rattle.std.specs.List.{AllByRecursion}
 use Rattle.sqlite_value.specs.declared.value.Value.{Value}
@@ -28,21 +28,25 @@ values_of row =
     number row.unit ∷ number row.half ∷ number row.revision ∷ number row.day
     ∷ Blob row.months ∷ Blob row.delays ∷ Blob row.stops ∷ []
 
--- what a select shows of a row
+-- the columns of a row that a select returns
 abbrev pub shown_of : KeptRow → Row
 shown_of row = number row.revision ∷ number row.day ∷ Blob row.months ∷ Blob row.delays ∷ Blob row.stops ∷ []
 
+-- the parameters for a unit's half
 abbrev pub key_of : ℕ → ℕ → List Value
 key_of unit half = number unit ∷ number half ∷ []
 
+-- the parameters for a revision of a unit's half
 abbrev pub place_of : ℕ → ℕ → ℕ → List Value
 place_of unit half revision = number unit ∷ number half ∷ number revision ∷ []
 
--- ---- what is sought among the rows
+-- ---- the rows that are searched
 
+-- the row is of this unit and half
 abbrev pub is_for : ℕ → ℕ → KeptRow → Bool
 is_for unit half row = nat_eq row.unit unit && nat_eq row.half half
 
+-- the row is of this unit, half and revision
 abbrev pub is_at : ℕ → ℕ → ℕ → KeptRow → Bool
 is_at unit half revision row = is_for unit half row && nat_eq row.revision revision
 
@@ -50,18 +54,18 @@ abbrev pub IsAmong : KeptRow → List KeptRow → Type 0
 IsAmong row [] = ⊥
 IsAmong row (other ∷ rows) = (other ≡ row) ⊎ IsAmong row rows
 
--- the row is one of these, and none of them has a greater revision
+-- the row is one of these, and no other has a greater revision
 pub record IsLast (rows : List KeptRow) (row : KeptRow) : Type 0 where
   pub among : IsAmong row rows
   pub last : AllByRecursion (λ other. other.revision ≤ row.revision) rows
 
--- what a select of the last of these rows shows: nothing where there is none
+-- the result of a select of the last of these rows; empty if there is none
 abbrev pub ShowsLast : List KeptRow → List Row → Type 0
 ShowsLast rows [] = rows ≡ []
 ShowsLast rows (shown ∷ []) = (row : KeptRow) × IsLast rows row × (shown ≡ shown_of row)
 ShowsLast rows (shown ∷ more ∷ others) = ⊥
 
--- what a select of a row by its place shows, where no two rows have one place: nothing where there is none
+-- the result of a select of a row by its place, if no two rows have the same place; empty if there is none
 abbrev pub ShowsOne : List KeptRow → List Row → Type 0
 ShowsOne rows [] = rows ≡ []
 ShowsOne rows (shown ∷ others) = (row : KeptRow) × IsAmong row rows × (shown ≡ shown_of row)

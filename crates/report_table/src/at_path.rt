@@ -6,8 +6,8 @@ use sqlite::{Connection, File, FileStore};
 use std::alloc::Global;
 use std::fs;
 
-/// The table in the file at a path. The first call that needs the file opens it, and makes it if there is none. The table
-/// tells no row: opening a file says nothing of the rows that it held.
+/// The table in the file at a path. The first call that needs the file opens it. `insert` makes the file if there is none; a
+/// question makes none, and finds no row there. The table tells no row: opening a file says nothing of the rows that it held.
 #[derive(Drop)]
 pub struct AtPath {
     rt: HostRuntime,
@@ -17,7 +17,7 @@ pub struct AtPath {
 }
 
 impl AtPath {
-    /// The table in the file at this path. Opens nothing.
+    /// The table in the file at this path. It opens nothing.
     pub fn new(rt: HostRuntime, path: String) -> AtPath {
         AtPath {
             rt,
@@ -27,7 +27,7 @@ impl AtPath {
         }
     }
 
-    /// The connection to the file, which is opened if it is not yet.
+    /// The connection to the file, which is opened if it is not open yet.
     fn opened(&mut self) -> Result<Connection<FileStore<File>>, Error> {
         let mut conn = match self.conn.take() {
             Some(conn) => conn,
@@ -37,13 +37,13 @@ impl AtPath {
         Ok(conn)
     }
 
-    /// Whether there is no file. If that is not known, opening it will tell.
+    /// Whether the file is known to be missing. If it is not known, opening it decides.
     fn is_missing(&self) -> bool {
         self.conn.is_none() && matches!(fs::exists(&self.rt, self.path.as_str()), Ok(false))
     }
 }
 
-/// The connection to a file, with the table.
+/// A connection to a file, with the table.
 fn begun(rt: &HostRuntime, path: &str) -> Result<Connection<FileStore<File>>, Error> {
     let mut conn = Connection::open(rt, path)?;
     statements::make(&mut conn)?;
@@ -66,6 +66,9 @@ impl Table for AtPath {
     }
 
     fn latest(&mut self, _alloc: Global, unit: u8, half: u16) -> Result<Option<FiledRow>, Error> {
+        if self.is_missing() {
+            return Ok(None);
+        }
         let mut conn = self.opened()?;
         let ran = statements::latest(&mut conn, unit, half);
         self.conn = Some(conn);
@@ -79,7 +82,6 @@ impl Table for AtPath {
         half: u16,
         revision: u32,
     ) -> Result<Option<FiledRow>, Error> {
-        // A question for one revision makes no file.
         if self.is_missing() {
             return Ok(None);
         }

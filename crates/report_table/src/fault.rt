@@ -4,7 +4,7 @@ ghost use Rattle.report_table.specs.Faults as spec;
 use crate::{Error, ErrorCode};
 use report_filing::FilingFault;
 
-/// What a statement that was refused is: a fault of the filing, unless memory was wanting.
+/// The error of the filing for a refused statement: a failure, unless it ran out of memory.
 pub(crate) fn fault_of(error: Error) -> FilingFault
     ensures value { result ≡ spec.fault_of error }
 {

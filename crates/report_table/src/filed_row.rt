@@ -7,13 +7,13 @@ ghost use Rattle.report_table.specs.Statements.{is_for, is_at, ShowsLast, ShowsO
 
 use sqlite::{Error, Row};
 
-/// A report on file as the table keeps it: its numbers, and its cells as bytes.
+/// A filed report as the table keeps it: its numbers, and its cells as bytes.
 #[derive(Drop)]
 pub struct FiledRow {
     pub unit: u8,
     pub half: u16,
     pub revision: u32,
-    /// Days since 1970-01-01.
+    /// The day of filing, in days since 1970-01-01.
     pub day: u32,
     pub months: Vec<u8>,
     pub delays: Vec<u8>,
@@ -48,7 +48,7 @@ fn row_of(unit: u8, half: u16, row: &Row) -> Result<FiledRow, Error>
     })
 }
 
-/// The first row that was shown for a unit and half, if there is one.
+/// The first returned row for a unit and half, if there is one.
 pub(crate) fn first_of(unit: u8, half: u16, shown: &[Row]) -> Result<Option<FiledRow>, Error>
     ensures last { (all : List KeptRow) → ShowsLast (filter (is_for unit half) all) shown.now
         → IfOk result (IsFoundLast (filter (is_for unit half) all)) }

@@ -7,7 +7,7 @@ use sqlite::{Connection, MemStore};
 use std::alloc::Global;
 use std::marker::Model;
 
-/// The table in memory, for as long as this value is there. Contracts see its rows, in the order in which they were put.
+/// The table in memory, as long as this value lives. In contracts it is its rows, in the order in which they were added.
 #[derive(Drop)]
 pub struct InMemory {
     conn: Option<Connection<MemStore>>,
@@ -27,7 +27,7 @@ impl Model for InMemory {
 }
 
 impl InMemory {
-    /// The table without a row. Takes no memory.
+    /// The table without rows. Allocates nothing.
     pub fn new() -> InMemory
         ensures value { result ≡ [] }
     {
@@ -38,7 +38,7 @@ impl InMemory {
     }
 }
 
-/// The store, which is made if there is none yet.
+/// The store, which is created if it does not exist yet.
 fn opened(
     alloc: Global,
     conn: Option<Connection<MemStore>>,

@@ -1,4 +1,4 @@
-//! Which rows the table has after each statement.
+//! The rows in the table after each statement.
 
 ghost use Rattle.std.specs.Prelude.{◌≡◌, [], ◌∷◌, ◌++◌, List, IsTrue, IfOk, OnOk, OnErr, filter};
 ghost use Rattle.sqlite.specs.Held.{state};
@@ -11,14 +11,14 @@ ghost use Rattle.report_table.specs.Statements.{is_for, is_at, ShowsLast, ShowsO
 use crate::{FiledRow, statements};
 use sqlite::{Alter, Connection, Error, Row};
 
-/// Makes the table, with no row.
+/// Creates the table, without rows.
 pub(crate) fn make<S: Alter>(conn: &mut Connection<S>) -> Result<usize, Error>
     ensures made { HasCleanDisk (state S.Store conn.new) → IsBare (state S.Store conn.old) → OnOk result (HasRows [] (state S.Store conn.new)) }
 {
     statements::make(conn)
 }
 
-/// Puts a row for a report behind the others.
+/// Adds the row of a report at the end.
 pub(crate) fn insert<S: Alter>(conn: &mut Connection<S>, row: &FiledRow) -> Result<usize, Error>
     ensures put { HasCleanDisk (state S.Store conn.new) → (rows : List KeptRow) → HasRows rows (state S.Store conn.old)
         → OnOk result (HasRows (rows ++ kept_as row.now ∷ []) (state S.Store conn.new)) }

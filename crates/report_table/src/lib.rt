@@ -1,4 +1,6 @@
-//! Reports on file in a table of a store, in memory or at a path.
+//! Filed reports in a table of a database, in memory or in a file.
+//!
+//! Tests: `text_tests::table`.
 #![tactic(auto)]
 
 mod at_path;

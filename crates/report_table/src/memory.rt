@@ -1,4 +1,4 @@
-//! The statements on a store in memory, which is always clean and never shut.
+//! The statements on a store in memory, which is always clean and never closed.
 
 ghost use Rattle.std.specs.Prelude.{◌≡◌, [], ◌∷◌, ◌++◌, Some, IfOk, OnOk, OnErr, filter};
 ghost use Rattle.sqlite.specs.Held.{state};
@@ -11,7 +11,7 @@ use crate::{FiledRow, kept};
 use sqlite::{Connection, Error, MemStore, Row};
 use std::alloc::Global;
 
-/// A store with the table, and no row.
+/// A store with the table, without rows.
 pub(crate) fn begun(alloc: Global) -> Result<Connection<MemStore>, Error>
     ensures empty { IfOk result (λ conn. HasRows [] (state over_memory conn)) }
 {
@@ -20,7 +20,7 @@ pub(crate) fn begun(alloc: Global) -> Result<Connection<MemStore>, Error>
     Ok(conn)
 }
 
-/// Puts a row behind the others.
+/// Adds a row at the end.
 pub(crate) fn insert(conn: &mut Connection<MemStore>, row: &FiledRow) -> Result<usize, Error>
     requires kept { IsKept (Some conn.old) }
     ensures kept { IsKept (Some conn.new) }

@@ -16,16 +16,16 @@ use ldar_days::Day;
 use ldar_law::{DelayEntry, DelayLine, MonthCells, Stop, Until};
 use std::alloc::Global;
 
-/// The numbers of a report, of which there are 36.
+/// The number of numbers in a report.
 const PLACES: usize = 36;
 
-/// The bytes of a line on a delayed repair.
+/// The bytes of a delay line.
 const LINE: usize = 26;
 
 /// The bytes of a shutdown.
 const STOP: usize = 4;
 
-/// The 36 numbers that these bytes spell, if they are so many.
+/// The 36 numbers that these bytes spell, if the length is right.
 pub(crate) fn months_of(bytes: &[u8]) -> Option<MonthCells>
     ensures value { IfSome result (λ months. bytes.now ≡ spell.months_bytes months) }
     ensures reads_back { (months : List ℕ) → AreMonths months → bytes.now ≡ spell.months_bytes months → result ≡ Some months }
@@ -40,7 +40,7 @@ pub(crate) fn months_of(bytes: &[u8]) -> Option<MonthCells>
     Some(MonthCells::new(numbers))
 }
 
-/// The lines on delayed repairs that these bytes spell, if they spell some.
+/// The delay lines that these bytes spell, if they do.
 pub(crate) fn delays_of(alloc: Global, bytes: &[u8]) -> Result<Option<Vec<DelayLine>>, Memory>
     ensures value { IfOk result (λ found. IfSome found (λ lines. bytes.now ≡ spell.delays_bytes lines.items)) }
     ensures reads_back { (lines : List DelayLine) → AllByRecursion IsLine lines → bytes.now ≡ spell.delays_bytes lines
@@ -58,7 +58,7 @@ pub(crate) fn delays_of(alloc: Global, bytes: &[u8]) -> Result<Option<Vec<DelayL
     Ok(Some(lines))
 }
 
-/// The shutdowns that these bytes spell, if they spell some.
+/// The shutdowns that these bytes spell, if they do.
 pub(crate) fn stops_of(alloc: Global, bytes: &[u8]) -> Result<Option<Vec<Stop>>, Memory>
     ensures value { IfOk result (λ found. IfSome found (λ stops. bytes.now ≡ spell.stops_bytes stops.items)) }
     ensures reads_back { (stops : List Stop) → AllByRecursion IsStop stops → bytes.now ≡ spell.stops_bytes stops
@@ -78,7 +78,7 @@ pub(crate) fn stops_of(alloc: Global, bytes: &[u8]) -> Result<Option<Vec<Stop>>,
     Ok(Some(stops))
 }
 
-/// Adds the line that stands at a place, if one does.
+/// Adds the line at a place, if there is one.
 fn add_line(lines: &mut Vec<DelayLine>, bytes: &[u8], at: usize) -> Result<bool, Memory>
     requires within { at + 26 ≤ length bytes.now }
     requires so_far { take at bytes.now ≡ spell.delays_bytes lines.old.items }
@@ -121,7 +121,7 @@ fn delay_at(bytes: &[u8], at: usize) -> Option<DelayEntry>
     })
 }
 
-/// The shutdown that stands at a place, if one does.
+/// The shutdown at a place, if there is one.
 fn stop_at(bytes: &[u8], at: usize) -> Option<Stop>
     requires within { at + 4 ≤ length bytes.now }
     ensures value { IfSome result (λ stop. take 4 (drop at bytes.now) ≡ spell.stop_bytes stop) }
@@ -167,7 +167,7 @@ fn day_at(bytes: &[u8], at: usize) -> Option<Day>
     Day::of_number(u32::from(two_at(bytes, at)))
 }
 
-/// A day or none, which is 0; nothing where there is another number.
+/// A day, or none for 0; `None` for any other number.
 fn day_or_none_at(bytes: &[u8], at: usize) -> Option<Option<Day>>
     requires within { at + 2 ≤ length bytes.now }
     ensures value { IfSome result (λ day. take 2 (drop at bytes.now) ≡ spell.day_bytes day) }
@@ -193,7 +193,7 @@ fn key_at(bytes: &[u8], at: usize) -> Option<Key>
     })
 }
 
-/// Until when a repair is due; only with a date there is a day behind the kind.
+/// The due day of a repair; the kind is followed by a day only if it is a date.
 fn until_at(bytes: &[u8], at: usize) -> Option<Until>
     requires within { at + 3 ≤ length bytes.now }
     ensures value { IfSome result (λ until. take 3 (drop at bytes.now) ≡ spell.until_bytes until) }

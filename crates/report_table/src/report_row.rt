@@ -31,7 +31,7 @@ pub(crate) fn row_of(alloc: Global, filed: &Filed) -> Result<FiledRow, Memory>
         stops: stops_bytes(alloc, filed.cells.stops.as_slice())?,
     })
 }
-/// The report that a row is of. A row that does not read back as one is a fault.
+/// The report of a row. It is an error if the row does not read back as one.
 fn filed_of(alloc: Global, row: &FiledRow) -> Result<Filed, FilingFault>
     ensures value { IfOk result (λ filed. IsRowOf filed row.now) }
     ensures numbered { IfOk result (λ filed. 1 ≤ filed.revision) }
@@ -77,7 +77,7 @@ fn cells_of(alloc: Global, row: &FiledRow) -> Result<Cells, FilingFault>
     })
 }
 
-/// The report of the row that was found, if one was.
+/// The report of the row that was found, if there is one.
 pub(crate) fn found_in(
     alloc: Global,
     ran: Result<Option<FiledRow>, Error>,

@@ -1,4 +1,4 @@
-//! One function for each statement on the table, each with one call of the database.
+//! One function for each statement on the table, with one call of the database each.
 
 ghost use Rattle.std.specs.Prelude.{◌≡◌, [], IfOk, IfErr};
 ghost use Rattle.sqlite.specs.Held.{state};
@@ -21,14 +21,14 @@ const LATEST: &str =
 const REVISION: &str =
     "SELECT revision, day, months, delays, stops FROM filed WHERE unit = ?1 AND half = ?2 AND revision = ?3";
 
-/// Makes the table, where there is none.
+/// Creates the table, if it does not exist.
 pub(crate) fn make<S: Alter>(conn: &mut Connection<S>) -> Result<usize, Error>
     ensures runs { HasCleanDisk (state S.Store conn.new) → Executes make_text [] (state S.Store conn.old) (state S.Store conn.new) result }
 {
     conn.execute(MAKE, &[])
 }
 
-/// Puts a row for a report.
+/// Adds the row of a report.
 pub(crate) fn insert<S: Alter>(conn: &mut Connection<S>, row: &FiledRow) -> Result<usize, Error>
     ensures runs { HasCleanDisk (state S.Store conn.new) → Executes insert_text (values_of (kept_as row.now)) (state S.Store conn.old) (state S.Store conn.new) result }
 {

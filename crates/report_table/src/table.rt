@@ -7,16 +7,16 @@ ghost use Rattle.report_table.specs.Statements.{is_for, is_at};
 use crate::{Error, FiledRow};
 use std::alloc::Global;
 
-/// A table of reports on file: one row for each revision of a unit's half.
+/// A table of filed reports: one row for each revision of a unit's half.
 pub trait Table: Drop {
-    /// The rows, in the order in which they were put, if the table tells them.
+    /// The rows, in the order in which they were added, if the table exposes them.
     ghost rows: { Self → Option (List KeptRow) };
 
-    /// Limits the steps of each later statement; a row that is visited is a step. A statement that would take more is refused.
+    /// Limits the steps of each later statement; visiting a row is a step. A statement that would need more is refused.
     fn set_step_limit(&mut self, steps: Option<u64>)
         ensures unchanged { rows self.new ≡ rows self.old };
 
-    /// Puts a row behind the others. The table refuses a second row of one unit, half and revision.
+    /// Adds a row at the end. The table refuses a second row with the same unit, half and revision.
     fn insert(&mut self, alloc: Global, row: &FiledRow) -> Result<(), Error>
         ensures put { OnOk result (BothTold (rows self.old) (rows self.new) (λ old new. new ≡ old ++ kept_as row.now ∷ [])) }
         ensures unchanged { OnErr result (rows self.new ≡ rows self.old) };

@@ -12,8 +12,9 @@ use report_filing::{Filing, FilingFault};
 use std::alloc::Global;
 use std::marker::Model;
 
-/// Reports on file in a table. A store that cannot be opened, a statement that is refused and a row that does not read back are
-/// faults, unless memory ran out. Contracts see the reports of the rows, if the table tells its rows, and the count of faults.
+/// Filed reports in a table. It fails if the store cannot be opened, a statement is refused, or a row does not read back,
+/// unless it ran out of memory. In contracts it is the reports of the rows, if the table exposes its rows, and the count of
+/// errors.
 #[derive(Drop)]
 pub struct TableFiling<T: Table> {
     table: T,
@@ -33,7 +34,7 @@ impl<T: Table> Model for TableFiling<T> {
 }
 
 impl<T: Table> TableFiling<T> {
-    /// The reports on file in a table. Takes no memory and opens nothing. A table that tells its rows has none yet.
+    /// The filed reports in a table. It allocates and opens nothing. A table that exposes its rows must have none yet.
     pub fn new(table: T) -> TableFiling<T>
         requires empty { Told (T.rows table) (λ rows. rows ≡ []) }
         ensures value { result ≡ record { reports = option_map filed_of (T.rows table); faults = 0 } }
@@ -41,7 +42,7 @@ impl<T: Table> TableFiling<T> {
         TableFiling { table, faults: 0 }
     }
 
-    /// Limits the steps of each later call; a row that is visited is a step. A call that would take more fails.
+    /// Limits the steps of each later call; visiting a row is a step. A call that would need more fails.
     pub fn set_step_limit(&mut self, steps: Option<u64>)
         ensures unchanged { self.new ≡ self.old }
     {
@@ -77,7 +78,7 @@ impl<T: Table> TableFiling<T> {
         found_in(alloc, self.table.revision(alloc, unit, half, revision))
     }
 
-    /// Puts a row for the report.
+    /// Adds the row of the report.
     fn keep(&mut self, alloc: Global, filed: &Filed) -> Result<(), FilingFault>
         requires next { Told self.old.reports (IsNext filed.now) }
         ensures put { OnOk result (BothTold self.old.reports self.new.reports (λ old new. new ≡ old ++ filed.now ∷ [])) }
@@ -88,7 +89,7 @@ impl<T: Table> TableFiling<T> {
         self.table.insert(alloc, &row).map_err(fault_of)
     }
 
-    /// Counts what has failed.
+    /// Counts an error.
     fn counted(&mut self, fault: FilingFault) -> FilingFault
         ensures same { result ≡ fault }
         ensures unchanged { self.new.reports ≡ self.old.reports }

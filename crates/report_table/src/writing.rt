@@ -22,7 +22,7 @@ pub(crate) fn months_bytes(alloc: Global, months: &[u32]) -> Result<Vec<u8>, Mem
     Ok(out)
 }
 
-/// The lines on delayed repairs, each in 26 bytes.
+/// The lines of delayed repairs, each in 26 bytes.
 pub(crate) fn delays_bytes(alloc: Global, lines: &[DelayLine]) -> Result<Vec<u8>, Memory>
     ensures value { IfOk result (λ written. written.items ≡ spell.delays_bytes lines.now) }
     ensures kept { OnOk result (AllByRecursion IsLine lines.now) }
@@ -48,7 +48,7 @@ pub(crate) fn stops_bytes(alloc: Global, stops: &[Stop]) -> Result<Vec<u8>, Memo
     Ok(out)
 }
 
-/// A number of its type is in the range of its bytes, and so are the fields of a line and a shutdown.
+/// A number of its type fits into its bytes, and so do the fields of a line and a shutdown.
 fn number_kept(number: u32)
     ensures kept { number < 2 ^ 32 }
 {}
@@ -114,7 +114,7 @@ fn put_delay(out: &mut Vec<u8>, delay: &DelayEntry) -> Result<(), Memory>
     put_day_or_none(out, delay.expected)
 }
 
-/// Adds what stands for a repair's end, and its day or 0.
+/// Adds the kind of a repair's due day, and the day or 0.
 fn put_until(out: &mut Vec<u8>, until: Until) -> Result<(), Memory>
     ensures put { OnOk result (out.new.items ≡ out.old.items ++ spell.until_bytes until) }
 {

@@ -1,4 +1,6 @@
 //! Routes through a process unit, to the components with unmet duties.
+//!
+//! Tests: `rule_tests::routes`.
 #![tactic(auto)]
 
 mod chains;

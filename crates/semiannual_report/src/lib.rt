@@ -1,4 +1,6 @@
 //! The semiannual report of a process unit (40 CFR 60.487a(c)): its numbers, its lines, and whether its half has begun.
+//!
+//! Tests: `text_tests::reports`.
 #![tactic(auto)]
 
 mod cells;

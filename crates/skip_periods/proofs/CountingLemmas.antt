@@ -1,4 +1,4 @@
--- Quarters that follow one another, by the days on which they are judged.
+-- Consecutive quarters, by the days on which they are judged.
 use Rattle.std.specs.Prelude.{if◌then◌else◌}
 use Rattle.std.proofs.Common.{◌≡◌, ℕ, ◌+◌, ◌-◌, ◌*◌, ◌/◌, ◌<◌, ◌≤◌, Bool, true, false, nat_lt, Some, None, List, refl, arith}
 use Rattle.std.proofs.lemmas.Bool.{ltb-false}
@@ -14,7 +14,7 @@ use Rattle.ldar_law.specs.Percent.{judging_day}
 use Rattle.skip_periods.specs.Counting.{CountsFrom}
 use Rattle.skip_periods.specs.declared.counting.Counting.{Counting}
 
--- a later quarter is judged on no earlier day
+-- a later quarter is not judged on an earlier day
 pub judged_later : (startup day quarter later : ℕ) → IsDay startup → startup ≤ LAST_FACT_DAY → quarter ≤ later →
     judging_day startup quarter day ≤ judging_day startup later day
 judged_later startup day quarter later is_day by on =
@@ -31,27 +31,27 @@ counts_on item classes startup day quarter counting is_day by from = record {
   front = λ k e entered. omega (arith, from.front k e entered, judged_later startup day quarter (quarter + 1) is_day by (omega arith));
 }
 
--- a number that is told where a test fails
+-- a number in an option that a failing test returns
 told_where_not : (test : Bool) (told number : ℕ) → (if test then None else Some number) ≡ Some told → (test ≡ false) × (told ≡ number)
 told_where_not true told number is = cc
 told_where_not false told number is = (refl, cc)
 
 module _ (startup day number : ℕ) (is_day : IsDay startup) (by : startup ≤ LAST_FACT_DAY) (is_number : IsDay number) where
-  -- a day is judged by with each quarter that ends no earlier than its month
+  -- a quarter that does not end before the month of a day is judged on that day or later
   pub judged_on : (quarter : ℕ) → number ≤ day → month_of number < first_quarter startup + 3 * quarter → number ≤ judging_day startup quarter day
   judged_on quarter seen on =
       let month = month_of-month number is_number in
       let ends = (first_day-le (month_of number) (first_quarter startup + 3 * quarter - 1) (omega (arith, month)) (omega (arith, on))).1 in
       omega (arith, (month_of-is number is_number).1, ends, is_number)
 
-  -- .. and not with one that ends before
+  -- a quarter that ends before the month of a day is judged before that day
   pub judged_earlier : (quarter : ℕ) → first_quarter startup + 3 * quarter ≤ month_of number → judging_day startup quarter day < number
   judged_earlier quarter before =
       let in_range = (first_quarter-month startup is_day by).0 in
       let ends = first_day-lt (first_quarter startup + 3 * quarter - 1) (month_of number) (omega (arith, in_range)) (omega (arith, before, in_range)) in
       omega (arith, (month_of-is number is_number).0, ends)
 
-  -- so by the quarter of the day's month
+  -- the same, by the quarter of the day's month
   pub judged_by_quarter : (told : ℕ) → quarter_of startup (month_of number) ≡ Some told →
       (first_quarter startup ≤ month_of number) × (told ≡ (month_of number - first_quarter startup) / 3 + 1)
   judged_by_quarter told lies =

@@ -1,4 +1,4 @@
--- The marks of the quarters from the first on, one after the other.
+-- The marks of the quarters from quarter 1 on, one after the other.
 use Rattle.std.proofs.Common.{◌≡◌, ℕ, ◌+◌, ◌-◌, ◌<◌, ◌≤◌, Bool, false, Option, List, map, replicate, set, refl, sym, ap, ◌∙◌, inl, inr, arith}
 use Rattle.std.proofs.lemmas.Bool.{cases_eq}
 use Rattle.std.proofs.lemmas.List.{get_or-replicate, get_or-set_same, get_or-set_other, length-replicate, length-set, same_lists}
@@ -16,12 +16,12 @@ use Rattle.ldar_law.specs.Percent.{is_first_missed, judging_day, mark_of}
 use Rattle.ldar_law.proofs.KindLemmas.{no_valve_rules}
 use Rattle.skip_periods.specs.Seen.{AreSeen, AreMarkedTo, PutsMissed, mark_for, seen_in, seen_or_missed}
 
--- the mark of what is counted in no quarter
+-- the mark of a component that is counted in no quarter
 abbrev no_mark : Mark
 no_mark = record { leaking = false; monitored = false }
 
 module _ (item : Equipment) (classes : List (Key × Class)) (startup : ℕ) (events : List Event) (delayed : List Bool) (day quarter : ℕ) where
-  -- none of them yet
+  -- no marks yet
   pub marked_none : (seen told : List Mark) (missed : Option ℕ) → AreSeen startup events quarter seen → PutsMissed missed seen told →
       ((q : ℕ) → is_numbered missed q ≡ is_first_missed item classes startup events false q day) →
       AreMarkedTo item classes startup events delayed day quarter 0 told
@@ -34,7 +34,7 @@ module _ (item : Equipment) (classes : List (Key × Class)) (startup : ℕ) (eve
         ∙ ap (seen_or_missed (seen_in startup events (k + 1))) (says (k + 1));
   }
 
-  -- one more
+  -- one more mark
   pub marked_more : (past place : ℕ) (marks : List Mark) (mark : Mark) → place ≡ past → past < quarter →
       AreMarkedTo item classes startup events delayed day quarter past marks → mark ≡ mark_for item classes startup events delayed day (past + 1) →
       AreMarkedTo item classes startup events delayed day quarter (past + 1) (set marks place mark)
@@ -49,7 +49,7 @@ module _ (item : Equipment) (classes : List (Key × Class)) (startup : ℕ) (eve
         told = λ k d low inside. get_or-set_other marks past k mark d (λ same. absurd (omega (arith, same, low))) ∙ all.told k d (omega (arith, low)) inside;
       })
 
-  -- all of them
+  -- all marks
   pub marked_all : (past : ℕ) (marks : List Mark) → quarter ≤ past → AreMarkedTo item classes startup events delayed day quarter past marks →
       marks ≡ map (mark_for item classes startup events delayed day) (from_to 1 quarter)
   unfolding until
@@ -61,12 +61,12 @@ module _ (item : Equipment) (classes : List (Key × Class)) (startup : ℕ) (eve
       all.marked k d (omega (arith, within, all.count, over))
       ∙ sym (get_or-map-range_with_len gives 1 (quarter + 1 - 1) k (k + 1) d (omega (arith, within, all.count)) (omega arith)))
 
-  -- what is no valve is counted in no quarter
+  -- a component other than a valve is counted in no quarter
   not_counted : is_valve item.kind ≡ false → (q : ℕ) → no_mark ≡ mark_for item classes startup events delayed day q
   unfolding mark_of
   not_counted other q = rw (no_valve_rules item.kind (class_on item classes (judging_day startup q day)).service other) refl
 
-  -- .. so that all its marks are empty
+  -- all marks of such a component are empty
   pub none_marked : is_valve item.kind ≡ false →
       replicate quarter (record { leaking = false; monitored = false }) ≡ map (mark_for item classes startup events delayed day) (from_to 1 quarter)
   unfolding until

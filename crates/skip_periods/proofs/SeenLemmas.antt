@@ -1,4 +1,4 @@
--- What is seen of a component, one event after the other, and the marks that it gives.
+-- The findings about a component, one event after the other, and its marks.
 use Rattle.std.proofs.Common.{◌≡◌, ℕ, ◌+◌, ◌-◌, ◌<◌, ◌≤◌, ◌/◌, Bool, true, false, ◌&&◌, ◌||◌, nat_eq, List, [], take, length}
 use Rattle.std.proofs.Common.{set, get_or, replicate, refl, sym, ap, ◌∙◌, inl, inr, arith}
 use Rattle.std.proofs.lemmas.Bool.{and_left, cases_eq, ne_eqb, eq-eqb, lt-ltb, le-ltb}
@@ -18,17 +18,17 @@ use Rattle.ldar_law.specs.Happenings.{is_routine, is_routine_leak}
 use Rattle.ldar_law.specs.Percent.{is_in_quarter, is_counted, is_first_missed, mark_of}
 use Rattle.skip_periods.specs.Seen.{seen_in, seen_with, seen_or_missed, told_in, AreSeen, LooksAt, mark_for}
 
--- a mark is its two answers
+-- two marks with equal fields are equal
 same_mark : (m : Mark) (a b : Bool) → m.leaking ≡ a → m.monitored ≡ b → m ≡ record { leaking = a; monitored = b }
 same_mark m a b leaks monitors = rw (sym leaks, sym monitors) refl
 
--- what does not lie in the quarter adds nothing
+-- an event outside the quarter adds nothing
 adds_nothing : (a b : Bool) → a ≡ (a || (b && false))
 adds_nothing true b = refl
 adds_nothing false true = refl
 adds_nothing false false = refl
 
--- .. and what lies in it adds itself
+-- an event in the quarter adds its own result
 adds_itself : (a b : Bool) → (a || b) ≡ (a || (b && true))
 adds_itself true b = refl
 adds_itself false true = refl
@@ -38,14 +38,14 @@ or_false : (a : Bool) → a ≡ (a || false)
 or_false true = refl
 or_false false = refl
 
--- an event of another quarter shows nothing
+-- an event of another quarter does not change the finding
 shows_nothing : (startup quarter : ℕ) (e : Event) (m : Mark) → is_in_quarter startup quarter e.key.day ≡ false → m ≡ seen_with startup e quarter m
 shows_nothing startup quarter e m other =
     same_mark m _ _
     (adds_nothing m.leaking (is_routine_leak e.what) ∙ ap (λ b. m.leaking || (is_routine_leak e.what && b)) (sym other))
     (adds_nothing m.monitored (is_routine e.what) ∙ ap (λ b. m.monitored || (is_routine e.what && b)) (sym other))
 
--- what is no counting routine reading is no leak by one
+-- an event that is no counting routine reading is no leak of one
 no_leak_either : (what : Happening) → is_routine what ≡ false → is_routine_leak what ≡ false
 no_leak_either (Read ppm background routine counts below leak) other = and_left (routine && counts) leak other
 no_leak_either (Look drips designated leak) other = refl
@@ -56,12 +56,12 @@ no_leak_either (Sensor present leak) other = refl
 no_leak_either (Evidence present) other = refl
 no_leak_either Retire other = refl
 
--- nothing is added by what is not so
+-- an event that fails the test adds nothing
 adds_none : (a here : Bool) → a ≡ (a || (false && here))
 adds_none true here = refl
 adds_none false here = refl
 
--- such an event shows nothing of any quarter
+-- an event that is no counting routine reading changes no finding
 says_nothing : (startup quarter : ℕ) (e : Event) (m : Mark) → is_routine e.what ≡ false → m ≡ seen_with startup e quarter m
 says_nothing startup quarter e m other =
     same_mark m _ _
@@ -70,7 +70,7 @@ says_nothing startup quarter e m other =
     (adds_none m.monitored (is_in_quarter startup quarter e.key.day)
     ∙ ap (λ b. m.monitored || (b && is_in_quarter startup quarter e.key.day)) (sym other))
 
--- one of the quarter shows what it is
+-- an event of the quarter adds its own result to the finding
 shows_itself : (startup quarter : ℕ) (e : Event) (m new : Mark) → is_in_quarter startup quarter e.key.day ≡ true →
     new.leaking ≡ (m.leaking || is_routine_leak e.what) → new.monitored ≡ (m.monitored || is_routine e.what) → new ≡ seen_with startup e quarter m
 shows_itself startup quarter e m new here leaks monitors =
@@ -86,21 +86,21 @@ module _ (startup : ℕ) (e : Event) (seen : List Mark) where
     each = λ k d within. says_nothing startup (k + 1) e (get_or seen k d) other;
   }
 
-  -- an event before the first quarter
+  -- an event before quarter 1
   pub looks_before : (all : (q : ℕ) → is_in_quarter startup q e.key.day ≡ false) → LooksAt startup e seen seen
   looks_before all = record {
     count = refl;
     each = λ k d within. shows_nothing startup (k + 1) e (get_or seen k d) (all (k + 1));
   }
 
-  -- .. or behind the last
+  -- an event after the last quarter
   pub looks_behind : (place : ℕ) → length seen ≤ place → ((q : ℕ) → is_in_quarter startup q e.key.day ≡ nat_eq (place + 1) q) → LooksAt startup e seen seen
   looks_behind place past lies = record {
     count = refl;
     each = λ k d within. shows_nothing startup (k + 1) e (get_or seen k d) (lies (k + 1) ∙ ne_eqb (place + 1) (k + 1) (λ same. absurd (omega (arith, same))));
   }
 
-  -- .. or in one of them
+  -- an event in one of the quarters
   pub looks_within : (place : ℕ) (old new : Mark) → place < length seen → ((q : ℕ) → is_in_quarter startup q e.key.day ≡ nat_eq (place + 1) q) →
       old ≡ get_or seen place old → new.leaking ≡ (old.leaking || is_routine_leak e.what) → new.monitored ≡ (old.monitored || is_routine e.what) →
       LooksAt startup e seen (set seen place new)
@@ -118,19 +118,19 @@ module _ (startup : ℕ) (e : Event) (seen : List Mark) where
     ];
   }
 
--- an event of a month before the first quarter lies in none
+-- an event of a month before quarter 1 is in no quarter
 pub lies_nowhere : (startup first month : ℕ) (e : Event) → first ≡ first_quarter startup → month ≡ month_of e.key.day → month < first →
     (q : ℕ) → is_in_quarter startup q e.key.day ≡ false
 lies_nowhere startup first month e first_is month_is early q =
     ap (λ m. is_numbered (quarter_of startup m) q) (sym month_is) ∙ rw (sym first_is, lt-ltb month first early) refl
 
--- .. and one of a later month in that whose entry stands behind those of the quarters since then
+-- an event of a later month is in the quarter of its entry
 pub lies_at : (startup first month place : ℕ) (e : Event) → first ≡ first_quarter startup → month ≡ month_of e.key.day → first ≤ month →
     place ≡ (month - first) / 3 → (q : ℕ) → is_in_quarter startup q e.key.day ≡ nat_eq (place + 1) q
 lies_at startup first month place e first_is month_is on place_is q =
     ap (λ m. is_numbered (quarter_of startup m) q) (sym month_is) ∙ rw (sym first_is, le-ltb month first on, place_is) refl
 
--- nothing is seen without an event
+-- without an event nothing is found
 pub seen_none : (startup quarter : ℕ) (events : List Event) → AreSeen startup (take 0 events) quarter
     (replicate quarter (record { leaking = false; monitored = false }))
 seen_none startup quarter events = record {
@@ -152,7 +152,7 @@ seen_more startup quarter events i e old new within stands seen looks = record {
       (list_any_more (λ x. is_routine x.what && is_in_quarter startup (k + 1) x.key.day) events i e within));
 }
 
--- what is missed is put to what is seen before what is delayed or behind it
+-- a missed first monitoring can be added before a delay or after it
 pub missed_first : (seen delayed missed : Bool) → (seen || missed || delayed) ≡ (seen || delayed || missed)
 missed_first true delayed missed = refl
 missed_first false true true = refl
@@ -160,11 +160,11 @@ missed_first false true false = refl
 missed_first false false true = refl
 missed_first false false false = refl
 
--- what is not missed adds nothing
+-- a first monitoring that was not missed adds nothing
 pub misses_nothing : (m : Mark) → m ≡ seen_or_missed m false
 misses_nothing m = same_mark m _ _ (or_false m.leaking) (or_false m.monitored)
 
--- the mark of what is seen
+-- the mark from a finding
 pub mark_is : (item : Equipment) (classes : List (Key × Class)) (startup : ℕ) (events : List Event) (delayed : List Bool) (day quarter : ℕ) (told mark : Mark)
     (counted is_delayed : Bool) → counted ≡ is_counted item classes startup [] false quarter day → told ≡ told_in item classes startup events day quarter →
     is_delayed ≡ get_or delayed (quarter - 1) false → mark.leaking ≡ (counted && (told.leaking || is_delayed)) →

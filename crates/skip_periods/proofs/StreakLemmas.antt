@@ -8,17 +8,17 @@ use Rattle.ldar_law.specs.Skips.{Past, mode_on, skips, skips_after, skips_run, g
 use Rattle.skip_periods.specs.declared.streak.Streak.{Streak}
 use Rattle.skip_periods.specs.Streaks.{Tells}
 
--- what an option gives that gives something
+-- the mapped value of an option that has a value
 pub mapped_or : {X Y : Type 0} (f : X → Y) (given : Option X) (d y : Y) → option_map f given ≡ Some y → y ≡ option_map_or f given d
 mapped_or f (Some x) d y e = cc
 mapped_or f None d y e = cc
 
--- .. and what stands in for nothing
+-- the mapped value of an option that is `None`
 pub none_mapped : {X Y : Type 0} (f : X → Y) (given : Option X) (d : Y) → option_map f given ≡ None → d ≡ option_map_or f given d
 none_mapped f (Some x) d e = cc
 none_mapped f None d e = refl
 
--- a streak that tells of the quarters before one says whether this is skipped
+-- the streak of the quarters before one decides whether it is skipped
 by_streak : (mode : ℕ) (streak : Streak) (before : List Past) → Tells streak before → skips_after mode streak.skips streak.good ≡ skips mode before
 by_streak mode streak before told =
     ap (λ n. skips_after mode n streak.good) told.0 ∙ ap (λ n. skips_after mode (skips_run before) n) told.1
@@ -29,7 +29,7 @@ module _ (tallies : List Tally) (elections : List ElectionEntry) (startup : ℕ)
   unfolding quarters skips_run good_streak
   told_first = (refl, refl)
 
-  -- the streak goes on by one quarter
+  -- the streak with one more quarter
   pub told_next : (past : ℕ) → 1 ≤ past → (streak next : Streak) (was_skipped was_good : Bool) →
       was_skipped ≡ skips_after (mode_on elections (quarter_first startup past)) streak.skips streak.good →
       was_good ≡ option_map_or is_good (slice_get tallies (past - 1)) false → Tells streak (quarters tallies elections startup (past - 1)) →
@@ -49,7 +49,7 @@ module _ (tallies : List Tally) (elections : List ElectionEntry) (startup : ℕ)
       subst (λ k. Tells next (quarters tallies elections startup k)) same
       (subst (λ b. Tells next ((skips mode before, b) ∷ before)) good two)
 
-  -- the streak before a quarter says whether it is skipped
+  -- the streak before a quarter decides whether it is skipped
   pub skipped_by_streak : (quarter : ℕ) (streak : Streak) → Tells streak (quarters tallies elections startup (quarter - 1)) →
       skips_after (mode_on elections (quarter_first startup quarter)) streak.skips streak.good ≡ is_skipped tallies elections startup quarter
   unfolding is_skipped

@@ -1,4 +1,4 @@
--- What is seen of a component in each quarter from the first to one, and its marks for them (40 CFR 60.485a(h)).
+-- Findings about a component in each quarter, from quarter 1 on, and its marks for them (40 CFR 60.485a(h)).
 use Rattle.std.specs.Prelude.{◌≡◌, ℕ, ◌+◌, ◌-◌, ◌<◌, ◌≤◌, Bool, false, not, ◌&&◌, ◌||◌, Option, List, length, slice_index_or}
 use Rattle.std.specs.List.{list_any}
 use Rattle.fact_kinds.specs.declared.class.Class.{Class}
@@ -12,48 +12,48 @@ use Rattle.ldar_law.specs.Limits.{regime_of}
 use Rattle.ldar_law.specs.Percent.{is_first_missed, is_in_quarter, mark_of}
 use Rattle.ldar_law.specs.Standing.{are_valve_rules, is_nde_designated}
 
--- it was found leaking in the quarter, and it was monitored in it
+-- the component was found leaking in the quarter, and it was monitored in the quarter
 abbrev pub seen_in : ℕ → List Event → ℕ → Mark
 seen_in startup events quarter = record {
   leaking = list_any (λ e. is_routine_leak e.what && is_in_quarter startup quarter e.key.day) events;
   monitored = list_any (λ e. is_routine e.what && is_in_quarter startup quarter e.key.day) events;
 }
 
--- .. with one event more
+-- the finding with one more event
 abbrev pub seen_with : ℕ → Event → ℕ → Mark → Mark
 seen_with startup e quarter mark = record {
   leaking = mark.leaking || (is_routine_leak e.what && is_in_quarter startup quarter e.key.day);
   monitored = mark.monitored || (is_routine e.what && is_in_quarter startup quarter e.key.day);
 }
 
--- these are what is seen in the quarters, from the first to one
+-- these are the findings in the quarters, from quarter 1 to this one
 pub record AreSeen (startup : ℕ) (events : List Event) (quarter : ℕ) (seen : List Mark) : Type 0 where
   pub count : length seen ≡ quarter
   pub each : (k : ℕ) (d : Mark) → k < quarter → slice_index_or seen k d ≡ seen_in startup events (k + 1)
 
--- one event more is looked at
+-- the findings after one more event
 pub record LooksAt (startup : ℕ) (e : Event) (old new : List Mark) : Type 0 where
   pub count : length new ≡ length old
   pub each : (k : ℕ) (d : Mark) → k < length old → slice_index_or new k d ≡ seen_with startup e (k + 1) (slice_index_or old k d)
 
--- what is seen of a component in a quarter, where a first monitoring that it missed is a leak that is seen
+-- the finding in a quarter; a missed first monitoring counts as a leak that was found
 abbrev pub seen_or_missed : Mark → Bool → Mark
 seen_or_missed seen missed = record {
   leaking = seen.leaking || missed;
   monitored = seen.monitored || missed;
 }
 
--- a missed first monitoring is put to what is seen in its quarter
+-- the findings with a missed first monitoring in its quarter
 pub record PutsMissed (missed : Option ℕ) (old new : List Mark) : Type 0 where
   pub count : length new ≡ length old
   pub each : (k : ℕ) (d : Mark) → k < length old → slice_index_or new k d ≡ seen_or_missed (slice_index_or old k d) (is_numbered missed (k + 1))
 
--- what is seen of the component in a quarter, its missed first monitoring included
+-- the finding in a quarter, with a missed first monitoring
 abbrev pub told_in : Equipment → List (Key × Class) → ℕ → List Event → ℕ → ℕ → Mark
 told_in item classes startup events day quarter =
     seen_or_missed (seen_in startup events quarter) (is_first_missed item classes startup events false quarter day)
 
--- the component's mark for a quarter, which is delayed as the list says; beyond the list nothing is delayed
+-- the component's mark for a quarter; the list has whether each quarter is delayed, and later quarters are not
 abbrev pub mark_for : Equipment → List (Key × Class) → ℕ → List Event → List Bool → ℕ → ℕ → Mark
 mark_for item classes startup events delayed day quarter =
     mark_of item classes startup events (slice_index_or delayed (quarter - 1) false) quarter day
@@ -62,7 +62,7 @@ mark_for item classes startup events delayed day quarter =
 abbrev pub counts_class : Equipment → Class → Bool
 counts_class item class = are_valve_rules (regime_of item.kind class.service) && not (is_nde_designated class.designation)
 
--- the marks of so many quarters from the first on, with what is seen or missed in the others behind them
+-- the first `past` entries are marks of quarters; the others are findings, with a missed first monitoring
 pub record AreMarkedTo (item : Equipment) (classes : List (Key × Class)) (startup : ℕ) (events : List Event) (delayed : List Bool) (day quarter past : ℕ)
     (marks : List Mark) : Type 0 where
   pub count : length marks ≡ quarter

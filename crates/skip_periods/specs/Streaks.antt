@@ -3,6 +3,6 @@ use Rattle.std.specs.Prelude.{◌≡◌, List}
 use Rattle.skip_periods.specs.declared.streak.Streak.{Streak}
 use Rattle.ldar_law.specs.Skips.{Past, good_streak, skips_run}
 
--- the streak is that of these quarters, the latest first
+-- the streak of these quarters, latest first
 abbrev pub Tells : Streak → List Past → Type 0
 Tells streak before = (streak.skips ≡ skips_run before) × (streak.good ≡ good_streak before)

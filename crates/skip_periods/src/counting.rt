@@ -1,5 +1,5 @@
-//! Whether a component is a valve that is counted, from one quarter to the next. It stays the same up to the quarter by whose
-//! judging day the next class is entered, so that most quarters need no search, and each class is asked once for its quarter.
+//! Whether a component is a valve that is counted, from one quarter to the next. It stays the same until the quarter by whose
+//! judging day another class is entered, so most quarters need no search, and the quarter of each class is computed once.
 
 ghost use Rattle.std.specs.Prelude.{◌≡◌, ◌<◌, ◌≤◌, ℕ, false, [], length, slice_index_or};
 ghost use Rattle.list_words.specs.Order.{Ascends};
@@ -16,17 +16,17 @@ use ldar_law::{ClassInForce, Equipment};
 /// One past the largest quarter number (`u16`).
 const AFTER_ALL_QUARTERS: u32 = 65_536;
 
-/// Whether a component is a valve that is counted, from one quarter up to another.
+/// Whether a component is a valve that is counted, for a run of quarters.
 #[derive(Clone, Copy)]
 pub struct Counting {
     pub is_counted: bool,
-    /// How many of its classes were entered by the day on which the quarter is judged.
+    /// How many of its classes were entered by the day on which the quarters are judged.
     pub entered: usize,
-    /// The quarter after the last of them: by its judging day one more class is entered.
+    /// The quarter after the last one: by its judging day another class is entered.
     pub end: u32,
 }
 
-/// The first quarter that is judged on a day or later, on the list of another day.
+/// The first quarter that is judged on the day `entered` or later, on the list of the day `day`.
 fn judged_from(startup: Day, entered: Day, day: Day) -> u32
     requires startup { startup ≤ LAST_FACT_DAY }
     ensures before { (quarter : ℕ) → quarter < result → law.judging_day startup quarter day < entered }
@@ -41,7 +41,8 @@ fn judged_from(startup: Day, entered: Day, day: Day) -> u32
     }
 }
 
-/// The first quarter by whose judging day the class at a place is entered; if there is none, one past all quarters.
+/// The first quarter by whose judging day the class at a place is entered; one past the largest quarter number if there
+/// is no such class.
 fn quarter_at(classes: &[(Key, Class)], place: usize, startup: Day, day: Day) -> u32
     requires startup { startup ≤ LAST_FACT_DAY }
     ensures before { (quarter : ℕ) (e : Key × Class) → quarter < result → place < length classes.now
@@ -56,7 +57,7 @@ fn quarter_at(classes: &[(Key, Class)], place: usize, startup: Day, day: Day) ->
 }
 
 impl Counting {
-    /// After this many of the classes of a component.
+    /// The quarters after this many of a component's classes were entered.
     fn after(
         equipment: &Equipment,
         classes: &[(Key, Class)],
@@ -78,7 +79,7 @@ impl Counting {
         }
     }
 
-    /// In the quarters before the first class is entered, by the classes of a component in key order.
+    /// The quarters before the first class of a component, in key order, is entered.
     pub fn at_first(
         equipment: &Equipment,
         classes: &[(Key, Class)],
@@ -92,7 +93,7 @@ impl Counting {
         Counting::after(equipment, classes, 0, startup, day)
     }
 
-    /// Moves on to a later quarter, on the list of the day, by the classes of the component in key order. It stays the same if
+    /// Moves on to a later quarter, on the list of the day, by the classes of the component in key order. Nothing changes if
     /// the quarter is before the end.
     pub fn move_to(
         &mut self,

@@ -1,4 +1,6 @@
-//! Percent of valves leaking in a quarter, and the quarters that are skipped (40 CFR 60.483-2a, 60.485a(h)).
+//! Percent of valves leaking in a quarter, and skipped quarters (40 CFR 60.483-2a, 60.485a(h)).
+//!
+//! Tests: `rule_tests::skips`.
 #![tactic(auto)]
 
 mod counting;

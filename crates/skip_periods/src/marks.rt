@@ -14,7 +14,7 @@ use ldar_days::Day;
 use ldar_law::{Equipment, Event, Mark, is_valve};
 use std::alloc::Global;
 
-/// Whether the list says that a quarter is delayed.
+/// Whether a quarter is delayed, by the list.
 fn is_delayed_in(delayed: &[bool], quarter: u16) -> bool
     requires quarter { 1 ≤ quarter }
     ensures value { result ≡ slice_index_or delayed.now (quarter - 1) false }
@@ -25,7 +25,7 @@ fn is_delayed_in(delayed: &[bool], quarter: u16) -> bool
     }
 }
 
-/// Puts a missed first monitoring to what is seen in its quarter, where that is one of these.
+/// Adds a missed first monitoring to the finding in its quarter, if that is one of these.
 fn put_missed(seen: &mut Vec<Mark>, missed: Option<u16>)
     ensures value { PutsMissed missed seen.old.items seen.new.items }
 {
@@ -38,11 +38,11 @@ fn put_missed(seen: &mut Vec<Mark>, missed: Option<u16>)
     }
 }
 
-/// What a component adds to the counts of each quarter from the first to one (40 CFR 60.485a(h)), as a view of the day
-/// has it: entry 0 is the mark for quarter 1. The classes and the events are those of the component, the classes in key
-/// order; `delayed` says of each quarter, from the first on, what `mark` is told of it. The events are walked over once,
-/// whatever the number of quarters, and the class moves on with them; those of what is no valve, which is counted in no
-/// quarter, are not looked at. An error: no memory for the marks.
+/// What a component adds to the counts of each quarter from quarter 1 on (40 CFR 60.485a(h)), in a view of the day:
+/// entry 0 is the mark for quarter 1. The classes and the events are the component's, the classes in key order.
+/// `delayed` has, for each quarter from quarter 1 on, what `mark` takes as `delayed`. There is one pass over the events,
+/// whatever the number of quarters, and the class moves on with the quarters. Only a valve is counted, so for other
+/// components the events are not looked at. Returns an error if it is out of memory.
 pub fn marks_to(
     alloc: Global,
     equipment: &Equipment,
@@ -61,7 +61,7 @@ pub fn marks_to(
     if !is_valve(equipment.kind) {
         return unseen(alloc, quarter);
     }
-    // The classes and the first event are asked for before room is made: memory brings them meanwhile.
+    // The classes and the first event are touched before the list is allocated, so that they are loaded meanwhile.
     let mut counting = Counting::at_first(equipment, classes, startup, day);
     let missed = missed_quarter(equipment, classes, startup, events, day);
     let mut marks = seen_to(alloc, startup, events, quarter)?;

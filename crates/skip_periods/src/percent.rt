@@ -12,7 +12,7 @@ use fact_kinds::{Class, Key};
 use ldar_days::{Day, quarter_of};
 use ldar_law::{Equipment, Event, Mark, Regime, is_in_quarter, is_nde_designated, judging_day};
 
-/// Whether a component of a class is a valve that is counted (40 CFR 60.485a(h)).
+/// Whether a component of this class is a valve that is counted (40 CFR 60.485a(h)).
 pub fn is_counted_of(item: &Equipment, class: Class) -> bool
     ensures value { result ≡ counts_class item.now class }
 {
@@ -36,7 +36,7 @@ fn is_counted(
     is_counted_of(item, class)
 }
 
-/// Whether the first monitoring of the component was due before the day and was not made (our own rule).
+/// Whether the first monitoring of the component was due before the day and was not done (our own rule).
 fn is_overdue(
     item: &Equipment,
     classes: &[(Key, Class)],
@@ -54,7 +54,7 @@ fn is_overdue(
         && !has_routine_in(events, item.begin, due)
 }
 
-/// Whether it begins in the quarter and its first monitoring was missed by the day (our own rule).
+/// Whether the component begins in the quarter and missed its first monitoring by the day (our own rule).
 fn is_first_missed(
     item: &Equipment,
     classes: &[(Key, Class)],
@@ -89,7 +89,7 @@ pub fn missed_quarter(
     }
 }
 
-/// What is seen of a component in a quarter; a first monitoring that it missed counts as a leak that is seen (our own rule).
+/// The finding in a quarter with a missed first monitoring, which counts as a leak that was found (our own rule).
 pub fn with_missed(seen: Mark, missed: bool) -> Mark
     ensures value { result ≡ seen_or_missed seen missed }
 {
@@ -99,8 +99,8 @@ pub fn with_missed(seen: Mark, missed: bool) -> Mark
     }
 }
 
-/// What a component adds to the counts of a quarter, by whether it is counted and what is seen of it in the quarter, its missed
-/// first monitoring included.
+/// What a component adds to the counts of a quarter, from whether it is counted and from the finding in the quarter, with a
+/// missed first monitoring.
 pub fn mark_told(counted: bool, told: Mark, delayed: bool) -> Mark
     ensures leaking { result.leaking ≡ (counted && (told.leaking || delayed)) }
     ensures monitored { result.monitored ≡ (counted && (told.monitored || delayed)) }
@@ -111,9 +111,9 @@ pub fn mark_told(counted: bool, told: Mark, delayed: bool) -> Mark
     }
 }
 
-/// What a component adds to the counts of a quarter (40 CFR 60.485a(h)), as a view of the day has it. The classes
-/// and the events are those of the component, the classes in key order; `delayed` says whether the repair of some leak
-/// that is open on the day, or on the quarter's last day where that is earlier, is delayed.
+/// What a component adds to the counts of a quarter (40 CFR 60.485a(h)), in a view of the day. The classes and the
+/// events are the component's, the classes in key order. `delayed` is whether some leak is open on the day, or on the
+/// quarter's last day if that is earlier, and its repair is delayed.
 #[tactic(auto, unfolding(ldar_law::specs::Percent::mark_of))]
 pub fn mark(
     equipment: &Equipment,

@@ -15,7 +15,7 @@ use ldar_days::{Day, quarter_first};
 use ldar_law::{ElectionEntry, Tally};
 use std::alloc::Global;
 
-/// The mode of the last election by a day, of elections in key order.
+/// The mode of the last election by a day, from elections in key order.
 fn mode_by(elections: &[ElectionEntry], day: Day) -> Option<u8>
     ensures value { result ≡ option_map (λ e. e.mode) (last_such (λ e. nat_le e.key.day day) elections.now) }
 {
@@ -26,7 +26,7 @@ fn mode_by(elections: &[ElectionEntry], day: Day) -> Option<u8>
         .map(|e| e.mode)
 }
 
-/// The mode that is elected on a day; 0 where there is none.
+/// The mode elected on a day; 0 if there is none.
 #[tactic(auto, using(crate::proofs::StreakLemmas::mapped_or, crate::proofs::StreakLemmas::none_mapped))]
 fn mode_on(elections: &[ElectionEntry], day: Day) -> u8
     ensures value { result ≡ law.mode_on elections.now day }
@@ -37,7 +37,7 @@ fn mode_on(elections: &[ElectionEntry], day: Day) -> u8
     }
 }
 
-/// The same, found by halving, where the elections are known to be in key order.
+/// The mode elected on a day, by binary search; the elections must be in key order.
 fn ordered_mode_on(elections: &[ElectionEntry], day: Day) -> u8
     requires ordered { Ascends (λ a b. is_earlier a.key b.key) elections.now }
     ensures value { result ≡ law.mode_on elections.now day }
@@ -81,7 +81,7 @@ fn is_skipped_after(elections: &[ElectionEntry], startup: Day, quarter: u16, str
     skips_after(mode_on(elections, quarter_first(startup, quarter)), streak)
 }
 
-/// What the quarters before one tell.
+/// The streak of the quarters before one.
 fn streak_before(
     tallies: &[Tally],
     elections: &[ElectionEntry],
@@ -100,8 +100,8 @@ fn streak_before(
     streak
 }
 
-/// Whether a quarter of a process unit is skipped (our own rule, after 40 CFR 60.483-2a(b)). The tallies are those
-/// of its quarters from quarter 1 on, with one for each quarter before this one; the elections are in key order.
+/// Whether a quarter of a process unit is skipped (our own rule, after 40 CFR 60.483-2a(b)). The tallies are those of
+/// its quarters from quarter 1 on, at least one for each quarter before this one. The elections are in key order.
 pub fn skipped(tallies: &[Tally], elections: &[ElectionEntry], startup: Day, quarter: u16) -> bool
     requires startup { startup ≤ LAST_FACT_DAY }
     requires quarter { 1 ≤ quarter }
@@ -112,10 +112,10 @@ pub fn skipped(tallies: &[Tally], elections: &[ElectionEntry], startup: Day, qua
     is_skipped_after(elections, startup, quarter, streak)
 }
 
-/// Which quarters of a process unit are skipped, from the first to one (our own rule, after 40 CFR 60.483-2a(b)): entry 0
-/// is what `skipped` says of quarter 1, and each quarter is looked at once. The tallies are those of its quarters from
-/// quarter 1 on, of which one that is not there is not good; the elections are in key order. An error: no memory for
-/// the answers.
+/// Which quarters of a process unit are skipped, from quarter 1 to the given one (our own rule, after 40 CFR
+/// 60.483-2a(b)): entry 0 is the result of `skipped` for quarter 1. Each quarter is looked at once. The tallies are those
+/// of its quarters from quarter 1 on; a quarter without a tally is not good. The elections are in key order. Returns an
+/// error if it is out of memory.
 pub fn all_skipped(
     alloc: Global,
     tallies: &[Tally],

@@ -16,7 +16,7 @@ pub fn is_read(startup: Day, events: &[Event], quarter: u16) -> bool
     events.iter().any(|e| e.what.is_routine() && is_in_quarter(startup, quarter, e.key.day))
 }
 
-/// Whether it was found leaking in the quarter.
+/// Whether the component was found leaking in the quarter.
 pub fn is_found_leaking(startup: Day, events: &[Event], quarter: u16) -> bool
     requires startup { startup ≤ LAST_FACT_DAY }
     ensures value { result ≡ list_any (λ e. happenings.is_routine_leak e.what && law.is_in_quarter startup quarter e.key.day) events.now }
@@ -24,21 +24,21 @@ pub fn is_found_leaking(startup: Day, events: &[Event], quarter: u16) -> bool
     events.iter().any(|e| e.what.is_routine_leak() && is_in_quarter(startup, quarter, e.key.day))
 }
 
-/// Whether an event is a counting routine reading on one of these days.
+/// Whether an event is a counting routine reading from the first to the last day.
 fn is_routine_on(e: &Event, first: Day, last: Day) -> bool
     ensures value { result ≡ (happenings.is_routine e.now.what && happenings.is_from_to first last e.now) }
 {
     e.what.is_routine() && e.is_from_to(first, last)
 }
 
-/// Whether some event is one.
+/// Whether some event is such a reading.
 fn some_routine_on(events: &[Event], first: Day, last: Day) -> bool
     ensures value { result ≡ list_any (λ e. happenings.is_routine e.what && happenings.is_from_to first last e) events.now }
 {
     events.iter().any(|e| is_routine_on(e, first, last))
 }
 
-/// Whether the component has a counting routine reading on one of these days.
+/// Whether the component has a counting routine reading from the first to the last day.
 pub fn has_routine_in(events: &[Event], first: Day, last: Day) -> bool
     ensures value { result ≡ is_some (duties.routine_in events.now first last) }
 {

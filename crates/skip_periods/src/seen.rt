@@ -1,4 +1,4 @@
-//! What is seen of a component in each quarter from the first to one: one walk over its events, in whatever order.
+//! Findings about a component in each quarter, from quarter 1 on: one pass over its events, in any order.
 
 ghost use Rattle.std.specs.Prelude.{◌≡◌, ◌≤◌, ◌||◌, ℕ, false, IfOk, replicate};
 ghost use Rattle.ldar_days.specs.Quarters.{first_quarter as first_month};
@@ -11,7 +11,7 @@ use ldar_days::{Day, first_quarter};
 use ldar_law::{Event, Mark};
 use std::alloc::Global;
 
-/// So many quarters in which nothing is seen.
+/// Findings of this many quarters in which nothing is found.
 pub fn unseen(alloc: Global, quarter: u16) -> Result<Vec<Mark>, Memory>
     ensures value { IfOk result (λ seen. seen.items ≡ replicate quarter (record { leaking = false; monitored = false })) }
 {
@@ -22,7 +22,7 @@ pub fn unseen(alloc: Global, quarter: u16) -> Result<Vec<Mark>, Memory>
     vec![in alloc; nothing; usize::from(quarter)]
 }
 
-/// What is seen in a quarter, with an event of it.
+/// The finding in a quarter with one more event of it.
 fn seen_with(mark: Mark, e: &Event) -> Mark
     ensures leaking { result.leaking ≡ (mark.leaking || happenings.is_routine_leak e.now.what) }
     ensures monitored { result.monitored ≡ (mark.monitored || happenings.is_routine e.now.what) }
@@ -33,7 +33,7 @@ fn seen_with(mark: Mark, e: &Event) -> Mark
     }
 }
 
-/// Looks at an event, which says something of its quarter only, and nothing where it is no counting routine reading. `first`
+/// Adds an event to the finding in its quarter. It changes nothing if the event is not a counting routine reading. `first`
 /// is the number of the first month of quarter 1.
 fn look_at(seen: &mut Vec<Mark>, first: u32, e: &Event)
     ensures value { (startup : ℕ) → first ≡ first_month startup → LooksAt startup e.now seen.old.items seen.new.items }
@@ -51,7 +51,7 @@ fn look_at(seen: &mut Vec<Mark>, first: u32, e: &Event)
     }
 }
 
-/// What is seen of a component in each quarter, from the first to one.
+/// The findings about a component in each quarter, from quarter 1 to this one.
 pub fn seen_to(
     alloc: Global,
     startup: Day,

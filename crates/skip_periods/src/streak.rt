@@ -2,15 +2,15 @@ ghost use Rattle.std.specs.Prelude.{◌≡◌, ◌+◌, ◌<◌, ◌≤◌, List
 ghost use Rattle.ldar_law.specs.Skips.{Past};
 ghost use Rattle.skip_periods.specs.Streaks.{Tells};
 
-/// What the quarters before one tell: how many skipped ones stand directly before it, and how many of the last
-/// ones that were not skipped are good in a row.
+/// A summary of the quarters before one: how many skipped quarters are directly before it, and how many of the last
+/// quarters that were not skipped are good in a row.
 #[derive(Clone, Copy, Debug, PartialEq, Eq)]
 pub struct Streak {
     pub skips: u16,
     pub good: u16,
 }
 
-/// The streak with a quarter more, that was skipped or not and was good or not.
+/// The streak with one more quarter.
 #[tactic(auto, unfolding(ldar_law::specs::Skips::skips_run, ldar_law::specs::Skips::good_streak))]
 pub fn longer(streak: Streak, is_skipped: bool, was_good: bool) -> Streak
     requires skips { streak.skips < 65_535 }

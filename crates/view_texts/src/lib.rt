@@ -1,4 +1,6 @@
 //! The text of each view, line by line, as defined in `ldar_law`.
+//!
+//! Tests: `text_tests::view_lines`.
 #![tactic(auto)]
 
 mod delays;

@@ -1,4 +1,4 @@
-//! Which duties follow an event, and what meets them: examples at the edges of each condition.
+//! Duties after an event, and what meets them: examples at the edges of each condition.
 #![tactic(auto, unfolding(ldar_days::specs::Calendar::first_day, ldar_days::specs::Calendar::month_of, ldar_days::specs::Calendar::month_length, ldar_days::specs::Quarters::last_whole, ldar_days::specs::Quarters::first_quarter, list_words::specs::Ranges::until, crate::specs::Months::is_clean, crate::specs::Months::has_leak_in, crate::specs::Months::is_quarterly, crate::specs::Duties::duties_of, crate::specs::Duties::first_monitoring, crate::specs::Duties::monthly, crate::specs::Duties::quarterly, crate::specs::Duties::yearly, crate::specs::Duties::planned, crate::specs::Duties::weekly, crate::specs::Duties::drip, crate::specs::Duties::release, crate::specs::Duties::evidence))]
 
 ghost use Rattle.std.specs.Prelude.{◌≡◌, [], false, true, ◌∷◌};
@@ -10,24 +10,24 @@ ghost use Rattle.ldar_law.specs.Short.{class, date, entered_on, gear, pump, reli
 ghost use Rattle.ldar_law.specs.ShortEvents.{attempts, designates, drips, dry, event, follows_up, reads, reads_by, reads_in_vain, releases, shows_evidence};
 ghost use Rattle.ldar_law.specs.ShortLists.{duties_on, duties_with, has_done, of_cause, owes};
 
-/// Drips of a pump with no detectable emissions ask for nothing.
+/// Drips of a pump with no detectable emissions lead to no duty.
 pub fn drips_of_a_designated_pump_ask_for_nothing()
     ensures { of_cause 7 (duties_on (date 2024 2 20) (gear 5 Pump (class Light Nde) (date 2020 1 15)) (drips (date 2024 2 19) ∷ [])) ≡ [] }
 {}
 
-/// Drips are repeated also where the earlier ones were designated as a leak.
+/// Drips can also repeat earlier ones that were designated as a leak.
 pub fn drips_repeat_designated_ones()
     ensures { of_cause 7 (duties_on (date 2024 2 26) (pump 5 (date 2020 1 15)) (designates (date 2024 2 19)
         ∷ reads_by 2000 (date 2024 2 22) 1999 ∷ drips (date 2024 2 26) ∷ [])) ≡ [] }
 {}
 
-/// A reading at the leak definition between two drips doesn't make them repeated ones.
+/// After a reading at the leak definition, drips do not repeat earlier ones.
 pub fn a_reading_at_the_limit_leaves_drips_new()
     ensures { of_cause 7 (duties_on (date 2024 2 26) (pump 5 (date 2020 1 15)) (drips (date 2024 2 19)
         ∷ reads_by 2000 (date 2024 2 22) 2000 ∷ drips (date 2024 2 26) ∷ [])) ≡ owes 5 7 (date 2024 3 2) ∷ [] }
 {}
 
-/// What follows an event need not be a routine reading.
+/// The duty after an event can be met by a reading of any purpose.
 pub fn a_follow_up_reading_serves_after_an_event()
     ensures release { duties_on (date 2024 2 24) (relief 8 (date 2020 1 15)) (releases (date 2024 2 20) ∷ follows_up (date 2024 2 24) 599 100 ∷ [])
         ≡ has_done 8 8 (date 2024 2 25) (date 2024 2 24) ∷ [] }
@@ -38,7 +38,7 @@ pub fn a_follow_up_reading_serves_after_an_event()
         ∷ follows_up (date 2024 2 23) 9000 0 ∷ []) ≡ has_done 7 9 (date 2024 2 25) (date 2024 2 23) ∷ [] }
 {}
 
-/// On the fifth day it serves.
+/// A reading on the fifth day meets the duty.
 pub fn the_fifth_day_serves()
     ensures drip { of_cause 7 (duties_on (date 2024 2 24) (pump 5 (date 2020 1 15)) (drips (date 2024 2 19) ∷ reads_by 2000 (date 2024 2 24) 1999
         ∷ []))
@@ -49,7 +49,7 @@ pub fn the_fifth_day_serves()
         ∷ shows_evidence (date 2024 2 25) false ∷ []) ≡ has_done 7 9 (date 2024 2 25) (date 2024 2 25) ∷ [] }
 {}
 
-/// On the sixth day it doesn't.
+/// A reading on the sixth day does not meet the duty.
 pub fn the_sixth_day_is_too_late()
     ensures release { duties_on (date 2024 2 27) (relief 8 (date 2020 1 15)) (releases (date 2024 2 20) ∷ reads (date 2024 2 26) 20 ∷ [])
         ≡ owes 8 8 (date 2024 2 25) ∷ [] }
@@ -57,14 +57,14 @@ pub fn the_sixth_day_is_too_late()
         ∷ shows_evidence (date 2024 2 26) false ∷ []) ≡ owes 7 9 (date 2024 2 25) ∷ [] }
 {}
 
-/// An event before the component begins asks for nothing.
+/// An event before the component begins leads to no duty.
 pub fn an_event_before_the_beginning_asks_for_nothing()
     ensures release { duties_on (date 2024 2 20) (relief 8 (date 2024 2 21)) (releases (date 2024 2 20) ∷ []) ≡ [] }
     ensures evidence { duties_on (date 2024 2 20) (gear 7 Pump (class Heavy Plain) (date 2024 2 21)) (shows_evidence (date 2024 2 20) true ∷ [])
         ≡ [] }
 {}
 
-/// The first event that serves counts, and one before the cause doesn't.
+/// The first event that meets the duty counts; an event before its cause does not.
 pub fn the_first_later_event_serves()
     ensures drip { of_cause 7 (duties_on (date 2024 2 24) (pump 5 (date 2020 1 15)) (drips (date 2024 2 19) ∷ reads_by 2000 (date 2024 2 22) 10
         ∷ designates (date 2024 2 23) ∷ []))
@@ -77,7 +77,7 @@ pub fn the_first_later_event_serves()
         ≡ has_done 7 9 (date 2024 2 25) (date 2024 2 22) ∷ [] }
 {}
 
-/// Readings that don't count, and attempts, serve for nothing; a counting reading serves after evidence also at the leak definition.
+/// Readings that do not count, and attempts, meet no duty; after evidence, a counting reading at the leak definition also meets it.
 pub fn which_events_serve()
     ensures drip { of_cause 7 (duties_on (date 2024 2 22) (pump 5 (date 2020 1 15)) (drips (date 2024 2 19) ∷ attempts (date 2024 2 20)
         ∷ reads_in_vain (date 2024 2 21) 10 ∷ []))
@@ -96,7 +96,8 @@ pub fn which_events_serve()
         ∷ reads_by 10_000 (date 2024 2 22) 10_000 ∷ []) ≡ has_done 7 9 (date 2024 2 25) (date 2024 2 22) ∷ [] }
 {}
 
-/// A dry inspection asks for nothing, nor do events of days after the view day, nor a release at what has no such rule.
+/// No duty follows a dry inspection, an event after the view day, or a release at a component that is not under the
+/// rules for relief devices.
 pub fn which_events_ask()
     ensures dry { of_cause 7 (duties_on (date 2024 2 20) (pump 5 (date 2020 1 15)) (dry (date 2024 2 19) ∷ [])) ≡ [] }
     ensures valve { of_cause 8 (duties_on (date 2024 2 20) (valve 1 (date 2020 1 15)) (releases (date 2024 2 20) ∷ [])) ≡ [] }
@@ -118,7 +119,7 @@ pub fn an_event_is_judged_on_its_day()
         ∷ entered_on (date 2024 2 21) (class Heavy Plain) ∷ []) (drips (date 2024 2 20) ∷ [])) ≡ owes 5 7 (date 2024 2 25) ∷ [] }
 {}
 
-/// Drips are repeated by earlier drips alone, by a reading of either purpose, and as long as the pump wasn't dry.
+/// Only earlier drips make drips repeated: with a reading of any purpose since, and as long as the pump was not dry.
 pub fn which_drips_are_repeated()
     ensures after_a_dry_look { of_cause 7 (duties_on (date 2024 2 26) (pump 5 (date 2020 1 15)) (dry (date 2024 2 19)
         ∷ reads_by 2000 (date 2024 2 22) 1999
@@ -133,7 +134,7 @@ pub fn which_drips_are_repeated()
         ∷ drips (date 2024 2 26) ∷ [])) ≡ [] }
 {}
 
-/// The duties of a component stand by cause.
+/// The duties of a component are in order of cause.
 pub fn duties_stand_by_cause()
     ensures pump { duties_on (date 2024 2 13) (pump 5 (date 2024 1 26)) (drips (date 2024 2 12) ∷ [])
         ≡ owes 5 1 (date 2024 2 25) ∷ owes 5 2 (date 2024 2 29) ∷ owes 5 6 (date 2024 2 4) ∷ owes 5 6 (date 2024 2 11)

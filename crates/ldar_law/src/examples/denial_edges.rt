@@ -1,4 +1,4 @@
-//! Denials that rest on what stands before a fact, or on the whole register: examples at the edges of each condition.
+//! Denials that depend on earlier facts or on the whole register: examples at the edges of each condition.
 #![tactic(auto, unfolding(ldar_days::specs::Calendar::first_day, ldar_days::specs::Calendar::month_of, ldar_days::specs::Calendar::month_length, ldar_days::specs::Quarters::last_whole, ldar_days::specs::Quarters::first_quarter, crate::specs::Judged::register_with))]
 
 ghost use Rattle.std.specs.Prelude.{◌≡◌, None, Some, [], codes, false, true, ◌++◌, ◌∷◌};
@@ -15,7 +15,7 @@ ghost use Rattle.ldar_law.specs.SmallOffice.{base, component, crude, designated,
 ghost use Rattle.ldar_law.specs.SmallOffice.{makes_difficult, on, one_difficult, reads, sends, valves, valves_of};
 ghost use Rattle.ldar_law.specs.Verdicts.{facts_with, verdict_by, verdict_on};
 
-/// Facts of each kind that ask for a component which was not entered.
+/// Facts of each kind that name a component which was not entered.
 pub fn unknown_component_of_each_kind()
     ensures attempt { verdict_on base (sends 1 (on (date 2024 2 20) (AttemptFact 40 false) ∷ [])) ≡ Denied 1 1 }
     ensures visual { verdict_on base (sends 1 (on (date 2024 2 20) (Visual 40 Drips) ∷ [])) ≡ Denied 1 1 }
@@ -33,7 +33,7 @@ pub fn visual_inspection_in_vacuum_service()
         ≡ Denied 1 2 }
 {}
 
-/// The class in force where a reading stands is of the facts before it in its batch, and not of those after it.
+/// A reading is judged by the classes of facts before it in its batch, not of facts after it.
 pub fn class_before_and_after_a_reading()
     ensures after { verdict_on base (enters 2 (on (date 2024 2 20) (reads 1 20) ∷ on (date 2024 2 20) (ClassFact 1 (in_service Vacuum)) ∷ []))
         ≡ Pass }
@@ -41,7 +41,7 @@ pub fn class_before_and_after_a_reading()
         ≡ Denied 2 2 }
 {}
 
-/// An indication at a pump that a sensor is silent.
+/// A sensor's indication at a pump, although the sensor is silent.
 pub fn sensor_that_is_silent()
     ensures { verdict_on base (sends 1 (on (date 2024 2 20) (Indication 5 Sensor false) ∷ [])) ≡ Denied 1 6 }
 {}
@@ -63,7 +63,7 @@ pub fn notice_of_mode_3()
     ensures { verdict_on base (enters 2 (on (date 2024 7 1) (Election 1 3 (date 2024 4 3)) ∷ [])) ≡ Denied 1 14 }
 {}
 
-/// Elections within a quarter: on the first of its second month, and one that gives the programme up.
+/// Elections within a quarter: on the first day of its second month, and one that leaves the program.
 pub fn elections_within_a_quarter()
     ensures second_month { verdict_on base (enters 2 (on (date 2024 8 1) (Election 1 1 (date 2024 4 1)) ∷ [])) ≡ Denied 1 20 }
     ensures given_up { verdict_on base (enters 2 (on (date 2024 7 2) (Election 1 0 (date 2024 7 2)) ∷ [])) ≡ Denied 1 20 }
@@ -75,7 +75,8 @@ pub fn difficult_valves_of_an_older_unit()
         ≡ Pass }
 {}
 
-/// A valve that is entered as a difficult one counts as one that is made so, also where its unit stands behind it in the batch.
+/// A valve that is entered as a difficult one counts like one that is made difficult, even if its unit is entered later in the
+/// batch.
 pub fn valve_entered_as_difficult()
     ensures alone { verdict_on base (enters 2 (on (date 2024 1 1) (ComponentFact 10 1 Valve false false (designated Difficult)) ∷ [])) ≡ Denied 1 15 }
     ensures before_its_unit { verdict_on [] (enters 1 (on (date 2020 1 15) (ComponentFact 1 1 Valve false false (designated Difficult))
@@ -83,7 +84,7 @@ pub fn valve_entered_as_difficult()
         ≡ Denied 1 15 }
 {}
 
-/// The share is one of valves, in service on the fact's day and difficult on it.
+/// The share is of valves in service on the fact's day, by their class on that day.
 pub fn which_valves_make_the_share()
     ensures no_pump { verdict_on (enters 1 (on (date 2020 1 15) crude ∷ valves 33 ++ on (date 2020 1 15) (component 200 Pump false Light) ∷ [])
         ∷ []) (enters 2 (makes_difficult 1 ∷ []))
@@ -103,13 +104,13 @@ pub fn unknown_unit_of_each_kind()
     ensures election { verdict_on [] (enters 1 (on (date 2024 7 1) (Election 1 1 (date 2024 4 1)) ∷ [])) ≡ Denied 1 17 }
 {}
 
-/// A compressor in light liquid service: our own rule, behind the one on handhelds.
+/// A compressor in light liquid service: our own rule, after the one on handhelds.
 pub fn compressor_in_liquid_service()
     ensures of_the_office { verdict_on base (enters 2 (on (date 2024 1 1) (component 20 Compressor false Light) ∷ [])) ≡ Denied 1 21 }
     ensures of_a_handheld { verdict_on base (sends 1 (on (date 2024 1 1) (component 20 Compressor false Light) ∷ [])) ≡ Denied 1 16 }
 {}
 
-/// Designations that pumps don't have: difficult, and in heavy liquid service no detectable emissions.
+/// Designations that pumps do not have: difficult to monitor, and no detectable emissions in heavy liquid service.
 pub fn designations_that_suit_no_pump()
     ensures difficult { verdict_on base (enters 2 (on (date 2024 1 1) (ComponentFact 20 1 Pump false false (class Light Difficult)) ∷ []))
         ≡ Denied 1 21 }
@@ -117,12 +118,12 @@ pub fn designations_that_suit_no_pump()
         ≡ Denied 1 21 }
 {}
 
-/// The facts of the batch count among those that there would be.
+/// The facts of the batch are included in the total.
 pub fn facts_of_the_batch_count()
     ensures { facts_with base (sends 1 (on (date 2024 2 20) (reads 1 20) ∷ [])) ≡ 12 }
 {}
 
-/// What looks at nothing is not denied for its service.
+/// Facts other than readings and inspections are not denied for their service.
 pub fn attempt_in_vacuum_service()
     ensures vacuum { verdict_on (base ++ enters 2 (on (date 2024 1 1) (ClassFact 1 (in_service Vacuum)) ∷ [])
         ∷ []) (sends 1 (on (date 2024 2 20) (AttemptFact 1 false) ∷ [])) ≡ Pass }
@@ -131,13 +132,13 @@ pub fn attempt_in_vacuum_service()
         ≡ Pass }
 {}
 
-/// Grounds (c) and (e) are made for valves.
+/// Grounds (c) and (e) are for valves.
 pub fn grounds_of_valves()
     ensures purge { verdict_on base (sends 1 (on (date 2024 2 20) (Delay 1 3 9 (Some (date 2024 6 10))) ∷ [])) ≡ Pass }
     ensures stock { verdict_on base (sends 1 (on (date 2024 2 20) (Delay 1 5 9 (Some (date 2024 6 10))) ∷ [])) ≡ Pass }
 {}
 
-/// Other designations of pumps and compressors suit them, and a compressor has no heavy liquid service either.
+/// Other designations suit pumps and compressors; a compressor has no heavy liquid service either.
 pub fn designations_that_suit()
     ensures pump { verdict_on base (enters 2 (on (date 2024 1 1) (ComponentFact 20 1 Pump false false (class Light Nde)) ∷ [])) ≡ Pass }
     ensures unsafe_pump { verdict_on base (enters 2 (on (date 2024 1 1) (ComponentFact 20 1 Pump false false (class Light Unsafe)) ∷ [])) ≡ Pass }
@@ -147,7 +148,7 @@ pub fn designations_that_suit()
     ensures heavy_liquid { verdict_on base (enters 2 (on (date 2024 1 1) (component 20 Compressor false Heavy) ∷ [])) ≡ Denied 1 21 }
 {}
 
-/// Of 67 valves two may be difficult; those that begin later, stand in another unit, or are entered twice, make no difference.
+/// Two of 67 valves may be difficult; valves that begin later, are in another unit, or are entered twice, make no difference.
 pub fn which_valves_count_among_all()
     ensures two_of_67 { verdict_on (enters 1 (on (date 2020 1 15) crude ∷ valves 67) ∷ enters 2 (makes_difficult 2 ∷ [])
         ∷ []) (enters 3 (makes_difficult 1 ∷ [])) ≡ Pass }
@@ -162,7 +163,7 @@ pub fn which_valves_count_among_all()
         ∷ on (date 2024 1 1) (component 5 Valve false Gas) ∷ [])) ≡ Denied 1 15 }
 {}
 
-/// Where the share is reached, only what adds to it is denied for it.
+/// If the share is reached, only facts that add to it are denied for it.
 pub fn what_adds_to_a_reached_share()
     ensures plain_valve { verdict_on one_difficult (enters 3 (on (date 2024 2 1) (component 10 Valve false Gas) ∷ [])) ≡ Pass }
     ensures plain_class { verdict_on one_difficult (enters 3 (on (date 2024 2 1) (ClassFact 2 (in_service Light)) ∷ [])) ≡ Pass }
@@ -176,7 +177,7 @@ pub fn what_adds_to_a_reached_share()
         ∷ makes_difficult 1 ∷ on (date 2020 1 15) (component 41 Pump false Light) ∷ [])) ≡ Pass }
 {}
 
-/// Each kind of entry into the register is the office's own, also for handheld 1.
+/// Each kind of entry in the register is for the office only, and is denied for handheld 1 too.
 pub fn register_facts_of_handhelds()
     ensures election { verdict_on base (sends 1 (on (date 2024 7 1) (Election 1 1 (date 2024 4 1)) ∷ [])) ≡ Denied 1 16 }
     ensures shutdown { verdict_on base (sends 1 (on (date 2024 6 1) (Shutdown 1 14) ∷ [])) ≡ Denied 1 16 }
@@ -185,7 +186,7 @@ pub fn register_facts_of_handhelds()
     ensures handheld_1 { verdict_on base (record { handheld = 1; number = 2; facts = on (date 2024 2 20) (Retire 1) ∷ [] }) ≡ Denied 1 16 }
 {}
 
-/// An election in a month before the unit's first quarter begins no quarter.
+/// An election in a month before the unit's first quarter does not begin a quarter.
 pub fn election_before_the_first_quarter()
     ensures { verdict_on base (enters 2 (on (date 2020 2 1) (Election 1 0 (date 2020 2 1)) ∷ [])) ≡ Denied 1 20 }
 {}
@@ -197,7 +198,7 @@ pub fn facts_that_fit()
     ensures denied_first { verdict_by (Some (1, 7)) 8_000_001 ≡ Denied 1 7 }
 {}
 
-/// A component is what it was entered as first: in the history before the batch, and in the batch before what follows.
+/// A component is what its first entry says: one in the history, before the batch, or one earlier in the batch.
 pub fn components_that_are_entered_again()
     ensures history_first { verdict_on base (enters 2 (makes_difficult 1 ∷ on (date 2024 1 1) (component 1 Pump false Light) ∷ [])) ≡ Denied 1 15 }
     ensures batch_in_order { verdict_on base (enters 2 (on (date 2020 1 15) (component 40 Valve false Gas) ∷ makes_difficult 40

@@ -1,4 +1,4 @@
-//! Worked examples of denials, as contracts of functions with nothing to do: each clause computes.
+//! Worked examples of denials: the contracts of empty functions, each clause proved by computing.
 #![tactic(auto, unfolding(ldar_days::specs::Calendar::first_day, ldar_days::specs::Calendar::month_of, ldar_days::specs::Calendar::month_length, ldar_days::specs::Quarters::first_quarter, ldar_days::specs::Quarters::last_whole, crate::specs::Judged::register_with))]
 
 ghost use Rattle.std.specs.Prelude.{◌≡◌, ℕ, true, false, Some, None, [], ◌∷◌, ◌++◌, codes};
@@ -23,7 +23,7 @@ pub fn unknown_component()
     ensures known { verdict_on base (sends 1 (on (date 2024 2 20) (reads 4 20) ∷ [])) ≡ Pass }
 {}
 
-/// A reading in vacuum service, which the class in force on its day says (40 CFR 60.482-1a(d)).
+/// A reading in vacuum service, by the class in force on its day (40 CFR 60.482-1a(d)).
 pub fn vacuum_service()
     ensures denied { verdict_on (base ++ enters 2 (on (date 2024 1 1) (ClassFact 1 (in_service Vacuum)) ∷ []) ∷ [])
         (sends 1 (on (date 2024 1 1) (reads 1 20) ∷ [])) ≡ Denied 1 2 }
@@ -37,38 +37,38 @@ pub fn under_300_hours()
         (sends 1 (on (date 2024 2 20) (reads 1 20) ∷ [])) ≡ Denied 1 3 }
 {}
 
-/// A reading without its instrument, or without its operator (40 CFR 60.486a(a)(3)).
+/// A reading without an instrument, or without an operator (40 CFR 60.486a(a)(3)).
 pub fn unsigned_reading()
     ensures no_instrument { verdict_on base (sends 1 (on (date 2024 2 20) (Reading 1 0 1 Routine 20 0) ∷ [])) ≡ Denied 1 4 }
     ensures no_operator { verdict_on base (sends 1 (on (date 2024 2 20) (Reading 1 1 0 Routine 20 0) ∷ [])) ≡ Denied 1 4 }
 {}
 
-/// A visual inspection of what is no pump in light liquid service (40 CFR 60.482-2a(a)(2)).
+/// A visual inspection of a component that is not a pump in light liquid service (40 CFR 60.482-2a(a)(2)).
 pub fn visual_inspection()
     ensures valve { verdict_on base (sends 1 (on (date 2024 2 20) (Visual 1 Drips) ∷ [])) ≡ Denied 1 5 }
     ensures heavy_liquid { verdict_on base (sends 1 (on (date 2024 2 20) (Visual 7 Drips) ∷ [])) ≡ Denied 1 5 }
     ensures light_liquid { verdict_on base (sends 1 (on (date 2024 2 20) (Visual 5 Drips) ∷ [])) ≡ Pass }
 {}
 
-/// A sensor's indication at what is no compressor in gas service (40 CFR 60.482-3a(f)).
+/// A sensor's indication at a component that is not a compressor in gas service (40 CFR 60.482-3a(f)).
 pub fn sensor()
     ensures pump { verdict_on base (sends 1 (on (date 2024 2 20) (Indication 5 Sensor true) ∷ [])) ≡ Denied 1 6 }
     ensures compressor { verdict_on base (sends 1 (on (date 2024 2 20) (Indication 9 Sensor true) ∷ [])) ≡ Pass }
 {}
 
-/// A pressure release of what is no relief device in gas service (40 CFR 60.482-4a(b)).
+/// A pressure release of a component that is not a relief device in gas service (40 CFR 60.482-4a(b)).
 pub fn pressure_release()
     ensures valve { verdict_on base (sends 1 (on (date 2024 2 20) (Release 1) ∷ [])) ≡ Denied 1 7 }
     ensures relief_device { verdict_on base (sends 1 (on (date 2024 2 20) (Release 8) ∷ [])) ≡ Pass }
 {}
 
-/// Evidence of a leak at what is not in heavy liquid service (40 CFR 60.482-8a(a)).
+/// Evidence of a leak at a component that is not in heavy liquid service (40 CFR 60.482-8a(a)).
 pub fn evidence()
     ensures gas { verdict_on base (sends 1 (on (date 2024 2 20) (Indication 1 Evidence true) ∷ [])) ≡ Denied 1 8 }
     ensures heavy_liquid { verdict_on base (sends 1 (on (date 2024 2 20) (Indication 7 Evidence true) ∷ [])) ≡ Pass }
 {}
 
-/// Delays whose ground is made for other components (40 CFR 60.482-9a(c), (d) and (e)).
+/// Delays on a ground for other components (40 CFR 60.482-9a(c), (d) and (e)).
 pub fn ground_of_another()
     ensures purge_of_a_pump { verdict_on base (sends 1 (on (date 2024 2 20) (Delay 5 3 9 (Some (date 2024 6 10))) ∷ [])) ≡ Denied 1 9 }
     ensures seal_of_a_valve { verdict_on base (sends 1 (on (date 2024 2 20) (Delay 1 4 9 (Some (date 2024 6 10))) ∷ [])) ≡ Denied 1 10 }
@@ -76,8 +76,8 @@ pub fn ground_of_another()
     ensures seal_of_a_pump { verdict_on base (sends 1 (on (date 2024 2 20) (Delay 5 4 9 (Some (date 2024 6 10))) ∷ [])) ≡ Pass }
 {}
 
-/// A delay for want of a shutdown without its signature (40 CFR 60.486a(c)(6)), and one without the expected day of
-/// repair (40 CFR 60.486a(c)(7)), which a withdrawal needs not.
+/// A delay until a shutdown without a signature (40 CFR 60.486a(c)(6)), and a delay without an expected day of repair
+/// (40 CFR 60.486a(c)(7)). A withdrawal needs no expected day.
 pub fn incomplete_delay()
     ensures unsigned { verdict_on base (sends 1 (on (date 2024 2 20) (Delay 1 1 0 (Some (date 2024 6 10))) ∷ [])) ≡ Denied 1 12 }
     ensures signed { verdict_on base (sends 1 (on (date 2024 2 20) (Delay 1 1 9 (Some (date 2024 6 10))) ∷ [])) ≡ Pass }
@@ -85,16 +85,16 @@ pub fn incomplete_delay()
     ensures withdrawn { verdict_on base (sends 1 (on (date 2024 2 20) (Delay 1 0 0 None) ∷ [])) ≡ Pass }
 {}
 
-/// Skip periods from 2024-07-01 on are elected with a notice of 90 days, or of 89 (40 CFR 60.487a(d)); where they are
-/// given up, no notice is due.
+/// Skip periods from 2024-07-01 on, elected with a notice of 90 days, or of 89 (40 CFR 60.487a(d)). Leaving the program
+/// needs no notice.
 pub fn notice()
     ensures of_90_days { verdict_on base (enters 2 (on (date 2024 7 1) (Election 1 1 (date 2024 4 2)) ∷ [])) ≡ Pass }
     ensures of_89_days { verdict_on base (enters 2 (on (date 2024 7 1) (Election 1 1 (date 2024 4 3)) ∷ [])) ≡ Denied 1 14 }
     ensures given_up { verdict_on base (enters 2 (on (date 2024 7 1) (Election 1 0 (date 2024 7 1)) ∷ [])) ≡ Pass }
 {}
 
-/// Of 100 valves two may be difficult to monitor, and not three (40 CFR 60.482-7a(h)(2)(ii)). In one batch the third
-/// counts already where the first is judged.
+/// Two of 100 valves may be difficult to monitor, but not three (40 CFR 60.482-7a(h)(2)(ii)). Within one batch, the
+/// third one counts even when the first is judged.
 pub fn third_difficult_valve()
     ensures second { verdict_on (hundred_valves ∷ enters 2 (makes_difficult 1 ∷ []) ∷ []) (enters 3 (makes_difficult 2 ∷ [])) ≡ Pass }
     ensures third { verdict_on (hundred_valves ∷ enters 2 (makes_difficult 1 ∷ makes_difficult 2 ∷ []) ∷ [])
@@ -108,13 +108,13 @@ pub fn difficult_before_all()
     ensures { verdict_on base (enters 2 (on (date 2020 1 14) (ClassFact 1 (designated Difficult)) ∷ [])) ≡ Denied 1 15 }
 {}
 
-/// A handheld other than the office's own enters into the register: our own rule.
+/// A handheld other than the office's own makes an entry in the register: our own rule.
 pub fn register_fact_of_a_handheld()
     ensures denied { verdict_on base (sends 1 (on (date 2024 2 20) (Retire 1) ∷ [])) ≡ Denied 1 16 }
     ensures entered { verdict_on base (enters 2 (on (date 2024 2 20) (Retire 1) ∷ [])) ≡ Pass }
 {}
 
-/// A shutdown of a unit that was not entered: our own rule. The unit may stand before it in the batch.
+/// A shutdown of a unit that was not entered: our own rule. The unit may be entered earlier in the batch.
 pub fn unknown_unit()
     ensures denied { verdict_on [] (enters 1 (on (date 2024 6 1) (Shutdown 1 14) ∷ on (date 2020 1 15) crude ∷ [])) ≡ Denied 1 17 }
     ensures known { verdict_on [] (enters 1 (on (date 2020 1 15) crude ∷ on (date 2024 6 1) (Shutdown 1 14) ∷ [])) ≡ Pass }
@@ -145,13 +145,13 @@ pub fn unsuited_class()
     ensures heavy_liquid { verdict_on base (enters 2 (on (date 2024 1 1) (component 10 Pump false Heavy) ∷ [])) ≡ Pass }
 {}
 
-/// The first fact that is denied counts, and of its rules the least.
+/// A batch is denied for its first denied fact, by the least of that fact's rules.
 pub fn first_fact_and_least_rule()
     ensures { verdict_on base (sends 1 (on (date 2024 2 20) (reads 1 20) ∷ on (date 2098 1 1) (Reading 10 0 0 Routine 20 0)
         ∷ on (date 2024 2 20) (Release 1) ∷ [])) ≡ Denied 2 1 }
 {}
 
-/// A history whose batches pass each after those before it, and one whose third batch is denied after them.
+/// A history whose batches each pass after those before them, and one whose third batch is denied.
 pub fn ruly_history()
     ensures ruly { is_ruly base ≡ true }
     ensures unruly { is_ruly (base ++ sends 1 (on (date 2024 2 20) (Release 1) ∷ []) ∷ []) ≡ false }

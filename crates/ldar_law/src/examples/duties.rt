@@ -1,4 +1,4 @@
-//! What has to be done, by each of the nine causes.
+//! What must be done, for each of the nine causes.
 #![tactic(auto, unfolding(ldar_days::specs::Calendar::first_day, ldar_days::specs::Calendar::month_of, ldar_days::specs::Calendar::month_length, ldar_days::specs::Quarters::last_whole, ldar_days::specs::Quarters::first_quarter, list_words::specs::Ranges::until, crate::specs::Months::is_clean, crate::specs::Months::has_leak_in, crate::specs::Months::is_quarterly, crate::specs::Duties::duties_of, crate::specs::Duties::first_monitoring, crate::specs::Duties::monthly, crate::specs::Duties::quarterly, crate::specs::Duties::yearly, crate::specs::Duties::planned, crate::specs::Duties::weekly, crate::specs::Duties::drip, crate::specs::Duties::release, crate::specs::Duties::evidence))]
 
 ghost use Rattle.std.specs.Prelude.{◌≡◌, [], ◌∷◌, true, false};
@@ -10,8 +10,8 @@ ghost use Rattle.ldar_law.specs.Short.{date, month, class, unsafe_by, gear, valv
 ghost use Rattle.ldar_law.specs.ShortEvents.{reads, reads_by, reads_over, dry, drips, designates, releases, shows_evidence};
 ghost use Rattle.ldar_law.specs.ShortLists.{of_cause, duties_on, duties_of_30, owes, has_done};
 
-/// Two clean months before a quarter make a valve quarterly from that quarter on (40 CFR 60.482-7a(c)(1)). Quarters of the
-/// unit begin with January, April, July and October.
+/// Two clean months before a quarter make a valve quarterly from that quarter on (40 CFR 60.482-7a(c)(1)). The unit's
+/// quarters begin with January, April, July and October.
 pub fn two_clean_months_make_the_next_quarter_quarterly()
     ensures may { is_quarterly (date 2020 1 15) (reads (date 2024 3 12) 10 ∷ reads (date 2024 4 12) 10 ∷ []) (month 2024 5)
         ≡ false }
@@ -21,7 +21,8 @@ pub fn two_clean_months_make_the_next_quarter_quarterly()
         ≡ true }
     ensures august { is_quarterly (date 2020 1 15) (reads (date 2024 3 12) 10
         ∷ reads (date 2024 4 12) 10 ∷ []) (month 2024 8) ≡ true }
-    // Two months that are not in a row do not serve, nor does one of follow-up readings or one with a leak.
+    // Two months that are not in a row are not enough, nor is a month with follow-up readings only, nor one with a
+    // leak.
     ensures gap { is_quarterly (date 2020 1 15) (reads (date 2024 2 12) 10 ∷ reads (date 2024 4 12) 10 ∷ []) (month 2024 7)
         ≡ false }
     ensures leak { is_quarterly (date 2020 1 15) (reads (date 2024 3 12) 10 ∷ reads (date 2024 4 12) 10
@@ -46,7 +47,7 @@ pub fn a_new_valve_is_monthly()
         ≡ has_done 30 2 (date 2024 3 31) (date 2024 3 10) ∷ [] }
 {}
 
-/// A valve that is clean in February and March is quarterly from April on; a late leak in April undoes it.
+/// A valve that is clean in February and March is quarterly from April on; a leak in April that arrives late ends that.
 pub fn a_late_leak_undoes_quarterly_months()
     ensures none { duties_of_30 (reads (date 2024 2 10) 10 ∷ reads (date 2024 3 10) 10 ∷ reads (date 2024 4 10) 10
         ∷ reads (date 2024 7 10) 10 ∷ []) (false ∷ false ∷ []) (date 2024 9 10) ≡ [] }
@@ -76,7 +77,8 @@ pub fn a_valve_put_in_later_has_a_first_monitoring()
     ensures a_day_more { of_cause 1 (duties_on (date 2025 2 10) (valve 30 (date 2024 1 10)) []) ≡ [] }
 {}
 
-/// None is owed by a valve that begins with the unit, replaces a leaking one, is designated when it begins, or is retired before.
+/// A valve owes no first monitoring if it begins with the unit, replaces a leaking one, has a designation when it begins, or is
+/// retired before.
 pub fn some_valves_have_no_first_monitoring()
     ensures at_startup { of_cause 1 (duties_on (date 2020 1 20) (valve 30 (date 2020 1 15)) []) ≡ [] }
     ensures replacing { duties_on (date 2024 1 20) (replacing_valve 30 (date 2024 1 10)) [] ≡ [] }
@@ -96,7 +98,7 @@ pub fn a_difficult_valve_is_yearly()
         (reads (date 2024 5 1) 700 ∷ []) ≡ has_done 30 4 (date 2024 12 31) (date 2024 5 1) ∷ [] }
 {}
 
-/// With no detectable emissions the yearly reading has to be less than 500 above the background (40 CFR 60.482-7a(f)).
+/// With no detectable emissions, the yearly reading must be less than 500 above the background (40 CFR 60.482-7a(f)).
 pub fn no_detectable_emissions_are_confirmed_yearly()
     ensures met { duties_on (date 2024 6 1) (gear 9 Compressor (class Gas Nde) (date 2023 12 10))
         (reads_over (date 2024 5 1) 599 100 ∷ []) ≡ has_done 9 4 (date 2024 12 31) (date 2024 5 1) ∷ [] }
@@ -106,7 +108,8 @@ pub fn no_detectable_emissions_are_confirmed_yearly()
         (reads_over (date 2024 5 1) 20 100 ∷ []) ≡ has_done 9 4 (date 2024 12 31) (date 2024 5 1) ∷ [] }
 {}
 
-/// A valve that is unsafe to monitor has the windows of its plan, from the month after it begins (40 CFR 60.482-7a(g)(2)).
+/// A valve that is unsafe to monitor has the windows of its plan, from the month after it begins on (40 CFR
+/// 60.482-7a(g)(2)).
 pub fn an_unsafe_valve_has_its_plan()
     ensures first_window { duties_on (date 2024 3 1) (gear 30 Valve (unsafe_by Gas 5) (date 2024 1 15)) []
         ≡ owes 30 5 (date 2024 6 30) ∷ [] }
@@ -117,7 +120,8 @@ pub fn an_unsafe_valve_has_its_plan()
     ensures not_begun { duties_on (date 2024 1 31) (gear 30 Valve (unsafe_by Gas 5) (date 2024 1 15)) [] ≡ [] }
 {}
 
-/// A pump is looked at each week, from the week after it begins; a week is Monday to Sunday (40 CFR 60.482-2a(a)(2)).
+/// A pump is inspected each week, from the week after it begins on; a week is Monday to Sunday (40 CFR
+/// 60.482-2a(a)(2)).
 pub fn a_pump_is_looked_at_each_week()
     ensures first_week { of_cause 6 (duties_on (date 2024 1 21) (pump 5 (date 2024 1 15)) []) ≡ [] }
     ensures open { of_cause 6 (duties_on (date 2024 1 22) (pump 5 (date 2024 1 15)) []) ≡ owes 5 6 (date 2024 1 28) ∷ [] }
@@ -125,14 +129,14 @@ pub fn a_pump_is_looked_at_each_week()
         ≡ owes 5 6 (date 2024 1 28) ∷ has_done 5 6 (date 2024 2 4) (date 2024 1 29) ∷ [] }
 {}
 
-/// A pump is monitored each month, whatever was read before (40 CFR 60.482-2a(a)(1)).
+/// A pump is monitored each month, whatever its readings were (40 CFR 60.482-2a(a)(1)).
 pub fn a_pump_is_never_quarterly()
     ensures { of_cause 2 (duties_on (date 2020 7 5) (pump 5 (date 2020 1 15)) (reads_by 2000 (date 2020 2 10) 10
         ∷ reads_by 2000 (date 2020 3 10) 10 ∷ reads_by 2000 (date 2020 4 10) 10 ∷ reads_by 2000 (date 2020 5 10) 10
         ∷ reads_by 2000 (date 2020 6 10) 10 ∷ [])) ≡ owes 5 2 (date 2020 7 31) ∷ [] }
 {}
 
-/// Drips are to be read or designated within five days (40 CFR 60.482-2a(b)(2)).
+/// Drips must be read or designated within five days (40 CFR 60.482-2a(b)(2)).
 pub fn drips_are_read_or_designated()
     ensures open { of_cause 7 (duties_on (date 2024 2 20) (pump 5 (date 2020 1 15)) (drips (date 2024 2 19) ∷ []))
         ≡ owes 5 7 (date 2024 2 24) ∷ [] }
@@ -144,7 +148,8 @@ pub fn drips_are_read_or_designated()
         ∷ reads_by 2000 (date 2024 2 25) 1999 ∷ [])) ≡ owes 5 7 (date 2024 2 24) ∷ [] }
 {}
 
-/// Drips again after a reading below the leak definition ask for no other, unless the pump was dry since.
+/// Drips after a reading below the leak definition need no further reading, unless the pump was dry since the earlier
+/// drips.
 pub fn repeated_drips_ask_for_nothing()
     ensures repeated { of_cause 7 (duties_on (date 2024 2 26) (pump 5 (date 2020 1 15)) (drips (date 2024 2 19)
         ∷ reads_by 2000 (date 2024 2 22) 1999 ∷ drips (date 2024 2 26) ∷ [])) ≡ [] }
@@ -155,7 +160,8 @@ pub fn repeated_drips_ask_for_nothing()
         ∷ drips (date 2024 2 21) ∷ [])) ≡ owes 5 7 (date 2024 2 24) ∷ owes 5 7 (date 2024 2 26) ∷ [] }
 {}
 
-/// After a release a relief device is read within five days, less than 500 above the background (40 CFR 60.482-4a(b)).
+/// After a release, a relief device must be read within five days, less than 500 above the background (40 CFR
+/// 60.482-4a(b)).
 pub fn a_release_is_followed_by_a_reading()
     ensures open { duties_on (date 2024 2 20) (relief 8 (date 2020 1 15)) (releases (date 2024 2 20) ∷ [])
         ≡ owes 8 8 (date 2024 2 25) ∷ [] }
@@ -165,7 +171,7 @@ pub fn a_release_is_followed_by_a_reading()
         ∷ reads_over (date 2024 2 24) 600 100 ∷ []) ≡ owes 8 8 (date 2024 2 25) ∷ [] }
 {}
 
-/// Evidence of a leak in heavy liquid service is read within five days, or found gone (40 CFR 60.482-8a(a)).
+/// Evidence of a leak in heavy liquid service must be read within five days, or found gone (40 CFR 60.482-8a(a)).
 pub fn evidence_is_read_or_gone()
     ensures open { duties_on (date 2024 2 21) (gear 7 Pump (class Heavy Plain) (date 2020 1 15)) (shows_evidence (date 2024 2 20) true ∷ [])
         ≡ owes 7 9 (date 2024 2 25) ∷ [] }

@@ -1,4 +1,4 @@
-//! What the facts of a component are as events: each judged on its own day, by the class of that day.
+//! The facts of a component as events, each judged on its own day by the class of that day.
 #![tactic(auto, unfolding(ldar_days::specs::Calendar::first_day, ldar_days::specs::Calendar::month_of, ldar_days::specs::Calendar::month_length, crate::specs::Events::events_in))]
 
 ghost use Rattle.std.specs.Prelude.{◌≡◌, None, [], false, map, true, ◌∷◌};
@@ -17,7 +17,8 @@ ghost use Rattle.ldar_law.specs.Events.{events_with, fitness_in};
 ghost use Rattle.ldar_law.specs.Short.{calibrated_twice, class, compressor, date, entered_on, events_on};
 ghost use Rattle.ldar_law.specs.Short.{events_with_gas, gear, lowered, pump, read_while_lowered, relief, three_readings, valve};
 
-/// A reading has its numbers, its purpose, whether it counts, and on which side of the leak definition it is.
+/// A reading as an event has its numbers, its purpose, whether it counts, and whether it is below the leak definition
+/// or a leak.
 pub fn a_reading_as_an_event()
     ensures below { events_on (valve 1 (date 2020 1 15)) [] (Reading 1 1 1 Routine 499 30) ≡ Read 499 30 true true true false ∷ [] }
     ensures at_the_limit { events_on (valve 1 (date 2020 1 15)) [] (Reading 1 1 1 FollowUp 500 30) ≡ Read 500 30 false true false true ∷ [] }
@@ -28,7 +29,8 @@ pub fn a_reading_as_an_event()
     ensures not_in_service { events_on (valve 1 (date 2024 2 21)) [] (Reading 1 1 1 Routine 499 30) ≡ Read 499 30 true false false false ∷ [] }
 {}
 
-/// A visual inspection is dry, found drips or designated them; at a pump in light liquid service these are a leak.
+/// A visual inspection is dry, finds drips or designates them; at a pump in light liquid service, designated drips are
+/// a leak.
 pub fn a_visual_inspection_as_an_event()
     ensures dry { events_on (pump 5 (date 2020 1 15)) [] (Visual 5 Dry) ≡ Look false false false ∷ [] }
     ensures drips { events_on (pump 5 (date 2020 1 15)) [] (Visual 5 Drips) ≡ Look true false false ∷ [] }
@@ -37,7 +39,7 @@ pub fn a_visual_inspection_as_an_event()
     ensures nde { events_on (gear 5 Pump (class Light Nde) (date 2020 1 15)) [] (Visual 5 Designated) ≡ Look true true false ∷ [] }
 {}
 
-/// The other facts of a component; the register is no event, and the facts of another component are none of this one.
+/// The other facts of a component; entries in the register and facts of other components are no events of it.
 pub fn other_facts_as_events()
     ensures attempt { events_on (valve 1 (date 2020 1 15)) [] (AttemptFact 1 true) ≡ Attempt true ∷ [] }
     ensures delay { events_on (valve 1 (date 2020 1 15)) [] (DelayFact 1 2 9 None) ≡ Delay 2 9 None ∷ [] }
@@ -56,7 +58,7 @@ pub fn an_indication_as_an_event()
     ensures pump { events_on (pump 5 (date 2020 1 15)) [] (Indication 5 SensorSort true) ≡ Sensor true false ∷ [] }
 {}
 
-/// An event is judged by the class of its day, and not by that of the component's entry or of a later day.
+/// An event is judged by the class of its day, not by the class of the component's entry or of a later day.
 pub fn an_event_by_the_class_of_its_day()
     ensures valve { events_on (gear 1 Valve (class Heavy Plain) (date 2020 1 15)) (entered_on (date 2024 2 1) (class Gas Plain)
         ∷ entered_on (date 2024 2 21) (class Heavy Plain) ∷ [])
@@ -78,7 +80,7 @@ pub fn an_event_by_the_class_of_its_day()
         (Indication 9 SensorSort true) ≡ Sensor true true ∷ [] }
 {}
 
-/// The gas that a calibration may have at most goes by the leak definition of the reading's day.
+/// The maximum calibration gas depends on the leak definition of the reading's day.
 pub fn a_gas_by_the_leak_definition_of_the_day()
     ensures too_strong { events_with_gas 4001 (gear 5 Pump (class Heavy Plain) (date 2020 1 15)) (entered_on (date 2024 2 1) (class Light Plain)
         ∷ []) (Reading 5 1 1 Routine 20 0)
@@ -88,14 +90,15 @@ pub fn a_gas_by_the_leak_definition_of_the_day()
         ≡ Read 20 0 true true true false ∷ [] }
 {}
 
-/// A reading is judged by the leak definition of its own day, and so is the gas that its instrument was calibrated with.
+/// A reading is judged by the leak definition of its own day, and so is the gas of its instrument's calibration.
 pub fn readings_by_the_leak_definition_of_each_day()
     ensures leak { read_while_lowered 500 200 ≡ Read 200 0 true true true false ∷ Read 200 0 true true false true ∷ [] }
     ensures below { read_while_lowered 500 199 ≡ Read 199 0 true true true false ∷ Read 199 0 true true true false ∷ [] }
     ensures gas { read_while_lowered 2201 199 ≡ Read 199 0 true true true false ∷ Read 199 0 true false false false ∷ [] }
 {}
 
-/// The readings take the fitness of a list one after the other; other facts take none, and a reading for which none is left is not fit.
+/// Readings take the fitnesses of a list one after the other; other facts take none, and a reading after the end of the list is not
+/// fit.
 pub fn events_by_a_list_of_fitness()
     ensures events { map (λ e. e.what) (events_with (valve 1 (date 2020 1 15)) [] lowered three_readings (NoCalibration ∷ Fit ∷ []))
         ≡ Read 20 0 true false false false ∷ Attempt false ∷ Read 30 0 true true true false ∷ Read 40 0 true false false false ∷ [] }

@@ -1,4 +1,4 @@
-//! From batches to what a unit's facts say on a view day.
+//! From batches to the state of a unit on a view day.
 #![tactic(auto, unfolding(ldar_days::specs::Calendar::first_day, ldar_days::specs::Calendar::month_of, ldar_days::specs::Calendar::month_length, ldar_days::specs::Quarters::last_whole, ldar_days::specs::Quarters::first_quarter, list_words::specs::Ranges::until, crate::specs::Events::events_in, crate::specs::Spans::spans_of, crate::specs::Tags::tag_of, crate::specs::Months::is_clean, crate::specs::Months::has_leak_in, crate::specs::Months::is_quarterly, crate::specs::Months::is_clean_twice_from, crate::specs::Percent::mark_of, crate::specs::Skips::good_streak, crate::specs::Skips::skips_run, crate::specs::Skips::quarters, crate::specs::Skips::is_skipped, crate::specs::Routes::routes_of, crate::specs::Duties::duties_of, crate::specs::Duties::first_monitoring, crate::specs::Duties::monthly, crate::specs::Duties::quarterly, crate::specs::Duties::yearly, crate::specs::Duties::planned, crate::specs::Duties::weekly, crate::specs::Duties::drip, crate::specs::Duties::release, crate::specs::Duties::evidence))]
 
 ghost use Rattle.std.specs.Prelude.{◌≡◌, None, Some, [], false, true, ◌∷◌};
@@ -11,7 +11,7 @@ ghost use Rattle.ldar_law.specs.ShortLists.{attempt, calibration, known, owes, p
 ghost use Rattle.ldar_law.specs.Shown.{sheet_of};
 ghost use Rattle.ldar_law.specs.Units.{duties_of_unit, routes_of_unit, tally_of_unit};
 
-/// A reading opens a tag once the calibration of its day is known, in whatever order the batches come.
+/// A reading opens a tag if the calibration of its day is known, in whatever order the batches arrive.
 pub fn a_late_calibration_opens_a_tag()
     ensures before { tags_on (date 2024 2 28) (register_of_1 ∷ precision_of_1 ∷ reading 2 (date 2024 2 20) 1 620 ∷ [])
         ≡ [] }
@@ -19,7 +19,7 @@ pub fn a_late_calibration_opens_a_tag()
         ∷ calibration 3 (date 2024 2 20) ∷ []) ≡ tag 1 (date 2024 2 20) None (Date (date 2024 3 6)) None None false ∷ [] }
     ensures other_order { tags_on (date 2024 2 28) (calibration 3 (date 2024 2 20) ∷ reading 2 (date 2024 2 20) 1 620
         ∷ precision_of_1 ∷ register_of_1 ∷ []) ≡ tag 1 (date 2024 2 20) None (Date (date 2024 3 6)) None None false ∷ [] }
-    // What happened after the view day does not count.
+    // Facts after the view day do not count.
     ensures day_before { tags_on (date 2024 2 19) (register_of_1 ∷ precision_of_1 ∷ reading 2 (date 2024 2 20) 1 620
         ∷ calibration 3 (date 2024 2 20) ∷ []) ≡ [] }
 {}

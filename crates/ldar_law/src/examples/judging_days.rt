@@ -1,4 +1,5 @@
-//! On which day a period is judged: its last day, or the view day where that is earlier. Class and service of that day decide.
+//! The day on which a period is judged: its last day, or the view day if that is earlier. The class and the service on that
+//! day decide.
 #![tactic(auto, unfolding(ldar_days::specs::Calendar::first_day, ldar_days::specs::Calendar::month_of, ldar_days::specs::Calendar::month_length, ldar_days::specs::Quarters::last_whole, ldar_days::specs::Quarters::first_quarter, list_words::specs::Ranges::until, crate::specs::Months::is_clean, crate::specs::Months::has_leak_in, crate::specs::Months::is_quarterly, crate::specs::Duties::duties_of, crate::specs::Duties::first_monitoring, crate::specs::Duties::monthly, crate::specs::Duties::quarterly, crate::specs::Duties::yearly, crate::specs::Duties::planned, crate::specs::Duties::weekly, crate::specs::Duties::drip, crate::specs::Duties::release, crate::specs::Duties::evidence))]
 
 ghost use Rattle.std.specs.Prelude.{◌≡◌, [], ◌∷◌};
@@ -9,7 +10,7 @@ ghost use Rattle.ldar_law.specs.Short.{class, date, entered_on, gear, pump, reti
 ghost use Rattle.ldar_law.specs.ShortEvents.{reads, reads_over};
 ghost use Rattle.ldar_law.specs.ShortLists.{duties_on, duties_with, of_cause, owes};
 
-/// A month is judged by the class into which the component came before it ended.
+/// A month is judged by the class at its end.
 pub fn a_month_by_the_class_that_it_ends_with()
     ensures designation { of_cause 2 (duties_with (date 2024 2 20) (gear 30 Valve (class Gas Difficult) (date 2024 1 10)) (entered_on (date 2024 2 1)
         (class Gas Plain) ∷ []) [])
@@ -22,7 +23,7 @@ pub fn a_month_by_the_class_that_it_ends_with()
         ≡ owes 5 2 (date 2024 2 29) ∷ [] }
 {}
 
-/// What comes after a month, or after the view day, leaves it as it was.
+/// Changes after a month, or after the view day, do not change the month.
 pub fn a_month_is_not_judged_by_later_days()
     ensures designation { of_cause 2 (duties_with (date 2024 3 20) (valve 30 (date 2024 1 10)) (entered_on (date 2024 3 5) (class Gas Difficult)
         ∷ []) [])
@@ -38,7 +39,7 @@ pub fn a_month_is_not_judged_by_later_days()
         ≡ owes 30 2 (date 2024 2 29) ∷ [] }
 {}
 
-/// So is a month of a quarter.
+/// A month of a quarter is judged by the class at its end.
 pub fn a_quarter_month_by_the_class_that_it_ends_with()
     ensures designation { of_cause 3 (duties_with (date 2024 7 5) (gear 1 Valve (class Gas Difficult) (date 2020 1 15)) (entered_on (date 2024 7 1)
         (class Gas Plain) ∷ []) (reads (date 2024 3 12) 10
@@ -48,7 +49,8 @@ pub fn a_quarter_month_by_the_class_that_it_ends_with()
         ∷ reads (date 2024 4 12) 10 ∷ [])) ≡ owes 1 3 (date 2024 7 31) ∷ [] }
 {}
 
-/// What comes after the month, or after the view day, leaves it as it was; a class that moves the month adds one.
+/// Changes after a month of a quarter, or after the view day, do not change it; a class that moves the month adds
+/// another one.
 pub fn a_quarter_month_is_not_judged_by_later_days()
     ensures designation { of_cause 3 (duties_with (date 2024 8 20) (valve 1 (date 2020 1 15)) (entered_on (date 2024 8 5) (class Gas Difficult)
         ∷ []) (reads (date 2024 3 12) 10
@@ -66,7 +68,7 @@ pub fn a_quarter_month_is_not_judged_by_later_days()
         ∷ reads (date 2024 4 12) 10 ∷ [])) ≡ owes 1 3 (date 2024 7 31) ∷ [] }
 {}
 
-/// So is a year.
+/// A year is judged by the class at its end.
 pub fn a_year_by_the_class_that_it_ends_with()
     ensures difficult { of_cause 4 (duties_with (date 2024 6 1) (valve 30 (date 2023 12 10)) (entered_on (date 2024 2 1) (class Gas Difficult)
         ∷ []) [])
@@ -88,7 +90,7 @@ pub fn a_year_by_the_class_that_it_ends_with()
         ≡ owes 9 4 (date 2024 12 31) ∷ [] }
 {}
 
-/// What comes after a year, or after the view day, leaves it as it was.
+/// Changes after a year, or after the view day, do not change it.
 pub fn a_year_is_not_judged_by_later_days()
     ensures difficult { of_cause 4 (duties_with (date 2025 2 1) (gear 30 Valve (class Gas Difficult) (date 2023 12 10)) (entered_on (date 2025 1 10)
         (class Gas Plain) ∷ []) [])
@@ -117,7 +119,7 @@ pub fn a_year_is_not_judged_by_later_days()
         ≡ owes 30 4 (date 2024 12 31) ∷ [] }
 {}
 
-/// Which reading a year asks for is judged on that day too.
+/// The kind of reading that a year needs is judged on the same day.
 pub fn a_reading_of_the_year_by_the_class_of_its_last_day()
     ensures past_year { of_cause 4 (duties_with (date 2025 2 1) (gear 30 Valve (class Gas Nde) (date 2023 12 10)) (entered_on (date 2025 1 10)
         (class Gas Plain) ∷ []) (reads_over (date 2024 5 1) 600 100 ∷ []))
@@ -133,7 +135,7 @@ pub fn a_reading_of_the_year_by_the_class_of_its_last_day()
         ≡ owes 30 4 (date 2024 12 31) ∷ [] }
 {}
 
-/// So is a window, and its plan.
+/// A window and its plan are judged by the class at its end.
 pub fn a_window_by_the_class_that_it_ends_with()
     ensures service { of_cause 5 (duties_with (date 2024 3 1) (gear 30 Valve (unsafe_by Heavy 5) (date 2024 1 15)) (entered_on (date 2024 2 1)
         (unsafe_by Gas 5) ∷ []) [])
@@ -146,7 +148,7 @@ pub fn a_window_by_the_class_that_it_ends_with()
         ≡ owes 30 5 (date 2024 4 30) ∷ [] }
 {}
 
-/// What comes after a window, or after the view day, leaves it as it was; another plan has windows of its own.
+/// Changes after a window, or after the view day, do not change it; another plan has its own windows.
 pub fn a_window_is_not_judged_by_later_days()
     ensures designation { of_cause 5 (duties_with (date 2024 7 5) (gear 30 Valve (unsafe_by Gas 5) (date 2024 1 15)) (entered_on (date 2024 7 3)
         (class Gas Plain) ∷ []) [])
@@ -170,7 +172,7 @@ pub fn a_window_is_not_judged_by_later_days()
         ≡ owes 30 5 (date 2024 6 30) ∷ [] }
 {}
 
-/// So is a week.
+/// A week is judged by the class at its end.
 pub fn a_week_by_the_class_that_it_ends_with()
     ensures designation { of_cause 6 (duties_with (date 2024 1 24) (gear 5 Pump (class Light Nde) (date 2024 1 15)) (entered_on (date 2024 1 22)
         (class Light Plain) ∷ []) [])
@@ -180,7 +182,7 @@ pub fn a_week_by_the_class_that_it_ends_with()
         ≡ owes 5 6 (date 2024 1 28) ∷ [] }
 {}
 
-/// What comes after a week, or after the view day, leaves it as it was.
+/// Changes after a week, or after the view day, do not change it.
 pub fn a_week_is_not_judged_by_later_days()
     ensures designation { of_cause 6 (duties_with (date 2024 1 31) (pump 5 (date 2024 1 15)) (entered_on (date 2024 1 30) (class Light Nde) ∷ []) [])
         ≡ owes 5 6 (date 2024 1 28) ∷ [] }
@@ -193,7 +195,7 @@ pub fn a_week_is_not_judged_by_later_days()
         ≡ owes 5 6 (date 2024 1 28) ∷ [] }
 {}
 
-/// A first monitoring is judged by the service on its last day or the view day, and by the designation with which the component began.
+/// A first monitoring is judged by the service on its last day or the view day, and by the component's first designation.
 pub fn a_first_monitoring_by_service_and_first_designation()
     ensures service { of_cause 1 (duties_with (date 2024 1 20) (gear 30 Valve (class Heavy Plain) (date 2024 1 10)) (entered_on (date 2024 1 12)
         (class Gas Plain) ∷ []) [])

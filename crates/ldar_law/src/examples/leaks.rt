@@ -21,7 +21,8 @@ pub fn a_reading_at_the_limit_is_a_leak()
     ensures heavy_at { found_at (gear 7 Pump (class Heavy Plain) (date 2020 1 15)) 10_000 ≡ true ∷ [] }
 {}
 
-/// A compressor's reading is no leak, nor is one at a component with no detectable emissions or in vacuum service.
+/// A compressor's reading is never a leak, nor is a reading of a component with no detectable emissions or in vacuum
+/// service.
 pub fn some_readings_are_never_leaks()
     ensures compressor { found_at (compressor 9 (date 2020 1 15)) 700 ≡ false ∷ [] }
     ensures relief { found_at (gear 8 Relief (class Gas Plain) (date 2020 1 15)) 700 ≡ false ∷ [] }
@@ -30,7 +31,7 @@ pub fn some_readings_are_never_leaks()
     ensures not_yet { found_at (valve 1 (date 2024 2 21)) 700 ≡ false ∷ [] }
 {}
 
-/// A sensor of a compressor and a designated drip of a pump are leaks (40 CFR 60.482-2a(b)(2)(ii), 60.482-3a(f)).
+/// A compressor's sensor and a pump's designated drips are leaks (40 CFR 60.482-2a(b)(2)(ii), 60.482-3a(f)).
 pub fn a_sensor_and_a_designated_drip_are_leaks()
     ensures sensor { sensed (compressor 9 (date 2020 1 15)) true ≡ true ∷ [] }
     ensures gone { sensed (compressor 9 (date 2020 1 15)) false ≡ false ∷ [] }
@@ -39,7 +40,8 @@ pub fn a_sensor_and_a_designated_drip_are_leaks()
     ensures heavy { designated_at (gear 7 Pump (class Heavy Plain) (date 2020 1 15)) ≡ false ∷ [] }
 {}
 
-/// Without an attempt a reading below the leak definition settles nothing; with one it closes the tag (40 CFR 60.481a).
+/// A reading below the leak definition settles nothing without an attempt; after one it closes the tag (40 CFR
+/// 60.481a).
 pub fn a_tag_closes_by_a_reading_after_an_attempt()
     ensures without { spans_of Valve (reads (date 2024 2 20) 620 ∷ reads (date 2024 3 6) 20 ∷ [])
         ≡ span (date 2024 2 20) None None false ∷ [] }
@@ -50,7 +52,7 @@ pub fn a_tag_closes_by_a_reading_after_an_attempt()
         ∷ reads (date 2024 3 6) 500 ∷ []) ≡ span (date 2024 2 20) (Some (date 2024 2 22)) None false ∷ [] }
 {}
 
-/// A leak after the attempt asks for another one.
+/// A leak after the attempt needs another attempt.
 pub fn a_leak_after_the_attempt_keeps_the_tag()
     ensures broken { spans_of Valve (reads (date 2024 2 20) 620 ∷ attempts (date 2024 2 22) ∷ reads (date 2024 2 23) 700
         ∷ reads (date 2024 3 6) 20 ∷ []) ≡ span (date 2024 2 20) (Some (date 2024 2 22)) None false ∷ [] }
@@ -59,7 +61,7 @@ pub fn a_leak_after_the_attempt_keeps_the_tag()
         ≡ span (date 2024 2 20) (Some (date 2024 2 22)) (Some (key (date 2024 3 6) 600)) false ∷ [] }
 {}
 
-/// A leak while a tag is open opens no other; after the closing the next one does.
+/// A leak while a tag is open opens no other tag; the next leak after the closing does.
 pub fn a_tag_stands_for_each_leak_until_it_closes()
     ensures { spans_of Valve (reads (date 2024 2 20) 620 ∷ reads (date 2024 2 21) 700 ∷ attempts (date 2024 2 22)
         ∷ reads (date 2024 3 6) 20 ∷ reads (date 2024 4 10) 900 ∷ [])
@@ -76,12 +78,12 @@ pub fn a_drip_is_settled_by_a_dry_look_after_an_attempt()
     ensures reading { spans_of Pump (designates (date 2024 3 4) ∷ attempts (date 2024 3 6)
         ∷ reads_by 2000 (date 2024 3 11) 1999 ∷ [])
         ≡ span (date 2024 3 4) (Some (date 2024 3 6)) (Some (key (date 2024 3 11) 600)) true ∷ [] }
-    // A dry look settles no reading.
+    // A dry inspection does not settle a reading.
     ensures no_reading { spans_of Pump (reads_by 2000 (date 2024 3 4) 2000 ∷ attempts (date 2024 3 6)
         ∷ dry (date 2024 3 11) ∷ []) ≡ span (date 2024 3 4) (Some (date 2024 3 6)) None false ∷ [] }
 {}
 
-/// A sensor's leak is settled by a complete attempt, and by nothing less.
+/// A sensor's leak is settled only by a complete attempt.
 pub fn a_sensor_leak_is_settled_by_a_complete_attempt()
     ensures complete { spans_of Compressor (sensor_leak (date 2024 3 4) ∷ completes (date 2024 3 6) ∷ [])
         ≡ span (date 2024 3 4) (Some (date 2024 3 6)) (Some (key (date 2024 3 6) 600)) true ∷ [] }
@@ -89,13 +91,13 @@ pub fn a_sensor_leak_is_settled_by_a_complete_attempt()
         ∷ reads (date 2024 3 7) 20 ∷ []) ≡ span (date 2024 3 4) (Some (date 2024 3 6)) None false ∷ [] }
 {}
 
-/// Under a delay two readings below the leak definition in consecutive months settle a leak without an attempt
-/// (40 CFR 60.482-9a(f)).
+/// During a delay, two readings below the leak definition in consecutive months settle a leak without an attempt (40
+/// CFR 60.482-9a(f)).
 pub fn two_readings_settle_a_delayed_leak()
     ensures two_months { spans_of Valve (reads (date 2024 2 20) 620 ∷ delays (date 2024 3 1) 1 (date 2024 6 10)
         ∷ reads (date 2024 3 10) 20 ∷ reads (date 2024 4 10) 20 ∷ [])
         ≡ span (date 2024 2 20) None (Some (key (date 2024 4 10) 600)) false ∷ [] }
-    // The first of the two may stand before the delay.
+    // The first of the two may be before the delay.
     ensures before { spans_of Valve (reads (date 2024 2 20) 620 ∷ reads (date 2024 2 28) 20
         ∷ delays (date 2024 3 1) 1 (date 2024 6 10) ∷ reads (date 2024 3 10) 20 ∷ [])
         ≡ span (date 2024 2 20) None (Some (key (date 2024 3 10) 600)) false ∷ [] }
@@ -103,7 +105,7 @@ pub fn two_readings_settle_a_delayed_leak()
         ∷ reads (date 2024 3 10) 20 ∷ reads (date 2024 3 20) 20 ∷ []) ≡ span (date 2024 2 20) None None false ∷ [] }
     ensures gap { spans_of Valve (reads (date 2024 2 20) 620 ∷ delays (date 2024 3 1) 1 (date 2024 6 10)
         ∷ reads (date 2024 3 10) 20 ∷ reads (date 2024 5 10) 20 ∷ []) ≡ span (date 2024 2 20) None None false ∷ [] }
-    // Ground (b), a delay on the sixteenth day, and no delay at all do not serve.
+    // Ground (b), a delay on the sixteenth day, and no delay at all are not enough.
     ensures isolated { spans_of Valve (reads (date 2024 2 20) 620 ∷ delays (date 2024 3 1) 2 (date 2024 6 10)
         ∷ reads (date 2024 3 10) 20 ∷ reads (date 2024 4 10) 20 ∷ []) ≡ span (date 2024 2 20) None None false ∷ [] }
     ensures late { spans_of Valve (reads (date 2024 2 20) 620 ∷ delays (date 2024 3 7) 1 (date 2024 6 10)
@@ -118,13 +120,13 @@ pub fn retiring_settles_a_leak()
         ≡ span (date 2024 3 4) None (Some (key (date 2024 3 20) 600)) true ∷ [] }
 {}
 
-/// The identification comes off a valve after two clean months in a row, the first of them that of the closing or a later one
-/// (40 CFR 60.486a(b)(2)).
+/// The identification of a valve may be removed after two clean months in a row, the first of them the month of the closing
+/// or later (40 CFR 60.486a(b)(2)).
 pub fn a_valve_is_removable_after_two_clean_months()
     ensures removable { spans_of Valve (reads (date 2024 2 20) 620 ∷ attempts (date 2024 2 22) ∷ reads (date 2024 3 6) 20
         ∷ reads (date 2024 4 2) 20 ∷ [])
         ≡ span (date 2024 2 20) (Some (date 2024 2 22)) (Some (key (date 2024 3 6) 600)) true ∷ [] }
-    // A month between them, or a leak in the second, keeps it.
+    // A month between the two, or a leak in the second one, prevents it.
     ensures gap { spans_of Valve (reads (date 2024 2 20) 620 ∷ attempts (date 2024 2 22) ∷ reads (date 2024 3 6) 20
         ∷ reads (date 2024 5 2) 20 ∷ [])
         ≡ span (date 2024 2 20) (Some (date 2024 2 22)) (Some (key (date 2024 3 6) 600)) false ∷ [] }
@@ -132,13 +134,13 @@ pub fn a_valve_is_removable_after_two_clean_months()
         ∷ reads (date 2024 4 2) 20 ∷ reads (date 2024 4 20) 700 ∷ [])
         ≡ span (date 2024 2 20) (Some (date 2024 2 22)) (Some (key (date 2024 3 6) 600)) false
         ∷ span (date 2024 4 20) None None false ∷ [] }
-    // Two later months serve as well.
+    // Two later months are enough.
     ensures later { spans_of Valve (reads (date 2024 2 20) 620 ∷ attempts (date 2024 2 22) ∷ reads (date 2024 3 6) 20
         ∷ reads (date 2024 6 2) 20 ∷ reads (date 2024 7 2) 20 ∷ [])
         ≡ span (date 2024 2 20) (Some (date 2024 2 22)) (Some (key (date 2024 3 6) 600)) true ∷ [] }
 {}
 
-/// An attempt after the closing is the tag's first attempt where none lay before.
+/// An attempt after the closing is the tag's first attempt if there was none before.
 pub fn the_first_attempt_may_be_after_the_closing()
     ensures { spans_of Valve (reads (date 2024 2 20) 620 ∷ delays (date 2024 3 1) 1 (date 2024 6 10)
         ∷ reads (date 2024 3 10) 20 ∷ reads (date 2024 4 10) 20 ∷ attempts (date 2024 4 12) ∷ [])

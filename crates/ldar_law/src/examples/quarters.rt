@@ -1,4 +1,4 @@
-//! Percent leaking, quarters that are skipped, and routes.
+//! Percent leaking, skipped quarters, and routes.
 #![tactic(auto, unfolding(ldar_days::specs::Calendar::first_day, ldar_days::specs::Calendar::month_of, ldar_days::specs::Calendar::month_length, ldar_days::specs::Quarters::last_whole, ldar_days::specs::Quarters::first_quarter, list_words::specs::Ranges::until, crate::specs::Spans::spans_of, crate::specs::Tags::tag_of, crate::specs::Months::is_clean, crate::specs::Months::has_leak_in, crate::specs::Months::is_clean_twice_from, crate::specs::Percent::mark_of, crate::specs::Skips::good_streak, crate::specs::Skips::skips_run, crate::specs::Skips::quarters, crate::specs::Skips::is_skipped, crate::specs::Routes::routes_of))]
 
 ghost use Rattle.std.specs.Prelude.{◌≡◌, [], false, replicate, true, ◌++◌, ◌∷◌};
@@ -13,7 +13,8 @@ ghost use Rattle.ldar_law.specs.ShortLists.{bad_quarters, clean, elects, found, 
 ghost use Rattle.ldar_law.specs.Skips.{is_skipped, skipped_to};
 ghost use Rattle.ldar_law.specs.Units.{mark_in};
 
-/// A quarter is good with at most 2 percent of the valves leaking, of at least one that was monitored (40 CFR 60.483-2a(b)(2)).
+/// A quarter is good if at least one valve was monitored and at most 2 percent of those monitored leak (40 CFR
+/// 60.483-2a(b)(2)).
 pub fn two_percent_are_good()
     ensures three_of_150 { is_good (tally_of (replicate 3 found ++ replicate 147 clean)) ≡ true }
     ensures four_of_200 { is_good (tally_of (replicate 4 found ++ replicate 196 clean)) ≡ true }
@@ -21,7 +22,8 @@ pub fn two_percent_are_good()
     ensures none { is_good (tally_of (replicate 3 uncounted)) ≡ false }
 {}
 
-/// A valve counts by its counting routine readings of the quarter (40 CFR 60.485a(h)). Quarter 17 of the unit is April to June 2024.
+/// A valve is counted by its counting routine readings in the quarter (40 CFR 60.485a(h)). Quarter 17 of the unit is April to June
+/// 2024.
 pub fn a_valve_counts_by_its_readings()
     ensures clean { mark_on (date 2024 6 30) 17 (valve 1 (date 2020 1 15)) (reads (date 2024 4 1) 499 ∷ []) ≡ clean }
     ensures leaking { mark_on (date 2024 6 30) 17 (valve 1 (date 2020 1 15)) (reads (date 2024 4 1) 10
@@ -43,7 +45,7 @@ pub fn a_delayed_valve_counts()
         ∷ delays (date 2024 3 1) 1 (date 2024 8 10) ∷ delays (date 2024 3 5) 0 (date 2024 8 10) ∷ []) ≡ uncounted }
     ensures ignored { mark_on (date 2024 6 30) 17 (valve 1 (date 2020 1 15)) (reads (date 2024 2 20) 620
         ∷ delays (date 2024 3 7) 1 (date 2024 8 10) ∷ []) ≡ uncounted }
-    // Closed on the quarter's last day it is closed.
+    // A tag that is closed on the quarter's last day is closed.
     ensures closed { mark_on (date 2024 7 31) 17 (valve 1 (date 2020 1 15)) (reads (date 2024 2 20) 620
         ∷ delays (date 2024 3 1) 1 (date 2024 8 10) ∷ attempts (date 2024 6 30) ∷ reads (date 2024 6 30) 10 ∷ []) ≡ clean }
     ensures closed_after { mark_on (date 2024 7 31) 17 (valve 1 (date 2020 1 15)) (reads (date 2024 2 20) 620
@@ -81,7 +83,7 @@ pub fn mode_3_skips_three_quarters_in_a_row()
         ≡ false ∷ false ∷ false ∷ false ∷ false ∷ true ∷ true ∷ true ∷ false ∷ true ∷ true ∷ true ∷ false ∷ true ∷ [] }
 {}
 
-/// In mode 3 a bad quarter asks for five good ones again.
+/// In mode 3, five good quarters are needed again after a bad one.
 pub fn mode_3_wants_five_good_quarters()
     ensures four { is_skipped (good_quarters 4) (elects (date 2020 1 15) 3 ∷ []) (date 2020 1 15) 5 ≡ false }
     ensures bad { skipped_to
@@ -100,7 +102,7 @@ pub fn the_last_election_is_in_force()
         ∷ elects (date 2024 7 1) 1 ∷ []) (date 2020 1 15) 18 ≡ true }
 {}
 
-/// Components with something to be done, each once, by due day and number, in routes of two.
+/// Components at which something must be done, each once, by due day and number, in routes of two.
 pub fn routes_by_due_day()
     ensures two_stops { routes_of (owes 3 2 (date 2024 2 29) ∷ owes 1 2 (date 2024 2 25) ∷ owes 2 2 (date 2024 2 29) ∷ []) 2
         ≡ route (1 ∷ 2 ∷ []) ∷ route (3 ∷ []) ∷ [] }
@@ -108,18 +110,18 @@ pub fn routes_by_due_day()
         ≡ route (1 ∷ []) ∷ route (2 ∷ []) ∷ route (3 ∷ []) ∷ [] }
     ensures enough { routes_of (owes 3 2 (date 2024 2 29) ∷ owes 1 2 (date 2024 2 25) ∷ owes 2 2 (date 2024 2 29) ∷ []) 9
         ≡ route (1 ∷ 2 ∷ 3 ∷ []) ∷ [] }
-    // A duty that is done asks for no visit, and two duties of a component for one.
+    // A duty that is done needs no visit; two duties of a component need one.
     ensures done { routes_of (has_done 1 2 (date 2024 2 25) (date 2024 2 20) ∷ owes 2 2 (date 2024 2 29)
         ∷ owes 2 6 (date 2024 2 25) ∷ owes 3 2 (date 2024 2 26) ∷ []) 2 ≡ route (2 ∷ 3 ∷ []) ∷ [] }
     ensures nothing { routes_of [] 2 ≡ [] }
 {}
 
-/// On the view day a first monitoring is judged on its last day, after the quarter has ended too.
+/// A first monitoring is judged on its last day, even if the view day is after the end of the quarter.
 pub fn a_first_monitoring_missed_after_the_quarter_counts()
     ensures { mark_on (date 2024 8 1) 17 (valve 1 (date 2024 6 15)) [] ≡ found }
 {}
 
-/// Readings of another purpose, or that don't count, are not counted, nor is a leak of a follow-up reading.
+/// Readings of another purpose and readings that do not count are not counted, nor is a leak of a follow-up reading.
 pub fn which_readings_are_counted()
     ensures follow_up { mark_on (date 2024 6 30) 17 (valve 1 (date 2020 1 15)) (follows_up (date 2024 4 1) 10 0 ∷ []) ≡ uncounted }
     ensures in_vain { mark_on (date 2024 6 30) 17 (valve 1 (date 2020 1 15)) (reads_in_vain (date 2024 4 1) 10 ∷ []) ≡ uncounted }
@@ -130,7 +132,7 @@ pub fn which_readings_are_counted()
     ensures leaking_pump { mark_on (date 2024 6 30) 17 (pump 5 (date 2020 1 15)) (reads (date 2024 4 1) 620 ∷ []) ≡ uncounted }
 {}
 
-/// A valve is counted by the class of the quarter's last day, or of the view day where that is earlier.
+/// A valve is counted by its class on the quarter's last day, or on the view day if that is earlier.
 pub fn a_quarter_is_judged_on_its_last_day()
     ensures no_longer_nde { mark_with (date 2024 8 1) 17 (gear 1 Valve (class Gas Nde) (date 2020 1 15)) (entered_on (date 2024 5 1)
         (class Gas Plain) ∷ []) (reads (date 2024 4 1) 10 ∷ []) ≡ clean }
@@ -157,7 +159,7 @@ pub fn a_delay_counts_while_its_tag_is_open()
         ∷ attempts (date 2024 5 10) ∷ follows_up (date 2024 5 10) 10 0 ∷ []) ≡ found }
 {}
 
-/// A first monitoring that was missed counts in the quarter of its valve's beginning alone, where it was owed.
+/// A missed first monitoring counts only in the quarter in which its valve begins, and only if it was owed.
 pub fn which_first_monitorings_count()
     ensures quarter_before { mark_on (date 2024 5 11) 16 (valve 1 (date 2024 4 10)) [] ≡ uncounted }
     ensures quarter_after { mark_on (date 2024 8 1) 18 (valve 1 (date 2024 4 10)) [] ≡ uncounted }
@@ -167,14 +169,14 @@ pub fn which_first_monitorings_count()
     ensures before_the_beginning { mark_on (date 2024 5 11) 17 (valve 1 (date 2024 4 10)) (reads (date 2024 4 9) 10 ∷ []) ≡ found }
 {}
 
-/// One good quarter isn't enough for mode 1, and a quarter without counts isn't good.
+/// One good quarter is not enough for mode 1, and a quarter without counts is not good.
 pub fn mode_1_wants_two_good_quarters()
     ensures one { is_skipped (bad_quarters 16 ++ good_quarters 1) (elects (date 2024 7 1) 1 ∷ []) (date 2020 1 15) 18 ≡ false }
     ensures no_counts { is_skipped [] (elects (date 2020 1 15) 1 ∷ []) (date 2020 1 15) 3 ≡ false }
     ensures nothing_elected { is_skipped (good_quarters 17) (elects (date 2024 1 1) 0 ∷ []) (date 2020 1 15) 18 ≡ false }
 {}
 
-/// The order of the duties has no effect on a route: the due day decides, and then the number.
+/// The order of the duties does not change a route: it is by due day, then by number.
 pub fn routes_in_order()
     ensures same_day { routes_of (owes 2 2 (date 2024 2 29) ∷ owes 3 2 (date 2024 2 29) ∷ []) 2 ≡ route (2 ∷ 3 ∷ []) ∷ [] }
     ensures same_day_turned { routes_of (owes 3 2 (date 2024 2 29) ∷ owes 2 2 (date 2024 2 29) ∷ []) 2 ≡ route (2 ∷ 3 ∷ []) ∷ [] }

@@ -1,4 +1,4 @@
-//! What the register holds, and leak definitions.
+//! The register, and leak definitions.
 #![tactic(auto, unfolding(ldar_days::specs::Calendar::first_day, ldar_days::specs::Calendar::month_of, ldar_days::specs::Calendar::month_length))]
 
 ghost use Rattle.std.specs.Prelude.{◌≡◌, None, Some, [], codes, false, map, true, ◌∷◌};
@@ -26,7 +26,7 @@ pub fn limits_at_the_edges()
     ensures vacuum { limit_of Valve false (plain Vacuum) ≡ 500 }
 {}
 
-/// The rules that each kind is under, by its service.
+/// The rules that apply to each kind, by its service.
 pub fn rules_of_each_kind()
     ensures valve { map (regime_of Valve) (Gas ∷ Light ∷ Heavy ∷ Vacuum ∷ Under300 ∷ []) ≡ ValveRules ∷ ValveRules ∷ HeavyLiquidRules ∷ LeftOut
         ∷ LeftOut ∷ [] }
@@ -44,12 +44,12 @@ pub fn class_from_its_day_on()
         ∷ Some Heavy ∷ Some Heavy ∷ [] }
 {}
 
-/// Of two classes of one day the one with the greater key is in force.
+/// If two classes are entered on one day, the one with the greater key is in force.
 pub fn last_of_the_day_is_in_force()
     ensures { map (service_on two_classes) (date 2020 2 7 ∷ date 2020 2 8 ∷ []) ≡ Some Gas ∷ Some Heavy ∷ [] }
 {}
 
-/// A component is in service from its begin to the day before it is first retired, as far as that is known.
+/// A component is in service from its beginning to the day before its first retirement, as known on the view day.
 pub fn in_service_until_retired()
     ensures by_day { map (serves retired_valve (date 2020 5 18)) (date 2020 1 31 ∷ date 2020 2 1 ∷ date 2020 2 10 ∷ date 2020 2 11 ∷ []) ≡ Some false
         ∷ Some true ∷ Some true ∷ Some false ∷ [] }
@@ -58,7 +58,7 @@ pub fn in_service_until_retired()
     ensures others_retired { serves two_units (date 2020 5 18) (date 2020 5 18) ≡ Some true }
 {}
 
-/// The components of a process unit stand by their numbers, and retired ones stay.
+/// The components of a process unit are in order of their numbers and include retired ones.
 pub fn members_ascend()
     ensures unit_1 { members_of 1 (facts_of two_units) ≡ 3 ∷ 7 ∷ 9 ∷ [] }
     ensures unit_2 { members_of 2 (facts_of two_units) ≡ 5 ∷ [] }
@@ -66,7 +66,7 @@ pub fn members_ascend()
     ensures first_day { members_of 1 (facts_to (date 2020 2 1) two_units) ≡ 3 ∷ 9 ∷ [] }
 {}
 
-/// There is nothing of a number that no fact enters.
+/// A number that no fact enters has no component, class or unit.
 pub fn nothing_of_unknown_numbers()
     ensures component { equipment_of 4 (facts_of two_units) ≡ None }
     ensures class { class_in_force 4 (facts_of two_units) (date 2020 5 18) ≡ None }
@@ -82,7 +82,7 @@ pub fn units_of_a_register()
     ensures third { unit_entry_of 2 (facts_of three_units) ≡ Some (record { unit = 2; name = codes "U-2"; startup = date 2020 1 17; older = true }) }
 {}
 
-/// Shutdowns of a unit stand by their first days, and end with the calendar.
+/// The shutdowns of a unit are in order of their first days and end within the calendar.
 pub fn shutdowns_in_order()
     ensures unit_1 { stops_of 1 (facts_of shutdowns) ≡ record { first = date 2020 3 1; last = date 2020 3 30 }
         ∷ record { first = date 2099 12 30; last = date 2099 12 31 } ∷ [] }

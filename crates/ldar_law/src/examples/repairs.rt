@@ -1,4 +1,4 @@
-//! Until when a leak must be repaired, and which delays count (40 CFR 60.482-9a).
+//! Due days of repairs, and which delays count (40 CFR 60.482-9a).
 #![tactic(auto, unfolding(ldar_days::specs::Calendar::first_day, ldar_days::specs::Calendar::month_of, ldar_days::specs::Calendar::month_length, crate::specs::Spans::spans_of, crate::specs::Tags::tag_of, crate::specs::Months::is_clean, crate::specs::Months::has_leak_in, crate::specs::Months::is_clean_twice_from))]
 
 ghost use Rattle.std.specs.Prelude.{◌≡◌, None, Some, [], false, map, true, ◌∷◌};
@@ -9,7 +9,7 @@ ghost use Rattle.ldar_law.specs.Short.{date};
 ghost use Rattle.ldar_law.specs.ShortEvents.{attempts, delay, delay_until, delays, line, reads, retires, stop, tag};
 ghost use Rattle.ldar_law.specs.Tags.{delay_lines, is_late, is_shown, tags_of};
 
-/// Without a delay a leak is to be repaired within fifteen days (40 CFR 60.482-7a(d)(1)).
+/// Without a delay, a leak must be repaired within fifteen days (40 CFR 60.482-7a(d)(1)).
 pub fn without_a_delay_fifteen_days()
     ensures { repair_due (date 2024 2 20) [] [] [] ≡ Date (date 2024 3 6) }
 {}
@@ -19,12 +19,12 @@ pub fn infeasible_without_a_shutdown()
     ensures unknown { repair_due (date 2024 2 20) [] [] (delay (date 2024 3 1) 1 ∷ []) ≡ Shutdown }
     ensures known { repair_due (date 2024 2 20) [] (stop (date 2024 6 1) (date 2024 6 14) ∷ []) (delay (date 2024 3 1) 1 ∷ [])
         ≡ Date (date 2024 6 14) }
-    // An attempt in the shutdown leaves fifteen days after the startup to verify it.
+    // After an attempt in the shutdown, fifteen days follow the startup to verify it.
     ensures attempted { repair_due (date 2024 2 20) (date 2024 6 5 ∷ []) (stop (date 2024 6 1) (date 2024 6 14) ∷ []) (delay (date 2024 3 1) 1 ∷ [])
         ≡ Date (date 2024 6 30) }
     ensures attempted_after { repair_due (date 2024 2 20) (date 2024 6 15 ∷ []) (stop (date 2024 6 1) (date 2024 6 14) ∷ []) (delay (date 2024 3 1) 1
         ∷ []) ≡ Date (date 2024 6 14) }
-    // A shutdown that began on the day of the detection or before does not serve.
+    // A shutdown that began on the day of the detection or before does not count.
     ensures begun { repair_due (date 2024 2 20) [] (stop (date 2024 2 20) (date 2024 3 10) ∷ []) (delay (date 2024 3 1) 1 ∷ []) ≡ Shutdown }
 {}
 
@@ -38,7 +38,7 @@ pub fn purging_emits_more()
     ensures { repair_due (date 2024 2 20) [] [] (delay (date 2024 3 1) 3 ∷ []) ≡ NoDate }
 {}
 
-/// Ground (d): six months after the detection; from 31 August to the last of February.
+/// Ground (d): six months after the detection; from 31 August to the last day of February.
 pub fn a_dual_seal_within_six_months()
     ensures { repair_due (date 2023 8 31) [] [] (delay (date 2023 9 5) 4 ∷ []) ≡ Date (date 2024 2 29) }
 {}
@@ -52,7 +52,7 @@ pub fn valve_stock_until_the_second_shutdown()
         ∷ stop (date 2024 10 1) (date 2024 10 10) ∷ []) (delay (date 2024 3 1) 5 ∷ []) ≡ Date (date 2024 10 10) }
 {}
 
-/// Ground (e): where the second shutdown begins sooner than six months after the first began, the third one.
+/// Ground (e): the end of the third shutdown if the second begins less than six months after the first began.
 pub fn valve_stock_until_the_third_shutdown()
     ensures unknown { repair_due (date 2024 2 20) [] (stop (date 2024 4 1) (date 2024 4 10)
         ∷ stop (date 2024 9 30) (date 2024 10 9) ∷ []) (delay (date 2024 3 1) 5 ∷ []) ≡ Shutdown }
@@ -64,7 +64,7 @@ pub fn valve_stock_until_the_third_shutdown()
         ∷ stop (date 2025 1 7) (date 2025 1 12) ∷ []) (delay (date 2024 3 1) 5 ∷ []) ≡ Date (date 2025 1 28) }
 {}
 
-/// A delay that is withdrawn leaves the fifteenth day, or the day of the withdrawal if that is later (our own rule).
+/// After a withdrawal, the due day is the fifteenth day, or the day of the withdrawal if that is later (our own rule).
 pub fn a_withdrawn_delay()
     ensures early { repair_due (date 2024 2 20) [] [] (delay (date 2024 2 25) 1 ∷ delay (date 2024 3 1) 0 ∷ [])
         ≡ Date (date 2024 3 6) }
@@ -81,12 +81,12 @@ pub fn a_late_delay_is_ignored()
     ensures due { repair_due (date 2024 2 20) [] [] (delay (date 2024 3 7) 1 ∷ []) ≡ Date (date 2024 3 6) }
     // After an ignored delay the due day is still the one before.
     ensures both { counted_place (date 2024 2 20) [] [] (delay (date 2024 3 7) 3 ∷ delay (date 2024 3 8) 1 ∷ []) ≡ None }
-    // A due day that is no date is never passed.
+    // A due day that is no date never passes.
     ensures no_date { counted_place (date 2024 2 20) [] [] (delay (date 2024 3 1) 3 ∷ delay (date 2026 3 1) 1 ∷ [])
         ≡ Some 1 }
 {}
 
-/// A shutdown that becomes known later can change which delay is ignored.
+/// A shutdown that is entered later can change which delay is ignored.
 pub fn a_known_shutdown_ends_a_delay()
     ensures unknown { counted_place (date 2024 2 20) [] [] (delay (date 2024 3 1) 1 ∷ delay (date 2024 7 1) 3 ∷ [])
         ≡ Some 1 }
@@ -94,7 +94,7 @@ pub fn a_known_shutdown_ends_a_delay()
         ∷ delay (date 2024 7 1) 3 ∷ []) ≡ Some 0 }
 {}
 
-/// A tag that is closed on its due day is not late, and a day later it is.
+/// A tag that is closed on its due day is not late; a day later it is.
 pub fn a_tag_is_late_after_its_due_day()
     ensures in_time { map (is_late (date 2024 3 31)) (tags_of 1 Valve (reads (date 2024 2 20) 620
         ∷ attempts (date 2024 2 22) ∷ reads (date 2024 3 6) 20 ∷ []) []) ≡ false ∷ [] }
@@ -113,25 +113,25 @@ pub fn tags_with_their_due_days()
     ensures removable { tags_of 1 Valve (reads (date 2024 2 20) 620 ∷ attempts (date 2024 2 22) ∷ reads (date 2024 3 6) 20
         ∷ reads (date 2024 4 2) 20 ∷ []) []
         ≡ tag 1 (date 2024 2 20) (Some (date 2024 2 22)) (Date (date 2024 3 6)) (Some (date 2024 3 6)) None true ∷ [] }
-    // The tag's own attempts and those made for another count for a shutdown.
+    // For a shutdown, the tag's own attempts and attempts for other tags count.
     ensures delayed { tags_of 1 Valve (reads (date 2024 2 20) 620 ∷ delays (date 2024 3 1) 1 (date 2024 6 10)
         ∷ attempts (date 2024 6 5) ∷ []) (stop (date 2024 6 1) (date 2024 6 14) ∷ [])
         ≡ tag 1 (date 2024 2 20) (Some (date 2024 6 5)) (Date (date 2024 6 30)) None (Some (delay_until (date 2024 3 1) 1 (date 2024 6 10))) false
         ∷ [] }
-    // A delay after the closing is no delay of the tag.
+    // A delay after the closing is not a delay of the tag.
     ensures closed { tags_of 1 Valve (reads (date 2024 2 20) 620 ∷ attempts (date 2024 2 22) ∷ reads (date 2024 3 1) 20
         ∷ delays (date 2024 3 2) 1 (date 2024 6 10) ∷ []) []
         ≡ tag 1 (date 2024 2 20) (Some (date 2024 2 22)) (Date (date 2024 3 6)) (Some (date 2024 3 1)) None false ∷ [] }
 {}
 
-/// A closed tag is in the list for 366 days more (our own rule).
+/// A closed tag stays on the list for 366 days (our own rule).
 pub fn a_closed_tag_is_shown_for_a_year()
     ensures shown { is_shown (date 2025 3 7) (tag 1 (date 2024 2 20) None (Date (date 2024 3 6)) (Some (date 2024 3 6)) None true) ≡ true }
     ensures gone { is_shown (date 2025 3 8) (tag 1 (date 2024 2 20) None (Date (date 2024 3 6)) (Some (date 2024 3 6)) None true) ≡ false }
     ensures open { is_shown (date 2030 1 1) (tag 1 (date 2024 2 20) None (Date (date 2024 3 6)) None None false) ≡ true }
 {}
 
-/// The list of delays has the open tags whose last delay that counts has a ground (a) to (e).
+/// The list of delays contains the open tags whose last counted delay has a ground (a) to (e).
 pub fn the_list_of_delays()
     ensures delayed { delay_lines (tags_of 1 Valve (reads (date 2024 2 20) 620
         ∷ delays (date 2024 3 1) 1 (date 2024 6 10) ∷ []) [])
@@ -144,7 +144,7 @@ pub fn the_list_of_delays()
         ∷ retires (date 2024 3 5) ∷ []) []) ≡ [] }
 {}
 
-/// An attempt on the first or the last day of a shutdown was made in it, and one of the day before wasn't.
+/// An attempt on the first or the last day of a shutdown is in it; an attempt on the day before is not.
 pub fn an_attempt_lies_in_a_shutdown()
     ensures first_day { repair_due (date 2024 2 20) (date 2024 6 1 ∷ []) (stop (date 2024 6 1) (date 2024 6 14) ∷ []) (delay (date 2024 3 1) 1 ∷ [])
         ≡ Date (date 2024 6 30) }
@@ -154,7 +154,7 @@ pub fn an_attempt_lies_in_a_shutdown()
         ∷ []) ≡ Date (date 2024 6 14) }
 {}
 
-/// A shutdown counts from the detection on, also where it is over before the delay is entered.
+/// A shutdown counts if it begins after the detection, even if it is over before the delay is entered.
 pub fn a_shutdown_counts_from_the_detection()
     ensures first { repair_due (date 2024 2 20) [] (stop (date 2024 2 21) (date 2024 2 28) ∷ []) (delay (date 2024 3 1) 1 ∷ [])
         ≡ Date (date 2024 2 28) }
@@ -164,7 +164,7 @@ pub fn a_shutdown_counts_from_the_detection()
         ∷ stop (date 2025 3 1) (date 2025 3 9) ∷ []) (delay (date 2024 3 1) 5 ∷ []) ≡ Date (date 2025 3 9) }
 {}
 
-/// Due days end with the calendar.
+/// No due day is after the calendar's last day.
 pub fn due_days_end_with_the_calendar()
     ensures repair { repair_due (date 2099 12 20) [] [] [] ≡ Date (date 2099 12 31) }
     ensures attempt { attempt_by (date 2099 12 28) ≡ date 2099 12 31 }
@@ -172,7 +172,7 @@ pub fn due_days_end_with_the_calendar()
         ∷ []) ≡ Date (date 2099 12 31) }
 {}
 
-/// A delay before the detection is none of the tag, and a reading in a shutdown is no attempt.
+/// A delay before the detection is not a delay of the tag, and a reading in a shutdown is no attempt.
 pub fn what_belongs_to_a_tag()
     ensures delay { tags_of 1 Valve (delays (date 2024 2 10) 1 (date 2024 6 10) ∷ reads (date 2024 2 20) 620 ∷ []) []
         ≡ tag 1 (date 2024 2 20) None (Date (date 2024 3 6)) None None false ∷ [] }

@@ -1,4 +1,4 @@
-//! Worked examples of reports, as contracts of functions with nothing to do: each clause computes.
+//! Worked examples of reports: the contracts of empty functions, each clause proved by computing.
 #![tactic(auto, unfolding(ldar_days::specs::Calendar::first_day, ldar_days::specs::Calendar::month_of, ldar_days::specs::Calendar::month_length, ldar_days::specs::Quarters::first_quarter, ldar_days::specs::Quarters::last_whole, list_words::specs::Ranges::until, crate::specs::Reports::month_cells, crate::specs::Reports::delay_of, crate::specs::Reports::amended_at))]
 
 ghost use Rattle.std.specs.Prelude.{◌≡◌, None, Some, [], false, replicate, true, ◌*◌, ◌++◌, ◌+◌, ◌∷◌};
@@ -10,7 +10,7 @@ ghost use Rattle.ldar_law.specs.Short.{date};
 ghost use Rattle.ldar_law.specs.SmallReport.{delayed, delayed_line, filed_months, repaired_late, sheet_of, two_stops, with_closing};
 ghost use Rattle.ldar_law.specs.Tags.{delay_lines, is_late};
 
-/// A unit that started up on 2020-01-15 has October 2023 to March 2024 as half 8.
+/// Half 8 of a unit that started up on 2020-01-15 is October 2023 to March 2024.
 pub fn months_of_a_half()
     ensures months { half_month (date 2020 1 15) 8 ≡ 12 * 2023 + 9 }
     ensures first { half_first (date 2020 1 15) 8 ≡ date 2023 10 1 }
@@ -20,14 +20,14 @@ pub fn months_of_a_half()
     ensures none { has_half_begun (date 2020 1 15) 0 (date 2023 10 1) ≡ false }
 {}
 
-/// A half that would begin after 2099-12-31 begins after every day, and its first day is given as that one.
+/// A half that would begin after 2099-12-31 never begins; its first day is given as that day.
 pub fn half_past_the_calendar()
     ensures last_half { has_half_begun (date 2097 12 31) 4 (date 2099 12 31) ≡ true }
     ensures next_half { has_half_begun (date 2097 12 31) 5 (date 2099 12 31) ≡ false }
     ensures first_day { half_first (date 2097 12 31) 5 ≡ date 2099 12 31 }
 {}
 
-/// A tag due on 2024-03-06 is late where it was closed on the day after, or is open then.
+/// A tag due on 2024-03-06 is late if it was closed on the day after, or is open on that day.
 pub fn late_tags()
     ensures closed_in_time { is_late (date 2024 3 31) (with_closing (Some (date 2024 3 6))) ≡ false }
     ensures closed_late { is_late (date 2024 3 31) (with_closing (Some (date 2024 3 7))) ≡ true }
@@ -36,7 +36,7 @@ pub fn late_tags()
     ensures no_date { is_late (date 2024 12 31) (delayed 1 Shutdown None) ≡ false }
 {}
 
-/// A leak of February with a tag that was due in March and closed late: one number of each month.
+/// A leak in February with a tag that was due in March and closed late: one count in each month.
 pub fn leak_and_late_tag()
     ensures february { month_cells (date 2024 3 31) (sheet_of 1 Valve repaired_late ∷ sheet_of 8 Relief repaired_late ∷ []) (12 * 2024 + 1)
         ≡ 1 ∷ 0 ∷ 0 ∷ 0 ∷ 0 ∷ 0 ∷ [] }
@@ -46,13 +46,13 @@ pub fn leak_and_late_tag()
         ≡ 0 ∷ 0 ∷ 0 ∷ 1 ∷ 0 ∷ 0 ∷ [] }
 {}
 
-/// The months after December 2099 have zeros.
+/// The counts of months after December 2099 are zero.
 pub fn months_past_the_calendar()
     ensures { cells_of (date 2097 12 31) 4 (date 2099 12 31) (sheet_of 1 Valve repaired_late ∷ []) []
         ≡ record { months = replicate 36 0; delays = []; stops = [] } }
 {}
 
-/// The line of a delayed tag in half 8, and where there is none.
+/// The line of a delayed tag in half 8, and cases without a line.
 pub fn delays_of_a_half()
     ensures line { delay_of (date 2023 10 1) (date 2024 3 31) (delayed 1 Shutdown None) ≡ Some (delayed_line 1 Shutdown None) }
     ensures detected_later { delay_of (date 2023 4 1) (date 2023 9 30) (delayed 1 Shutdown None) ≡ None }
@@ -60,7 +60,7 @@ pub fn delays_of_a_half()
     ensures not_delayed { delay_of (date 2023 10 1) (date 2024 3 31) repaired_late ≡ None }
 {}
 
-/// A delay that was withdrawn is a line of the report, and none of the delays that hold.
+/// A withdrawn delay has a line in the report, but is not on the list of delays.
 pub fn withdrawn_delay()
     ensures reported { delay_of (date 2023 10 1) (date 2024 3 31) (delayed 0 (Date (date 2024 3 6)) None)
         ≡ Some (delayed_line 0 (Date (date 2024 3 6)) None) }
@@ -86,21 +86,21 @@ pub fn amended_number()
         ≡ [] }
 {}
 
-/// A compressor's leak and its late tag are in the last columns, a pump's leak in the third.
+/// A compressor's leak and late tag are in the last two columns, a pump's leak in the third.
 pub fn columns_of_compressors_and_pumps()
     ensures compressor { month_cells (date 2024 3 31) (sheet_of 9 Compressor repaired_late ∷ []) (12 * 2024 + 1) ≡ 0 ∷ 0 ∷ 0 ∷ 0 ∷ 1 ∷ 0 ∷ [] }
     ensures late { month_cells (date 2024 3 31) (sheet_of 9 Compressor repaired_late ∷ []) (12 * 2024 + 2) ≡ 0 ∷ 0 ∷ 0 ∷ 0 ∷ 0 ∷ 1 ∷ [] }
     ensures pump { month_cells (date 2024 3 31) (sheet_of 5 Pump repaired_late ∷ []) (12 * 2024 + 1) ≡ 0 ∷ 0 ∷ 1 ∷ 0 ∷ 0 ∷ 0 ∷ [] }
 {}
 
-/// Delays that were detected on the last day of a half, or closed on its first, are in its report.
+/// Delays that were detected on the last day of a half, or closed on its first day, are in its report.
 pub fn delays_at_the_ends_of_a_half()
     ensures detected_on_the_last_day { delay_of (date 2023 8 21) (date 2024 2 20) (delayed 1 Shutdown None) ≡ Some (delayed_line 1 Shutdown None) }
     ensures closed_on_the_first_day { delay_of (date 2024 10 1) (date 2025 3 31) (delayed 1 (Date (date 2024 6 30)) (Some (date 2024 10 1)))
         ≡ Some (delayed_line 1 (Date (date 2024 6 30)) (Some (date 2024 10 1))) }
 {}
 
-/// Quarter 1 and half 1 begin with their first day.
+/// Quarter 1 and half 1 begin on their first day.
 pub fn the_first_quarter_and_half_begin()
     ensures half { has_half_begun (date 2020 1 15) 1 (date 2020 4 1) ≡ true }
     ensures quarter { has_quarter_begun (date 2020 1 15) 1 (date 2020 4 1) ≡ true }
@@ -139,7 +139,7 @@ pub fn lines_of_a_half()
     ensures shutdown_after { is_stop_in (date 2023 10 1) (date 2024 3 31) (record { first = date 2024 4 1; last = date 2024 4 13 }) ≡ false }
 {}
 
-/// The first and the last number of a report are amended as any other, upwards too.
+/// The first and the last number of a report are amended like any other, also to a greater number.
 pub fn first_and_last_numbers()
     ensures { amended (record { months = replicate 36 1; delays = []; stops = [] }) (record {
       months = 4 ∷ replicate 34 1 ++ 0

@@ -1,4 +1,4 @@
-//! What settles a leak, and what doesn't: examples at the edges of each condition (40 CFR 60.481a, 60.482-9a(f)).
+//! What settles a leak, and what does not: examples at the edges of each condition (40 CFR 60.481a, 60.482-9a(f)).
 #![tactic(auto, unfolding(ldar_days::specs::Calendar::first_day, ldar_days::specs::Calendar::month_of, ldar_days::specs::Calendar::month_length, crate::specs::Spans::spans_of, crate::specs::Months::is_clean, crate::specs::Months::has_leak_in, crate::specs::Months::is_clean_twice_from))]
 
 ghost use Rattle.std.specs.Prelude.{◌≡◌, None, Some, [], false, true, ◌∷◌};
@@ -12,7 +12,7 @@ ghost use Rattle.ldar_law.specs.ShortEvents.{far_below, follows_up, leaks_in_a_f
 ghost use Rattle.ldar_law.specs.ShortEvents.{releases, retires, sensor_leak, sensor_silent, shows_evidence, span};
 ghost use Rattle.ldar_law.specs.Spans.{spans_of};
 
-/// A follow-up reading settles a leak after an attempt, and a reading that doesn't count, or counts at the leak definition, doesn't.
+/// After an attempt, a follow-up reading settles a leak; a reading that does not count, or is at the leak definition, does not.
 pub fn which_readings_settle()
     ensures follow_up { spans_of Valve (reads (date 2024 2 20) 620 ∷ attempts (date 2024 2 22) ∷ follows_up (date 2024 3 6) 20 0 ∷ [])
         ≡ span (date 2024 2 20) (Some (date 2024 2 22)) (Some (key (date 2024 3 6) 600)) false ∷ [] }
@@ -25,7 +25,7 @@ pub fn which_readings_settle()
         ≡ span (date 2024 2 20) (Some (date 2024 2 22)) None false ∷ [] }
 {}
 
-/// A leak between the attempt and the reading asks for another attempt, of whatever sort the leak is; a settled leak needs none.
+/// A leak of any kind between the attempt and the reading needs another attempt; a settled leak does not.
 pub fn a_leak_between_attempt_and_reading()
     ensures of_a_drip { spans_of Pump (reads_by 2000 (date 2024 2 20) 2100 ∷ attempts (date 2024 2 22) ∷ designates (date 2024 2 23)
         ∷ reads_by 2000 (date 2024 3 6) 20 ∷ [])
@@ -49,7 +49,7 @@ pub fn a_leak_between_attempt_and_reading()
         ∷ reads (date 2024 3 6) 20 ∷ []) ≡ true }
 {}
 
-/// A dry inspection settles drips alone, and drips are settled by a dry one alone.
+/// A dry inspection settles only drips, and no other inspection settles drips.
 pub fn which_inspections_settle()
     ensures drips_again { spans_of Pump (designates (date 2024 3 4) ∷ attempts (date 2024 3 6) ∷ drips (date 2024 3 11) ∷ [])
         ≡ span (date 2024 3 4) (Some (date 2024 3 6)) None false ∷ [] }
@@ -59,7 +59,7 @@ pub fn which_inspections_settle()
         ≡ true }
 {}
 
-/// A complete attempt settles what a sensor told, and no reading or drip.
+/// A complete attempt settles a sensor's leak, but no reading or drip.
 pub fn a_complete_attempt_settles_sensor_leaks_alone()
     ensures reading { spans_of Valve (reads (date 2024 2 20) 620 ∷ completes (date 2024 2 22) ∷ [])
         ≡ span (date 2024 2 20) (Some (date 2024 2 22)) None false ∷ [] }
@@ -67,7 +67,7 @@ pub fn a_complete_attempt_settles_sensor_leaks_alone()
         ≡ span (date 2024 2 20) (Some (date 2024 2 22)) None false ∷ [] }
 {}
 
-/// Two readings in a row settle the delayed leaks of valves and pumps alone.
+/// Two readings in a row settle only delayed leaks of valves and pumps.
 pub fn two_readings_settle_for_valves_and_pumps()
     ensures pump { is_settled Pump (designates (date 2024 2 20)) (delays (date 2024 3 1) 1 (date 2024 6 10) ∷ reads (date 2024 3 10) 20
         ∷ reads (date 2024 4 10) 20 ∷ []) ≡ true }
@@ -77,7 +77,7 @@ pub fn two_readings_settle_for_valves_and_pumps()
         ∷ reads (date 2024 4 10) 20 ∷ []) ≡ false }
 {}
 
-/// The delay that lets them settle is of ground (a), (c), (d) or (e), and of the fifteenth day at the latest.
+/// Two readings settle a leak only under a delay of ground (a), (c), (d) or (e), entered by the fifteenth day.
 pub fn which_delays_let_two_readings_settle()
     ensures purge { is_settled Valve (reads (date 2024 2 20) 620) (delays (date 2024 3 1) 3 (date 2024 6 10) ∷ reads (date 2024 3 10) 20
         ∷ reads (date 2024 4 10) 20 ∷ []) ≡ true }
@@ -95,7 +95,7 @@ pub fn which_delays_let_two_readings_settle()
         ∷ []) ≡ false }
 {}
 
-/// Both readings count below the leak definition, of either purpose, and no leak lies between them.
+/// Both readings count and are below the leak definition, of any purpose, and no leak is between them.
 pub fn which_two_readings_settle()
     ensures follow_ups { is_settled Valve (reads (date 2024 2 20) 620) (delays (date 2024 3 1) 1 (date 2024 6 10) ∷ follows_up (date 2024 3 10) 20 0
         ∷ follows_up (date 2024 4 10) 20 0 ∷ []) ≡ true }
@@ -125,19 +125,19 @@ pub fn which_two_readings_settle()
         ∷ delays (date 2024 3 22) 1 (date 2024 6 10) ∷ reads (date 2024 4 10) 20 ∷ []) ≡ true }
 {}
 
-/// The first tag of a pump is closed by a dry inspection, though the leak after it stays.
+/// The first tag of a pump is closed by a dry inspection, although the leak after it remains.
 pub fn a_tag_closes_whatever_comes_after()
     ensures { spans_of Pump (designates (date 2024 3 4) ∷ attempts (date 2024 3 6) ∷ dry (date 2024 3 11) ∷ reads_by 2000 (date 2024 3 20) 2100 ∷ [])
         ≡ span (date 2024 3 4) (Some (date 2024 3 6)) (Some (key (date 2024 3 11) 600)) true ∷ span (date 2024 3 20) None None false ∷ [] }
 {}
 
-/// The month of a leak isn't clean, also where it ends with a reading below the leak definition.
+/// The month of a leak is not clean, even if it ends with a reading below the leak definition.
 pub fn the_month_of_the_leak_is_not_clean()
     ensures { spans_of Valve (reads (date 2024 2 20) 620 ∷ attempts (date 2024 2 22) ∷ reads (date 2024 2 25) 20 ∷ reads (date 2024 3 10) 20 ∷ [])
         ≡ span (date 2024 2 20) (Some (date 2024 2 22)) (Some (key (date 2024 2 25) 600)) false ∷ [] }
 {}
 
-/// A clean month has a routine reading below the leak definition, and no leak of whatever purpose or sort.
+/// A clean month has a routine reading below the leak definition, and no leak of any purpose or kind.
 pub fn which_months_are_clean()
     ensures clean { is_clean (reads (date 2024 3 6) 20 ∷ []) (month 2024 3) ≡ true }
     ensures follow_up { is_clean (follows_up (date 2024 3 6) 20 0 ∷ []) (month 2024 3) ≡ false }
@@ -150,7 +150,7 @@ pub fn which_months_are_clean()
     ensures both { is_clean_twice (reads (date 2024 3 6) 20 ∷ reads (date 2024 4 6) 20 ∷ []) (month 2024 3) ≡ true }
 {}
 
-/// A second tag has its own closing, from which its clean months count.
+/// A second tag has its own closing, and its clean months are counted from there.
 pub fn a_second_tag_has_its_own_clean_months()
     ensures { spans_of Valve (reads (date 2024 2 20) 620 ∷ attempts (date 2024 2 22) ∷ reads (date 2024 3 6) 20 ∷ reads (date 2024 4 2) 20
         ∷ reads (date 2024 5 10) 700 ∷ attempts (date 2024 5 12) ∷ reads (date 2024 5 20) 20 ∷ [])

@@ -1,4 +1,4 @@
-//! What each named test passes, of one of each.
+//! Each test, applied to one of each case.
 #![tactic(auto)]
 
 ghost use Rattle.std.specs.Prelude.{◌≡◌, None, [], false, filter, is_some, length, map, true, ◌∷◌};
@@ -35,7 +35,7 @@ ghost use Rattle.ldar_law.specs.Standing.{are_compressor_rules, are_heavy_liquid
 ghost use Rattle.ldar_law.specs.Standing.{is_difficult_designated, is_nde_designated, is_none_designated, is_unsafe_designated, leave_out};
 ghost use Rattle.ldar_law.specs.Verdicts.{is_pass};
 
-/// Which events are leaks, readings, inspections and what a sensor tells.
+/// Which events are leaks, readings, inspections and sensor indications.
 pub fn sorts_of_events()
     ensures leak { filter is_leak each_happening ≡ Read 620 0 true true false true ∷ Read 620 0 false true false true ∷ Look true true true
         ∷ Sensor true true ∷ [] }
@@ -67,7 +67,7 @@ pub fn sorts_of_readings()
     ensures near_background { filter is_near_background each_happening ≡ Read 20 0 true true true false ∷ Read 20 0 false true true false ∷ [] }
 {}
 
-/// Which inspections are dry, found drips, and designate them.
+/// Which inspections are dry, find drips, and designate them.
 pub fn sorts_of_inspections()
     ensures dry { filter is_dry each_happening ≡ Look false false false ∷ [] }
     ensures drips { filter has_drips each_happening ≡ Look true false false ∷ Look true true true ∷ [] }
@@ -75,7 +75,7 @@ pub fn sorts_of_inspections()
     ensures undesignated { filter has_undesignated_drips each_happening ≡ Look true false false ∷ [] }
 {}
 
-/// Which facts retire, calibrate, test, drift and enter into the register, and which ask for a component or a unit.
+/// Which facts retire, calibrate, test, drift and enter into the register, and which need a component or a unit.
 pub fn sorts_of_facts()
     ensures retires { filter (retires 1) each_fact ≡ RetireFact 1 ∷ [] }
     ensures calibration { filter (is_calibration 1) each_fact ≡ Calibration 1 500 ∷ [] }
@@ -94,7 +94,7 @@ pub fn sorts_of_facts()
         ∷ Election 1 1 1 ∷ Shutdown 1 1 ∷ [] }
 {}
 
-/// The facts that name a component, a process unit, or an instrument that is tested or read with.
+/// The facts that name a component, a process unit, or the instrument of a test or reading.
 pub fn parts_of_facts()
     ensures component { map (λ e. e.1.body) (facts_of_component 1 each_entry) ≡ ComponentFact 1 1 Valve false false (class Gas Plain)
         ∷ ClassFact 1 (class Gas Plain) ∷ RetireFact 1
@@ -113,7 +113,7 @@ pub fn parts_of_facts()
         ≡ 0 ∷ 0 ∷ 0 ∷ 0 ∷ [] }
 {}
 
-/// What rules, designations, services and kinds are.
+/// Tests of rules, designations, services and kinds.
 pub fn sorts_of_components()
     ensures valve_rules { filter are_valve_rules each_regime ≡ ValveRules ∷ [] }
     ensures pump_rules { filter are_pump_rules each_regime ≡ PumpRules ∷ [] }
@@ -133,7 +133,7 @@ pub fn sorts_of_components()
     ensures valve_or_pump { filter is_valve_or_pump each_kind ≡ Valve ∷ Pump ∷ [] }
 {}
 
-/// Which services and designations suit a kind of component, or the rules that it is under.
+/// Which services and designations suit a kind of component, or the rules that apply to it.
 pub fn what_suits()
     ensures valve { filter (suits_service Valve) each_service ≡ each_service }
     ensures pump { filter (suits_service Pump) each_service ≡ Light ∷ Heavy ∷ Vacuum ∷ Under300 ∷ [] }
@@ -147,7 +147,7 @@ pub fn what_suits()
     ensures left_out { filter (suits_designation LeftOut) each_designation ≡ Plain ∷ [] }
 {}
 
-/// Which answers are one of fit, of a pass, and of a due day that is past.
+/// Which fitnesses are fit, which verdicts are passes, and which due days are past.
 pub fn sorts_of_answers()
     ensures fit { map is_fit (Fit ∷ NoCalibration ∷ GasTooHigh ∷ NoPrecision ∷ Voided (key 1 1) ∷ []) ≡ true ∷ false ∷ false ∷ false ∷ false ∷ [] }
     ensures pass { map is_pass (Pass ∷ Denied 1 1 ∷ Full 8_000_001 ∷ []) ≡ true ∷ false ∷ false ∷ [] }

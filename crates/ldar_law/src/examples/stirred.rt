@@ -1,4 +1,4 @@
-//! Which components are touched by new facts, and how many facts these stir.
+//! Which components are touched by new facts, and how many facts are stirred.
 #![tactic(auto, unfolding(ldar_days::specs::Calendar::first_day, ldar_days::specs::Calendar::month_of, ldar_days::specs::Calendar::month_length, crate::specs::Stirred::stirred))]
 
 ghost use Rattle.std.specs.Prelude.{◌≡◌, ◌+◌, [], false, true, ◌∷◌};
@@ -10,7 +10,7 @@ ghost use Rattle.ldar_law.specs.Short.{calibrated, class, date, drifted, fact, p
 ghost use Rattle.ldar_law.specs.ShortStirred.{adopted, enters_valve, reads_with, stirred_by, touched_by};
 ghost use Rattle.ldar_law.specs.Stirred.{stirred, touched};
 
-/// A fact touches the component that it names, and none that is in another unit.
+/// A fact touches the component that it names, but not if that is in another unit.
 pub fn a_fact_touches_what_it_names()
     ensures attempt { touched_by (fact (date 2024 3 5) 600 (AttemptFact 1 false)) ≡ 1 ∷ [] }
     ensures class { touched_by (fact (date 2024 3 5) 600 (ClassFact 2 (class Gas Nde))) ≡ 2 ∷ [] }
@@ -21,7 +21,7 @@ pub fn a_fact_touches_what_it_names()
     ensures shutdown { touched_by (fact (date 2024 3 5) 600 (Shutdown 1 14)) ≡ [] }
 {}
 
-/// A calibration touches what is read with its instrument on its day, earlier and later in the day.
+/// A calibration touches the components read with its instrument on its day, earlier or later in the day.
 pub fn a_calibration_touches_the_readings_of_its_day()
     ensures before { touched_by (calibrated (date 2024 2 29) 500 500) ≡ 1 ∷ [] }
     ensures after { touched_by (calibrated (date 2024 2 29) 900 500) ≡ 1 ∷ [] }
@@ -30,7 +30,7 @@ pub fn a_calibration_touches_the_readings_of_its_day()
     ensures day_after { touched_by (calibrated (date 2024 3 1) 500 500) ≡ [] }
 {}
 
-/// So does a drift assessment.
+/// A drift assessment touches the components read with its instrument on its day.
 pub fn a_drift_touches_the_readings_of_its_day()
     ensures before { touched_by (drifted (date 2024 2 29) 500 440) ≡ 1 ∷ [] }
     ensures after { touched_by (drifted (date 2024 2 29) 900 440) ≡ 1 ∷ [] }
@@ -39,7 +39,7 @@ pub fn a_drift_touches_the_readings_of_its_day()
     ensures day_after { touched_by (drifted (date 2024 3 1) 900 440) ≡ [] }
 {}
 
-/// A precision test, passed or not, touches what is read with its instrument from its day to three months later.
+/// A precision test, passed or not, touches the components read with its instrument from its day to three months later.
 pub fn a_precision_test_touches_the_readings_of_three_months()
     ensures same_day { touched_by (precise (date 2024 2 29)) ≡ 1 ∷ [] }
     ensures last_day { touched_by (precise (date 2023 11 30)) ≡ 1 ∷ [] }
@@ -49,13 +49,13 @@ pub fn a_precision_test_touches_the_readings_of_three_months()
     ensures day_after { touched_by (precise (date 2024 3 1)) ≡ [] }
 {}
 
-/// Without new facts none is touched; at first all that are named are.
+/// Without new facts, no component is touched; if all facts are new, all components that they name are touched.
 pub fn only_new_facts_touch()
     ensures none { touched adopted [] 1 ≡ [] }
     ensures at_first { touched adopted adopted 1 ≡ 1 ∷ 2 ∷ [] }
 {}
 
-/// Of a touched component the facts that name it are stirred, and those of each instrument that a reading of it names, once.
+/// The stirred facts of a touched component are those that name it, and once those of each instrument of its readings.
 pub fn facts_of_touched_components_are_stirred()
     ensures none { stirred_by [] 1 ≡ 0 }
     ensures attempt { stirred_by (fact (date 2024 3 5) 600 (AttemptFact 1 false) ∷ []) 1 ≡ 3 + 2 }
@@ -65,7 +65,8 @@ pub fn facts_of_touched_components_are_stirred()
     ensures other_unit { stirred_by (fact (date 2024 3 5) 600 (AttemptFact 1 false) ∷ []) 2 ≡ 0 }
 {}
 
-/// If a new fact names the unit, the facts that name it are stirred too; the entry of a new component counts twice.
+/// If a new fact names the unit, the facts that name the unit are stirred too; the entry of a new component counts
+/// twice.
 pub fn facts_of_a_named_unit_are_stirred()
     ensures shutdown { stirred_by (fact (date 2024 3 5) 600 (Shutdown 1 14) ∷ []) 1 ≡ 4 }
     ensures election { stirred_by (fact (date 2024 4 1) 600 (Election 1 1 19_700) ∷ []) 1 ≡ 4 }

@@ -1,4 +1,4 @@
-//! Worked examples of what is shown, byte for byte, as contracts of functions with nothing to do.
+//! Worked examples of texts, byte for byte: the contracts of empty functions.
 #![tactic(auto)]
 
 ghost use Rattle.std.specs.Prelude.{◌≡◌, None, Some, [], codes, false, length, true, ◌*◌, ◌++◌, ◌+◌, ◌∷◌};
@@ -55,7 +55,7 @@ pub fn causes()
         ≡ codes "due 1 2024-02-20\n1 quarterly 2024-07-31 open\n1 yearly 2024-12-31 open\n1 plan 2024-05-31 open\n5 drip 2024-02-24 open\n8 release 2024-02-25 open\n7 evidence 2024-02-25 open\nend 6\n" }
 {}
 
-/// A tag that is open and was not attempted, and one that was closed and may come off.
+/// A tag that is open and was not attempted, and a closed one whose identification may be removed.
 pub fn tag_list()
     ensures none { tags_text 1 (date 2024 2 28) [] ≡ codes "tags 1 2024-02-28\nend 0\n" }
     ensures open { tags_text 1 (date 2024 2 28) (small_tag None None false ∷ [])
@@ -74,7 +74,7 @@ pub fn delay_list()
         ≡ codes "delays 1 2024-03-02\n1 detected 2024-02-20 ground a signer 9 expected 2024-06-10 until shutdown\n2 detected 2024-02-20 ground b signer 9 expected 2024-06-10 until isolated\n3 detected 2024-02-20 ground c signer 9 expected 2024-06-10 until purge\n5 detected 2024-02-20 ground d signer 9 expected 2024-06-10 until 2024-08-20\nend 4\n" }
 {}
 
-/// Two routes of two stops at most.
+/// Two routes of at most two stops.
 pub fn route_list()
     ensures { route_text 1 (date 2024 2 20) 2 (record { stops = 1 ∷ 2 ∷ [] } ∷ record { stops = 3 ∷ [] } ∷ [])
         ≡ codes "route 1 2024-02-20 2\nroute 1: 1 2\nroute 2: 3\nend 2\n" }
@@ -89,7 +89,7 @@ pub fn percent_line()
         ≡ codes "percent 1 18 leaking 3 monitored 150 good skipped\n" }
 {}
 
-/// A report with one late valve and no line behind its months.
+/// A report with one late valve and no line after its months.
 pub fn report_of_a_late_valve()
     ensures { report_text (12 * 2023 + 9) (record {
       unit = 1;
@@ -101,7 +101,7 @@ pub fn report_of_a_late_valve()
         ≡ codes "report CRUDE unit 1 half 8 as of 2024-03-31\n2023-10 valves 0 0 pumps 0 0 compressors 0 0\n2023-11 valves 0 0 pumps 0 0 compressors 0 0\n2023-12 valves 0 0 pumps 0 0 compressors 0 0\n2024-01 valves 0 0 pumps 0 0 compressors 0 0\n2024-02 valves 1 0 pumps 0 0 compressors 0 0\n2024-03 valves 0 1 pumps 0 0 compressors 0 0\nend 6\n" }
 {}
 
-/// A report whose half runs past 2099-12, with a delay, one that was withdrawn, and a shutdown.
+/// A report whose half ends after 2099-12, with a delay, a withdrawn delay, and a shutdown.
 pub fn report_past_the_calendar()
     ensures { report_text (12 * 2099 + 8) (record {
       unit = 2;
@@ -118,7 +118,7 @@ pub fn report_past_the_calendar()
         ≡ codes "report COKER-2 unit 2 half 4 as of 2099-12-31\n2099-09 valves 0 0 pumps 0 0 compressors 0 0\n2099-10 valves 0 0 pumps 0 0 compressors 0 0\n2099-11 valves 0 0 pumps 0 0 compressors 0 0\n2099-12 valves 0 0 pumps 0 0 compressors 0 0\n2100-01 valves 0 0 pumps 0 0 compressors 0 0\n2100-02 valves 0 0 pumps 0 0 compressors 0 0\ndelay 1 detected 2099-09-20 ground a signer 9 expected 2024-06-10 until shutdown closed -\ndelay 2 detected 2099-09-20 ground withdrawn signer 9 expected 2024-06-10 until 2099-10-05 closed 2099-10-01\nshutdown 2099-11-01 2099-11-14\nend 9\n" }
 {}
 
-/// What there is none of is named.
+/// The reply names what does not exist.
 pub fn no_such_replies()
     ensures unit { reply_text (NoSuch NoUnit) ≡ codes "no such unit\n" }
     ensures quarter { reply_text (NoSuch NoQuarter) ≡ codes "no such quarter\n" }
@@ -131,14 +131,14 @@ pub fn paragraphs()
     ensures { flat_map (λ n. paragraph_of n ++ codes "\n") (from_to 1 21) ≡ codes "60.486a(e)(1)\n60.482-1a(d)\n60.482-1a(e)\n60.486a(a)(3)\n60.482-2a(a)(2)\n60.482-3a(f)\n60.482-4a(b)\n60.482-8a(a)\n60.482-9a(c)\n60.482-9a(d)\n60.482-9a(e)\n60.486a(c)(6)\n60.486a(c)(7)\n60.487a(d)\n60.482-7a(h)(2)(ii)\nP1\nP2\nP3\nP4\nP5\nP6\n" }
 {}
 
-/// Each of the 36 numbers of a report stands in its place.
+/// Each of the 36 numbers of a report is in its place.
 pub fn report_of_all_numbers()
     ensures { report_text (12 * 2023 + 9)
         (record { unit = 1; name = codes "CRUDE"; half = 8; day = date 2024 3 31; cells = record { months = from_to 1 36; delays = []; stops = [] } })
         ≡ codes "report CRUDE unit 1 half 8 as of 2024-03-31\n2023-10 valves 1 2 pumps 3 4 compressors 5 6\n2023-11 valves 7 8 pumps 9 10 compressors 11 12\n2023-12 valves 13 14 pumps 15 16 compressors 17 18\n2024-01 valves 19 20 pumps 21 22 compressors 23 24\n2024-02 valves 25 26 pumps 27 28 compressors 29 30\n2024-03 valves 31 32 pumps 33 34 compressors 35 36\nend 6\n" }
 {}
 
-/// A delay that nobody signed, with no expected day; and a number that is no ground has no word.
+/// A delay without a signer and an expected day; a number that is no ground has no word.
 pub fn delay_of_nobody()
     ensures no_ground { ground_text (delay_entry 6) ≡ [] }
     ensures signer { delays_text 1 (date 2024 3 2)

@@ -1,4 +1,4 @@
-//! Worked examples of views on a small office, from its batches to the bytes: contracts of functions with nothing to do.
+//! Worked examples of views on a small office, from its batches to the bytes: the contracts of empty functions.
 #![tactic(auto)]
 
 ghost use Rattle.std.specs.Prelude.{◌≡◌, Some, [], codes, false, true, ◌++◌, ◌∷◌};
@@ -20,7 +20,7 @@ pub fn percent_of_no_reading()
         ≡ Some (Shown (codes "percent 1 16 leaking 0 monitored 0 not good not skipped\n")) }
 {}
 
-/// A reading without a calibration opens no tag, and it does when the day's calibration comes in a later batch.
+/// A reading without a calibration opens no tag; it does when the day's calibration arrives in a later batch.
 pub fn tag_of_a_late_calibration()
     ensures before { shown (base ++ leak_found ∷ []) (Tags 1 (date 2024 2 28)) ≡ Some (Shown (codes "tags 1 2024-02-28\nend 0\n")) }
     ensures after { shown leaking (Tags 1 (date 2024 2 28))
@@ -28,7 +28,7 @@ pub fn tag_of_a_late_calibration()
     ensures day_before { shown leaking (Tags 1 (date 2024 2 19)) ≡ Some (Shown (codes "tags 1 2024-02-19\nend 0\n")) }
 {}
 
-/// A tag that was closed in time, and comes off after a second clean month.
+/// A tag that was closed in time, and whose identification may be removed after a second clean month.
 pub fn removable_tag()
     ensures closed { shown (repaired_on (date 2024 3 6)) (Tags 1 (date 2024 3 6))
         ≡ Some (Shown (codes "tags 1 2024-03-06\n1 detected 2024-02-20 attempt 2024-02-25 2024-02-22 repair 2024-03-06 2024-03-06 tagged\nend 1\n")) }
@@ -42,7 +42,8 @@ pub fn report_of_a_late_tag()
         ≡ Some (Shown (codes "report CRUDE unit 1 half 8 as of 2024-03-31\n2023-10 valves 0 0 pumps 0 0 compressors 0 0\n2023-11 valves 0 0 pumps 0 0 compressors 0 0\n2023-12 valves 0 0 pumps 0 0 compressors 0 0\n2024-01 valves 0 0 pumps 0 0 compressors 0 0\n2024-02 valves 1 0 pumps 0 0 compressors 0 0\n2024-03 valves 0 1 pumps 0 0 compressors 0 0\nend 6\n")) }
 {}
 
-/// A delay until a shutdown that is not known yet, and one whose shutdown is; one that came too late is ignored.
+/// A delay until a shutdown that has not been entered, and one whose shutdown has; one that was entered too late is
+/// ignored.
 pub fn delay_until_a_shutdown()
     ensures unknown { shown (delayed_on (date 2024 3 1)) (Delays 1 (date 2024 3 2))
         ≡ Some (Shown (codes "delays 1 2024-03-02\n1 detected 2024-02-20 ground a signer 9 expected 2024-06-10 until shutdown\nend 1\n")) }
@@ -53,7 +54,7 @@ pub fn delay_until_a_shutdown()
     ensures too_late { shown (delayed_on (date 2024 3 7)) (Delays 1 (date 2024 3 8)) ≡ Some (Shown (codes "delays 1 2024-03-08\nend 0\n")) }
 {}
 
-/// A delay and a shutdown of the half are lines of its report.
+/// The report of a half has lines for its delay and its shutdown.
 pub fn report_of_a_delay()
     ensures { shown (delayed_on (date 2024 3 1) ++ shut_down ∷ []) (Report 1 9 (date 2024 7 1))
         ≡ Some (Shown (codes "report CRUDE unit 1 half 9 as of 2024-07-01\n2024-04 valves 0 0 pumps 0 0 compressors 0 0\n2024-05 valves 0 0 pumps 0 0 compressors 0 0\n2024-06 valves 0 1 pumps 0 0 compressors 0 0\n2024-07 valves 0 0 pumps 0 0 compressors 0 0\n2024-08 valves 0 0 pumps 0 0 compressors 0 0\n2024-09 valves 0 0 pumps 0 0 compressors 0 0\ndelay 1 detected 2024-02-20 ground a signer 9 expected 2024-06-10 until 2024-06-14 closed -\nshutdown 2024-06-01 2024-06-14\nend 8\n")) }
@@ -72,7 +73,7 @@ pub fn first_month_of_a_valve()
     ensures route { shown coker (Route 2 (date 2024 2 20) 2) ≡ Some (Shown (codes "route 2 2024-02-20 2\nroute 1: 30\nend 1\n")) }
 {}
 
-/// Two clean months make a valve quarterly, until a leak comes late and makes it monthly again from its month on.
+/// Two clean months make a valve quarterly; a leak that arrives late makes it monthly again from its month on.
 pub fn late_leak()
     ensures quarterly { shown coker_rounds (Due 2 (date 2024 9 10)) ≡ Some (Shown (codes "due 2 2024-09-10\nend 0\n")) }
     ensures monthly { shown (coker_rounds ++ coker_leak ∷ []) (Due 2 (date 2024 9 10))
@@ -81,7 +82,7 @@ pub fn late_leak()
         ≡ Some (Shown (codes "tags 2 2024-09-10\n30 detected 2024-04-20 attempt 2024-04-25 - repair 2024-05-05 - tagged\nend 1\n")) }
 {}
 
-/// What there is none of: first the unit, by the view day, then stops, a quarter or a half.
+/// What does not exist is reported: first the unit, as of the view day, then stops, a quarter or a half.
 pub fn no_such_thing()
     ensures unit { shown base (Route 2 (date 2024 2 20) 0) ≡ Some (NoSuch NoUnit) }
     ensures unit_not_yet { shown base (Due 1 (date 2020 1 14)) ≡ Some (NoSuch NoUnit) }
@@ -92,7 +93,7 @@ pub fn no_such_thing()
     ensures half_not_yet { shown base (Report 1 9 (date 2024 3 31)) ≡ Some (NoSuch NoHalf) }
 {}
 
-/// The last half that begins in the calendar is shown with two months after it, and the next one is none.
+/// The last half that begins in the calendar is shown with two months after it; the next one does not exist.
 pub fn end_of_the_calendar()
     ensures last_half { shown last_unit (Report 1 4 (date 2099 12 31))
         ≡ Some (Shown (codes "report CRUDE unit 1 half 4 as of 2099-12-31\n2099-09 valves 0 0 pumps 0 0 compressors 0 0\n2099-10 valves 0 0 pumps 0 0 compressors 0 0\n2099-11 valves 0 0 pumps 0 0 compressors 0 0\n2099-12 valves 0 0 pumps 0 0 compressors 0 0\n2100-01 valves 0 0 pumps 0 0 compressors 0 0\n2100-02 valves 0 0 pumps 0 0 compressors 0 0\nend 6\n")) }
@@ -110,20 +111,20 @@ pub fn elected_quarter()
     ensures elected { shown (coker_rounds ++ coker_election ∷ []) (Due 2 (date 2024 10 5)) ≡ Some (Shown (codes "due 2 2024-10-05\nend 0\n")) }
 {}
 
-/// The report of a compressor whose sensor told a leak, in its own columns.
+/// The report of a leak of a compressor's sensor, in its own columns.
 pub fn report_of_a_sensor_leak()
     ensures { shown (base ++ sends 1 (on (date 2024 2 20) (Indication 9 Sensor true) ∷ []) ∷ []) (Report 1 8 (date 2024 3 31))
         ≡ Some (Shown (codes "report CRUDE unit 1 half 8 as of 2024-03-31\n2023-10 valves 0 0 pumps 0 0 compressors 0 0\n2023-11 valves 0 0 pumps 0 0 compressors 0 0\n2023-12 valves 0 0 pumps 0 0 compressors 0 0\n2024-01 valves 0 0 pumps 0 0 compressors 0 0\n2024-02 valves 0 0 pumps 0 0 compressors 1 0\n2024-03 valves 0 0 pumps 0 0 compressors 0 1\nend 6\n")) }
 {}
 
-/// The percent view of a quarter in which one of two valves leaks, and of that in which none does; a valve in heavy liquid service isn't counted.
+/// The percent view of a quarter in which one of two valves leaks, and of one in which none does; a valve in heavy liquid service is not counted.
 pub fn percent_of_two_readings()
     ensures one_leaks { shown two_valves (Percent 1 16 (date 2024 3 31)) ≡ Some (Shown (codes "percent 1 16 leaking 1 monitored 2 not good not skipped\n")) }
     ensures one_is_left { shown (two_valves ++ enters 2 (on (date 2024 2 1) (ClassFact 2 (in_service Heavy)) ∷ []) ∷ []) (Percent 1 16 (date 2024 3 31))
         ≡ Some (Shown (codes "percent 1 16 leaking 0 monitored 1 good not skipped\n")) }
 {}
 
-/// The tag of a valve whose number isn't that of its unit, with the shutdown of the unit.
+/// The tag of a valve whose number is not that of its unit, with the unit's shutdown.
 pub fn shutdown_of_the_unit()
     ensures of_valve_2 { shown (two_valves ++ shut_down ∷ []) (Tags 1 (date 2024 7 1))
         ≡ Some (Shown (codes "tags 1 2024-07-01\n2 detected 2024-02-20 attempt 2024-02-25 - repair 2024-06-14 - tagged\nend 1\n")) }
@@ -138,7 +139,7 @@ pub fn tag_closed_a_year_ago()
     ensures day_after { shown (repaired_on (date 2024 3 6)) (Tags 1 (date 2025 3 8)) ≡ Some (Shown (codes "tags 1 2025-03-08\nend 0\n")) }
 {}
 
-/// A valve that was monitored once a year when it was entered is counted in the quarters by its class since, and they are skipped.
+/// A valve with no detectable emissions when it was entered is counted by its class since then, and the quarters are skipped.
 pub fn quarters_by_the_class_in_force()
     ensures percent { shown (coker_with (designated Nde) ++ coker_readings
         ∷ enters 4 (on (date 2024 1 16) (ClassFact 30 (in_service Gas)) ∷ []) ∷ coker_election ∷ []) (Percent 2 3 (date 2024 10 5))
@@ -153,7 +154,7 @@ pub fn route_of_three_stops()
     ensures { shown coker (Route 2 (date 2024 2 20) 3) ≡ Some (Shown (codes "route 2 2024-02-20 3\nroute 1: 30\nend 1\n")) }
 {}
 
-/// An election is in force from the quarter on that begins on its day, and not for the one before.
+/// An election is in force from the quarter on that begins on its day, and not in the quarter before.
 pub fn election_of_the_next_quarter()
     ensures percent { shown (coker_rounds ++ enters 3 (on (date 2025 1 1) (Election 2 1 (date 2024 10 1)) ∷ []) ∷ []) (Percent 2 3 (date 2025 1 5))
         ≡ Some (Shown (codes "percent 2 3 leaking 0 monitored 0 not good not skipped\n")) }

@@ -1,4 +1,4 @@
-//! Laws of quarters, their counts and those that are skipped, and of routes.
+//! Laws about quarters, their counts, skipped quarters, and routes.
 
 ghost use Rattle.ldar_law.specs.QuarterLaws.{TallyCounts, StopsAreUndone, StreakIsOfGoodQuarters};
 
@@ -7,12 +7,12 @@ pub fn tally_counts()
     ensures law { TallyCounts }
 {}
 
-/// A streak reaches so far where so many of the last quarters that were not skipped exist and are good.
+/// The streak is at least n exactly if the last n quarters that were not skipped exist and are good.
 pub fn streak_is_of_good_quarters()
     ensures law { StreakIsOfGoodQuarters }
 {}
 
-/// A component is a stop of the routes just where it has a duty that isn't done.
+/// A component is a stop of a route exactly if it has a duty that is not done.
 pub fn stops_are_undone()
     ensures law { StopsAreUndone }
 {}

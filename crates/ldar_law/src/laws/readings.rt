@@ -1,23 +1,23 @@
-//! Laws of readings: a part of the facts judges them as all facts do.
+//! Laws about readings: some of the facts are enough to judge them.
 
 ghost use Rattle.ldar_law.specs.ReadingLaws.{EventsAreJudgedInOrder, ReadingsAreOfInstrument, EventsAscend, FitnessIsOfInstrument};
 
-/// A reading is judged by its instrument's own facts as by all facts.
+/// The fitness of a reading depends only on the facts of its instrument.
 pub fn fitness_is_of_instrument()
     ensures law { FitnessIsOfInstrument }
 {}
 
-/// Judging each reading where it stands, or by a list with the fitness of each in order, gives the same events.
+/// Judging each reading in its place gives the same events as judging from a list of the readings' fitnesses.
 pub fn events_are_judged_in_order()
     ensures law { EventsAreJudgedInOrder }
 {}
 
-/// A reading of a component is judged by the facts of its instrument as by all facts.
+/// The fitness of a reading's entry depends only on the facts of its instrument.
 pub fn readings_are_of_instrument()
     ensures law { ReadingsAreOfInstrument }
 {}
 
-/// The events of a component are in key order, as the facts are.
+/// The events of a component are in key order if the facts are.
 pub fn events_ascend()
     ensures law { EventsAscend }
 {}

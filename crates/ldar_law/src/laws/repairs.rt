@@ -1,8 +1,8 @@
-//! Laws of tags and of delays of repair.
+//! Laws about tags and delays of repair.
 
 ghost use Rattle.ldar_law.specs.RepairLaws.{OneMoreDelay, CountedPlaceIsOfDelay, NoneCounted, CountedPlaceIsLast, SpansFollow, DelaysLieBetween};
 
-/// One more delay counts, or is ignored where its day is past the due day that those before it give.
+/// One more delay counts, or is ignored if its day is past the due day set by those before it.
 pub fn one_more_delay()
     ensures law { OneMoreDelay }
 {}
@@ -12,17 +12,17 @@ pub fn counted_place_is_of_delay()
     ensures law { CountedPlaceIsOfDelay }
 {}
 
-/// No place is given exactly where each delay is past the due day that those before it give.
+/// There is no place exactly if each delay is past the due day set by those before it.
 pub fn none_counted()
     ensures law { NoneCounted }
 {}
 
-/// The place that is given is that of a delay that is not ignored, and each one after it is.
+/// The place is that of a delay that is not ignored, and each one after it is ignored.
 pub fn counted_place_is_last()
     ensures law { CountedPlaceIsLast }
 {}
 
-/// The delays of a tag are those of the part of the events between its detection and its closing.
+/// The delays of a tag are those among the events between its detection and its closing.
 pub fn delays_lie_between()
     ensures law { DelaysLieBetween }
 {}

@@ -1,23 +1,24 @@
-//! Laws of the valves that are in service and difficult to monitor, counted fact by fact (40 CFR 60.482-7a(h)(2)(ii)).
+//! Laws about the numbers of valves in service and of difficult-to-monitor valves, counted fact by fact (40 CFR
+//! 60.482-7a(h)(2)(ii)).
 
 ghost use Rattle.ldar_law.specs.ShareLaws.{ValvesAreCounted, OneMoreFactCounts, OtherFactsCountNothing, MembersCount};
 
-/// The valves in service, and the difficult ones among them, are the components that count as such, each once.
+/// The valves in service, and the difficult ones among them, are the components that pass the test, each once.
 pub fn valves_are_counted()
     ensures law { ValvesAreCounted }
 {}
 
-/// After one more fact a count differs by what the component that it names adds.
+/// One more fact changes a count only by what its component adds.
 pub fn one_more_fact()
     ensures law { OneMoreFactCounts }
 {}
 
-/// A fact that names no component changes no count.
+/// A fact that names no component does not change a count.
 pub fn other_facts()
     ensures law { OtherFactsCountNothing }
 {}
 
-/// Where no component was entered twice, a count is what the members of the process unit add.
+/// If no component was entered twice, a count is the sum of what the members of the process unit add.
 pub fn members_count()
     ensures law { MembersCount }
 {}

@@ -2,7 +2,7 @@ use Rattle.std.proofs.Common.{◌≡◌, ◌≤◌, length, take, reverse}
 use Rattle.disk_model.specs.Stopped.{up_to}
 use Rattle.disk_model.proofs.replay.up_to.Given as goal
 
--- the calls behind the place are later than the one asked for
+-- the calls after the place are later than the given one
 abbrev pub invariant-loop-n : goal.invariant-loop-n
 invariant-loop-n l = (l.n ≤ length l.past) × (up_to l.call (reverse l.past) ≡ up_to l.call (reverse (take l.n l.past)))
 

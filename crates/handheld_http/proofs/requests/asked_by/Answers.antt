@@ -3,7 +3,7 @@ use Rattle.std.proofs.lemmas.Result.{IfOk-weaker}
 use Rattle.handheld_http.proofs.RequestLemmas.{line_means}
 use Rattle.handheld_http.proofs.requests.asked_by.Goals as goal
 
--- what is asked by the line and the body is what the request asks
+-- the method, the target and the body decide what the request asks for
 pub returns : goal.returns
 returns c =
     let extent = c.args.extent in

@@ -10,7 +10,7 @@ unreachable-requires c =
     judged (take c.args.head c.args.bytes.now) c.in_default.field-0 cut.0 cut.2.0.0 cut.2.0.1.reads cut.2.0.1.length
     (rw c.in_default.is at c.judge.ensures)
 
--- the body is there
+-- the body is complete
 pub asked_by-requires-clause-whole : goal.asked_by-requires-clause-whole
 asked_by-requires-clause-whole c =
     let cut = c.requires.was_cut in
@@ -18,7 +18,7 @@ asked_by-requires-clause-whole c =
     let at = accepted_extent c.args.bytes.now c.args.head c.in-Ok.extent accepted.0 cut.2.0.1.ends accepted.1 in
     (cut_extent c.args.bytes.now c.args.head c.in-Ok.extent at.0 at.1 cut.0 cut.1 cut.2).1
 
--- it asks what the request asks
+-- the result is what the request asks for
 pub returns : goal.returns
 returns c =
     let accepted = c.in-Ok.ensures in

@@ -4,7 +4,7 @@ use Rattle.ldar_journal.specs.Image.{batches_of, fact_count}
 use Rattle.ldar_journal.specs.Window.{OnlyReads}
 use Rattle.ldar_journal.proofs.batches.read_batches.Given as goal
 
--- the batches of the frames so far were read
+-- the batches of the frames read so far
 abbrev pub invariant-loop-frame : goal.invariant-loop-frame
 invariant-loop-frame g l = record {
   read : l.batches.items ≡ batches_of l.opening.frames;

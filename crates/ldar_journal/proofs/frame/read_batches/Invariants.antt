@@ -3,7 +3,7 @@ use Rattle.std.specs.List.{AllByRecursion}
 use Rattle.ldar_journal.specs.Image.{IsBatch, payload}
 use Rattle.ldar_journal.proofs.frame.read_batches.Given as goal
 
--- the batches so far, and then the rest, are the bytes
+-- the bytes are the batches so far and the rest
 abbrev pub invariant-loop-rest : goal.invariant-loop-rest
 invariant-loop-rest l = record {
   whole : l.bytes ≡ payload l.batches.items ++ l.rest;

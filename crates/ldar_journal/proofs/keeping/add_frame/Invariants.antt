@@ -3,7 +3,7 @@ use Rattle.ldar_journal.specs.Image.{batches_of}
 use Rattle.ldar_journal.specs.Known.{IsKnown}
 use Rattle.ldar_journal.proofs.keeping.add_frame.Given as goal
 
--- the batches before this one are known, and there is room for the others
+-- the batches before this one are known, and the others still fit
 abbrev pub invariant-loop-added : goal.invariant-loop-added
 invariant-loop-added l = record {
   known : IsKnown (batches_of l.frames ++ take l.added l.batches) l.positions.identities l.count;

@@ -4,7 +4,7 @@ use Rattle.disk_model.specs.Told.{BothTold}
 use Rattle.ldar_journal.specs.Window.{IsAhead, OnlyReads}
 use Rattle.ldar_journal.proofs.window.fill.Given as goal
 
--- what was read so far stands behind the bytes of the window
+-- the bytes read so far follow those of the window
 abbrev pub invariant-loop-window : goal.invariant-loop-window
 invariant-loop-window g l = record {
   more : (more : List ℕ) × (l.window ≡ record { bytes = l.fn.window.bytes ++ more; size = l.fn.window.size });

@@ -5,7 +5,7 @@ use Rattle.ldar_session.proofs.ItemLemmas.{group_served, part_served}
 use Rattle.ldar_session.proofs.TalkLemmas.{talk_away, talk_none, talk_says, unasked_of}
 use Rattle.ldar_session.proofs.answer.answer_front.Goals as goal
 
--- for want of memory nothing was asked
+-- out of memory: nothing was passed on
 pub returns-in_default-clause-talk : goal.returns-in_default-clause-talk
 returns-in_default-clause-talk g c =
     let clock_of = clock_beside g.O.Beside.Disk.clock g.O.Office.beside_of in (
@@ -17,7 +17,7 @@ returns-in_default-clause-talk g c =
       inl (record { closing = false; are = tt; fits = omega arith; fault = inr refl }),
     )
 
--- all was asked and said
+-- all was passed on, and all text was written
 pub returns-in-Ok-answer_group-clause-talk : goal.returns-in-Ok-answer_group-clause-talk
 returns-in-Ok-answer_group-clause-talk g c =
     let p = g.P.Protocol.speech in
@@ -44,7 +44,7 @@ returns-in-Ok-answer_group-clause-talk g c =
       },
     )
 
--- a part may be unsaid, or nothing was asked
+-- a part of the text may not be written, or nothing was passed on
 pub returns-in-Asks-clause-talk : goal.returns-in-Asks-clause-talk
 returns-in-Asks-clause-talk g c =
     let p = g.P.Protocol.speech in
@@ -63,7 +63,7 @@ returns-in-Asks-clause-talk g c =
       inl (record { closing = group.closing; are = talk.3; fits = omega (arith, part.2, is.fits); fault = c.in-Err.ensures.only }),
     )
 
--- the answer to an item that asks nothing was said
+-- the answer to an item that is not passed on was written
 pub returns-in-Ok-put_all-clause-talk : goal.returns-in-Ok-put_all-clause-talk
 returns-in-Ok-put_all-clause-talk g c =
     let clock_of = clock_beside g.O.Beside.Disk.clock g.O.Office.beside_of in
@@ -90,7 +90,7 @@ returns-in-Ok-put_all-clause-talk g c =
       },
     )
 
--- .. or a front of it
+-- a prefix of the answer to an item that is not passed on was written
 pub returns-in-Says-clause-talk : goal.returns-in-Says-clause-talk
 returns-in-Says-clause-talk g c =
     let clock_of = clock_beside g.O.Beside.Disk.clock g.O.Office.beside_of in
@@ -109,7 +109,7 @@ returns-in-Says-clause-talk g c =
       inl (record { closing = unasked.closing; are = (is.answers, tt); fits = omega (arith, c.requires.some); fault = inl refl }),
     )
 
--- the answer to refused bytes was said
+-- the answer to refused bytes was written
 pub returns-in-Ok-put_all-2-clause-talk : goal.returns-in-Ok-put_all-2-clause-talk
 returns-in-Ok-put_all-2-clause-talk g c =
     let clock_of = clock_beside g.O.Beside.Disk.clock g.O.Office.beside_of in
@@ -128,7 +128,7 @@ returns-in-Ok-put_all-2-clause-talk g c =
       inr (record { last = unasked_of c.args.bytes.now text.items; served_are = refl; away = talk.2; said = inl (refl, puts.4) }),
     )
 
--- .. or a front of it
+-- a prefix of the answer to refused bytes was written
 pub returns-clause-talk : goal.returns-clause-talk
 returns-clause-talk g c =
     let clock_of = clock_beside g.O.Beside.Disk.clock g.O.Office.beside_of in

@@ -7,7 +7,7 @@ use Rattle.ldar_session.proofs.ItemLemmas.{answers_shown, are_answered, asked_ea
 use Rattle.ldar_session.proofs.TalkLemmas.{talk_group, talk_none, talk_unsaid}
 use Rattle.ldar_session.proofs.answer.answer_group.Goals as goal
 
--- nothing was asked
+-- nothing was passed on
 pub returns-in_default-clause-talk : goal.returns-in_default-clause-talk
 returns-in_default-clause-talk g c = λ items asks.
     let is = HasAnswer g.P.Protocol.speech in
@@ -21,7 +21,7 @@ returns-in_default-clause-talk g c = λ items asks.
       inr refl,
     )
 
--- all was asked, and nothing said
+-- all was passed on, and no text was written
 pub returns-in_default-text_of-clause-talk : goal.returns-in_default-text_of-clause-talk
 returns-in_default-text_of-clause-talk g c = λ items asks.
     let p = g.P.Protocol.speech in
@@ -40,7 +40,7 @@ returns-in_default-text_of-clause-talk g c = λ items asks.
       inl (map-item-served_in p closing items call.turns each),
     )
 
--- all was asked and said
+-- all was passed on, and all text was written
 pub returns-in-Ok-put_all-clause-talk : goal.returns-in-Ok-put_all-clause-talk
 returns-in-Ok-put_all-clause-talk g c = λ items asks.
     let p = g.P.Protocol.speech in
@@ -63,7 +63,7 @@ returns-in-Ok-put_all-clause-talk g c = λ items asks.
       (map-item-served_in p closing items call.turns each, refl),
     )
 
--- all was asked, and a front of it said
+-- all was passed on, and a prefix of the text was written
 pub returns-clause-talk : goal.returns-clause-talk
 returns-clause-talk g c = λ items asks.
     let p = g.P.Protocol.speech in

@@ -11,7 +11,7 @@ use Rattle.ldar_session.proofs.Stretches.{lacks_none}
 use Rattle.ldar_session.proofs.TalkLemmas.{talk_none, talk_more}
 use Rattle.ldar_session.proofs.connection.connect.Goals as goal
 
--- no room for the window: nothing was taken
+-- out of memory for the window: nothing was read
 pub returns-in_default-clause-talk : goal.returns-in_default-clause-talk
 returns-in_default-clause-talk g c =
     let clock_of = clock_beside g.O.Beside.Disk.clock g.O.Office.beside_of in (
@@ -23,7 +23,7 @@ returns-in_default-clause-talk g c =
       record { are = inl (record { closing = false; are = tt; most = omega arith }); lacks = lacks_none [] },
     )
 
--- at first nothing is answered, and no bytes are in hand
+-- at the start nothing is answered, and no bytes are in hand
 pub loop-answers-init : goal.loop-answers-init
 loop-answers-init g c =
     let clock_of = clock_beside g.O.Beside.Disk.clock g.O.Office.beside_of in
@@ -48,7 +48,7 @@ loop-answers-init g c =
       c.new-protocol.ensures.known,
     )
 
--- the input gives no item more
+-- the input has no further item
 pub returns-in-Err-clause-talk : goal.returns-in-Err-clause-talk
 returns-in-Err-clause-talk g c =
     let so_far = c.loop-answers.invariant.0 in
@@ -66,7 +66,7 @@ returns-in-Err-clause-talk g c =
       ends_input g.P.Protocol.speech c.in-Err.ended served window left c.loop-answers.before fewer (sym so_far.5) so_far.3 c.in-Err.ensures.ended,
     )
 
--- a write fault, want of memory, or bytes that are refused
+-- a write error, out of memory, or refused bytes
 pub returns-in-Err-answer_front-clause-talk : goal.returns-in-Err-answer_front-clause-talk
 returns-in-Err-answer_front-clause-talk g c =
     let p = g.P.Protocol.speech in
@@ -94,7 +94,7 @@ returns-in-Err-answer_front-clause-talk g c =
           (omega (arith, so_far.4, c.loop-answers-test.true)) (sym so_far.5) so_far.3 talk.3.stretch.said talk.5,
     )
 
--- the last that was answered closes the connection
+-- the last answered item closes the connection
 pub returns-then-progress-clause-talk : goal.returns-then-progress-clause-talk
 returns-then-progress-clause-talk g c =
     let p = g.P.Protocol.speech in
@@ -126,7 +126,7 @@ returns-then-progress-clause-talk g c =
       c.ended_closed.ensures.value (served ++ more) talk.1 left count (are_more p true served more progress.some so_far.3 closes),
     )
 
--- items more are answered, none of which closes the connection, and all is said
+-- more items are answered, none closes the connection, and all text was written
 pub loop-answers-preserved : goal.loop-answers-preserved
 loop-answers-preserved g c =
     let p = g.P.Protocol.speech in

@@ -4,7 +4,7 @@ use Rattle.ldar_session.specs.Served.{Served, Talk, items_of, clock_beside}
 use Rattle.ldar_session.specs.Speech.{AreAnswered, HasAnswer}
 use Rattle.ldar_session.proofs.connection.connect.Given as goal
 
--- what was answered so far, all of it said, none of it closing the connection, and after it the bytes in hand
+-- the items answered so far, with all text written and the connection still open, followed by the bytes in hand
 abbrev pub invariant-loop-answers : goal.invariant-loop-answers
 invariant-loop-answers g l =
     ((served : List Served)
@@ -22,6 +22,6 @@ invariant-loop-answers g l =
     × (g.K.Sink.faults l.fn.sink ≤ g.K.Sink.faults l.sink)
     × ((bytes : List ℕ) → g.P.Protocol.knows l.protocol bytes)
 
--- how many answers may still be given
+-- the number of answers that may still be given
 abbrev pub decreases-loop-answers : goal.decreases-loop-answers
 decreases-loop-answers g l = 1_000_000 - l.answers

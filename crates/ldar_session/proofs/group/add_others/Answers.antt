@@ -17,7 +17,7 @@ returns-in_default-clause-full g c =
     let none = rw c.in_default.is at c.in_ok-other.ensures.none in
     inr (inr (subst (NoneJoins g.P.Protocol.speech) rest none))
 
--- the batch found is in front after the others
+-- the batch found is at the front after the others
 pub others-preserved : goal.others-preserved
 others-preserved g c =
     let p = g.P.Protocol.speech in

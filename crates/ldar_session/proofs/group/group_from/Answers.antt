@@ -3,7 +3,7 @@ use Rattle.ldar_session.specs.Speech.{AreInFront, IsGroup}
 use Rattle.ldar_session.proofs.ItemLemmas.{asked_alone, group_of, one_in_front}
 use Rattle.ldar_session.proofs.group.group_from.Goals as goal
 
--- one that shares no frame is asked alone
+-- a request that shares no frame is passed on alone
 pub returns-then-is_alone : goal.returns-then-is_alone
 returns-then-is_alone g c =
     let first = c.args.first in
@@ -14,7 +14,7 @@ returns-then-is_alone g c =
           (asked_alone g.P.Protocol.speech c.args.bytes.now c.args.most first c.requires.some c.requires.first (c.if-is_alone.ensures.value.0 refl));
     }
 
--- the first is in front
+-- the first request is at the front
 pub add_others-requires-clause-in_front : goal.add_others-requires-clause-in_front
 add_others-requires-clause-in_front g c =
     let first = c.args.first in
@@ -23,7 +23,7 @@ add_others-requires-clause-in_front g c =
     subst (λ l. AreInFront g.P.Protocol.speech c.args.bytes.now l first.closing first.used) (sym items)
     (one_in_front g.P.Protocol.speech c.args.bytes.now first c.requires.first)
 
--- the others are asked with it
+-- the others are passed on with it
 pub returns : goal.returns
 returns g c =
     let first = c.args.first in

@@ -1,7 +1,7 @@
 use Rattle.ldar_session.proofs.RequestLemmas.{extent_asks, extent_says, none_joins_alone, none_joins_unasked}
 use Rattle.ldar_session.proofs.requests.item_of.Goals as goal
 
--- the request asks the office this
+-- the request is passed to the office
 pub returns-in-Request-clause-value : goal.returns-in-Request-clause-value
 returns-in-Request-clause-value c =
     let means = rw c.in-Request.is at c.in_ok-request.ensures.value in record {
@@ -14,7 +14,7 @@ returns-in-Request-clause-joins c =
     let means = rw c.in-Request.is at c.in_ok-request.ensures.value in
     none_joins_alone c.args.bytes.now c.args.extent c.in-Request.request c.requires.begins means
 
--- it asks the office nothing
+-- the request is not passed to the office
 pub returns-in_ok-text_of-in-Not-clause-value : goal.returns-in_ok-text_of-in-Not-clause-value
 returns-in_ok-text_of-in-Not-clause-value c =
     let means = rw c.in-Not.is at c.in_ok-request.ensures.value in record {

@@ -3,7 +3,7 @@ use Rattle.ldar_law.specs.declared.event.Event.{Event}
 use Rattle.ldar_law.specs.Happenings.{is_leak}
 use Rattle.monitor_calendar.proofs.walked_months.behind_leak.Given as goal
 
--- none of those from the place on is a leak
+-- no event from the place on is a leak
 abbrev pub invariant-loop-place : goal.invariant-loop-place
 invariant-loop-place l = record {
   within : l.place ≤ l.count;

@@ -5,7 +5,7 @@ use Rattle.ldar_journal.specs.Window.{OnlyReads}
 use Rattle.office_book.specs.Opened.{HasTaken}
 use Rattle.office_book.proofs.opening.read_frames.Given as goal
 
--- the batches of the frames so far were taken in
+-- the batches of the frames so far were adopted
 abbrev pub invariant-loop-frame : goal.invariant-loop-frame
 invariant-loop-frame g l = record {
   taken : HasTaken (batches_of l.opening.frames) l.intake.views l.intake.denied;

@@ -4,7 +4,7 @@ use Rattle.list_words.specs.Ranges.{until}
 use Rattle.ldar_law.specs.Reports as law
 use Rattle.report_filing.proofs.amend.amended_cells.Given as goal
 
--- what is found so far, and what the places to come give
+-- the changes so far, and those at the remaining places
 abbrev pub invariant-loop-place : goal.invariant-loop-place
 invariant-loop-place l =
     l.changes.items ++ filter_map (law.amended_at l.before l.now) (until l.place 36) ≡ law.amended l.old l.new

@@ -6,7 +6,7 @@ use Rattle.report_filing.specs.declared.calls.FilingAnswer.TheVariants as answer
 use Rattle.report_filing.specs.declared.filing.FilingFault.TheVariants.{Failed}
 use Rattle.report_filing.proofs.calls.ask_each.Given as goal
 
--- the calls so far are answered, and a failure among the answers was counted
+-- the calls so far are answered, and an error among the answers was counted
 abbrev pub invariant-loop-call : goal.invariant-loop-call
 invariant-loop-call g l =
     BothTold (g.F.Filing.on_file l.fn.filing) (g.F.Filing.on_file l.filing)

@@ -5,7 +5,7 @@ use Rattle.report_table.specs.CellBytes.{line_bytes, delays_bytes}
 use Rattle.report_table.specs.Ranges.{IsLine}
 use Rattle.report_table.proofs.reading.delays_of.Given as goal
 
--- what was read so far is spelled by the bytes so far, and is the first of what the bytes are put together from
+-- the bytes so far spell the lines so far, which begin each list that the bytes spell
 abbrev pub invariant-loop-at : goal.invariant-loop-at
 invariant-loop-at l =
     (take (26 * l.at) l.bytes ≡ flat_map line_bytes l.lines.items)

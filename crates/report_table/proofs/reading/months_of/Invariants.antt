@@ -5,7 +5,7 @@ use Rattle.report_table.specs.CellBytes.{months_bytes}
 use Rattle.report_table.specs.Ranges.{AreMonths}
 use Rattle.report_table.proofs.reading.months_of.Given as goal
 
--- the numbers so far are those of the bytes so far, and the first of those that the bytes are put together from
+-- the bytes so far spell the numbers so far, which begin each list that the bytes spell
 abbrev pub invariant-loop-place : goal.invariant-loop-place
 invariant-loop-place l =
     (length l.numbers ≡ 36)

@@ -5,7 +5,7 @@ use Rattle.report_table.specs.CellBytes.{stop_bytes, stops_bytes}
 use Rattle.report_table.specs.Ranges.{IsStop}
 use Rattle.report_table.proofs.reading.stops_of.Given as goal
 
--- what was read so far is spelled by the bytes so far, and is the first of what the bytes are put together from
+-- the bytes so far spell the shutdowns so far, which begin each list that the bytes spell
 abbrev pub invariant-loop-at : goal.invariant-loop-at
 invariant-loop-at l =
     (take (4 * l.at) l.bytes ≡ flat_map stop_bytes l.stops.items)

@@ -13,7 +13,7 @@ overflow_add-self g c =
     let frame = behind_gate-fits c.args.frame.now c.bytes-bytes.ensures.is_frame in
     omega (arith, ap length c.bytes-bytes.ensures.value)
 
--- the frame could not be put behind the gate
+-- the frame could not be written after the gate
 
 pub invariant_of-self : goal.invariant_of-self
 invariant_of-self g c =
@@ -121,7 +121,7 @@ returns-then-is_err-2-clause-any_moment g c =
     c.open_gate.new.disk (rw c.bytes-bytes.ensures.value at holds) stable c.open_gate.ensures.others c.open_gate.ensures.crash
     put.ensures.keeps.time c.open_gate.ensures.any_moment)
 
--- the frame stands
+-- the frame is kept
 
 pub invariant_of-self-2 : goal.invariant_of-self-2
 invariant_of-self-2 g c =

@@ -21,7 +21,7 @@ returns-in_err-stands-clause-images g c =
     c.self.invariant
     read.ensures.unchanged read.ensures.crash)
 
--- the bytes stay over the look at the gate, and the frame in doubt with them
+-- reading the gate changes neither the bytes nor the frame in doubt
 
 pub invariant_of-self-2 : goal.invariant_of-self-2
 invariant_of-self-2 g c =

@@ -3,7 +3,7 @@ use Rattle.ldar_ports.specs.Source.{Takes}
 use Rattle.ldar_ports.specs.Window.{after_taking}
 use Rattle.ldar_ports.proofs.window.Window.fill_from.Given as goal
 
--- what came so far stands behind what was there
+-- the bytes read so far follow the old ones
 abbrev pub invariant-loop-self : goal.invariant-loop-self
 invariant-loop-self g l =
     ((taken : List ℕ) × Takes (g.S.Source.left l.fn.source) taken (g.S.Source.left l.source) × (l.self ≡ after_taking l.fn.self taken))

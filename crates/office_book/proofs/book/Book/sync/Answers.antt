@@ -51,7 +51,7 @@ returns-clause-untouched g c = λ none nothing.
     c.keep.ensures.untouched (subst (λ s. AddsNothing (batches_of s.frames) (batches_of c.keep.new.self.frames) c.args.requests.now c.keep.new.replies)
     (sym same) nothing) ∙ same
 
--- over a disk with told room
+-- on a disk with a known room
 
 pub returns-then-is_err-clause-roomy : goal.returns-then-is_err-clause-roomy
 returns-then-is_err-clause-roomy g c =

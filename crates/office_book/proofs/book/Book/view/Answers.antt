@@ -44,7 +44,7 @@ returns-then-is_err-clause-unchanged g c =
 pub returns-clause-unchanged : goal.returns-clause-unchanged
 returns-clause-unchanged g c = λ none. c.show.ensures.unchanged ∙ c.settle_first.ensures.nothing none
 
--- over a disk with told room
+-- on a disk with a known room
 
 pub returns-then-is_err-clause-roomy : goal.returns-then-is_err-clause-roomy
 returns-then-is_err-clause-roomy g c =

@@ -24,7 +24,7 @@ make_ready-requires-clause-some g c = rw c.as_slice-added.ensures.value c.requir
 pub make_ready-requires-clause-fits : goal.make_ready-requires-clause-fits
 make_ready-requires-clause-fits g c = rw c.as_slice-added.ensures.value c.requires.fits
 
--- memory was wanting
+-- out of memory
 
 pub invariant_of-self : goal.invariant_of-self
 invariant_of-self g c =
@@ -56,7 +56,7 @@ append-requires-clause-kept g c =
     subst (λ (l : List Batch). IsKept (batches_of c.self.inside.journal.frames ++ l)) (sym (c.in-Ok.ensures.frame ∙ c.as_slice-added.ensures.value))
     (subst (λ s. IsKept (batches_of s.frames ++ c.args.batches.items)) (sym c.self.view_is) c.requires.may_come.kept)
 
--- it stands
+-- it is kept
 
 pub adopt-requires-clause-roomy : goal.adopt-requires-clause-roomy
 adopt-requires-clause-roomy g c =
@@ -104,7 +104,7 @@ returns-in-Ok-append-clause-moves g c =
     (moves_added d.content d.images d.left d.clock d.name d.faults c.self.inside.journal c.append.new.self _ added.0 added.1
     append.keeps append.grows append.any_moment append.images)
 
--- it may stand
+-- it is in doubt
 
 pub invariant_of-self-then-this : goal.invariant_of-self-then-this
 invariant_of-self-then-this g c =
@@ -138,7 +138,7 @@ returns-in-Err-true-clause-moves g c =
     (ap (λ s. s.doubt) c.self.view_is ∙ c.requires.settled) torn.not_added (torn.in_doubt (search rules))
     append.keeps append.grows append.any_moment append.images)
 
--- nothing stands of it
+-- it is not written
 
 pub invariant_of-self-else-this : goal.invariant_of-self-else-this
 invariant_of-self-else-this g c =
@@ -171,7 +171,7 @@ returns-in-Err-false-clause-moves g c =
     (ap (λ s. s.doubt) c.self.view_is ∙ c.requires.settled) torn.not_added (torn.gate_shut (search rules))
     append.keeps append.grows (torn.any_moment_shut (search rules)) append.images)
 
--- over a disk with told room
+-- on a disk with a known room
 
 pub returns-in_default-clause-roomy : goal.returns-in_default-clause-roomy
 returns-in_default-clause-roomy g c =

@@ -42,7 +42,7 @@ returns-then-is_empty-clause-moves g c =
     let d = g.D.Disk in
     moves_nothing d.content d.images d.left d.clock d.name d.faults c.args.self.now c.stands.ensures.law
 
--- what is written
+-- the batches that are written
 
 pub write-requires-clause-fits : goal.write-requires-clause-fits
 write-requires-clause-fits g c =
@@ -54,7 +54,7 @@ write-requires-clause-fits g c =
 pub write-requires-clause-may_come : goal.write-requires-clause-may_come
 write-requires-clause-may_come g c = c.requires.sorted.may_come
 
--- it stands
+-- they are kept
 
 pub returns-in-Stands-clause-serves : goal.returns-in-Stands-clause-serves
 returns-in-Stands-clause-serves g c =
@@ -72,7 +72,7 @@ returns-in-Stands-clause-untouched g c = λ none same.
     let full = some_held batches c.args.sorted.batches.len c.args.sorted.batches.ok.0 (sym c.is_empty.ensures ∙ c.if-is_empty.false) in
     absurd (not_grown (batches_of c.args.self.now.frames) batches full (sym (ap (λ (s : State). s.history) c.in-Stands.ensures.value) ∙ same))
 
--- the disk failed
+-- a disk error
 
 pub returns-in-Fault-clause-serves : goal.returns-in-Fault-clause-serves
 returns-in-Fault-clause-serves g c =
@@ -111,7 +111,7 @@ returns-in-Fault-clause-untouched g c = λ none same.
     absurd (fault_among (take c.args.sorted.first c.args.replies.now) (length c.args.replies.now - c.args.sorted.first)
     (omega (arith, c.requires.each)) (subst (λ (l : List Reply). AllByRecursion IsNoFault l) c.put_faults.ensures.items none))
 
--- memory ran out
+-- out of memory
 
 pub leave-requires-clause-next : goal.leave-requires-clause-next
 leave-requires-clause-next g c =
@@ -136,7 +136,7 @@ returns-in-Memory-clause-ruled g c = c.leave.ensures.unwritten.ruled
 pub returns-in-Memory-clause-untouched : goal.returns-in-Memory-clause-untouched
 returns-in-Memory-clause-untouched g c = λ none same. c.in-Memory.ensures.untouched refl
 
--- over a disk with told room
+-- on a disk with a known room
 
 pub returns-then-is_empty-clause-roomy : goal.returns-then-is_empty-clause-roomy
 returns-then-is_empty-clause-roomy g c =
