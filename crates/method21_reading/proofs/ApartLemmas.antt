@@ -146,35 +146,18 @@ module _ (facts : List Entry) (key : Key) where
       (λ p day sort. list_any_narrowed p (is_of_day key.day) day facts) (λ p sort. refl) (λ p day sort. find_narrowed p (is_of_day key.day) day facts)
       limit instrument ppm)
 
-  -- .. and so do the sorts apart, those of the day
-  pub sorts_judge : (apart : Apart) (calibrations drifts : List Entry) (limit instrument ppm : ℕ) → AreThoseOf facts apart →
-      calibrations ≡ filter (is_of_day key.day) apart.calibrations → drifts ≡ filter (is_of_day key.day) apart.drifts →
-      fitness_apart calibrations apart.tests drifts limit key instrument ppm ≡ fitness_of facts limit key instrument ppm
-  sorts_judge apart calibrations drifts limit instrument ppm those calibrations_are drifts_are =
-      apart_is_whole facts calibrations apart.tests drifts key
-      (λ p day sort.
-      ap (list_any p) (calibrations_are ∙ ap (filter (is_of_day key.day)) those.calibrations)
-      ∙ list_any_narrowed p (is_of_day key.day) day (filter (λ e. is_calibrating e.1.body) facts)
-      ∙ list_any_narrowed p (λ e. is_calibrating e.1.body) sort facts)
-      (λ p sort. ap (list_any p) those.tests ∙ list_any_narrowed p (λ e. is_passed_test e.1.body) sort facts)
-      (λ p day sort.
-      ap (find p) (drifts_are ∙ ap (filter (is_of_day key.day)) those.drifts)
-      ∙ find_narrowed p (is_of_day key.day) day (filter (λ e. is_failed_drift e.1.body) facts)
-      ∙ find_narrowed p (λ e. is_failed_drift e.1.body) sort facts)
-      limit instrument ppm
-
-  -- .. where the drift assessments of the day are asked last
-  pub answers_judge : (apart : Apart) (calibrations tests : List Entry) (limit instrument ppm : ℕ) (refusal : Option Fitness) → AreThoseOf facts apart →
-      calibrations ≡ filter (is_of_day key.day) apart.calibrations → tests ≡ apart.tests →
-      refusal ≡ refusal_apart calibrations tests limit key instrument →
-      unwrap_or refusal (unless_voided (find (is_voided_by calibrations key instrument limit ppm) (filter (is_of_day key.day) apart.drifts)))
+  -- .. and so do the sorts apart
+  pub sorts_judge : (apart : Apart) (limit instrument ppm : ℕ) → AreThoseOf facts apart →
+      unwrap_or (refusal_apart apart.calibrations apart.tests limit key instrument)
+      (unless_voided (find (is_voided_by apart.calibrations key instrument limit ppm) apart.drifts))
       ≡ fitness_of facts limit key instrument ppm
-  answers_judge apart calibrations tests limit instrument ppm refusal those calibrations_are tests_are refusal_is =
-      let drifts = filter (is_of_day key.day) apart.drifts in
-      ap (λ o. unwrap_or o (unless_voided (find (is_voided_by calibrations key instrument limit ppm) drifts))) refusal_is
-      ∙ refused_or_voided calibrations tests drifts key limit instrument ppm
-      ∙ ap (λ ts. fitness_apart calibrations ts drifts limit key instrument ppm) tests_are
-      ∙ sorts_judge apart calibrations drifts limit instrument ppm those calibrations_are refl
+  sorts_judge apart limit instrument ppm those =
+      refused_or_voided apart.calibrations apart.tests apart.drifts key limit instrument ppm
+      ∙ apart_is_whole facts apart.calibrations apart.tests apart.drifts key
+      (λ p day sort. ap (list_any p) those.calibrations ∙ list_any_narrowed p (λ e. is_calibrating e.1.body) sort facts)
+      (λ p sort. ap (list_any p) those.tests ∙ list_any_narrowed p (λ e. is_passed_test e.1.body) sort facts)
+      (λ p day sort. ap (find p) those.drifts ∙ find_narrowed p (λ e. is_failed_drift e.1.body) sort facts)
+      limit instrument ppm
 
 -- ---- the latest precision test
 

@@ -1,4 +1,4 @@
-use Rattle.std.proofs.Common.{◌≡◌, ℕ, ◌+◌, Bool, true, not, ◌&&◌, nat_eq, Some, None, List, refl, sym, ap, ◌∙◌}
+use Rattle.std.proofs.Common.{◌≡◌, ℕ, ◌+◌, Bool, true, not, ◌&&◌, nat_eq, nat_le, Some, None, List, refl, sym, ap, ◌∙◌}
 use Rattle.std.specs.Prelude.{if◌then◌else◌}
 use Rattle.std.proofs.lemmas.Bool.{false≢true, and_from}
 use Rattle.fact_kinds.specs.declared.body.FactBody.{FactBody}
@@ -7,7 +7,7 @@ use Rattle.fact_kinds.specs.declared.key.Key.{Key}
 use Rattle.fact_kinds.specs.Facts.{Entry, is_earlier}
 use Rattle.fact_kinds.specs.Named.{reading_instrument}
 use Rattle.ldar_law.specs.declared.fitness.Fitness.{Fitness}
-use Rattle.ldar_law.specs.declared.fitness.Fitness.TheVariants.{NoPrecision}
+use Rattle.ldar_law.specs.declared.fitness.Fitness.TheVariants.{GasTooHigh, NoPrecision}
 use Rattle.ldar_law.specs.declared.numbers.TheConstants.{GAS_MARGIN}
 use Rattle.ldar_law.specs.Fitness.{is_calibration, is_calibration_within, is_calibrated, is_calibrated_within, is_tested}
 use Rattle.ldar_law.specs.Slices.{facts_of_instrument}
@@ -32,7 +32,7 @@ fitness_among_all limit facts key body fitness given =
     given ∙ ap (λ es. fitness_by limit es key body) own ∙ own_suffice limit all key body instrument reads
 
 -- a calibration with a gas within the bound is one
-within_calibrates : (instrument most : ℕ) (body : FactBody) →
+pub within_calibrates : (instrument most : ℕ) (body : FactBody) →
     is_calibration_within instrument most body ≡ true → is_calibration instrument body ≡ true
 within_calibrates instrument most (Calibration of gas) e = (both e).0
 within_calibrates instrument most _ e = absurd (false≢true e)
@@ -59,3 +59,11 @@ pub refusal_within : (calibrations tests : List Entry) (limit : ℕ) (key : Key)
     (if not tested then Some NoPrecision else None) ≡ refusal_apart calibrations tests limit key instrument
 refusal_within calibrations tests limit key instrument tested within is =
     rw (within_is_calibrated calibrations key instrument (limit + GAS_MARGIN) within, within, sym is) refl
+
+-- .. where the least gas tells what it is
+pub refusal_by : (calibrations tests : List Entry) (limit : ℕ) (key : Key) (instrument gas : ℕ) (tested : Bool) →
+    is_calibrated calibrations key instrument ≡ true → nat_le gas (limit + GAS_MARGIN) ≡ is_calibrated_within calibrations key instrument (limit + GAS_MARGIN) →
+    tested ≡ is_tested tests key instrument →
+    (if not (nat_le gas (limit + GAS_MARGIN)) then Some GasTooHigh else if not tested then Some NoPrecision else None)
+    ≡ refusal_apart calibrations tests limit key instrument
+refusal_by calibrations tests limit key instrument gas tested calibrated within is = rw (calibrated, sym within, sym is) refl

@@ -2,6 +2,10 @@ pub mod ApartLemmas
 pub mod EventLemmas
 pub mod FitnessLemmas
 pub mod FrontLemmas
+pub mod GasLemmas
 pub mod LaterLemmas
+pub mod LeapLemmas
 pub mod NearLemmas
 pub mod NextCalibration
+pub mod PlaceLemmas
+pub mod VoidLemmas

@@ -1,3 +1,5 @@
+pub mod Gases
 pub mod Instruments
+pub mod Leaps
 pub mod Readings
 pub mod Standings

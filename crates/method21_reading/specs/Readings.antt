@@ -1,5 +1,6 @@
 -- What the bodies on readings speak of: the next calibration, the fitness and the events of a part of the facts.
-use Rattle.std.specs.Prelude.{◌≡◌, ℕ, Bool, false, not, ◌&&◌, nat_eq, nat_lt, if◌then◌else◌, Option, Some, None, List, filter_map}
+use Rattle.std.specs.Prelude.{◌≡◌, ℕ, ◌<◌, Bool, true, false, not, ◌&&◌, nat_eq, nat_lt, if◌then◌else◌, Option, Some, None, List, length, get_or, filter_map}
+use Rattle.std.specs.List.{AllWithin}
 use Rattle.fact_kinds.specs.declared.body.FactBody.{FactBody}
 use Rattle.fact_kinds.specs.declared.body.FactBody.TheVariants.{Reading}
 use Rattle.fact_kinds.specs.declared.body.VisualState.{VisualState}
@@ -50,6 +51,18 @@ abbrev pub is_voided_until : Option Key → Key → ℕ → ℕ → ℕ → Entr
 is_voided_until next key instrument limit ppm e =
     nat_lt ppm limit && is_drift_past instrument limit ppm e.1.body && nat_eq e.0.day key.day && is_earlier key e.0
     && not (is_before next e.0)
+
+-- the fact is after the reading, and leaves no room for it below the leak definition
+abbrev pub is_past_after : Key → ℕ → ℕ → ℕ → Entry → Bool
+is_past_after key instrument limit ppm e = is_drift_past instrument limit ppm e.1.body && is_earlier key e.0
+
+-- this is the key of the first such fact
+pub record IsFirstPast (facts : List Entry) (key : Key) (instrument limit ppm : ℕ) (drift : Key) : Type 0 where
+  pub place : ℕ
+  pub within : place < length facts
+  pub stands : (d : Entry) → (get_or facts place d).0 ≡ drift
+  pub passes : (d : Entry) → is_past_after key instrument limit ppm (get_or facts place d) ≡ true
+  pub none_before : AllWithin (λ e. is_past_after key instrument limit ppm e ≡ false) facts 0 place
 
 -- where the facts are those of the component among all, and the fitness that of each reading among all, the events are the
 -- component's among all

@@ -1,13 +1,14 @@
-ghost use Rattle.std.specs.Prelude.{◌≡◌, ◌||◌};
-ghost use Rattle.std.specs.List.{list_any};
-ghost use Rattle.fact_kinds.specs.Facts.{is_earlier};
+ghost use Rattle.std.specs.Prelude.{◌≡◌, ◌&&◌, ◌||◌, ◌≤◌, true, find, length, option_map};
+ghost use Rattle.std.specs.List.{list_any, AllWithin};
+ghost use Rattle.list_words.specs.Order.{Ascends};
+ghost use Rattle.fact_kinds.specs.Facts.{is_earlier, goes_first};
 ghost use Rattle.ldar_law.specs.Fitness as law;
 ghost use Rattle.method21_reading.specs.Readings as readings;
 
 use fact_kinds::{Fact, FactBody, Key, precedes};
 
 /// Whether a fact is a calibration of the instrument.
-fn is_calibration(instrument: u16, body: &FactBody) -> bool
+pub fn is_calibration(instrument: u16, body: &FactBody) -> bool
     ensures value { result ≡ law.is_calibration instrument body.now }
 {
     match *body {
@@ -58,6 +59,31 @@ pub fn next_calibration(facts: &[(Key, Fact)], key: &Key, instrument: u16) -> Op
         next = nearer(key, instrument, next, e);
     }
     next
+}
+
+/// The same among facts in key order, of which the first `count` are earlier than the reading.
+pub fn calibration_after(
+    facts: &[(Key, Fact)],
+    count: usize,
+    key: &Key,
+    instrument: u16,
+) -> Option<Key>
+    requires ordered { Ascends goes_first facts.now }
+    requires within { count ≤ length facts.now }
+    requires earlier { AllWithin (λ e. is_earlier e.0 key.now ≡ true) facts.now 0 count }
+    ensures value { (later : Key) → law.is_calibrated_before facts.now key.now instrument later ≡ readings.is_before result later }
+{
+    first_later(&facts[count..], key, instrument)
+}
+
+/// The key of the first calibration of the instrument that is later than a reading.
+fn first_later(facts: &[(Key, Fact)], key: &Key, instrument: u16) -> Option<Key>
+    ensures value { result ≡ option_map (λ e. e.0) (find (λ e. law.is_calibration instrument e.1.body && is_earlier key.now e.0) facts.now) }
+{
+    facts
+        .iter()
+        .find(|e| is_calibration(instrument, &e.1.body) && precedes(key, &e.0))
+        .map(|e| e.0)
 }
 
 /// The next calibration, when one more fact has been looked at.

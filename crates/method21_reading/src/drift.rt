@@ -24,7 +24,7 @@ fn times(number: u32, other: u64) -> u64
 }
 
 /// Whether the reading is above the leak definition less the drift (40 CFR 60.485a(b)(2)).
-fn is_above_drifted(limit: u32, ppm: u32, value: u32, readings: (u32, u32, u32)) -> bool
+pub fn is_above_drifted(limit: u32, ppm: u32, value: u32, readings: (u32, u32, u32)) -> bool
     requires known { value ≤ 999_999 }
     requires read { (readings.0 ≤ 999_999) × (readings.1 ≤ 999_999) × (readings.2 ≤ 999_999) }
     ensures value { result ≡ law.is_above_drifted limit ppm value (law.sum_of readings) }
@@ -34,7 +34,7 @@ fn is_above_drifted(limit: u32, ppm: u32, value: u32, readings: (u32, u32, u32))
 
 /// Whether a fact is a drift assessment of the instrument that leaves no room for such a reading below the leak
 /// definition.
-fn is_drift_past(instrument: u16, limit: u32, ppm: u32, fact: &Fact) -> bool
+pub fn is_drift_past(instrument: u16, limit: u32, ppm: u32, fact: &Fact) -> bool
     ensures value { result ≡ law.is_drift_past instrument limit ppm fact.now.body }
 {
     match fact.body {
@@ -52,7 +52,7 @@ fn is_drift_past(instrument: u16, limit: u32, ppm: u32, fact: &Fact) -> bool
 }
 
 /// Whether the key, if there is one, is earlier than another.
-fn is_before_key(key: &Option<Key>, later: &Key) -> bool
+pub fn is_before_key(key: &Option<Key>, later: &Key) -> bool
     ensures value { result ≡ is_before key.now later.now }
 {
     match key {

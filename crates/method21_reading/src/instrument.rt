@@ -1,47 +1,62 @@
 //! An instrument made ready once, for its many readings.
 
-ghost use Rattle.std.specs.Prelude.{◌≡◌, List, filter, find, IfOk};
+ghost use Rattle.std.specs.Prelude.{◌≡◌, ℕ, ◌≤◌, true, false, nat_le, List, find, IfOk, IfSome, IsNone, length};
+ghost use Rattle.std.specs.List.{AllWithin};
+ghost use Rattle.std.specs.List.Sorted.{IsPartitionPoint};
+ghost use Rattle.std.specs.Option.{is_some, option_map_or};
 ghost use Rattle.list_words.specs.Order.{Ascends};
-ghost use Rattle.fact_kinds.specs.Facts.{goes_first, Entry};
-ghost use Rattle.ldar_law.specs.Fitness.{fitness_of, is_voided_by, unless_voided as unless_voided_by};
-ghost use Rattle.method21_reading.specs.Instruments.{AreThoseOf, is_of_day};
-ghost use Rattle.method21_reading.specs.Readings.{fitness_by, IsFitnessAmongAll};
+ghost use Rattle.fact_kinds.specs.Facts.{goes_first, is_earlier, Entry};
+ghost use Rattle.ldar_law.specs.Fitness.{fitness_of, is_calibrated, is_calibrated_within, is_tested as is_tested_by, is_voided_by, unless_voided as unless_voided_by};
+ghost use Rattle.method21_reading.specs.Gases.{AreLeast};
+ghost use Rattle.method21_reading.specs.Instruments.{AreThoseOf, refusal_apart};
+ghost use Rattle.method21_reading.specs.Leaps.{LeapsFrom};
+ghost use Rattle.method21_reading.specs.Readings.{fitness_by, IsFitnessAmongAll, is_past_after, IsFirstPast};
 
-use crate::day::facts_on;
-use crate::drift::voiding_drift;
-use crate::fitness::refused;
-use crate::near::Spread;
+use crate::calibration::calibration_after;
+use crate::drift::is_before_key;
+use crate::gas::{least_before, least_gases};
+use crate::leaps::{Leap, first_past, leaps_of};
+use crate::near::{Spread, count_earlier, count_up_to};
 use crate::part::keep_apart;
+use crate::precision::is_tested;
 use fact_kinds::{Fact, FactBody, Key, Memory};
-use ldar_days::Day;
-use ldar_law::Fitness;
+use ldar_law::{Fitness, GAS_MARGIN};
 use std::alloc::Global;
 use std::marker::Model;
 
 /// What of an instrument's facts judges its readings: the calibrations, the precision tests that were passed and the drift
 /// assessments that were failed, each apart and in key order. A reading is judged in a time that grows as the logarithm
-/// of their number, and with the facts of its day: of the precision tests the last one before it is asked alone.
+/// of their number, however many are of its day, if all are of one instrument.
 #[derive(Drop)]
 pub struct Instrument {
     calibrations: Vec<(Key, Fact)>,
     /// How the days of the calibrations are spread.
     calibrated: Spread,
+    /// Beside each calibration, the least gas of its day so far.
+    least: Vec<u32>,
     tests: Vec<(Key, Fact)>,
     /// How the days of the tests are spread.
     tested: Spread,
     drifts: Vec<(Key, Fact)>,
+    /// Where a search goes on from each drift assessment.
+    leaps: Vec<Leap>,
 }
 
 impl Model for Instrument {
+    ghost use Rattle.std.specs.Prelude.{◌≡◌, length};
     ghost use Rattle.list_words.specs.Order.{Ascends};
     ghost use Rattle.fact_kinds.specs.Facts.{goes_first};
     ghost use Rattle.method21_reading.specs.Instruments.{Apart};
+    ghost use Rattle.method21_reading.specs.Gases.{AreLeast};
+    ghost use Rattle.method21_reading.specs.Leaps.{LeapsFrom};
 
     ghost Value = { Apart };
 
     ghost view = { λ i. record { calibrations = i.calibrations.items; tests = i.tests.items; drifts = i.drifts.items } };
 
-    ghost invariant = { λ i. Ascends goes_first i.calibrations.items × Ascends goes_first i.tests.items × Ascends goes_first i.drifts.items };
+    ghost invariant = { λ i. Ascends goes_first i.calibrations.items × Ascends goes_first i.tests.items × Ascends goes_first i.drifts.items
+        × AreLeast i.calibrations.items i.least.items × (length i.least.items ≡ length i.calibrations.items)
+        × LeapsFrom i.drifts.items i.leaps.items 0 };
 }
 
 impl Instrument {
@@ -59,60 +74,147 @@ impl Instrument {
             keep_apart(&mut calibrations, &mut tests, &mut drifts, e)?;
         }
         let (calibrated, tested) = (Spread::of(&calibrations), Spread::of(&tests));
+        let least = least_gases(alloc, &calibrations)?;
+        let leaps = leaps_of(alloc, &drifts)?;
         Ok(Instrument {
             calibrations,
             calibrated,
+            least,
             tests,
             tested,
             drifts,
+            leaps,
         })
     }
 
-    /// The calibrations of a day.
-    fn calibrations_on(&self, day: Day) -> &[(Key, Fact)]
-        ensures value { result.now ≡ filter (is_of_day day) self.now.calibrations }
-    {
-        facts_on(self.calibrations.as_slice(), self.calibrated, day)
-    }
-
-    /// The failed drift assessments of a day.
-    fn drifts_on(&self, day: Day) -> &[(Key, Fact)]
-        ensures value { result.now ≡ filter (is_of_day day) self.now.drifts }
-    {
-        facts_on(self.drifts.as_slice(), Spread::of(&self.drifts), day)
-    }
-
-    /// The passed precision tests.
-    fn passed_tests(&self) -> &[(Key, Fact)]
-        ensures value { result.now ≡ self.now.tests }
+    /// The calibrations.
+    fn calibrations(&self) -> &[(Key, Fact)]
+        ensures value { result.now ≡ self.now.calibrations }
         ensures ordered { Ascends goes_first result.now }
     {
-        self.tests.as_slice()
+        self.calibrations.as_slice()
     }
 
-    /// What the failed drift assessments of its day make of a reading against which nothing else speaks.
+    /// The least gas beside each calibration.
+    fn least(&self) -> &[u32]
+        ensures sound { AreLeast self.now.calibrations result.now }
+        ensures all { length result.now ≡ length self.now.calibrations }
+    {
+        self.least.as_slice()
+    }
+
+    /// The failed drift assessments.
+    fn drifts(&self) -> &[(Key, Fact)]
+        ensures value { result.now ≡ self.now.drifts }
+        ensures ordered { Ascends goes_first result.now }
+    {
+        self.drifts.as_slice()
+    }
+
+    /// Where a search goes on from each of them.
+    fn leaps(&self) -> &[Leap]
+        ensures sound { LeapsFrom self.now.drifts result.now 0 }
+    {
+        self.leaps.as_slice()
+    }
+
+    /// How many calibrations are earlier than a reading.
+    fn calibrations_before(&self, key: &Key) -> usize
+        ensures bound { result ≤ length self.now.calibrations }
+        ensures partitioned { IsPartitionPoint (λ e. is_earlier e.0 key.now ≡ true) (λ e. is_earlier e.0 key.now ≡ false) self.now.calibrations result }
+    {
+        count_earlier(self.calibrations(), self.calibrated, key)
+    }
+
+    /// Whether some precision test that was passed is earlier than the reading with this key, and three months old at most.
+    fn is_tested(&self, key: &Key, instrument: u16) -> bool
+        ensures value { result ≡ is_tested_by self.now.tests key.now instrument }
+    {
+        is_tested(self.tests.as_slice(), self.tested, key, instrument)
+    }
+
+    /// The least gas of the calibrations of the instrument that are earlier than the reading and of its day.
+    fn least_gas(&self, count: usize, key: &Key, instrument: u16) -> Option<u32>
+        requires count { IsPartitionPoint (λ e. is_earlier e.0 key.now ≡ true) (λ e. is_earlier e.0 key.now ≡ false) self.now.calibrations count }
+        requires bound { count ≤ length self.now.calibrations }
+        ensures any { is_some result ≡ is_calibrated self.now.calibrations key.now instrument }
+        ensures least { (most : ℕ) → option_map_or (λ gas. nat_le gas most) result false ≡ is_calibrated_within self.now.calibrations key.now instrument most }
+    {
+        least_before(
+            self.calibrations(),
+            self.least(),
+            count,
+            key.day,
+            instrument,
+        )
+    }
+
+    /// Why the calibrations and the precision tests speak against a reading, if they do. The first `count` calibrations are
+    /// earlier than the reading.
+    fn refusal(&self, count: usize, limit: u32, key: &Key, instrument: u16) -> Option<Fitness>
+        requires count { IsPartitionPoint (λ e. is_earlier e.0 key.now ≡ true) (λ e. is_earlier e.0 key.now ≡ false) self.now.calibrations count }
+        requires bound { count ≤ length self.now.calibrations }
+        ensures value { result ≡ refusal_apart self.now.calibrations self.now.tests limit key.now instrument }
+    {
+        let most = u64::from(limit) + u64::from(GAS_MARGIN);
+        match self.least_gas(count, key, instrument) {
+            None => Some(Fitness::NoCalibration),
+            Some(gas) => {
+                if most < u64::from(gas) {
+                    return Some(Fitness::GasTooHigh);
+                }
+                if !self.is_tested(key, instrument) {
+                    return Some(Fitness::NoPrecision);
+                }
+                None
+            }
+        }
+    }
+
+    /// The first failed drift assessment after a reading with this key that leaves no room for it below the leak definition.
+    fn drift_past(&self, limit: u32, key: &Key, instrument: u16, ppm: u32) -> Option<Key>
+        ensures none { IsNone result → AllWithin (λ e. is_past_after key.now instrument limit ppm e ≡ false) self.now.drifts 0 (length self.now.drifts) }
+        ensures first { IfSome result (IsFirstPast self.now.drifts key.now instrument limit ppm) }
+        ensures ordered { Ascends goes_first self.now.drifts }
+    {
+        let drifts = self.drifts();
+        let from = count_up_to(drifts, key);
+        let place = first_past(drifts, self.leaps(), from, instrument, limit, ppm);
+        if place < drifts.len() {
+            return Some(drifts[place].0);
+        }
+        None
+    }
+
+    /// What the failed drift assessments of its day make of a reading against which nothing else speaks. The first `count`
+    /// calibrations are earlier than the reading.
     fn unless_voided(
         &self,
-        calibrations: &[(Key, Fact)],
+        count: usize,
         limit: u32,
         key: &Key,
         instrument: u16,
         ppm: u32,
     ) -> Fitness
-        ensures value { result ≡ unless_voided_by (find (is_voided_by calibrations.now key.now instrument limit ppm)
-            (filter (is_of_day key.now.day) self.now.drifts)) }
+        requires count { IsPartitionPoint (λ e. is_earlier e.0 key.now ≡ true) (λ e. is_earlier e.0 key.now ≡ false) self.now.calibrations count }
+        requires bound { count ≤ length self.now.calibrations }
+        ensures value { result ≡ unless_voided_by (find (is_voided_by self.now.calibrations key.now instrument limit ppm) self.now.drifts) }
     {
-        // A drift voids readings below the leak definition alone: for others none is looked for.
+        // A drift voids only readings below the leak definition.
         if limit <= ppm {
             return Fitness::Fit;
         }
-        let drifts = self.drifts_on(key.day);
-        // On most days none is failed: no calibration after the reading is looked for.
-        if drifts.is_empty() {
-            return Fitness::Fit;
-        }
-        match voiding_drift(calibrations, drifts, key, instrument, limit, ppm) {
-            Some(drift) => Fitness::Voided { drift },
+        match self.drift_past(limit, key, instrument, ppm) {
+            Some(drift) => {
+                if drift.day != key.day {
+                    return Fitness::Fit;
+                }
+                let next = calibration_after(self.calibrations(), count, key, instrument);
+                if is_before_key(&next, &drift) {
+                    return Fitness::Fit;
+                }
+                Fitness::Voided { drift }
+            }
             None => Fitness::Fit,
         }
     }
@@ -121,18 +223,10 @@ impl Instrument {
     fn judged(&self, limit: u32, key: &Key, instrument: u16, ppm: u32) -> Fitness
         ensures value { (facts : List Entry) → AreThoseOf facts self.now → result ≡ fitness_of facts limit key.now instrument ppm }
     {
-        let calibrations = self.calibrations_on(key.day);
-        let refusal = refused(
-            calibrations,
-            self.passed_tests(),
-            self.tested,
-            limit,
-            key,
-            instrument,
-        );
-        match refusal {
+        let count = self.calibrations_before(key);
+        match self.refusal(count, limit, key, instrument) {
             Some(why) => why,
-            None => self.unless_voided(calibrations, limit, key, instrument, ppm),
+            None => self.unless_voided(count, limit, key, instrument, ppm),
         }
     }
 

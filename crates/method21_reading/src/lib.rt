@@ -1,4 +1,6 @@
 //! Readings by EPA Method 21: the leak definition, whether a reading is fit, and the events of a component.
+//!
+//! Tests: `rule_tests::readings`.
 #![tactic(auto)]
 
 mod calibration;
@@ -6,8 +8,10 @@ mod day;
 mod drift;
 mod events;
 mod fitness;
+mod gas;
 mod happening;
 mod instrument;
+mod leaps;
 mod near;
 mod part;
 mod precision;

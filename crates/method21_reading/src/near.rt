@@ -104,3 +104,12 @@ pub fn count_earlier(facts: &[(Key, Fact)], spread: Spread, key: &Key) -> usize
     let high = high_from(facts, place, key.day);
     low + facts[low..high].partition_point(|e| precedes(&e.0, key))
 }
+
+/// How many facts in front have no later key.
+pub fn count_up_to(facts: &[(Key, Fact)], key: &Key) -> usize
+    requires ordered { Ascends goes_first facts.now }
+    ensures bound { result ≤ length facts.now }
+    ensures partitioned { IsPartitionPoint (λ e. is_earlier key.now e.0 ≡ false) (λ e. is_earlier key.now e.0 ≡ true) facts.now result }
+{
+    facts.partition_point(|e| !precedes(key, &e.0))
+}
