@@ -1,7 +1,4 @@
 pub mod BatchLemmas
 pub mod SortLemmas
-pub mod RecordLemmas
-pub mod DigitLemmas
 pub mod MemberLemmas
 pub mod UnitLemmas
-pub mod EnoughLemmas

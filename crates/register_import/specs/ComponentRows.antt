@@ -1,18 +1,13 @@
 -- The records of a file of components.
 use Rattle.std.specs.Prelude.{ℕ, Bool, true, false, ◌==◌, ◌&&◌, List, codes, length, Option, Some, None, if◌then◌else◌}
-use Rattle.std.specs.Str.{bytes_eq}
 use Rattle.csv.specs.Records.{field_at}
 use Rattle.fact_kinds.specs.declared.class.Designation.{Designation}
 use Rattle.fact_kinds.specs.declared.class.Designation.TheVariants.{Plain, Nde, Unsafe, Difficult}
 use Rattle.fact_kinds.specs.declared.body.FactBody.{FactBody}
 use Rattle.fact_kinds.specs.declared.body.FactBody.TheVariants.{Component as ComponentFact}
 use Rattle.fact_kinds.specs.Stated.{Stated}
-use Rattle.register_import.specs.Fields.{◌>>=◌, number, flag, kind, class, day}
-
--- the field is this word
-abbrev pub holds : Option (List ℕ) → List ℕ → Bool
-holds None word = false
-holds (Some field) word = bytes_eq field word
+use Rattle.csv_rows.specs.Fields.{◌>>=◌, number, day, holds}
+use Rattle.register_import.specs.Fields.{flag, kind, class}
 
 -- the first five fields are the names of their columns
 abbrev pub begins_header : List (List ℕ) → Bool

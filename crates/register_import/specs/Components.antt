@@ -4,7 +4,7 @@ use Rattle.fact_kinds.specs.declared.batch.Batch.{Batch}
 use Rattle.fact_kinds.specs.Stated.{Stated}
 use Rattle.register_import.specs.Batches.{batches_said}
 use Rattle.register_import.specs.ComponentRows.{component_of, is_difficult, is_header}
-use Rattle.register_import.specs.Records.{records_of}
+use Rattle.csv_rows.specs.Records.{records_of}
 use Rattle.register_import.specs.Rows.{Rows, row_then}
 
 -- the facts of rows, in the order of the file; the first of them has this number

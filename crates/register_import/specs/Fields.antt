@@ -1,9 +1,7 @@
 -- The fields of a record of components. Each definition is a value, or None if the field has another form.
-use Rattle.std.specs.Prelude.{ℕ, Bool, true, false, ◌&&◌, ◌==◌, nat_le, List, [], ◌∷◌, codes, Option, Some, None, option_and_then, if◌then◌else◌}
-use Rattle.std.specs.List.{list_all}
-use Rattle.std.specs.Char.{is_ascii_digit}
+use Rattle.std.specs.Prelude.{ℕ, Bool, true, false, List, codes, Option, Some, None, if◌then◌else◌}
 use Rattle.std.specs.Str.{bytes_eq}
-use Rattle.ldar_days.specs.Texts.{day_of, digits_value}
+use Rattle.csv_rows.specs.Fields.{◌>>=◌, number}
 use Rattle.fact_kinds.specs.declared.class.Class.{Class}
 use Rattle.fact_kinds.specs.declared.class.Kind.{Kind}
 use Rattle.fact_kinds.specs.declared.class.Kind.TheVariants.{Valve, Pump, Compressor, Relief}
@@ -11,34 +9,6 @@ use Rattle.fact_kinds.specs.declared.class.Service.{Service}
 use Rattle.fact_kinds.specs.declared.class.Service.TheVariants.{Gas, Light, Heavy, Vacuum, Under300}
 use Rattle.fact_kinds.specs.declared.class.Designation.{Designation}
 use Rattle.fact_kinds.specs.declared.class.Designation.TheVariants.{Plain, Nde, Unsafe, Difficult}
-
--- one reading after another
-infixl 10 ◌>>=◌
-abbrev pub ◌>>=◌ : {A B : Type 0} → Option A → (A → Option B) → Option B
-o >>= f = option_and_then f o
-
--- ---- numbers
-
--- the bytes are empty, or a zero followed by other bytes
-abbrev pub starts_badly : List ℕ → Bool
-starts_badly [] = true
-starts_badly (first ∷ []) = false
-starts_badly (first ∷ second ∷ rest) = first == 48
-
--- the number that decimal digits spell, if it is at most the bound
-abbrev pub digits : List ℕ → ℕ → Option ℕ
-digits text high = if list_all is_ascii_digit text && nat_le (digits_value text) high then Some (digits_value text) else None
-
--- .. without a leading zero
-abbrev pub decimal : List ℕ → ℕ → Option ℕ
-decimal text high = if starts_badly text then None else digits text high
-
--- a number from low to high
-unfoldable pub number : ℕ → ℕ → Option (List ℕ) → Option ℕ
-number low high field = do
-  text ← field
-  n ← decimal text high
-  if nat_le low n then Some n else None
 
 -- ---- words
 
@@ -93,9 +63,3 @@ class service_field designation_field plan_field month_field = do
   plan ← plan designation plan_field
   month ← number 1 3 month_field
   Some (record { service = service; designation = designation; plan = plan; month = month })
-
--- a day as YYYY-MM-DD
-unfoldable pub day : Option (List ℕ) → Option ℕ
-day field = do
-  text ← field
-  day_of text

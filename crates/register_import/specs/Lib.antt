@@ -2,7 +2,6 @@ pub mod Rows
 pub mod Batches
 pub mod Fields
 pub mod ComponentRows
-pub mod Records
 pub mod Components
 pub mod Members
 pub mod UnitRows

@@ -5,7 +5,7 @@ use Rattle.std.specs.Cmp.Lexicographic.{pointwise}
 use Rattle.toml.specs.Data.{Data, Members, no_members, member, as_bool, as_integer, as_str}
 use Rattle.ldar_days.specs.Texts.{day_of}
 use Rattle.fact_kinds.specs.Name.{is_name_byte}
-use Rattle.register_import.specs.Fields.{◌>>=◌}
+use Rattle.csv_rows.specs.Fields.{◌>>=◌}
 
 -- ---- keys
 

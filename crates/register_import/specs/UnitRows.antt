@@ -3,7 +3,7 @@ use Rattle.std.specs.Prelude.{ℕ, Bool, false, List, [], ◌∷◌, codes, Opti
 use Rattle.toml.specs.Data.{Data, Members, as_table, get}
 use Rattle.fact_kinds.specs.declared.body.FactBody.TheVariants.{Unit as UnitFact}
 use Rattle.fact_kinds.specs.Stated.{Stated}
-use Rattle.register_import.specs.Fields.{◌>>=◌}
+use Rattle.csv_rows.specs.Fields.{◌>>=◌}
 use Rattle.register_import.specs.Members.{has_only, unit_number, name, day, flag}
 
 -- the keys of an element, all of which must be present

@@ -5,7 +5,7 @@ use Rattle.toml.specs.Data.{Items, no_items, item, Members, as_array, as_table, 
 use Rattle.toml.specs.Parse.{parse_document}
 use Rattle.fact_kinds.specs.declared.batch.Batch.{Batch}
 use Rattle.register_import.specs.Batches.{batches_said}
-use Rattle.register_import.specs.Fields.{◌>>=◌}
+use Rattle.csv_rows.specs.Fields.{◌>>=◌}
 use Rattle.register_import.specs.Members.{has_only}
 use Rattle.register_import.specs.Rows.{Rows, row_then}
 use Rattle.register_import.specs.UnitRows.{unit_of}

@@ -1,9 +1,10 @@
-ghost use Rattle.std.specs.Prelude.{◌≡◌, option_map};
+ghost use Rattle.std.specs.Prelude.{◌≡◌};
 ghost use Rattle.csv.specs.Records.{fields_of};
 ghost use Rattle.register_import.specs.ComponentRows as spec;
 
-use crate::fields::{class, day, flag, kind, number};
+use crate::fields::{class, flag, kind};
 use csv::ByteRecord;
+use csv_rows::{day, holds, number};
 use fact_kinds::{Designation, Fact, FactBody};
 
 /// The fact of a record, or `None` if the record is bad.
@@ -69,14 +70,4 @@ fn ends_header(row: &ByteRecord) -> bool
         && holds(row.get(7), "monomer")
         && holds(row.get(8), "replaces")
         && holds(row.get(9), "begin")
-}
-
-// Whether the field is this word.
-fn holds(field: Option<&[u8]>, word: &str) -> bool
-    ensures value { result ≡ spec.holds (option_map (λ f. f.now) field.entry) word.now }
-{
-    match field {
-        Some(text) => text == word.as_bytes(),
-        None => false,
-    }
 }

@@ -1,7 +1,6 @@
-ghost use Rattle.std.specs.Prelude.{◌≡◌, ◌≤◌, ◌+◌, ◌++◌, ◌∷◌, [], ℕ, IfOk, IfErr, OnOk, Ok, true, false, not, suc, length, vec_len, filter};
-ghost use Rattle.csv.specs.Records.{fields_of};
+ghost use Rattle.std.specs.Prelude.{◌≡◌, ◌≤◌, ◌+◌, ◌++◌, ◌∷◌, [], IfOk, IfErr, OnOk, Ok, not, length, vec_len, filter};
 ghost use Rattle.register_import.specs.Rows.{TellsRow};
-ghost use Rattle.register_import.specs.Records.{IsReading, records_left, records_of};
+ghost use Rattle.csv_rows.specs.Records.{IsReading, records_left};
 ghost use Rattle.register_import.specs.ComponentRows as spec;
 ghost use Rattle.register_import.specs.Components as files;
 ghost use Rattle.register_import.specs.declared.limits.TheConstants.{LAST_NUMBER, LONGEST_TEXT};
@@ -9,7 +8,8 @@ ghost use Rattle.register_import.specs.declared.limits.TheConstants.{LAST_NUMBER
 use crate::batches::batches_of;
 use crate::component_row::{component_of, is_difficult, is_header};
 use crate::error::ImportError;
-use csv::{ByteRecord, Reader, ReaderBuilder};
+use csv::{ByteRecord, Reader};
+use csv_rows::{next_record, reader_of};
 use fact_kinds::{Batch, Fact, Memory};
 use std::alloc::Global;
 
@@ -36,36 +36,13 @@ fn component_facts(alloc: Global, text: &[u8]) -> Result<Vec<Fact>, ImportError>
 {
     let mut reader = reader_of(alloc, text);
     let mut row = ByteRecord::new(alloc);
-    if !next(&mut reader, &mut row)? {
+    if !next_record(&mut reader, &mut row)? {
         return Err(ImportError::Row { at: 1 });
     }
     if !is_header(&row) {
         return Err(ImportError::Row { at: 1 });
     }
     facts_behind(alloc, &mut reader, row, text.len())
-}
-
-// A reader of the text. Records may have any number of fields; a component's record is judged by its fields.
-fn reader_of(alloc: Global, text: &[u8]) -> Reader<&[u8]>
-    ensures reading { IsReading result }
-    ensures value { records_of text.now ≡ records_left (suc (length text.now)) result }
-{
-    ReaderBuilder::new()
-        .has_headers(false)
-        .flexible(true)
-        .from_reader(alloc, text)
-}
-
-// Reads the next record. Returns whether there was one.
-fn next(reader: &mut Reader<&[u8]>, row: &mut ByteRecord) -> Result<bool, Memory>
-    requires { IsReading reader.old }
-    ensures found { result ≡ Ok true → IsReading reader.new × ((n : ℕ) → records_left (suc n) reader.old ≡ fields_of row.new ∷ records_left n reader.new) }
-    ensures none { result ≡ Ok false → (n : ℕ) → records_left n reader.old ≡ [] }
-{
-    let Ok(found) = reader.read_byte_record(row) else {
-        return Err(Memory);
-    };
-    Ok(found)
 }
 
 // The facts of at most `most` records after the header, those of difficult-to-monitor components last.
@@ -108,7 +85,7 @@ fn rows_of(
         difficult: Vec::new(alloc),
     };
     for turn in 0..most {
-        if !next(reader, &mut row)? {
+        if !next_record(reader, &mut row)? {
             return Ok(rows);
         }
         let Some(fact) = component_of(&row) else {

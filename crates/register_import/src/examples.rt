@@ -1,5 +1,5 @@
 //! Worked examples of the definitions, as contracts of empty functions: each clause computes.
-#![tactic(auto, unfolding(csv::specs::Records::field_at, ldar_days::specs::Calendar::first_day, ldar_days::specs::Calendar::month_of, ldar_days::specs::Calendar::month_length, ldar_days::specs::Texts::day_of, crate::specs::Fields::number, crate::specs::Fields::flag, crate::specs::Fields::kind, crate::specs::Fields::service, crate::specs::Fields::designation, crate::specs::Fields::class, crate::specs::Fields::day, crate::specs::ComponentRows::component_of, crate::specs::Members::unit_number, crate::specs::Members::flag, crate::specs::Members::day, crate::specs::Members::name, crate::specs::UnitRows::unit_of, crate::specs::Units::elements_of))]
+#![tactic(auto, unfolding(csv::specs::Records::field_at, ldar_days::specs::Calendar::first_day, ldar_days::specs::Calendar::month_of, ldar_days::specs::Calendar::month_length, ldar_days::specs::Texts::day_of, csv_rows::specs::Fields::number, crate::specs::Fields::flag, crate::specs::Fields::kind, crate::specs::Fields::service, crate::specs::Fields::designation, crate::specs::Fields::class, csv_rows::specs::Fields::day, crate::specs::ComponentRows::component_of, crate::specs::Members::unit_number, crate::specs::Members::flag, crate::specs::Members::day, crate::specs::Members::name, crate::specs::UnitRows::unit_of, crate::specs::Units::elements_of))]
 
 ghost use Rattle.std.specs.Prelude.{◌≡◌, ◌++◌, ◌∷◌, [], Err, None, Ok, Some, codes, false, length, map, negsuc, pos, replicate, take, true};
 ghost use Rattle.toml.specs.Data.{array, boolean, integer, item, member, no_items, no_members, string, table};
@@ -7,7 +7,7 @@ ghost use Rattle.fact_kinds.specs.declared.class.Designation.TheVariants.{Diffic
 ghost use Rattle.register_import.specs.Batches.{batches_of};
 ghost use Rattle.register_import.specs.ComponentRows.{component_of};
 ghost use Rattle.register_import.specs.Components.{difficult_last, rows_of_records};
-ghost use Rattle.register_import.specs.Fields.{decimal};
+ghost use Rattle.csv_rows.specs.Fields.{decimal};
 ghost use Rattle.register_import.specs.Samples.{crude, crude_members, crude_row, designated, table_of, valve, valve_row, with_field};
 ghost use Rattle.register_import.specs.UnitRows.{unit_of};
 ghost use Rattle.register_import.specs.Units.{elements_of, rows_from, rows_of_elements};

@@ -1,50 +1,10 @@
-ghost use Rattle.std.specs.Prelude.{◌≡◌, ◌≤◌, ◌<◌, IfSome, option_map};
+ghost use Rattle.std.specs.Prelude.{◌≡◌, ◌≤◌, IfSome, option_map};
 ghost use Rattle.std.specs.List.{AllByRecursion};
 ghost use Rattle.fact_kinds.specs.Fields.{IsAmong, IsFilled, class_fields, plans};
-ghost use Rattle.ldar_days.specs.Calendar.{IsDay};
 ghost use Rattle.register_import.specs.Fields as spec;
 
-use fact_kinds::{Class, Day, Designation, Kind, Service};
-
-// The number that decimal digits spell, without a leading zero, if it is at most `high`.
-fn decimal(text: &[u8], high: u32) -> Option<u32>
-    requires { high ≤ 60_000 }
-    ensures value { result ≡ spec.decimal text.now high }
-{
-    if text.is_empty() || (text[0] == b'0' && text.len() > 1) {
-        return None;
-    }
-    digits(text, high)
-}
-
-// The number that decimal digits spell, if it is at most `high`.
-fn digits(text: &[u8], high: u32) -> Option<u32>
-    requires { high ≤ 60_000 }
-    ensures value { result ≡ spec.digits text.now high }
-{
-    let mut number = 0;
-    for byte in text {
-        if !byte.is_ascii_digit() {
-            return None;
-        }
-        number = 10 * number + u32::from(*byte - b'0');
-        if number > high {
-            return None;
-        }
-    }
-    Some(number)
-}
-
-/// A number from `low` to `high`.
-#[tactic(auto, unfolding(crate::specs::Fields::number))]
-pub(crate) fn number(field: Option<&[u8]>, low: u32, high: u32) -> Option<u32>
-    requires { high ≤ 60_000 }
-    ensures value { result ≡ spec.number low high (option_map (λ f. f.now) field.entry) }
-    ensures in_range { IfSome result (λ n. (low ≤ n) × (n ≤ high)) }
-{
-    let number = decimal(field?, high)?;
-    if low <= number { Some(number) } else { None }
-}
+use csv_rows::number;
+use fact_kinds::{Class, Designation, Kind, Service};
 
 /// A flag: 0 for no, 1 for yes.
 #[tactic(auto, unfolding(crate::specs::Fields::flag))]
@@ -156,13 +116,4 @@ pub(crate) fn class(
         plan,
         month,
     })
-}
-
-/// A day as `YYYY-MM-DD`.
-#[tactic(auto, unfolding(crate::specs::Fields::day))]
-pub(crate) fn day(field: Option<&[u8]>) -> Option<Day>
-    ensures value { result ≡ spec.day (option_map (λ f. f.now) field.entry) }
-    ensures in_range { IfSome result IsDay }
-{
-    Day::read(field?)
 }

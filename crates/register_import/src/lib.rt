@@ -1,4 +1,6 @@
 //! The register from files: process units from TOML and components from CSV, as batches to send to an office.
+//!
+//! Tests: `text_tests::imports`.
 #![tactic(auto)]
 
 mod batches;

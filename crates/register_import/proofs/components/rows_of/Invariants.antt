@@ -1,6 +1,6 @@
 use Rattle.std.proofs.Common.{◌≡◌, ◌+◌, ◌-◌, length}
 use Rattle.register_import.specs.Components as files
-use Rattle.register_import.specs.Records.{IsReading, records_left}
+use Rattle.csv_rows.specs.Records.{IsReading, records_left}
 use Rattle.register_import.proofs.SortLemmas.{sorted_behind}
 use Rattle.register_import.proofs.components.rows_of.Given as goal
 

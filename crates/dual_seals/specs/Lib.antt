@@ -1,0 +1,6 @@
+pub mod Keyed
+pub mod OrderLaws
+pub mod RowKeys
+pub mod RowOrder
+pub mod Rows
+pub mod Samples

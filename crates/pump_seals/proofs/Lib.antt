@@ -1,0 +1,9 @@
+pub mod MomentLemmas
+pub mod MomentOrder
+pub mod Places
+pub mod PumpLemmas
+pub mod RisingLists
+pub mod RunLemmas
+pub mod SealedLemmas
+pub mod SettlingLemmas
+pub mod WalkLemmas
