@@ -1,0 +1,9 @@
+pub mod HeadLemmas
+pub mod PieceLemmas
+pub mod AnswerLemmas
+pub mod ReadLemmas
+pub mod KeepLemmas
+pub mod OfficeLemmas
+pub mod WorldLemmas
+pub mod TakeLemmas
+pub mod TakenLemmas
