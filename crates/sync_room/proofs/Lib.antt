@@ -1,0 +1,13 @@
+pub mod Advances
+pub mod Asking
+pub mod CallLemmas
+pub mod Closes
+pub mod Draws
+pub mod Histories
+pub mod Keeps
+pub mod Looks
+pub mod Meets
+pub mod Opens
+pub mod TurnLemmas
+pub mod Views
+pub mod Waits
