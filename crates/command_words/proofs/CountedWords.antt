@@ -8,24 +8,24 @@ use Rattle.command_words.specs.Positionals.{is_option, positionals_of}
 use Rattle.command_words.proofs.PositionalLemmas.{First, Plain, first_of_plain, none_of_plain, plain_of, positionals_of-plain}
 use Rattle.command_words.proofs.TakenWords.{takes-none, takes-two, matches_of-two, takes-three, matches_of-three, takes-four, matches_of-four}
 
--- what rows have for these ids, in their order, where each has a value
+-- the values that rows have for these ids, in their order, if each has one
 abbrev values_of : List Row → List Text → Option (List Text)
 values_of rows [] = Some []
 values_of rows (id ∷ ids) = in_front (first_of id rows) (values_of rows ids)
 
--- .. is what is found for them
+-- those are the values found for them
 values_in-rows : (found : Found) (ids : List Text) → values_in found ids ≡ values_of (rows_of found) ids
 values_in-rows found [] = refl
 values_in-rows found (id ∷ ids) = ap₂ in_front (first_value-rows found id) (values_in-rows found ids)
 
--- what is found for ids is what the rows that are found have for them, the words behind the name
+-- the values found for ids are those of the rows that are found, which are the words after the name
 values_in-found : (count : ℕ) (name : Text) (further words ids : List Text) (found : Found) (rows : List Row) → Plain count further → further ≡ words
     → rows_of found ≡ rows → values_of rows ids ≡ Some words → values_in found ids ≡ positionals_of count (name ∷ further)
 values_in-found count name further words ids found rows plain are has values =
     values_in-rows found ids ∙ ap (λ (rows : List Row). values_of rows ids) has ∙ values ∙ ap (λ (words : List Text). Some words) (sym are)
     ∙ sym (positionals_of-plain count name further plain)
 
--- words of which the first is known, and then the others
+-- words of which the first is known, followed by the others
 with_rest : {count : ℕ} {words : List Text} (one : First count words) (rest : List Text) → one.rest ≡ rest → words ≡ one.word ∷ rest
 with_rest one rest is = one.is ∙ ap (λ (rest : List Text). one.word ∷ rest) is
 
@@ -39,6 +39,7 @@ takes-no_positional (name ∷ further) tested =
 
 -- ---- two positionals
 
+-- two words that are no options
 record Two (further : List Text) : Type 0 where
   a : Text
   b : Text
@@ -46,6 +47,7 @@ record Two (further : List Text) : Type 0 where
   plain_a : is_option a ≡ false
   plain_b : is_option b ≡ false
 
+-- two plain words are such
 two_of : (further : List Text) → Plain 2 further → Two further
 two_of further plain =
     let first = first_of_plain 1 further plain in
@@ -59,6 +61,7 @@ two_of further plain =
       plain_b = second.plain;
     }
 
+-- a command with two positionals takes two such words
 pub takes-two_positionals : (words : List Text) → is_some (positionals_of 2 words) ≡ true
     → takes (command_with (name_in words) ids_of_two) words ≡ true
 takes-two_positionals [] tested = cc
@@ -67,6 +70,7 @@ takes-two_positionals (name ∷ further) tested =
     subst (λ (further : List Text). takes (command_with name ids_of_two) (name ∷ further) ≡ true) (sym o.are)
     (takes-two name o.a o.b o.plain_a o.plain_b)
 
+-- it finds them in their order
 pub values_in-two_positionals : (words : List Text) (found : Found) → is_some (positionals_of 2 words) ≡ true
     → rows_of found ≡ matches_of (command_with (name_in words) ids_of_two) words → values_in found ids_of_two ≡ positionals_of 2 words
 values_in-two_positionals [] found tested rows = cc
@@ -79,6 +83,7 @@ values_in-two_positionals (name ∷ further) found tested rows =
 
 -- ---- three positionals
 
+-- three words that are no options
 record Three (further : List Text) : Type 0 where
   a : Text
   b : Text
@@ -88,6 +93,7 @@ record Three (further : List Text) : Type 0 where
   plain_b : is_option b ≡ false
   plain_c : is_option c ≡ false
 
+-- three plain words are such
 three_of : (further : List Text) → Plain 3 further → Three further
 three_of further plain =
     let first = first_of_plain 2 further plain in
@@ -105,6 +111,7 @@ three_of further plain =
       plain_c = third.plain;
     }
 
+-- a command with three positionals takes three such words
 pub takes-three_positionals : (words : List Text) → is_some (positionals_of 3 words) ≡ true
     → takes (command_with (name_in words) ids_of_three) words ≡ true
 takes-three_positionals [] tested = cc
@@ -113,6 +120,7 @@ takes-three_positionals (name ∷ further) tested =
     subst (λ (further : List Text). takes (command_with name ids_of_three) (name ∷ further) ≡ true) (sym o.are)
     (takes-three name o.a o.b o.c o.plain_a o.plain_b o.plain_c)
 
+-- it finds them in their order
 pub values_in-three_positionals : (words : List Text) (found : Found) → is_some (positionals_of 3 words) ≡ true
     → rows_of found ≡ matches_of (command_with (name_in words) ids_of_three) words → values_in found ids_of_three ≡ positionals_of 3 words
 values_in-three_positionals [] found tested rows = cc
@@ -125,6 +133,7 @@ values_in-three_positionals (name ∷ further) found tested rows =
 
 -- ---- four positionals
 
+-- four words that are no options
 record Four (further : List Text) : Type 0 where
   a : Text
   b : Text
@@ -136,6 +145,7 @@ record Four (further : List Text) : Type 0 where
   plain_c : is_option c ≡ false
   plain_d : is_option d ≡ false
 
+-- four plain words are such
 four_of : (further : List Text) → Plain 4 further → Four further
 four_of further plain =
     let first = first_of_plain 3 further plain in
@@ -157,6 +167,7 @@ four_of further plain =
       plain_d = fourth.plain;
     }
 
+-- a command with four positionals takes four such words
 pub takes-four_positionals : (words : List Text) → is_some (positionals_of 4 words) ≡ true
     → takes (command_with (name_in words) ids_of_four) words ≡ true
 takes-four_positionals [] tested = cc
@@ -165,6 +176,7 @@ takes-four_positionals (name ∷ further) tested =
     subst (λ (further : List Text). takes (command_with name ids_of_four) (name ∷ further) ≡ true) (sym o.are)
     (takes-four name o.a o.b o.c o.d o.plain_a o.plain_b o.plain_c o.plain_d)
 
+-- it finds them in their order
 pub values_in-four_positionals : (words : List Text) (found : Found) → is_some (positionals_of 4 words) ≡ true
     → rows_of found ≡ matches_of (command_with (name_in words) ids_of_four) words → values_in found ids_of_four ≡ positionals_of 4 words
 values_in-four_positionals [] found tested rows = cc

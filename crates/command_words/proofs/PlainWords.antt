@@ -9,17 +9,17 @@ use Rattle.clap.specs.Walk.{Held, Names, Rule, Text, Walk, arg_by_index, finishe
 use Rattle.command_words.specs.Positionals.{is_option}
 
 -- .. is not `--`
-not_dashes : (w : Text) → is_option w ≡ false → bytes_eq w (45 ∷ 45 ∷ []) ≡ false
+pub not_dashes : (w : Text) → is_option w ≡ false → bytes_eq w (45 ∷ 45 ∷ []) ≡ false
 not_dashes [] plain = refl
 not_dashes (x ∷ xs) plain = rw plain refl
 
 -- .. is no long option
-long_of-plain : (w : Text) → is_option w ≡ false → long_of w ≡ None
+pub long_of-plain : (w : Text) → is_option w ≡ false → long_of w ≡ None
 long_of-plain [] plain = refl
 long_of-plain (x ∷ xs) plain = rw plain refl
 
 -- .. and no short one
-short_of-plain : (w : Text) → is_option w ≡ false → short_of w ≡ None
+pub short_of-plain : (w : Text) → is_option w ≡ false → short_of w ≡ None
 short_of-plain [] plain = refl
 short_of-plain (x ∷ xs) plain = rw plain refl
 
@@ -32,7 +32,7 @@ abbrev pub given : List Rule → Held → ℕ → Text → Walk
 given rules h position w = to_positional rules (arg_by_index rules position) w (at h position) h
 
 -- a word that is no option goes to it
-walked-plain : (rules : List Rule) (h : Held) (position : ℕ) (w : Text) → is_option w ≡ false
+pub walked-plain : (rules : List Rule) (h : Held) (position : ℕ) (w : Text) → is_option w ≡ false
     → walked rules [] (at h position) w ≡ given rules h position w
 unfolding walked
 walked-plain rules h position w plain = rw (not_dashes w plain, long_of-plain w plain, short_of-plain w plain) refl

@@ -1,14 +1,11 @@
 -- Words of which so many are positionals, one by one.
 use Rattle.std.proofs.Common.{◌≡◌, ◌∙◌, ◌==◌, ◌&&◌, ◌+◌, ◌≤◌, ℕ, Bool, true, false, not, List, [], ◌∷◌}
-use Rattle.std.proofs.Common.{Some, None, is_some, length, map, drop, refl, sym, ap, ap₂, arith, cond}
+use Rattle.std.proofs.Common.{Option, Some, None, is_some, length, map, drop, refl, sym, ap, arith, cond}
 use Rattle.std.proofs.lemmas.Grind.{common_steps}
 use Rattle.std.proofs.lemmas.List.Folds.{list_all-map}
 use Rattle.std.specs.List.{list_all}
 use Rattle.clap.specs.Words.{Text}
-use Rattle.command_words.specs.Positionals.{is_option, positionals_of}
-
-abbrev is_plain : Text → Bool
-is_plain word = not (is_option word)
+use Rattle.command_words.specs.Positionals.{are_plain, is_option, is_plain, positionals_of}
 
 -- so many words that are no option are positionals
 pub positionals_of-is_some : (count : ℕ) (name : Text) (further : List Text)
@@ -66,13 +63,40 @@ pub none_of_plain : (words : List Text) → Plain 0 words → words ≡ []
 none_of_plain [] p = refl
 none_of_plain (w ∷ ws) p = absurd (omega (arith, p.long))
 
--- .. as a test finds them in what stands behind the name
-pub positionals_of-tested : {X : Type 0} (text_of : X → Text) (count : ℕ) (words further : List X) → 1 ≤ length words → further ≡ drop 1 words
-    → length further ≡ count → is_some (positionals_of count (map text_of words)) ≡ list_all (λ word. is_plain (text_of word)) further
-positionals_of-tested text_of count [] further some is long = absurd (omega arith)
-positionals_of-tested text_of count (name ∷ words) further some is long =
-    let behind : length words ≡ count = ap length (sym is) ∙ long in
-    let same : (length (map text_of words) == count) ≡ true = grind (arith, common_steps) in
-    positionals_of-is_some count (text_of name) (map text_of words)
-    ∙ ap₂ (λ (b c : Bool). b && c) same (list_all-map is_plain text_of words)
-    ∙ ap (list_all (λ word. is_plain (text_of word))) (sym is)
+-- of plain words the first is plain, and so are the others
+pub record PlainFirst (word : Text) (words : List Text) : Type 0 where
+  pub plain : is_option word ≡ false
+  pub further : list_all is_plain words ≡ true
+
+pub plain_first : (word : Text) (words : List Text) → list_all is_plain (word ∷ words) ≡ true → PlainFirst word words
+plain_first word words all = go (is_option word) refl all
+  where
+    go : (b : Bool) → is_option word ≡ b → (not b && list_all is_plain words) ≡ true → PlainFirst word words
+    go true is tested = cc
+    go false is tested = record { plain = is; further = tested }
+
+-- so many plain words are positionals
+pub positionals_of-counted : (count : ℕ) (name : Text) (further : List Text) → length further ≡ count → list_all is_plain further ≡ true
+    → is_some (positionals_of count (name ∷ further)) ≡ true
+positionals_of-counted count name further long plain =
+    ap is_some (positionals_of-plain count name further (record { long = long; plain = plain }))
+
+-- words that are positionals are plain
+pub are_plain-positionals : (count : ℕ) (words : List Text) → is_some (positionals_of count words) ≡ true → are_plain words ≡ true
+are_plain-positionals count [] tested = cc
+are_plain-positionals count (name ∷ further) tested = (plain_of count name further tested).plain
+
+-- words that are no positionals are none
+pub positionals_of-none : (count : ℕ) (words : List Text) → (is_some (positionals_of count words) ≡ true → ⊥) → positionals_of count words ≡ None
+positionals_of-none count words never = go (positionals_of count words) never
+  where
+    go : (o : Option (List Text)) → (is_some o ≡ true → ⊥) → o ≡ None
+    go None never = refl
+    go (Some further) never = absurd (never refl)
+
+-- words are plain as a test finds those after the name
+pub are_plain-tested : {X : Type 0} (text_of : X → Text) (words further : List X) → 1 ≤ length words → further ≡ drop 1 words
+    → are_plain (map text_of words) ≡ list_all (λ word. is_plain (text_of word)) further
+are_plain-tested text_of [] further some is = absurd (omega arith)
+are_plain-tested text_of (name ∷ words) further some is =
+    list_all-map is_plain text_of words ∙ ap (list_all (λ word. is_plain (text_of word))) (sym is)

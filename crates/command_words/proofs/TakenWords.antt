@@ -1,4 +1,4 @@
--- What clap finds in words that are no option, where a command has so many positionals.
+-- What clap finds in words that are no options, for a command with a given number of positionals.
 use Rattle.std.proofs.Common.{◌≡◌, true, false, List, [], ◌∷◌, Some, None, codes, refl}
 use Rattle.clap.specs.Simple.{built, matches_of}
 use Rattle.clap.specs.Takes.{takes}
@@ -27,29 +27,29 @@ rows_3 a b c = row (codes "first") a ∷ row (codes "second") b ∷ row (codes "
 abbrev rows_4 : Text → Text → Text → Text → List Row
 rows_4 a b c d = row (codes "first") a ∷ row (codes "second") b ∷ row (codes "third") c ∷ row (codes "fourth") d ∷ []
 
--- what is held when a positional took a word, behind these rows
+-- the state when a positional took a word, after these rows
 abbrev held : List Row → Text → Text → Held
 held rows id word = record { rows = rows; pending = Some (id, word ∷ []); skip = 0 }
 
-abbrev held_1 : Text → Held
+abbrev pub held_1 : Text → Held
 held_1 a = held [] (codes "first") a
 
-abbrev held_2 : Text → Text → Held
+abbrev pub held_2 : Text → Text → Held
 held_2 a b = held (rows_1 a) (codes "second") b
 
-abbrev held_3 : Text → Text → Text → Held
+abbrev pub held_3 : Text → Text → Text → Held
 held_3 a b c = held (rows_2 a b) (codes "third") c
 
-abbrev held_4 : Text → Text → Text → Text → Held
+abbrev pub held_4 : Text → Text → Text → Text → Held
 held_4 a b c d = held (rows_3 a b c) (codes "fourth") d
 
--- no word is taken where there is no positional
+-- without a positional no word is taken
 pub takes-none : (name : Text) → takes (command_with name []) (name ∷ []) ≡ true
 takes-none name =
     let a = command_with name [] in
     takes-walk a (name ∷ []) (walk_from nothing_held) refl refl (walks_end (built a).top (walk_from nothing_held)) refl
 
--- two words go to two positionals
+-- two positionals get two words
 walks_two : (name a b : Text) → is_option a ≡ false → is_option b ≡ false
     → Walks (built (command_with name ids_of_two)).top (walk_from nothing_held) (a ∷ b ∷ []) (at (held_2 a b) 3)
 walks_two name a b plain_a plain_b =
@@ -59,19 +59,19 @@ walks_two name a b plain_a plain_b =
     (walks_more shape (held_1 a) (held_2 a b) 2 3 b [] end plain_b refl refl
     (walks_end shape end))
 
--- .. which are taken
+-- the two words are taken
 pub takes-two : (name a b : Text) → is_option a ≡ false → is_option b ≡ false
     → takes (command_with name ids_of_two) (name ∷ a ∷ b ∷ []) ≡ true
 takes-two name a b plain_a plain_b =
     takes-walk (command_with name ids_of_two) (name ∷ a ∷ b ∷ []) (at (held_2 a b) 3) refl refl (walks_two name a b plain_a plain_b) refl
 
--- .. and found, in their order
+-- the two words are found, in their order
 pub matches_of-two : (name a b : Text) → is_option a ≡ false → is_option b ≡ false
     → matches_of (command_with name ids_of_two) (name ∷ a ∷ b ∷ []) ≡ rows_2 a b
 matches_of-two name a b plain_a plain_b =
     matches_of-walk (command_with name ids_of_two) (name ∷ a ∷ b ∷ []) (at (held_2 a b) 3) refl (walks_two name a b plain_a plain_b)
 
--- three words go to three positionals
+-- three positionals get three words
 walks_three : (name a b c : Text) → is_option a ≡ false → is_option b ≡ false → is_option c ≡ false
     → Walks (built (command_with name ids_of_three)).top (walk_from nothing_held) (a ∷ b ∷ c ∷ []) (at (held_3 a b c) 4)
 walks_three name a b c plain_a plain_b plain_c =
@@ -82,21 +82,21 @@ walks_three name a b c plain_a plain_b plain_c =
     (walks_more shape (held_2 a b) (held_3 a b c) 3 4 c [] end plain_c refl refl
     (walks_end shape end)))
 
--- .. which are taken
+-- the three words are taken
 pub takes-three : (name a b c : Text) → is_option a ≡ false → is_option b ≡ false → is_option c ≡ false
     → takes (command_with name ids_of_three) (name ∷ a ∷ b ∷ c ∷ []) ≡ true
 takes-three name a b c plain_a plain_b plain_c =
     takes-walk (command_with name ids_of_three) (name ∷ a ∷ b ∷ c ∷ []) (at (held_3 a b c) 4) refl refl
     (walks_three name a b c plain_a plain_b plain_c) refl
 
--- .. and found, in their order
+-- the three words are found, in their order
 pub matches_of-three : (name a b c : Text) → is_option a ≡ false → is_option b ≡ false → is_option c ≡ false
     → matches_of (command_with name ids_of_three) (name ∷ a ∷ b ∷ c ∷ []) ≡ rows_3 a b c
 matches_of-three name a b c plain_a plain_b plain_c =
     matches_of-walk (command_with name ids_of_three) (name ∷ a ∷ b ∷ c ∷ []) (at (held_3 a b c) 4) refl
     (walks_three name a b c plain_a plain_b plain_c)
 
--- four words go to four positionals
+-- four positionals get four words
 walks_four : (name a b c d : Text) → is_option a ≡ false → is_option b ≡ false → is_option c ≡ false → is_option d ≡ false
     → Walks (built (command_with name ids_of_four)).top (walk_from nothing_held) (a ∷ b ∷ c ∷ d ∷ []) (at (held_4 a b c d) 5)
 walks_four name a b c d plain_a plain_b plain_c plain_d =
@@ -108,14 +108,14 @@ walks_four name a b c d plain_a plain_b plain_c plain_d =
     (walks_more shape (held_3 a b c) (held_4 a b c d) 4 5 d [] end plain_d refl refl
     (walks_end shape end))))
 
--- .. which are taken
+-- the four words are taken
 pub takes-four : (name a b c d : Text) → is_option a ≡ false → is_option b ≡ false → is_option c ≡ false → is_option d ≡ false
     → takes (command_with name ids_of_four) (name ∷ a ∷ b ∷ c ∷ d ∷ []) ≡ true
 takes-four name a b c d plain_a plain_b plain_c plain_d =
     takes-walk (command_with name ids_of_four) (name ∷ a ∷ b ∷ c ∷ d ∷ []) (at (held_4 a b c d) 5) refl refl
     (walks_four name a b c d plain_a plain_b plain_c plain_d) refl
 
--- .. and found, in their order
+-- the four words are found, in their order
 pub matches_of-four : (name a b c d : Text) → is_option a ≡ false → is_option b ≡ false → is_option c ≡ false → is_option d ≡ false
     → matches_of (command_with name ids_of_four) (name ∷ a ∷ b ∷ c ∷ d ∷ []) ≡ rows_4 a b c d
 matches_of-four name a b c d plain_a plain_b plain_c plain_d =

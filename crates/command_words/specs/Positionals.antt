@@ -7,8 +7,17 @@ abbrev pub is_option : List ℕ → Bool
 is_option [] = false
 is_option (byte ∷ rest) = byte == 45
 
--- the words behind the first, where they are so many and none of them is an option
+-- .. and every other word is plain
+abbrev pub is_plain : List ℕ → Bool
+is_plain word = not (is_option word)
+
+-- so is each word after the first, which is the name of a command
+abbrev pub are_plain : List (List ℕ) → Bool
+are_plain [] = false
+are_plain (name ∷ further) = list_all is_plain further
+
+-- the words after the first, where they are so many and none of them is an option
 abbrev pub positionals_of : ℕ → List (List ℕ) → Option (List (List ℕ))
 positionals_of count [] = None
 positionals_of count (name ∷ further) =
-    if length further == count && list_all (λ word. not (is_option word)) further then Some further else None
+    if length further == count && list_all is_plain further then Some further else None

@@ -1,4 +1,6 @@
-//! The words behind a command's name, read by clap as its required positionals.
+//! The words after a command's name, read by clap as its required positionals.
+//!
+//! Tests: `text_tests::words`.
 #![tactic(auto)]
 
 mod parsing;

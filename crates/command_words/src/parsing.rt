@@ -1,27 +1,40 @@
-ghost use Rattle.std.specs.Prelude.{◌≡◌, ◌<◌, map, length, true, IfOk, IfErr};
+ghost use Rattle.std.specs.Prelude.{◌≡◌, map, IfOk, IfErr};
+ghost use Rattle.std.specs.List.{list_all};
 ghost use Rattle.std.specs.String.{string_bytes};
-ghost use Rattle.clap.specs.Words.{app_of, found_of, matches_of, rows_of, takes};
+ghost use Rattle.clap.specs.Words.{app_of};
 ghost use Rattle.command_words.specs.Parsing as spec;
+ghost use Rattle.command_words.specs.Positionals.{are_plain, is_plain};
+ghost use Rattle.command_words.specs.Positionals as words_spec;
 
+use clap::error::ErrorKind;
 use clap::{Arg, ArgMatches, Command, Error};
 use std::alloc::{AllocError, Global};
 
-/// What clap finds in the words of a command that has positionals of these ids.
+/// What clap finds in the words of a command that has positionals of these ids, if it takes the words and none of those after
+/// the name begins with a hyphen. clap by itself takes `-` for a word, passes over `--`, and answers `--help`.
 pub fn parse<'a>(
     alloc: Global,
     words: &'a [String],
     ids: &[&'a str],
-) -> Result<ArgMatches<'a>, Error>
-    requires named { 0 < length words.now }
-    requires taken { takes (spec.command_with (spec.name_in (map string_bytes words.now)) (map (λ id. id.now) ids.now))
-        (map string_bytes words.now) ≡ true }
-    ensures rows { IfOk result (λ matches. rows_of (found_of matches)
-        ≡ matches_of (spec.command_with (spec.name_in (map string_bytes words.entry.now)) (map (λ id. id.now) ids.now))
+) -> Result<Option<ArgMatches<'a>>, Error>
+    ensures found { IfOk result (spec.Finds (spec.command_with (spec.name_in (map string_bytes words.entry.now)) (map (λ id. id.now) ids.now))
         (map string_bytes words.entry.now)) }
     ensures memory { IfErr result spec.IsWantOfMemory }
 {
-    let command = command_with(alloc, words[0].as_str(), ids)?;
-    command.try_get_matches_from(words)
+    let Some(name) = words.first() else {
+        return Ok(None);
+    };
+    if !are_plain(words) {
+        return Ok(None);
+    }
+    let command = command_with(alloc, name.as_str(), ids)?;
+    match command.try_get_matches_from(words) {
+        Ok(matches) => Ok(Some(matches)),
+        Err(error) => match error.kind() {
+            ErrorKind::OutOfMemory => Err(error),
+            _ => Ok(None),
+        },
+    }
 }
 
 /// The command of a name, with required positionals of these ids.
@@ -37,4 +50,31 @@ fn command_with<'a>(
         command = command.arg(Arg::new(alloc, id).required(true))?;
     }
     Ok(command)
+}
+
+/// Whether there is a name, and no word after it begins with a hyphen.
+fn are_plain(words: &[String]) -> bool
+    ensures value { result ≡ are_plain (map string_bytes words.now) }
+{
+    match words {
+        [] => false,
+        [_, further @ ..] => have_no_option(further),
+    }
+}
+
+/// Whether none of the words begins with a hyphen.
+fn have_no_option(words: &[String]) -> bool
+    ensures value { result ≡ list_all (λ word. is_plain (string_bytes word)) words.now }
+{
+    words.iter().all(|word| !is_option(word))
+}
+
+/// Whether a word begins with a hyphen.
+fn is_option(word: &str) -> bool
+    ensures value { result ≡ words_spec.is_option word.now }
+{
+    match word.as_bytes().first() {
+        Some(byte) => *byte == b'-',
+        None => false,
+    }
 }

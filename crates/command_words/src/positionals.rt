@@ -1,5 +1,4 @@
-ghost use Rattle.std.specs.Prelude.{◌≡◌, [], ◌∷◌, map, option_map, is_some, not, IfOk, IfErr};
-ghost use Rattle.std.specs.List.{list_all};
+ghost use Rattle.std.specs.Prelude.{◌≡◌, [], ◌∷◌, map, option_map, is_some, IfOk, IfErr};
 ghost use Rattle.std.specs.String.{string_bytes};
 ghost use Rattle.clap.specs.Words.{found_of};
 ghost use Rattle.command_words.specs.Parsing.{IsWantOfMemory, values_in, ids_of_two, ids_of_three, ids_of_four};
@@ -9,19 +8,15 @@ use crate::parsing::parse;
 use clap::{ArgMatches, Error};
 use std::alloc::Global;
 
-/// Whether no word stands behind the name of a command.
+/// Whether no word follows the name of a command.
 pub fn no_positionals(alloc: Global, words: &[String]) -> Result<bool, Error>
     ensures value { IfOk result (λ found. found ≡ is_some (spec.positionals_of 0 (map string_bytes words.now))) }
     ensures memory { IfErr result IsWantOfMemory }
 {
-    if !are_positionals(0, words) {
-        return Ok(false);
-    }
-    let _ = parse(alloc, words, &[])?;
-    Ok(true)
+    Ok(parse(alloc, words, &[])?.is_some())
 }
 
-/// The two words behind the name of a command that has two positionals.
+/// The two words after the name of a command, if these are all, and none begins with a hyphen.
 pub fn two_positionals<'a>(
     alloc: Global,
     words: &'a [String],
@@ -30,14 +25,13 @@ pub fn two_positionals<'a>(
         ≡ spec.positionals_of 2 (map string_bytes words.entry.now)) }
     ensures memory { IfErr result IsWantOfMemory }
 {
-    if !are_positionals(2, words) {
-        return Ok(None);
+    match parse(alloc, words, &["first", "second"])? {
+        Some(matches) => Ok(two_in(&matches)),
+        None => Ok(None),
     }
-    let matches = parse(alloc, words, &["first", "second"])?;
-    Ok(two_in(&matches))
 }
 
-/// The three words behind the name of a command that has three positionals.
+/// The three words after the name of a command, if these are all, and none begins with a hyphen.
 pub fn three_positionals<'a>(
     alloc: Global,
     words: &'a [String],
@@ -46,14 +40,13 @@ pub fn three_positionals<'a>(
         ≡ spec.positionals_of 3 (map string_bytes words.entry.now)) }
     ensures memory { IfErr result IsWantOfMemory }
 {
-    if !are_positionals(3, words) {
-        return Ok(None);
+    match parse(alloc, words, &["first", "second", "third"])? {
+        Some(matches) => Ok(three_in(&matches)),
+        None => Ok(None),
     }
-    let matches = parse(alloc, words, &["first", "second", "third"])?;
-    Ok(three_in(&matches))
 }
 
-/// The four words behind the name of a command that has four positionals.
+/// The four words after the name of a command, if these are all, and none begins with a hyphen.
 pub fn four_positionals<'a>(
     alloc: Global,
     words: &'a [String],
@@ -62,37 +55,9 @@ pub fn four_positionals<'a>(
         ≡ spec.positionals_of 4 (map string_bytes words.entry.now)) }
     ensures memory { IfErr result IsWantOfMemory }
 {
-    if !are_positionals(4, words) {
-        return Ok(None);
-    }
-    let matches = parse(alloc, words, &["first", "second", "third", "fourth"])?;
-    Ok(four_in(&matches))
-}
-
-/// Whether so many words stand behind the name of a command, and none of them begins with a hyphen.
-fn are_positionals(count: usize, words: &[String]) -> bool
-    ensures value { result ≡ is_some (spec.positionals_of count (map string_bytes words.now)) }
-{
-    match words {
-        [] => false,
-        [_, further @ ..] => further.len() == count && has_no_option(further),
-    }
-}
-
-/// Whether none of the words begins with a hyphen.
-fn has_no_option(words: &[String]) -> bool
-    ensures value { result ≡ list_all (λ word. not (spec.is_option (string_bytes word))) words.now }
-{
-    words.iter().all(|word| !is_option(word))
-}
-
-/// Whether a word begins with a hyphen.
-fn is_option(word: &str) -> bool
-    ensures value { result ≡ spec.is_option word.now }
-{
-    match word.as_bytes().first() {
-        Some(byte) => *byte == b'-',
-        None => false,
+    match parse(alloc, words, &["first", "second", "third", "fourth"])? {
+        Some(matches) => Ok(four_in(&matches)),
+        None => Ok(None),
     }
 }
 

@@ -34,9 +34,11 @@ COMMAND  init                           makes an empty journal
          show percent UNIT QUARTER DAY  shows the percent leaking in a quarter
          show report UNIT HALF DAY      shows the semiannual report
          file UNIT HALF DAY             files that report in JOURNAL.filed
+         amended UNIT HALF FROM TO      shows what differs between two filed revisions
          check                          prints the number of batches and facts
 
-UNIT is 0 to 255, DAY is like 2024-02-29. QUARTER and HALF count from 1, the unit's first.
+UNIT is 0 to 255, DAY is like 2024-02-29. QUARTER and HALF count from 1, the unit's first;
+the revisions FROM and TO count from 1 too.
 An import numbers its batches from NUMBER. No word of a command may begin with a hyphen.
 
 STATUS   0  done                        7  not a journal, or damaged, or it breaks a rule
@@ -100,7 +102,7 @@ fn office(rt: &HostRuntime, words: &[String]) -> u8 {
 }
 
 /// Runs a command over the journal at a path. Filed reports are in a file beside it, at its path with `.filed` added. That file is
-/// made when a report is first asked for, so only by `file`.
+/// made when a report is first filed; `amended` asks for reports and makes none.
 fn at_path(rt: &HostRuntime, words: &[String], path: &str) -> u8 {
     let Ok(filed) = format!(in rt.alloc(); "{path}.filed") else {
         return Status::Memory.number();

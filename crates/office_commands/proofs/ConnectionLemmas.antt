@@ -1,4 +1,4 @@
--- Docking over an opened journal: the run from the history that was opened, and what a crash at any moment leaves of it.
+-- Serving a connection over an opened journal: the run from the opened history, and what a crash at any moment leaves of it.
 use Rattle.std.proofs.Common.{◌≡◌, ◌⊎◌, inl, inr, ℕ, ◌≤◌, Option, Some, None, List, []}
 use Rattle.std.proofs.Common.{◌∷◌, ◌++◌, length, take, drop, IsTrue, MatchOption, refl, sym, ◌∙◌, ap, subst, arith}
 use Rattle.std.specs.List.{AllByRecursion}

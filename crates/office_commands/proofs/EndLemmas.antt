@@ -2,17 +2,13 @@
 use Rattle.std.proofs.Common.{◌≡◌, ◌<◌, ℕ, Option, Some, length, List, [], ◌∷◌, ◌++◌, IsTrue, refl, sym, ◌∙◌, subst}
 use Rattle.disk_model.specs.Told.{BothTold, Told}
 use Rattle.disk_model.proofs.ToldLemmas.{BothTold-weaker, Told-weaker}
-use Rattle.fact_kinds.specs.declared.batch.Batch.{Batch}
-use Rattle.fact_kinds.specs.Facts.{facts_to}
 use Rattle.ldar_journal.specs.Crash.{LeavesOnly, OnDisk}
 use Rattle.ldar_journal.specs.Image.{header, batches_of, Opens, OpensTo}
 use Rattle.ldar_journal.specs.Opening.{IsOpened as HasFrames}
 use Rattle.ldar_journal.specs.Shelf.{Shelf}
 use Rattle.ldar_journal.proofs.CrashLemmas.{OnDisk-weaker}
 use Rattle.ldar_journal.proofs.CreationLemmas.{empty_opens}
-use Rattle.ldar_law.specs.declared.reply.Reply.{Reply}
 use Rattle.ldar_law.specs.Verdicts.{is_ruly}
-use Rattle.office_views.specs.Answers.{report_asked}
 use Rattle.office_book.specs.declared.opening.BookWhy.{BookWhy}
 use Rattle.office_book.specs.declared.opening.BookWhy.TheVariants as reasons
 use Rattle.office_book.specs.Opened.{IsNoBook}
@@ -20,8 +16,8 @@ use Rattle.ldar_session.specs.declared.ended.Ended.{Ended}
 use Rattle.ldar_session.specs.declared.ended.Ended.TheVariants as ends
 use Rattle.office_commands.specs.declared.status.Status.{Status}
 use Rattle.office_commands.specs.declared.status.Status.TheVariants.{Done, NotEmpty}
-use Rattle.office_commands.specs.Filing.{AskedEnds}
-use Rattle.office_commands.specs.Run.{IsNotOpened, IsMade, IsShown, IsFiled, InitEnds, ShowsEnds}
+use Rattle.office_commands.specs.declared.command.Question.{Question}
+use Rattle.office_commands.specs.Run.{Answers, IsAnswered, IsMade, IsNotOpened, InitEnds}
 use Rattle.office_commands.specs.Scene.{Streams, LeavesAlone, MayLeave, seen}
 use Rattle.office_commands.specs.Statuses.{HasCause, refusal_of, status_of}
 use Rattle.office_commands.proofs.ConnectionLemmas.{opens_history, opened_stays}
@@ -88,13 +84,13 @@ module _ {D : Type 0} (content_of : D → Option (List ℕ)) (images_of : D → 
       (sym same)
       (record { unchanged = opened_stays (content_of old) (content_of start.disk) start.frames opened; leaves = record { since = leaves.since } })
 
-  -- the report of such a journal was filed
-  pub is_filed : (unit half day : ℕ) (status : Status) (at at' : Streams) (old new : D) (start : Shelf D)
+  -- a question of such a journal was answered
+  pub is_answered : (question : Question) (status : Status) (at at' : Streams) (old new : D) (start : Shelf D)
       → HasFrames (content_of old) (content_of start.disk) start.frames → IsTrue (is_ruly (batches_of start.frames))
       → LeavesOnly clock_of left_of old start.disk (images_of old) → new ≡ start.disk → at'.unread ≡ at.unread
-      → AskedEnds (report_asked unit half day (facts_to day (batches_of start.frames))) status at.filed at'.filed at.pieces at'.pieces
-      → IsFiled unit half day status at at' (seen content_of images_of left_of clock_of faults_of old) (seen content_of images_of left_of clock_of faults_of new)
-  is_filed unit half day status at at' old new start opened ruly leaves same unread ends = record {
+      → Answers question (batches_of start.frames) status at.filed at'.filed at.pieces at'.pieces
+      → IsAnswered question status at at' (seen content_of images_of left_of clock_of faults_of old) (seen content_of images_of left_of clock_of faults_of new)
+  is_answered question status at at' old new start opened ruly leaves same unread ends = record {
     history = batches_of start.frames;
     opened = record { opens = opens_history (content_of old) (content_of start.disk) start.frames opened; ruly = ruly };
     unread = unread;
@@ -117,20 +113,6 @@ module _ {D : Type 0} (content_of : D → Option (List ℕ)) (images_of : D → 
         (λ (bytes : List ℕ). 0 < length bytes → MayLeave (seen content_of images_of left_of clock_of faults_of old)
         (seen content_of images_of left_of clock_of faults_of new) (images_of old))
         (λ bytes leaves some. record { since = (leaves some).since }) (content_of old) others;
-  }
-
-  -- something of it was shown
-  pub is_shown : (shown_of : List Batch → Option Reply) (status : Status) (at at' : Streams) (old new : D) (start : Shelf D)
-      → HasFrames (content_of old) (content_of start.disk) start.frames → IsTrue (is_ruly (batches_of start.frames))
-      → LeavesOnly clock_of left_of old start.disk (images_of old) → new ≡ start.disk → at'.unread ≡ at.unread
-      → ShowsEnds (shown_of (batches_of start.frames)) status at.pieces at'.pieces
-      → IsShown shown_of status at at' (seen content_of images_of left_of clock_of faults_of old) (seen content_of images_of left_of clock_of faults_of new)
-  is_shown shown_of status at at' old new start opened ruly leaves same unread ends = record {
-    history = batches_of start.frames;
-    opened = record { opens = opens_history (content_of old) (content_of start.disk) start.frames opened; ruly = ruly };
-    unread = unread;
-    ends = ends;
-    alone = handed_back old new start opened leaves same;
   }
 
 -- an image that opens to no frames opens to no history

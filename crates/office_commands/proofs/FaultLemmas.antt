@@ -1,4 +1,4 @@
--- In a run of the machine a turn is answered a fault only where the disk's count of faults rose.
+-- In a run of the machine, a reply is a disk error only if the disk's count of errors rose.
 use Rattle.std.proofs.Common.{◌≡◌, ◌⊎◌, inl, inr, ℕ, ◌≤◌, List, [], ◌∷◌, ◌++◌, sym, ◌∙◌, arith}
 use Rattle.std.specs.List.{AllByRecursion}
 use Rattle.std.proofs.Math.Nat.{eq-or-lt_of_le}

@@ -1,4 +1,4 @@
--- How the filing of a report ends, by what was put on file and said.
+-- The end of filing a report, from what was filed and written.
 use Rattle.std.proofs.Common.{◌≡◌, ◌⊎◌, inl, inr, ℕ, Option, List, [], ◌∷◌, ◌++◌, subst, sym}
 use Rattle.disk_model.specs.Told.{Told, BothTold}
 use Rattle.ldar_law.specs.declared.report.Filed.{Filed}

@@ -1,4 +1,4 @@
--- What an import reads and sends: no item of its own, and which of its statuses tell which faults.
+-- What an import reads and sends: it has no items of its own; and which of its statuses report which errors.
 use Rattle.std.proofs.Common.{◌≡◌, inl, inr, ℕ, Option, List, [], ◌∷◌, ◌++◌, refl, sym, ap, subst, ◌∙◌}
 use Rattle.std.specs.List.{AllByRecursion}
 use Rattle.disk_model.specs.Faults.{Rose}

@@ -1,4 +1,4 @@
--- A run of the machine keeps its history ruly, and the batches in doubt behind it.
+-- A run of the machine keeps its history ruly, with the batches in doubt too.
 use Rattle.std.proofs.Common.{◌≡◌, inl, inr, ℕ, Bool, true, false, if◌then◌else◌, IsTrue, Option, Some}
 use Rattle.std.proofs.Common.{None, List, [], ◌∷◌, ◌++◌, refl, sym, ◌∙◌, ap, subst, append_assoc}
 use Rattle.std.proofs.lemmas.Bool.{and_parts, and_from}

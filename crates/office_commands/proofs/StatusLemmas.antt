@@ -6,6 +6,7 @@ use Rattle.office_commands.specs.declared.status.Status.{Status}
 use Rattle.office_commands.specs.declared.status.Status.TheVariants.{Done, Usage, ReadFault, WriteFault, DiskFault, Memory}
 use Rattle.office_commands.specs.declared.status.Status.TheVariants.{NotAJournal, Damaged, Unruly, CutShort, BadInput, TooLarge, NotEmpty}
 use Rattle.office_commands.specs.declared.status.Status.TheVariants.{BadRow, Conflict, Denied, Full, NoSuch, FilingFault, SameReport, NoRevisionLeft}
+use Rattle.office_commands.specs.declared.status.Status.TheVariants.{NoSuchRevision, NoSuchPosition, Stranger}
 use Rattle.office_commands.specs.Statuses.{status_number, number_unnoted, IsNoted}
 
 -- the status that reports a fault by this number; any other for a number that reports none
@@ -36,6 +37,9 @@ numbered (NoSuch what) = refl
 numbered FilingFault = refl
 numbered (SameReport revision) = refl
 numbered NoRevisionLeft = refl
+numbered (NoSuchRevision revision) = refl
+numbered (NoSuchPosition position) = refl
+numbered (Stranger place) = refl
 
 -- an exit status other than 4 is the number of the status, or is 0 or 6
 exit_told : (status : Status) (old new : Option (List Piece)) (before after exit : ℕ) → IsNoted status old new before after exit

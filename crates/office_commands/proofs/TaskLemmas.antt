@@ -1,5 +1,5 @@
 -- What a task does in an opened office, as what it does to the disk of the journal.
-use Rattle.std.proofs.Common.{◌≡◌, ◌≤◌, ◌∙◌, ℕ, Option, Some, List, [], IsTrue, refl, ap, subst, sym, arith}
+use Rattle.std.proofs.Common.{◌≡◌, ◌≤◌, ◌∙◌, ℕ, Option, List, [], IsTrue, refl, ap, subst, sym, arith}
 use Rattle.disk_model.specs.Images.{Only}
 use Rattle.disk_model.specs.Keeps.{Keeps}
 use Rattle.disk_model.specs.Told.{Told}
@@ -7,9 +7,7 @@ use Rattle.ldar_journal.specs.Crash.{LeavesOnly, OnDisk}
 use Rattle.ldar_journal.specs.Image.{batches_of}
 use Rattle.ldar_journal.specs.Opening.{IsOpened}
 use Rattle.ldar_journal.specs.Shelf.{Shelf}
-use Rattle.ldar_law.specs.declared.reply.Reply.TheVariants.{Shown}
 use Rattle.ldar_law.specs.Machine.{Call}
-use Rattle.ldar_law.specs.Shown.{shown}
 use Rattle.ldar_law.specs.Verdicts.{is_ruly}
 use Rattle.office_book.specs.Safe.{Leads, StandsIn, state_of}
 use Rattle.ldar_session.specs.Batches.{IsBatch}
@@ -18,15 +16,15 @@ use Rattle.ldar_session.specs.Requests.{HasItsAnswer}
 use Rattle.ldar_session.specs.Session.{Ends as EndsRequests}
 use Rattle.office_commands.specs.declared.command.Command.{Command}
 use Rattle.office_commands.specs.declared.command.Task.{Task}
-use Rattle.office_commands.specs.declared.command.Task.TheVariants.{Dock, Drain, Import, Show, File, Check}
+use Rattle.office_commands.specs.declared.command.Task.TheVariants.{Dock, Drain, Import, Ask}
 use Rattle.office_commands.specs.declared.status.Status.{Status}
 use Rattle.office_commands.specs.Imports.{EndsImport}
-use Rattle.office_commands.specs.Run.{Ends, TaskEnds, check_text}
+use Rattle.office_commands.specs.Run.{Ends, TaskEnds}
 use Rattle.office_commands.specs.Scene.{SeenDisk, Streams, seen}
 use Rattle.office_commands.specs.Sending.{IsSent}
 use Rattle.office_commands.specs.Tasks.{Does}
 use Rattle.office_commands.proofs.ConnectionLemmas.{run_keeps_disk, served_by}
-use Rattle.office_commands.proofs.EndLemmas.{is_filed, is_shown}
+use Rattle.office_commands.proofs.EndLemmas.{is_answered}
 
 -- words that are the command end as it does
 pub ends_for : (command other : Option Command) (status : Status) (at at' : Streams) (disk disk' : SeenDisk) → command ≡ other
@@ -64,14 +62,8 @@ module _ {D : Type 0} (content_of : D → Option (List ℕ)) (images_of : D → 
   task_ends (Import number sort) status old new start end at at' opened settled ruly entry only keeps does same stands =
       served_by content_of images_of left_of clock_of name_of faults_of only_now since_earlier IsSent
       (EndsImport sort number (at.output_faults, at'.output_faults)) old new start end status at at' opened settled ruly entry only keeps does same stands
-  task_ends (Show request) status old new start end at at' opened settled ruly entry only keeps does same stands =
-      is_shown content_of images_of left_of clock_of faults_of (λ history. shown history request) status at at' old new start opened ruly entry
-      (same ∙ ap (λ (s : Shelf D). s.disk) does.0) does.1 does.2
-  task_ends (File unit half day) status old new start end at at' opened settled ruly entry only keeps does same stands =
-      is_filed content_of images_of left_of clock_of faults_of unit half day status at at' old new start opened ruly entry
-      (same ∙ ap (λ (s : Shelf D). s.disk) does.0) does.1 does.2
-  task_ends Check status old new start end at at' opened settled ruly entry only keeps does same stands =
-      is_shown content_of images_of left_of clock_of faults_of (λ history. Some (Shown (check_text history))) status at at' old new start opened ruly entry
+  task_ends (Ask question) status old new start end at at' opened settled ruly entry only keeps does same stands =
+      is_answered content_of images_of left_of clock_of faults_of question status at at' old new start opened ruly entry
       (same ∙ ap (λ (s : Shelf D). s.disk) does.0) does.1 does.2
 
   -- an office that stays keeps its disk
@@ -89,9 +81,7 @@ module _ {D : Type 0} (content_of : D → Option (List ℕ)) (images_of : D → 
       run_keeps_disk content_of images_of left_of clock_of name_of faults_of only_now since_earlier start end does.2.4.stretch.calls does.2.4.stretch.run
   task_keeps (Import number sort) status start end at at' does =
       run_keeps_disk content_of images_of left_of clock_of name_of faults_of only_now since_earlier start end does.4.stretch.calls does.4.stretch.run
-  task_keeps (Show request) status start end at at' does = stays_keeps start end does.0
-  task_keeps (File unit half day) status start end at at' does = stays_keeps start end does.0
-  task_keeps Check status start end at at' does = stays_keeps start end does.0
+  task_keeps (Ask question) status start end at at' does = stays_keeps start end does.0
 
   -- .. and so does opening the journal, the task, and handing the disk back
   pub keeps_along : (old new : D) (start end : Shelf D) → Keeps clock_of name_of faults_of old start.disk

@@ -1,61 +1,77 @@
 -- The words that are commands.
-use Rattle.std.specs.Prelude.{◌≤◌, ℕ, nat_eq, Bool, Option, Some, None, List, [], ◌∷◌, codes, option_map, if◌then◌else◌}
+use Rattle.std.specs.Prelude.{◌≤◌, ℕ, nat_eq, Bool, true, false, not, Option, Some, None, List, [], ◌∷◌, codes, option_map, if◌then◌else◌}
 use Rattle.std.specs.Cmp.Lexicographic.{pointwise}
+use Rattle.std.specs.List.{list_all}
+use Rattle.command_words.specs.Positionals.{is_option}
 use Rattle.ldar_days.specs.Texts.{day_of}
 use Rattle.ldar_law.specs.declared.request.Request.{Request}
 use Rattle.ldar_law.specs.declared.request.Request.TheVariants.{Due, Tags, Delays, Route, Percent, Report}
 use Rattle.handheld_http.specs.Requests.{decimal_in}
 use Rattle.office_views.specs.Answers.{IsView}
 use Rattle.office_commands.specs.declared.command.Command.{Command}
-use Rattle.office_commands.specs.declared.command.Command.TheVariants.{Init, Office}
+use Rattle.office_commands.specs.declared.command.Command.TheVariants.{Init, Amended, Office}
+use Rattle.office_commands.specs.declared.command.RevisionPair.{RevisionPair}
 use Rattle.office_commands.specs.declared.command.Task.{Task}
-use Rattle.office_commands.specs.declared.command.Task.TheVariants.{Dock, Drain, Import, Show, File, Check}
+use Rattle.office_commands.specs.declared.command.Task.TheVariants.{Dock, Drain, Import, Ask}
+use Rattle.office_commands.specs.declared.command.Question.{Question}
+use Rattle.office_commands.specs.declared.command.Question.TheVariants.{Show, File, Check}
 use Rattle.office_commands.specs.declared.command.Sort.{Sort}
 use Rattle.office_commands.specs.declared.command.Sort.TheVariants.{Units, Components}
 use Rattle.register_import.specs.declared.limits.TheConstants.{LAST_NUMBER}
+use Rattle.report_filing.specs.declared.file.TheConstants.{LAST_REVISION}
 
--- a task that shows something shows a view, and the batches of an import can be numbered
+-- a question that shows something shows a view
+abbrev pub IsQuestionInRange : Question → Type 0
+IsQuestionInRange (Show request) = IsView request
+IsQuestionInRange _ = Unit {0}
+
+-- .. and the batches of an import can be numbered
 abbrev pub IsTaskInRange : Task → Type 0
 IsTaskInRange (Import number sort) = number ≤ LAST_NUMBER
-IsTaskInRange (Show request) = IsView request
+IsTaskInRange (Ask question) = IsQuestionInRange question
 IsTaskInRange _ = Unit {0}
 
 abbrev pub IsInRange : Command → Type 0
 IsInRange Init = Unit {0}
+IsInRange (Amended pair) = Unit {0}
 IsInRange (Office task) = IsTaskInRange task
+
+-- the command that is a question
+abbrev pub asking : Question → Command
+asking question = Office (Ask question)
 
 -- a word is just this text
 abbrev pub is_word : List ℕ → List ℕ → Bool
 is_word word text = pointwise nat_eq word text
 
--- the command of one word
+-- the command with one word
 abbrev pub alone : List ℕ → Option Command
 alone word =
     if is_word word (codes "init") then Some Init
     else if is_word word (codes "dock") then Some (Office Dock)
     else if is_word word (codes "drain") then Some (Office Drain)
-    else if is_word word (codes "check") then Some (Office Check)
+    else if is_word word (codes "check") then Some (asking Check)
     else None
 
--- what a file of the register lists, by its word
+-- what a file of the register lists, from its word
 abbrev pub sort_named : List ℕ → Option Sort
 sort_named word =
     if is_word word (codes "units") then Some Units
     else if is_word word (codes "components") then Some Components
     else None
 
--- the command that takes a file of this sort, as batches from NUMBER on
+-- the command that imports a file of this kind, as batches from NUMBER on
 unfoldable pub import_of : List ℕ → List ℕ → Option Command
 import_of number sort = elim (decimal_in LAST_NUMBER number) [
   | None ↦ None
   | Some number ↦ elim (sort_named sort) [ None ↦ None | Some sort ↦ Some (Office (Import number sort)) ]
 ]
 
--- .. if this is its word
+-- the command that imports a file, if this is its word
 abbrev pub importing : List ℕ → List ℕ → List ℕ → Option Command
 importing word number sort = if is_word word (codes "import") then import_of number sort else None
 
--- a view of a process unit on a day, by its name
+-- a view of a process unit on a day, from its name
 abbrev pub view_named : List ℕ → ℕ → ℕ → Option Request
 view_named name unit day =
     if is_word name (codes "due") then Some (Due unit day)
@@ -63,14 +79,14 @@ view_named name unit day =
     else if is_word name (codes "delays") then Some (Delays unit day)
     else None
 
--- the view that a name, UNIT and DAY are
+-- the view with a name, UNIT and DAY
 unfoldable pub view_on : List ℕ → List ℕ → List ℕ → Option Request
 view_on name unit day = elim (decimal_in 255 unit) [
   | None ↦ None
   | Some unit ↦ elim (day_of day) [ None ↦ None | Some day ↦ view_named name unit day ]
 ]
 
--- the route that UNIT, DAY and STOPS are
+-- the route with UNIT, DAY and STOPS
 unfoldable pub route_on : List ℕ → List ℕ → List ℕ → Option Request
 route_on unit day stops = elim (decimal_in 255 unit) [
   | None ↦ None
@@ -80,14 +96,14 @@ route_on unit day stops = elim (decimal_in 255 unit) [
   ]
 ]
 
--- a view of a quarter or a half, by its name
+-- a view of a quarter or a half, from its name
 abbrev pub numbered_view : List ℕ → ℕ → ℕ → ℕ → Option Request
 numbered_view name unit number day =
     if is_word name (codes "percent") then Some (Percent unit number day)
     else if is_word name (codes "report") then Some (Report unit number day)
     else None
 
--- the view that a name, UNIT, QUARTER or HALF, and DAY are
+-- the view with a name, UNIT, QUARTER or HALF, and DAY
 unfoldable pub view_of_number : List ℕ → List ℕ → List ℕ → List ℕ → Option Request
 view_of_number name unit number day = elim (decimal_in 255 unit) [
   | None ↦ None
@@ -97,39 +113,106 @@ view_of_number name unit number day = elim (decimal_in 255 unit) [
   ]
 ]
 
--- the view that four words behind `show` are
+-- the view with four words after `show`
 abbrev pub view_of_four : List ℕ → List ℕ → List ℕ → List ℕ → Option Request
 view_of_four name unit second third =
     if is_word name (codes "route") then route_on unit second third else view_of_number name unit second third
 
 -- the command that shows a view
 abbrev pub showing : List ℕ → Option Request → Option Command
-showing word view = if is_word word (codes "show") then option_map (λ request. Office (Show request)) view else None
+showing word view = if is_word word (codes "show") then option_map (λ request. asking (Show request)) view else None
 
--- the command that files the report that UNIT, HALF and DAY are
+-- the command that files the report with UNIT, HALF and DAY
 unfoldable pub filing_of : List ℕ → List ℕ → List ℕ → Option Command
 filing_of unit half day = elim (decimal_in 255 unit) [
   | None ↦ None
   | Some unit ↦ elim (decimal_in 65_535 half) [
     | None ↦ None
-    | Some half ↦ elim (day_of day) [ None ↦ None | Some day ↦ Some (Office (File unit half day)) ]
+    | Some half ↦ elim (day_of day) [ None ↦ None | Some day ↦ Some (asking (File unit half day)) ]
   ]
 ]
 
--- the command that a word and three further words are
+-- the number of a revision, from 1
+unfoldable pub revision_in : List ℕ → Option ℕ
+revision_in text = elim (decimal_in LAST_REVISION text) [
+  | None ↦ None
+  | Some number ↦ if nat_eq number 0 then None else Some number
+]
+
+-- the command that compares the revisions FROM and TO of the report on UNIT's HALF
+unfoldable pub amended_of : List ℕ → List ℕ → List ℕ → List ℕ → Option Command
+amended_of unit half from to = elim (decimal_in 255 unit) [
+  | None ↦ None
+  | Some unit ↦ elim (decimal_in 65_535 half) [
+    | None ↦ None
+    | Some half ↦ elim (revision_in from) [
+      | None ↦ None
+      | Some from ↦ elim (revision_in to) [
+        | None ↦ None
+        | Some to ↦ Some (Amended (record { unit = unit; half = half; from = from; to = to }))
+      ]
+    ]
+  ]
+]
+
+-- the command with a word and three further words
 abbrev pub of_three_further : List ℕ → List ℕ → List ℕ → List ℕ → Option Command
 of_three_further word first second third =
     if is_word word (codes "file") then filing_of first second third else showing word (view_on first second third)
 
--- the command that words are, if they are in the command set
+-- .. and four
+abbrev pub of_four_further : List ℕ → List ℕ → List ℕ → List ℕ → List ℕ → Option Command
+of_four_further word first second third fourth =
+    if is_word word (codes "amended") then amended_of first second third fourth else showing word (view_of_four first second third fourth)
+
+-- the command that a word and the words after it are
+abbrev pub command_of : List ℕ → List (List ℕ) → Option Command
+command_of word [] = alone word
+command_of word (number ∷ sort ∷ []) = importing word number sort
+command_of word (first ∷ second ∷ third ∷ []) = of_three_further word first second third
+command_of word (first ∷ second ∷ third ∷ fourth ∷ []) = of_four_further word first second third fourth
+command_of word _ = None
+
+-- a command, if this holds
+abbrev pub only_if : Bool → Option Command → Option Command
+only_if holds None = None
+only_if holds (Some command) = if holds then Some command else None
+
+-- the command that words are, if they are in the command set; no word after the first may begin with a hyphen
 abbrev pub command_in : List (List ℕ) → Option Command
-command_in (word ∷ []) = alone word
-command_in (word ∷ number ∷ sort ∷ []) = importing word number sort
-command_in (word ∷ first ∷ second ∷ third ∷ []) = of_three_further word first second third
-command_in (word ∷ name ∷ unit ∷ second ∷ third ∷ []) = showing word (view_of_four name unit second third)
-command_in _ = None
+command_in [] = None
+command_in (word ∷ further) = only_if (list_all (λ word. not (is_option word)) further) (command_of word further)
 
 -- the command that a word and its positionals are
 abbrev pub command_with : List ℕ → Option (List (List ℕ)) → Option Command
 command_with word None = None
-command_with word (Some further) = command_in (word ∷ further)
+command_with word (Some further) = command_of word further
+
+-- what a command may touch beside the output and the notes: it reads the input, uses the disk of the journal, asks for reports on file, files one
+pub record Touched : Type 0 where
+  pub input : Bool
+  pub disk : Bool
+  pub filing : Bool
+  pub reports : Bool
+
+abbrev pub untouched : Touched
+untouched = record { input = false; disk = false; filing = false; reports = false }
+
+-- a task in an office uses the disk of its journal
+abbrev pub office_only : Touched
+office_only = record untouched { disk = true }
+
+abbrev pub touched_in_office : Task → Touched
+touched_in_office Dock = record office_only { input = true }
+touched_in_office Drain = record office_only { input = true }
+touched_in_office (Import number sort) = record office_only { input = true }
+touched_in_office (Ask (Show request)) = office_only
+touched_in_office (Ask (File unit half day)) = record office_only { filing = true; reports = true }
+touched_in_office (Ask Check) = office_only
+
+-- .. and words that are no command touch nothing
+abbrev pub touched_by : Option Command → Touched
+touched_by None = untouched
+touched_by (Some Init) = office_only
+touched_by (Some (Amended pair)) = record untouched { filing = true }
+touched_by (Some (Office task)) = record (touched_in_office task) { disk = true }

@@ -1,4 +1,4 @@
--- What a connection or an import does to the journal of a disk, and what a crash at any moment leaves of it.
+-- The effect of a connection or an import on the journal of a disk, and what a crash at any moment leaves of it.
 use Rattle.std.specs.Prelude.{◌≡◌, ◌≤◌, ◌⊎◌, ℕ, List, [], ◌∷◌, ◌++◌, length, take, drop, Option, MatchOption, IsTrue}
 use Rattle.std.specs.List.{AllByRecursion}
 use Rattle.disk_model.specs.Told.{Told, BothTold}
@@ -23,30 +23,30 @@ use Rattle.office_commands.specs.declared.command.Sort.{Sort}
 use Rattle.office_commands.specs.declared.status.Status.{Status}
 use Rattle.office_commands.specs.Imports.{EndsImport}
 
--- the image opens to a history of which each batch passes after those before it
+-- the image opens to a history in which each batch passes after those before it
 pub record OpensRuly (image : List ℕ) : Type 0 where
   pub history : List Batch
   pub opens : Opens image history
   pub ruly : IsTrue (is_ruly history)
 
--- what an item's turn receipted stands in each of these images
+-- the batch of an item's receipt is at its position in each of these images
 abbrev pub IsLineKept : (List ℕ → Type 0) → Served → Type 0
 IsLineKept images s = MatchOption s.turn (Unit {0}) (IsReceiptKept images)
 
--- what was receipted stands in each image left after a byte of its line was put
+-- the batch of a receipt is at its position in each image left after a byte of the receipt's line was written
 abbrev pub AreLinesKept : (ℕ → List ℕ → Type 0) → List Served → List ℕ → Type 0
 AreLinesKept left [] stamps = Unit {0}
 AreLinesKept left (s ∷ served) stamps =
     AllByRecursion (λ stamp. IsLineKept (left stamp) s) (take (length s.text) stamps) × AreLinesKept left served (drop (length s.text) stamps)
 
 -- What a crash leaves of a run of calls over an opened disk.
--- any_moment: an image left at any moment is one that could have been left at entry, or stands in the run.
--- since: an image left since the opening stands in the state that was opened, or in one that some call left.
--- behind: .. and since a call returned, in no earlier one than this call left.
--- receipts: what a call receipted stands in each image left since it returned.
--- lines: .. and in each image left after a byte of its line was put.
--- at_end: an image that could be left now stands in the last state.
--- ruly: if each image at entry opened to a ruly history, so does each image left at any moment.
+-- any_moment: an image left at any moment was possible before, or opens in a state of the run.
+-- since: an image left since the opening opens in the opened state or in the state after some call.
+-- behind: an image left since a call returned opens in the state after this call or after a later one.
+-- receipts: the batch of a receipt is at its position in each image left since its call returned.
+-- lines: the batch of a receipt is at its position in each image left after a byte of its line was written.
+-- at_end: an image that could be left now opens in the last state.
+-- ruly: if each image before opened to a ruly history, so does each image left at any moment.
 pub record IsCrashSafe (old new : SeenDisk) (opening : Moment) (calls : List Call) (last : Moment) (served : List Served) (put : List Piece) : Type 0 where
   pub any_moment : MayLeave old new (λ image. old.images image ⊎ StandsInRun opening.state calls image)
   pub since : (image : List ℕ) → new.left opening.clock image → StandsInRun opening.state calls image
@@ -56,8 +56,9 @@ pub record IsCrashSafe (old new : SeenDisk) (opening : Moment) (calls : List Cal
   pub at_end : (image : List ℕ) → new.images image → StandsIn last.state image
   pub ruly : ((image : List ℕ) → old.images image → OpensRuly image) → (image : List ℕ) → new.left old.clock image → OpensRuly image
 
--- The bytes read are the items of a run of the machine, from the history that the journal opened to, and the bytes written are what is said to them,
--- up to what is unsaid, none of them past the last clock; the content at the end opens to the last state; and the run is safe at every crash.
+-- The bytes read are the items of a run of the machine, which begins with the history that the journal opened to. The bytes written are the
+-- answers, except for text that was not written, and no stamp is past the last clock. The content at the end opens to the last state, and
+-- the run is safe at every crash.
 pub record IsConnection {E : Type 0} (IsItem : Served → Type 0) (Closes : E → List Served → List ℕ → Option (List ℕ) → List ℕ → Type 0) (ended : E)
     (old new : Streams) (disk disk' : SeenDisk) : Type 0 where
   -- the history that the journal opened to
@@ -74,7 +75,7 @@ pub record IsConnection {E : Type 0} (IsItem : Served → Type 0) (Closes : E �
   pub now : (last.faults ≡ disk'.faults) × (last.clock ≡ disk'.clock)
   pub tells : BothTold disk.content disk'.content (λ _ _. Unit {0})
   pub stands : Told disk'.content (StandsIn last.state)
-  -- what was read and written
+  -- the items that were read and their answers
   pub served : List Served
   pub rest : List ℕ
   pub unsaid : List ℕ
@@ -90,15 +91,15 @@ pub record IsConnection {E : Type 0} (IsItem : Served → Type 0) (Closes : E �
   -- what a crash leaves
   pub safe : Told disk.content (λ _. IsCrashSafe disk disk' opening calls last served put)
 
--- the items are batches, and what is said to each is the line of its reply
+-- the items are batches, and the text of each is the line of its reply
 abbrev pub IsDocked : Ended → Streams → Streams → SeenDisk → SeenDisk → Type 0
 IsDocked ended old new disk disk' = IsConnection IsBatch EndsBatches ended old new disk disk'
 
--- the items are HTTP requests, each with its answer, the last of them maybe bytes that are refused
+-- the items are HTTP requests, each with its response; the last may be refused bytes
 abbrev pub IsDrained : Ended → Streams → Streams → SeenDisk → SeenDisk → Type 0
 IsDrained ended old new disk disk' = IsConnection HasItsAnswer EndsRequests ended old new disk disk'
 
--- the items are the batches of a file of the register that is the input, and what is said to each is the line of its reply
+-- the input is a file of the register, its batches are the items, and the text of each is the line of its reply
 abbrev pub IsImported : Sort → ℕ → Status → Streams → Streams → SeenDisk → SeenDisk → Type 0
 IsImported sort number status old new disk disk' =
     IsConnection IsSent (EndsImport sort number (old.output_faults, new.output_faults)) status old new disk disk'

@@ -1,4 +1,4 @@
--- Importing a file of the register: what is read of the input, which batches it says, and how these are sent.
+-- Importing a file of the register: the input that is read, the batches in it, and how they are sent.
 use Rattle.std.specs.Prelude.{◌≡◌, ◌<◌, ◌≤◌, ◌⊎◌, ℕ, List, [], length, map, Option, Result, Ok, Err}
 use Rattle.fact_kinds.specs.declared.batch.Batch.{Batch}
 use Rattle.ldar_ports.specs.Source.{HasEnded}
@@ -15,35 +15,35 @@ use Rattle.office_commands.specs.declared.status.Status.{Status}
 use Rattle.office_commands.specs.declared.status.Status.TheVariants.{ReadFault, Memory, BadRow, TooLarge}
 use Rattle.office_commands.specs.Statuses.{status_sent}
 
--- the batches that a file of this sort says, numbered from here, or its first bad row
+-- the batches in a file of this kind, numbered from `number` on, or its first bad row
 abbrev pub batches_in : Sort → ℕ → List ℕ → Result (List Batch) ℕ
 batches_in Units number text = units_import number text
 batches_in Components number text = components_import number text
 
--- no file was read: a call of the input failed, memory was wanting, or there are too many bytes
+-- no file was read: read error, out of memory, or too many bytes
 abbrev pub ReadsNone : Status → List ℕ → Type 0
 ReadsNone ReadFault text = Unit {0}
 ReadsNone Memory text = Unit {0}
 ReadsNone TooLarge text = LONGEST_TEXT < length text
 ReadsNone _ text = ⊥
 
--- the whole input is a text that is short enough
+-- the whole input is a text within the maximum length
 pub record IsRead (text : List ℕ) (left : Option (List ℕ)) : Type 0 where
   pub ended : HasEnded left
   pub fits : length text ≤ LONGEST_TEXT
 
--- nothing was sent, and so nothing said
+-- nothing was sent, so there is no text
 abbrev pub SendsNone : List Served → List ℕ → Type 0
 SendsNone served unsaid = (served ≡ []) × (unsaid ≡ [])
 
--- the file has a bad row, which is told
+-- the file has a bad row, which is reported
 pub record HasBadRow (sort : Sort) (number : ℕ) (status : Status) (text : List ℕ) (left : Option (List ℕ)) : Type 0 where
   pub read : IsRead text left
   pub at : ℕ
   pub first : batches_in sort number text ≡ Err at
   pub told : status ≡ BadRow at
 
--- the batches of the file were sent in turn, up to and with the first that is not receipted
+-- the batches of the file were sent one after the other, up to and including the first without a receipt
 pub record SendsFile (sort : Sort) (number : ℕ) (status : Status) (served : List Served) (text : List ℕ) (left : Option (List ℕ)) (unsaid : List ℕ)
     (counts : ℕ × ℕ) : Type 0 where
   pub read : IsRead text left
@@ -53,8 +53,8 @@ pub record SendsFile (sort : Sort) (number : ℕ) (status : Status) (served : Li
   pub sends : EndsAsking sent (map Sync batches) served unsaid counts.0 counts.1
   pub told : status ≡ status_sent sent
 
--- How an import ends, by what was served, the bytes read, those left in the source, what is unsaid, and the counts of faults of the output before
--- and after. All rows are judged before the first batch is sent.
+-- The end of an import, from what was served, the bytes read, the bytes unread in the source, the text not written, and the counts of
+-- errors of the output before and after. All rows are checked before the first batch is sent.
 abbrev pub EndsImport : Sort → ℕ → (counts : ℕ × ℕ) → Status → List Served → List ℕ → Option (List ℕ) → List ℕ → Type 0
 EndsImport sort number counts status served text left unsaid =
     (ReadsNone status text × SendsNone served unsaid)

@@ -1,4 +1,4 @@
--- What is served of batches that are sent in turn, up to and with the first that is not receipted.
+-- What is served of batches that are sent one after the other, up to and including the first without a receipt.
 use Rattle.std.specs.Prelude.{◌≡◌, ◌≤◌, ◌⊎◌, ℕ, List, [], ◌∷◌, ◌++◌, length, map, MatchOption}
 use Rattle.std.specs.List.{AllByRecursion}
 use Rattle.disk_model.specs.Faults.{Rose}
@@ -13,7 +13,7 @@ use Rattle.office_commands.specs.declared.batches.Unkept.{Unkept}
 use Rattle.office_commands.specs.declared.batches.Unkept.TheVariants as unkepts
 use Rattle.ldar_session.specs.Served.{Served, turns_of}
 
--- what was sent has a turn, and is said the line of the reply; it is no part of the input by itself
+-- a sent batch has a turn, and its text is the line of the reply; it has no bytes of the input
 pub record IsSent (s : Served) : Type 0 where
   pub no_item : s.item ≡ []
   pub says : MatchOption s.turn ⊥ (λ turn. s.text ≡ reply_text turn.reply)
@@ -29,7 +29,7 @@ IsReceipt (NoSuch what) = ⊥
 IsReceipt Fault = ⊥
 IsReceipt WantsMemory = ⊥
 
--- the reply can be one to a batch, which no view is
+-- the reply can be one to a batch, not to a view
 abbrev pub IsOfBatch : Reply → Type 0
 IsOfBatch (Shown text) = ⊥
 IsOfBatch (NoSuch what) = ⊥
@@ -43,7 +43,7 @@ reply_for (unkepts.Full facts) = Full facts
 reply_for unkepts.Fault = Fault
 reply_for unkepts.Memory = WantsMemory
 
--- how the sending of a batch ends by its reply: as said if it is a receipt
+-- the end of sending a batch, by its reply: as given if it is a receipt
 abbrev pub sent_as : Reply → Sent → Sent
 sent_as (Receipt handheld number position) receipted = receipted
 sent_as (Conflict position) receipted = Unreceipted (unkepts.Conflict position)
@@ -54,21 +54,21 @@ sent_as (NoSuch what) receipted = receipted
 sent_as Fault receipted = Unreceipted unkepts.Fault
 sent_as WantsMemory receipted = Unreceipted unkepts.Memory
 
--- each of these turns receipted its batch
+-- the reply of each of these turns is a receipt
 abbrev pub AreReceipted : List Turn → Type 0
 AreReceipted turns = AllByRecursion (λ turn. IsReceipt turn.reply) turns
 
--- what was asked in these turns, in order
+-- the requests of these turns, in order
 abbrev pub asked_in : List Turn → List Request
 asked_in turns = map (λ turn. turn.request) turns
 
--- all were sent, each is receipted, and all is said
+-- all were sent, each got a receipt, and all text was written
 pub record AllReceipted (requests : List Request) (served : List Served) (unsaid : List ℕ) : Type 0 where
   pub said : unsaid ≡ []
   pub asked : asked_in (turns_of served) ≡ requests
   pub receipts : AreReceipted (turns_of served)
 
--- the first of them were sent, up to one that was answered so, and those before it are receipted
+-- the first of them were sent, up to one with this reply, and those before it got receipts
 pub record SentUpTo (reply : Reply) (requests : List Request) (served : List Served) : Type 0 where
   pub before : List Turn
   pub last : Turn
@@ -78,22 +78,22 @@ pub record SentUpTo (reply : Reply) (requests : List Request) (served : List Ser
   pub behind : List Request
   pub asked : requests ≡ asked_in (turns_of served) ++ behind
 
--- what is unsaid is of the line of this reply
+-- the text that was not written is part of the line of this reply
 abbrev pub IsOfLine : Reply → List ℕ → Type 0
 IsOfLine reply unsaid = length unsaid ≤ length (reply_text reply)
 
--- .. which is no receipt; all is said, or a call of the sink failed, and only of the last line something is unsaid
+-- the last reply was no receipt; all text was written, or after a write error, only part of the last line was not written
 pub record EndsUnreceipted (unkept : Unkept) (requests : List Request) (served : List Served) (unsaid : List ℕ) (old new : ℕ) : Type 0 where
   pub sent : SentUpTo (reply_for unkept) requests served
   pub said : (unsaid ≡ []) ⊎ Rose old new
   pub of_last : IsOfLine (reply_for unkept) unsaid
 
--- .. with this reply, of whose line alone something may be unsaid
+-- the last reply was this one, and only part of its line may not be written
 pub record EndsAt (reply : Reply) (requests : List Request) (served : List Served) (unsaid : List ℕ) : Type 0 where
   pub sent : SentUpTo reply requests served
   pub of_last : IsOfLine reply unsaid
 
--- how the asking of these requests ended, by what was served, what is unsaid, and the counts of faults of the sink before and after
+-- the end of sending these requests, from what was served, the text not written, and the counts of errors of the sink before and after
 abbrev pub EndsAsking : Sent → List Request → List Served → List ℕ → ℕ → ℕ → Type 0
 EndsAsking Done requests served unsaid old new = AllReceipted requests served unsaid
 EndsAsking (Unreceipted unkept) requests served unsaid old new = EndsUnreceipted unkept requests served unsaid old new

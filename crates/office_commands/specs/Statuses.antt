@@ -19,6 +19,7 @@ use Rattle.office_commands.specs.declared.status.Status.{Status}
 use Rattle.office_commands.specs.declared.status.Status.TheVariants.{Done, Usage, ReadFault, WriteFault, DiskFault, Memory}
 use Rattle.office_commands.specs.declared.status.Status.TheVariants.{NotAJournal, Damaged, Unruly, CutShort, BadInput, TooLarge, NotEmpty}
 use Rattle.office_commands.specs.declared.status.Status.TheVariants.{BadRow, Conflict, Denied, Full, NoSuch, FilingFault, SameReport, NoRevisionLeft}
+use Rattle.office_commands.specs.declared.status.Status.TheVariants.{NoSuchRevision, NoSuchPosition, Stranger}
 
 -- the number of a status
 abbrev pub status_number : Status → ℕ
@@ -43,8 +44,11 @@ status_number (NoSuch what) = 11
 status_number FilingFault = 10
 status_number (SameReport revision) = 11
 status_number NoRevisionLeft = 11
+status_number (NoSuchRevision revision) = 11
+status_number (NoSuchPosition position) = 11
+status_number (Stranger place) = 11
 
--- the line that notes a status; that all went well is not noted
+-- the note on a status; success has none
 abbrev pub note_of : Status → List ℕ
 note_of Done = []
 note_of Usage = codes "usage: ldar JOURNAL COMMAND" ++ end_of_line
@@ -67,36 +71,39 @@ note_of (NoSuch what) = codes "no such " ++ what_text what ++ end_of_line
 note_of FilingFault = codes "filing fault" ++ end_of_line
 note_of (SameReport revision) = codes "same as revision " ++ decimal revision ++ end_of_line
 note_of NoRevisionLeft = codes "no revision left" ++ end_of_line
+note_of (NoSuchRevision revision) = codes "no such revision " ++ decimal revision ++ end_of_line
+note_of (NoSuchPosition position) = codes "no such position " ++ decimal position ++ end_of_line
+note_of (Stranger place) = codes "stranger " ++ decimal place ++ end_of_line
 
--- the exit status where the note could not be written in full: a fault of writing, but want of memory stays
+-- the exit status if the note could not be written in full: that of a write error, or of out of memory if it was that
 abbrev pub number_unnoted : Status → ℕ
 number_unnoted status = let number = status_number status in if nat_eq number 0 then 0 else if nat_eq number 6 then 6 else 4
 
--- behind the pieces that were there, pieces were put that say the text up to what is unsaid
+-- these pieces were added to the old ones, with the text up to the part that was not written
 pub record Said (text : List ℕ) (old new : Option (List Piece)) (unsaid : List ℕ) : Type 0 where
   pub put : List Piece
   pub puts : Puts old put new
   pub says : text ≡ bytes_of put ++ unsaid
 
--- .. all of it where the putting went well
+-- the text was written, and completely if the call succeeded
 abbrev pub IsPut : {T E : Type 0} → List ℕ → Option (List Piece) → Option (List Piece) → Result T E → Type 0
 IsPut text old new result = (unsaid : List ℕ) × Said text old new unsaid × OnOk result (unsaid ≡ [])
 
--- how the writing of a text ends: it is said whole, or a write failed and a front of it is said, or memory was wanting and nothing is said
+-- the end of writing a text: it was written in full, or in part after a write error, or not at all as it was out of memory
 abbrev pub TextEnds : List ℕ → Status → Option (List Piece) → Option (List Piece) → Type 0
 TextEnds text Done old new = Said text old new []
 TextEnds text WriteFault old new = (unsaid : List ℕ) × Said text old new unsaid
 TextEnds text Memory old new = new ≡ old
 TextEnds text _ old new = ⊥
 
--- The status is noted in full, and the exit status is its number; or a write of the note failed, and the exit status is that of a note that could not
--- be written. The numbers are the counts of faults of the notes before and after.
+-- The note on the status was written in full, and the exit status is its number; or there was an error in writing the note, and the exit
+-- status is that of a note that could not be written. The numbers are the counts of errors of the notes before and after.
 pub record IsNoted (status : Status) (old new : Option (List Piece)) (before after : ℕ) (exit : ℕ) : Type 0 where
   pub unsaid : List ℕ
   pub said : Said (note_of status) old new unsaid
   pub exits : ((unsaid ≡ []) × (exit ≡ status_number status)) ⊎ (Rose before after × (exit ≡ number_unnoted status))
 
--- what each status that reports a fault rests on: on the input, the output, the disk, and the reports on file
+-- the cause of each status that reports an error: in the input, the output, the disk or the filing
 abbrev pub HasCause : Status → (input output disk filing : Type 0) → Type 0
 HasCause status input output disk filing =
     (status ≡ ReadFault → input) × (status ≡ WriteFault → output) × (status ≡ DiskFault → disk) × (status ≡ FilingFault → filing)
@@ -109,7 +116,7 @@ refusal_of (reasons.Damaged at) = Damaged at
 refusal_of (reasons.Unruly position rule) = Unruly position rule
 refusal_of reasons.Memory = Memory
 
--- the status of a command whose connection ended so
+-- the status of a command, from how its connection ended
 abbrev pub status_of : Ended → Status
 status_of ends.Done = Done
 status_of ends.Stopped = Done
@@ -127,7 +134,7 @@ status_unkept (unkepts.Full facts) = Full facts
 status_unkept unkepts.Fault = DiskFault
 status_unkept unkepts.Memory = Memory
 
--- .. or if the sending ended so
+-- the status, from how sending batches ended
 abbrev pub status_sent : Sent → Status
 status_sent sends.Done = Done
 status_sent (sends.Unreceipted unkept) = status_unkept unkept

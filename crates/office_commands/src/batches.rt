@@ -13,14 +13,14 @@ use ldar_ports::{Sink, put_all};
 use office_book::{Book, Office};
 use std::alloc::Global;
 
-/// How the sending of batches ended.
+/// How sending batches ended.
 #[derive(Drop)]
 pub enum Sent {
-    /// Each batch has its receipt, and each line is written.
+    /// Each batch got a receipt, and each line was written.
     Done,
-    /// The last batch that was sent is not kept. Its line is written, or a call of the sink failed.
+    /// The last batch that was sent is not kept. Its line was written, or there was a write error.
     Unreceipted(Unkept),
-    /// A call of the sink failed. The batches that were sent have their receipts.
+    /// A write error. The batches that were sent got receipts.
     WriteFault,
     /// Out of memory for the line of a reply.
     Memory,
@@ -29,20 +29,20 @@ pub enum Sent {
 /// Why a batch is not kept.
 #[derive(Clone, Copy, Debug, PartialEq, Eq)]
 pub enum Unkept {
-    /// Its identity is kept at this position with other content.
+    /// Another batch with its identity is kept at this position.
     Conflict { position: u32 },
-    /// It is denied for this fact, by this rule.
+    /// It is denied for this fact and by this rule.
     Denied { fact: u16, rule: u8 },
     /// With it there would be this many facts.
     Full { facts: u64 },
-    /// A call of the disk failed.
+    /// A disk error.
     Fault,
     /// Out of memory.
     Memory,
 }
 
-/// Sends batches to an office one after the other, and writes the line of the reply to each, up to and with the first that has
-/// no receipt. After a failed write no further batch is sent.
+/// Sends batches to an office one after the other, and writes the line of each reply, up to and including the first that is
+/// not a receipt. After a write error it sends no further batch.
 pub fn send<D: Disk, K: Sink>(
     alloc: Global,
     book: &mut Book<D>,

@@ -19,13 +19,24 @@ pub enum Sort {
     Components,
 }
 
-/// What the words ask for.
+/// A command.
 #[derive(Drop)]
 pub enum Command {
     /// Make an empty journal.
     Init,
+    /// Print what differs between two revisions on file.
+    Amended(RevisionPair),
     /// Open the office over the journal, and do a task in it.
     Office(Task),
+}
+
+/// Two revisions of the report on a unit's half.
+#[derive(Clone, Copy, Debug, PartialEq, Eq)]
+pub struct RevisionPair {
+    pub unit: u8,
+    pub half: u16,
+    pub from: u32,
+    pub to: u32,
 }
 
 /// What is done in an opened office.
@@ -37,12 +48,28 @@ pub enum Task {
     Drain,
     /// Keep a file of the register, as batches that are numbered from `number`.
     Import { number: u32, sort: Sort },
+    /// Answer a question. The office stays as it was.
+    Ask(Question),
+}
+
+/// What is asked of an opened office.
+#[derive(Drop)]
+pub enum Question {
     /// Show a view.
     Show(Request),
     /// Put the report of a half year on file, as known on a day.
     File { unit: u16, half: u16, day: Day },
     /// Print how many batches and facts the journal has.
     Check,
+}
+
+/// The command that is a question.
+fn asking(question: Question) -> Command
+    requires { spec.IsQuestionInRange question }
+    ensures value { result ≡ spec.asking question }
+    ensures range { spec.IsInRange result }
+{
+    Command::Office(Task::Ask(question))
 }
 
 /// The command that the words are, if they are one. clap reads those behind the first.
@@ -105,8 +132,8 @@ fn of_five_words(alloc: Global, word: &str, words: &[String]) -> Result<Option<C
     ensures memory { IfErr result IsWantOfMemory }
 {
     match four_positionals(alloc, words) {
-        Ok(Some((name, unit, second, third))) => {
-            Ok(showing(word, view_of_four(name, unit, second, third)))
+        Ok(Some((first, second, third, fourth))) => {
+            Ok(of_four_further(word, first, second, third, fourth))
         }
         Ok(None) => Ok(None),
         Err(error) => Err(error),
@@ -122,7 +149,7 @@ fn alone(word: &str) -> Option<Command>
         "init" => Some(Command::Init),
         "dock" => Some(Command::Office(Task::Dock)),
         "drain" => Some(Command::Office(Task::Drain)),
-        "check" => Some(Command::Office(Task::Check)),
+        "check" => Some(asking(Question::Check)),
         _ => None,
     }
 }
@@ -170,6 +197,52 @@ fn of_three_further(word: &str, first: &str, second: &str, third: &str) -> Optio
     showing(word, view_on(first, second, third))
 }
 
+/// The command that a word and four further words are.
+fn of_four_further(
+    word: &str,
+    first: &str,
+    second: &str,
+    third: &str,
+    fourth: &str,
+) -> Option<Command>
+    ensures value { result ≡ spec.of_four_further word.now first.now second.now third.now fourth.now }
+    ensures range { IfSome result spec.IsInRange }
+{
+    if word == "amended" {
+        return amended_of(first, second, third, fourth);
+    }
+    showing(word, view_of_four(first, second, third, fourth))
+}
+
+/// The command that compares the revisions FROM and TO of the report on UNIT's HALF.
+#[tactic(auto, unfolding(crate::specs::Command::amended_of))]
+fn amended_of(unit: &str, half: &str, from: &str, to: &str) -> Option<Command>
+    ensures value { result ≡ spec.amended_of unit.now half.now from.now to.now }
+    ensures range { IfSome result spec.IsInRange }
+{
+    let unit = long_number_in(255, unit)? as u8;
+    let half = number_in(65_535, half)?;
+    let from = revision_in(from)?;
+    let to = revision_in(to)?;
+    Some(Command::Amended(RevisionPair {
+        unit,
+        half,
+        from,
+        to,
+    }))
+}
+
+/// The number of a revision.
+#[tactic(auto, unfolding(crate::specs::Command::revision_in))]
+fn revision_in(text: &str) -> Option<u32>
+    ensures value { result ≡ spec.revision_in text.now }
+{
+    match long_number_in(u32::MAX, text)? {
+        0 => None,
+        number => Some(number),
+    }
+}
+
 /// The command that files the report that UNIT, HALF and DAY are.
 #[tactic(auto, unfolding(crate::specs::Command::filing_of))]
 fn filing_of(unit: &str, half: &str, day: &str) -> Option<Command>
@@ -179,7 +252,7 @@ fn filing_of(unit: &str, half: &str, day: &str) -> Option<Command>
     let unit = number_in(255, unit)?;
     let half = number_in(65_535, half)?;
     let day = Day::read(day.as_bytes())?;
-    Some(Command::Office(Task::File { unit, half, day }))
+    Some(asking(Question::File { unit, half, day }))
 }
 
 /// The command that shows a view, if this is its word.
@@ -192,7 +265,7 @@ fn showing(word: &str, view: Option<Request>) -> Option<Command>
         return None;
     }
     match view {
-        Some(request) => Some(Command::Office(Task::Show(request))),
+        Some(request) => Some(asking(Question::Show(request))),
         None => None,
     }
 }

@@ -19,7 +19,7 @@ use office_book::Book;
 use register_import::{ImportError, LONGEST_TEXT, components_of, units_of};
 use std::alloc::Global;
 
-/// Sends an office the batches of the file of the register that the input is.
+/// Reads a file of the register from the input, and sends its batches to an office.
 pub fn import<D: Disk, S: Source, K: Sink>(
     alloc: Global,
     book: &mut Book<D>,

@@ -8,7 +8,7 @@ use crate::status::Status;
 use disk_model::Disk;
 use ldar_journal::{CreateError, create};
 
-/// Makes an empty journal.
+/// Creates an empty journal.
 pub fn init<D: Disk>(disk: &mut D) -> Status
     ensures made { let see = seen D.content D.images D.left D.clock D.faults in IsMade result (see disk.old) (see disk.new) }
     ensures only { (result ≡ Status.Done) ⊎ ((result ≡ Status.NotEmpty) ⊎ (result ≡ Status.DiskFault)) }

@@ -1,6 +1,10 @@
-//! The commands of the office, over any source, sinks, disk and filing: `run` reads the words of one and answers it.
+//! The commands of the office, over any source, sinks, disk and filing: `run` reads the words of one command and runs
+//! it.
+//!
+//! Tests: `command_tests`.
 #![tactic(auto)]
 
+mod amendments;
 mod batches;
 mod command;
 mod import;

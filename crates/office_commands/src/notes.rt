@@ -11,8 +11,8 @@ use itoa::{Buffer, Integer};
 use ldar_law::paragraph;
 use ldar_ports::{Sink, SinkFault, put_all};
 
-/// Notes how a command ended, and answers the exit status. A fault of the notes is told as a fault of writing, but
-/// that nothing was wrong and that memory was wanting stay. It takes no memory.
+/// Writes the note on how a command ended, and returns the exit status. If the note cannot be written, the status is
+/// that of a write error, unless the command ran out of memory; success needs no note. Allocates nothing.
 pub fn note<E: Sink, D: Disk>(notes: &mut E, beside: &D, status: Status) -> u8
     ensures noted { IsNoted status (E.pieces notes.old) (E.pieces notes.new) (E.faults notes.old) (E.faults notes.new) result }
     ensures cause { result ≡ 4 → (status ≡ Status.WriteFault) ⊎ Rose (E.faults notes.old) (E.faults notes.new) }
@@ -54,6 +54,13 @@ fn put_note<E: Sink, D: Disk>(notes: &mut E, beside: &D, status: Status) -> Resu
             put_number(notes, beside, "same as revision ", revision, "\n")
         }
         Status::NoRevisionLeft => put_text(notes, beside, "no revision left\n"),
+        Status::NoSuchRevision(revision) => {
+            put_number(notes, beside, "no such revision ", revision, "\n")
+        }
+        Status::NoSuchPosition(position) => {
+            put_number(notes, beside, "no such position ", position, "\n")
+        }
+        Status::Stranger(place) => put_number(notes, beside, "stranger ", place, "\n"),
     }
 }
 
@@ -81,7 +88,7 @@ fn put_both<E: Sink, D: Disk>(
     put_text(notes, beside, second)
 }
 
-/// Puts a text, a number and a text.
+/// Writes a text, a number and a text.
 pub fn put_number<E: Sink, D: Disk, I: Integer>(
     notes: &mut E,
     beside: &D,

@@ -5,7 +5,7 @@ ghost use Rattle.std.specs.Str.Parse.{digits_value};
 ghost use Rattle.handheld_http.specs.Heads.{is_number as spells_number};
 ghost use Rattle.handheld_http.specs.Requests.{decimal_in, has_leading_zero as begins_with_zero};
 
-/// The number that a decimal without leading zeros spells, if it is not above the greatest.
+/// The number that a decimal without leading zeros spells, if it is at most `greatest`.
 pub fn number_in(greatest: u16, text: &str) -> Option<u16>
     ensures value { result ≡ decimal_in greatest text.now }
 {
@@ -15,7 +15,7 @@ pub fn number_in(greatest: u16, text: &str) -> Option<u16>
     }
 }
 
-/// The same with a greatest number of 32 bits.
+/// The same, with a maximum of 32 bits.
 #[tactic(auto, unfolding(handheld_http::specs::Requests::decimal_in))]
 pub fn long_number_in(greatest: u32, text: &str) -> Option<u32>
     ensures value { result ≡ decimal_in greatest text.now }

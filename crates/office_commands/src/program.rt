@@ -4,11 +4,12 @@ ghost use Rattle.disk_model.specs.Faults.{Rose};
 ghost use Rattle.disk_model.specs.Keeps.{Keeps};
 ghost use Rattle.office_commands.specs.declared.command.Command.TheVariants as commands;
 ghost use Rattle.office_commands.specs.declared.status.Status.{Status};
-ghost use Rattle.office_commands.specs.Command.{command_in, IsInRange, IsTaskInRange};
-ghost use Rattle.office_commands.specs.Run.{Ends, is_filing};
+ghost use Rattle.office_commands.specs.Command.{command_in, touched_by, touched_in_office, IsInRange, IsTaskInRange};
+ghost use Rattle.office_commands.specs.Run.{Ends};
 ghost use Rattle.office_commands.specs.Scene.{seen, streams};
 ghost use Rattle.office_commands.specs.Statuses.{HasCause, IsNoted};
 
+use crate::amendments::amended;
 use crate::command::{Command, Task, command_of};
 use crate::init::init;
 use crate::notes::note;
@@ -32,8 +33,8 @@ pub fn run<S: Source, D: Disk, K: Sink, E: Sink, F: Filing>(
     filing: &mut F,
 ) -> u8
     // What the command reads, writes and leaves, by its status, which is noted; or memory ran out while the words were read. A
-    // status that reports a fault is reached only where the count of that object rose. For `dock`, `drain`, `import` and `file`
-    // see `IsDocked`, `IsDrained`, `IsImported` and `IsFiled`.
+    // status that reports a fault is reached only where the count of that object rose. For `dock`, `drain` and `import` see
+    // `IsDocked`, `IsDrained` and `IsImported`; for `show`, `file` and `check` `Answers`; for `amended` `IsCompared`.
     ensures ends { (status : Status)
         × IsNoted status (E.pieces notes.old) (E.pieces notes.new) (E.faults notes.old) (E.faults notes.new) result
         × HasCause status (Rose (S.faults input.old) (S.faults input.new)) (Rose (K.faults output.old) (K.faults output.new))
@@ -43,14 +44,19 @@ pub fn run<S: Source, D: Disk, K: Sink, E: Sink, F: Filing>(
         Ends (command_in (map string_bytes words.now)) status (at input.old output.old filing.old) (at input.new output.new filing.new)
         (see disk.old) (see disk.new))) }
 
-    // Words that are no command touch nothing but the notes.
+    // Words that are no command change nothing but the notes.
     ensures unchanged { command_in (map string_bytes words.now) ≡ None
         → (input.new ≡ input.old) × (output.new ≡ output.old) × (disk.new ≡ disk.old) }
 
-    // Only `file` touches the filing.
-    ensures filing_unchanged { is_filing (command_in (map string_bytes words.now)) ≡ false → filing.new ≡ filing.old }
+    // Which commands read the input, use the disk, ask for filed reports and file one, see `touched_by`. An inquiry that fails counts
+    // an error of the filing, and leaves its reports.
+    ensures unread { (touched_by (command_in (map string_bytes words.now))).input ≡ false → input.new ≡ input.old }
+    ensures disk_unchanged { (touched_by (command_in (map string_bytes words.now))).disk ≡ false → disk.new ≡ disk.old }
+    ensures filing_unchanged { (touched_by (command_in (map string_bytes words.now))).filing ≡ false → filing.new ≡ filing.old }
+    ensures reports_unchanged { (touched_by (command_in (map string_bytes words.now))).reports ≡ false
+        → F.on_file filing.new ≡ F.on_file filing.old }
 
-    // A fault is answered only where its own count rose.
+    // An error is returned only if its own count rose.
     ensures read_fault { result ≡ 3 → Rose (S.faults input.old) (S.faults input.new) }
     ensures write_fault { result ≡ 4
         → Rose (K.faults output.old) (K.faults output.new) ⊎ Rose (E.faults notes.old) (E.faults notes.new) }
@@ -81,7 +87,11 @@ fn run_over<S: Source, D: Disk, K: Sink, F: Filing>(
         Ends (command_in (map string_bytes words.now)) result.0 (at input.old output.old filing.old) (at input.new output.new filing.new) (see disk) (see result.1)) }
     ensures unchanged { command_in (map string_bytes words.now) ≡ None
         → (input.new ≡ input.old) × (output.new ≡ output.old) × (result.1 ≡ disk) }
-    ensures filing_unchanged { is_filing (command_in (map string_bytes words.now)) ≡ false → filing.new ≡ filing.old }
+    ensures unread { (touched_by (command_in (map string_bytes words.now))).input ≡ false → input.new ≡ input.old }
+    ensures disk_unchanged { (touched_by (command_in (map string_bytes words.now))).disk ≡ false → result.1 ≡ disk }
+    ensures filing_unchanged { (touched_by (command_in (map string_bytes words.now))).filing ≡ false → filing.new ≡ filing.old }
+    ensures reports_unchanged { (touched_by (command_in (map string_bytes words.now))).reports ≡ false
+        → F.on_file filing.new ≡ F.on_file filing.old }
     ensures cause { HasCause result.0 (Rose (S.faults input.old) (S.faults input.new)) (Rose (K.faults output.old) (K.faults output.new))
         (Rose (D.faults disk) (D.faults result.1)) (Rose (F.faults filing.old) (F.faults filing.new)) }
     ensures read_count { S.faults input.old ≤ S.faults input.new }
@@ -108,7 +118,10 @@ fn run_command<S: Source, D: Disk, K: Sink, F: Filing>(
     requires in_range { IsInRange command }
     ensures ends { let see = seen D.content D.images D.left D.clock D.faults in let at = streams S.left K.pieces K.faults F.on_file in
         Ends (Some command) result.0 (at input.old output.old filing.old) (at input.new output.new filing.new) (see disk) (see result.1) }
-    ensures filing_unchanged { is_filing (Some command) ≡ false → filing.new ≡ filing.old }
+    ensures unread { (touched_by (Some command)).input ≡ false → input.new ≡ input.old }
+    ensures disk_unchanged { (touched_by (Some command)).disk ≡ false → result.1 ≡ disk }
+    ensures filing_unchanged { (touched_by (Some command)).filing ≡ false → filing.new ≡ filing.old }
+    ensures reports_unchanged { (touched_by (Some command)).reports ≡ false → F.on_file filing.new ≡ F.on_file filing.old }
     ensures cause { HasCause result.0 (Rose (S.faults input.old) (S.faults input.new)) (Rose (K.faults output.old) (K.faults output.new))
         (Rose (D.faults disk) (D.faults result.1)) (Rose (F.faults filing.old) (F.faults filing.new)) }
     ensures read_count { S.faults input.old ≤ S.faults input.new }
@@ -120,6 +133,10 @@ fn run_command<S: Source, D: Disk, K: Sink, F: Filing>(
         Command::Init => {
             let mut disk = disk;
             let status = init(&mut disk);
+            (status, disk)
+        }
+        Command::Amended(pair) => {
+            let status = amended(alloc, output, filing, &disk, pair);
             (status, disk)
         }
         Command::Office(task) => in_office(alloc, task, input, output, filing, disk),
@@ -138,7 +155,9 @@ fn in_office<S: Source, D: Disk, K: Sink, F: Filing>(
     requires in_range { IsTaskInRange task }
     ensures ends { let see = seen D.content D.images D.left D.clock D.faults in let at = streams S.left K.pieces K.faults F.on_file in
         Ends (Some (commands.Office task)) result.0 (at input.old output.old filing.old) (at input.new output.new filing.new) (see disk) (see result.1) }
-    ensures filing_unchanged { is_filing (Some (commands.Office task)) ≡ false → filing.new ≡ filing.old }
+    ensures unread { (touched_in_office task).input ≡ false → input.new ≡ input.old }
+    ensures filing_unchanged { (touched_in_office task).filing ≡ false → filing.new ≡ filing.old }
+    ensures reports_unchanged { (touched_in_office task).reports ≡ false → F.on_file filing.new ≡ F.on_file filing.old }
     ensures cause { HasCause result.0 (Rose (S.faults input.old) (S.faults input.new)) (Rose (K.faults output.old) (K.faults output.new))
         (Rose (D.faults disk) (D.faults result.1)) (Rose (F.faults filing.old) (F.faults filing.new)) }
     ensures read_count { S.faults input.old ≤ S.faults input.new }

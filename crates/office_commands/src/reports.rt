@@ -19,7 +19,7 @@ use office_views::AskError;
 use report_filing::{FileError, Filing, file_report};
 use std::alloc::Global;
 
-/// Puts the report of a half year, as known on a day, on file after the last revision (40 CFR 60.487a(c)), and writes its revision.
+/// Files the report of a half as of a day, after the last revision (40 CFR 60.487a(c)), and writes the number of its revision.
 pub fn file<D: Disk, K: Sink, F: Filing>(
     alloc: Global,
     output: &mut K,

@@ -9,7 +9,7 @@ use office_book::BookWhy;
 /// How a command ended.
 #[derive(Clone, Copy, Debug, PartialEq, Eq)]
 pub enum Status {
-    /// It did its work, and the output is written.
+    /// It succeeded, and the output was written.
     Done,
     /// The words are no command.
     Usage,
@@ -17,36 +17,43 @@ pub enum Status {
     WriteFault,
     DiskFault,
     Memory,
-    /// What the disk holds does not begin as a journal does.
+    /// The bytes on the disk do not begin like a journal.
     NotAJournal,
     /// The first bad frame of the journal begins at this place, or it ends there without a closed gate.
     Damaged { at: u64 },
-    /// The batch of the journal at this position, from 1, is the first that is denied after those before it, by this rule.
+    /// The batch of the journal at this position, from 1, is the first that is denied after those before it, and this rule
+    /// denies it.
     Unruly { position: u32, rule: u8 },
-    /// The input ended within a batch, of which so many bytes came.
+    /// The input ended within a batch, of which this many bytes were read.
     CutShort { got: u64 },
-    /// No batch goes on with the byte at this place of the input, counted from 0.
+    /// No batch continues with the byte at this place of the input, from 0.
     BadInput { at: u64 },
-    /// The input has more bytes than a file that is imported.
+    /// The input is longer than a file that can be imported.
     TooLarge,
-    /// A journal was to be made on a disk that is not empty.
+    /// A journal was to be created on a disk that is not empty.
     NotEmpty,
-    /// The first row of the imported file that says nothing of the register, from 1, or 0 where the file is no document of its form.
+    /// The first bad row of the imported file, from 1; or 0 if the file is not a document of its form.
     BadRow { at: u32 },
     /// A batch was sent whose identity is kept at this position with other content.
     Conflict { position: u32 },
-    /// A batch was sent that is denied for this fact, by this rule.
+    /// A batch was sent that is denied for this fact and by this rule.
     Denied { fact: u16, rule: u8 },
-    /// A batch was sent with which there would be so many facts.
+    /// A batch was sent with which there would be this many facts.
     Full { facts: u64 },
-    /// There is none of what a view was asked for, or a report.
+    /// What a view or a report was asked for does not exist.
     NoSuch(What),
     /// A call of the filing failed.
     FilingFault,
-    /// A report was to be filed that says the same as the last revision on file, which has this number.
+    /// The report that was to be filed is equal to the last revision, which has this number.
     SameReport { revision: u32 },
-    /// A report was to be filed behind the revision with the greatest number.
+    /// A report was to be filed after the revision with the greatest number.
     NoRevisionLeft,
+    /// The revision of this number is not on file.
+    NoSuchRevision(u32),
+    /// The journal has fewer batches than this.
+    NoSuchPosition(u32),
+    /// The batch at this place of an answer, from 1, is not one of the history that a mirror holds.
+    Stranger(u8),
 }
 
 impl Status {
@@ -71,11 +78,14 @@ impl Status {
             | Status::Full { .. }
             | Status::NoSuch(_)
             | Status::SameReport { .. }
-            | Status::NoRevisionLeft => 11,
+            | Status::NoRevisionLeft
+            | Status::NoSuchRevision(_)
+            | Status::NoSuchPosition(_)
+            | Status::Stranger(_) => 11,
         }
     }
 
-    /// The exit status if the note of this one could not be written.
+    /// The exit status if the note on this one could not be written.
     pub fn number_unnoted(self) -> u8
         ensures value { result ≡ spec.number_unnoted self }
     {
@@ -87,7 +97,7 @@ impl Status {
     }
 }
 
-/// How a command ends whose journal was not opened.
+/// The status of a command whose journal was not opened.
 pub fn refusal(why: BookWhy) -> Status
     ensures value { result ≡ spec.refusal_of why }
 {
@@ -100,7 +110,7 @@ pub fn refusal(why: BookWhy) -> Status
     }
 }
 
-/// How a command ends whose connection ended so.
+/// The status of a command, from how its connection ended.
 pub fn status_of(ended: Ended) -> Status
     ensures value { result ≡ spec.status_of ended }
 {
@@ -114,7 +124,7 @@ pub fn status_of(ended: Ended) -> Status
     }
 }
 
-/// How a command ends that sent batches.
+/// The status of a command that sent batches.
 pub fn status_sent(sent: &Sent) -> Status
     ensures value { result ≡ spec.status_sent sent.now }
 {

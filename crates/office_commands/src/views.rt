@@ -34,7 +34,7 @@ pub fn show<D: Disk, K: Sink>(output: &mut K, book: &mut Book<D>, request: &Requ
 }
 
 /// Writes a text, in pieces.
-fn put_text<D: Disk, K: Sink>(output: &mut K, beside: &D, text: &[u8]) -> Status
+pub fn put_text<D: Disk, K: Sink>(output: &mut K, beside: &D, text: &[u8]) -> Status
     ensures ends { TextEnds text.now result (K.pieces output.old) (K.pieces output.new) }
     ensures cause { HasCause result ⊥ (Rose (K.faults output.old) (K.faults output.new)) ⊥ ⊥ }
     ensures count { K.faults output.old ≤ K.faults output.new }
@@ -45,7 +45,7 @@ fn put_text<D: Disk, K: Sink>(output: &mut K, beside: &D, text: &[u8]) -> Status
     }
 }
 
-/// Writes how many batches and facts an office has.
+/// Writes the numbers of batches and facts in an office.
 pub fn check<D: Disk, K: Sink>(alloc: Global, output: &mut K, book: &Book<D>) -> Status
     ensures ends { TextEnds (check_text (batches_of book.now.frames)) result (K.pieces output.old) (K.pieces output.new) }
     ensures cause { HasCause result ⊥ (Rose (K.faults output.old) (K.faults output.new)) ⊥ ⊥ }

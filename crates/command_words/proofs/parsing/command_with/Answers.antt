@@ -4,7 +4,7 @@ use Rattle.command_words.specs.Parsing.{command_with, positional}
 use Rattle.command_words.proofs.ParsingLemmas.{with_rule-command_with, ids_to-next}
 use Rattle.command_words.proofs.parsing.command_with.Goals as goal
 
--- one more positional is asked for
+-- one more positional is declared
 pub loop-id-preserved : goal.loop-id-preserved
 loop-id-preserved c =
     let ids = c.args.ids.now in

@@ -1,13 +1,25 @@
-use Rattle.std.proofs.Common.{◌∙◌, map, rules}
+use Rattle.std.proofs.Common.{◌∙◌, map, refl, subst, sym}
 use Rattle.std.specs.String.{string_bytes}
 use Rattle.clap.specs.Words.{found_of}
+use Rattle.command_words.specs.Parsing.{Finds, command_with, name_in, ids_of_three}
 use Rattle.command_words.proofs.CountedWords.{takes-three_positionals, values_in-three_positionals}
+use Rattle.command_words.proofs.PositionalLemmas.{are_plain-positionals, positionals_of-none}
+use Rattle.command_words.proofs.RefusedWords.{counted_three, positionals_of-faultless}
 use Rattle.command_words.proofs.positionals.three_positionals.Goals as goal
 
-pub parse-requires-clause-taken : goal.parse-requires-clause-taken
-parse-requires-clause-taken c = takes-three_positionals (map string_bytes c.args.words.now) (search rules)
-
-pub returns-clause-value : goal.returns-clause-value
-returns-clause-value c =
+-- clap took the words, so they are as many
+pub returns-in-Some-clause-value : goal.returns-in-Some-clause-value
+returns-in-Some-clause-value c =
+    let words = map string_bytes c.args.words.now in
+    let taken = subst (Finds (command_with (name_in words) ids_of_three) words) c.in-Some.is c.in_ok-matches.ensures.found in
     c.three_in.ensures.value
-    ∙ values_in-three_positionals (map string_bytes c.args.words.now) (found_of c.in_ok-matches.matches) (search rules) c.in_ok-matches.ensures.rows
+    ∙ values_in-three_positionals words (found_of c.in-Some.matches)
+    (positionals_of-faultless 3 ids_of_three counted_three words taken.0 (taken.1.faultless refl)) (taken.1.rows refl)
+
+-- it did not, so they are not
+pub returns-in-None-clause-value : goal.returns-in-None-clause-value
+returns-in-None-clause-value c =
+    let words = map string_bytes c.args.words.now in
+    let refused = subst (Finds (command_with (name_in words) ids_of_three) words) c.in-None.is c.in_ok-matches.ensures.found in
+    sym (positionals_of-none 3 words
+    (λ tested. refused (are_plain-positionals 3 words tested) (takes-three_positionals words tested)))

@@ -1,8 +1,5 @@
-use Rattle.std.proofs.Common.{Some, refl}
-use Rattle.ldar_law.specs.declared.reply.Reply.TheVariants.{Shown}
-use Rattle.ldar_journal.specs.Image.{batches_of}
-use Rattle.office_commands.specs.declared.command.Task.TheVariants.{Dock, Drain, Import, Show, File, Check}
-use Rattle.office_commands.specs.Run.{check_text}
+use Rattle.std.proofs.Common.{refl}
+use Rattle.office_commands.specs.declared.command.Task.TheVariants.{Dock, Drain, Import, Ask}
 use Rattle.office_commands.proofs.EndLemmas.{ended_cause}
 use Rattle.office_commands.proofs.ImportLemmas.{import_disk, run_faulty, takes_text}
 use Rattle.office_commands.proofs.TaskLemmas.{does_for}
@@ -62,19 +59,7 @@ returns-in-Import-clause-cause g c =
       λ is. absurd (ensures.no_filing is),
     )
 
--- show
-pub returns-in-Show-clause-does : goal.returns-in-Show-clause-does
-returns-in-Show-clause-does g c =
-    does_for _ g.D.Disk.clock c.args.task (Show c.in-Show.request) _ _ _ _ _ c.in-Show.is (c.show.ensures.unchanged, refl, c.show.ensures.ends)
-
--- file
-pub returns-in-File-clause-does : goal.returns-in-File-clause-does
-returns-in-File-clause-does g c =
-    does_for _ g.D.Disk.clock c.args.task (File c.in-File.unit c.in-File.half c.in-File.day) _ _ _ _ _ c.in-File.is
-    (c.file.ensures.unchanged, refl, c.file.ensures.ends)
-
--- check
-pub returns-in-Check-clause-does : goal.returns-in-Check-clause-does
-returns-in-Check-clause-does g c =
-    does_for _ g.D.Disk.clock c.args.task Check _ _ _ _ _ c.in-Check.is
-    (refl, refl, (Shown (check_text (batches_of c.args.book.now.frames)), refl, c.check.ensures.ends))
+-- ask
+pub returns-in-Ask-clause-does : goal.returns-in-Ask-clause-does
+returns-in-Ask-clause-does g c =
+    does_for _ g.D.Disk.clock c.args.task (Ask c.in-Ask.question) _ _ _ _ _ c.in-Ask.is (c.answer.ensures.unchanged, refl, c.answer.ensures.answers)
