@@ -1,14 +1,15 @@
 use crate::runs::{
     BATCH, CALM, CUT, DAMAGED, EMPTY, EVERY_KIND, FOLLOWED, Manner, NEVER, NEXT, ONE, OTHER, Row,
-    Streams, TWICE, UNIT, WITHOUT_GATE, WRONG, ends, ends_on, failing, has_told, is, ran, says,
+    Streams, TWICE, UNIT, WITHOUT_GATE, WRONG, ends, ends_on, failing, has_told, ran, says,
     streams_of, was_put,
 };
 use disk_model::MemoryDisk;
 use std::alloc::Global;
 use std::test::Fail;
+use test_kit::is;
 
 // What is docked, what is put, and how many bytes the journal has then.
-const ONCE: [(Row, usize); 10] = [
+pub const ONCE: [(Row, usize); 10] = [
     (("dock", b"", 7, "", "not a journal\n"), 0),
     (("init", b"", 0, "", ""), 17),
     (("init", b"", 9, "", "not empty\n"), 17),
@@ -96,7 +97,7 @@ fn words_outside_the_command_set_touch_nothing(rt: HostRuntime) -> Result<(), Fa
     Ok(())
 }
 
-// An input, and how many bytes the journal has behind it.
+// An input, and how many bytes the journal has after it.
 const INPUTS: [(Row, usize); 4] = [
     (("dock", CUT, 8, "", "input cut: 19 bytes left\n"), 17),
     (
@@ -127,7 +128,7 @@ fn leaves(alloc: Global, bytes: &[u8], row: &Row) -> Result<u64, Fail> {
 }
 
 // Sees that these bytes are refused before anything is taken.
-fn refuses(alloc: Global, bytes: &[u8], noted: &str) -> Result<(), Fail> {
+pub fn refuses(alloc: Global, bytes: &[u8], noted: &str) -> Result<(), Fail> {
     for line in ["check", "dock", "show due 1 2024-02-28"] {
         let takes = leaves(alloc, bytes, &(line, b"", 7, "", noted))?;
         is(takes == 0, line)?;
@@ -230,7 +231,7 @@ fn a_fault_of_a_stream_is_told(rt: HostRuntime) -> Result<(), Fail> {
     Ok(())
 }
 
-// Whether a fault of the disk was told, or answered.
+// Whether a fault of the disk was reported, or answered.
 fn has_told_a_fault(streams: &Streams, got: u8) -> bool {
     match got {
         5 => was_put(streams.output(), ""),
@@ -239,7 +240,7 @@ fn has_told_a_fault(streams: &Streams, got: u8) -> bool {
     }
 }
 
-// Sees that a fault of the disk in a run is told.
+// Sees that a fault of the disk in a run is reported.
 fn tells_faults(alloc: Global, disk: &mut MemoryDisk, line: &str) -> Result<(), Fail> {
     let before = disk.faults();
     let mut streams = streams_of(alloc, BATCH, CALM)?;
@@ -274,7 +275,7 @@ fn passes_over(alloc: Global, call: u64) -> Result<(), Fail> {
 
 #[test]
 fn a_fault_of_the_disk_is_told_where_its_call_was_made(rt: HostRuntime) -> Result<(), Fail> {
-    // `init` reads, writes and syncs. A `dock` syncs and reads before it takes anything; what fails behind that is answered.
+    // `init` reads, writes and syncs. A `dock` syncs and reads before it takes anything; what fails after that is answered.
     for call in 0..12 {
         passes_over(rt.alloc(), call)?;
     }

@@ -9,6 +9,7 @@ use report_filing::{Filing, FilingFault, MapFiling, amended_cells};
 use report_table::{InMemory, TableFiling};
 use std::alloc::Global;
 use std::test::Fail;
+use test_kit::words_of;
 
 // Process unit 1 with valve 1, a precision test, and a leak of 2024-02-20 that is repaired on 2024-03-07, a day too late.
 const OVERDUE: [u8; 154] =
@@ -106,15 +107,6 @@ fn source_of(alloc: Global, input: &[u8]) -> Result<ListSource, Memory> {
     let mut pieces = Vec::new(alloc);
     pieces.push(Vec::from_slice(alloc, input)?)?;
     ListSource::new(alloc, &pieces, &[])
-}
-
-// The words of a line.
-fn words_of(alloc: Global, line: &str) -> Result<Vec<String>, Memory> {
-    let mut words = Vec::new(alloc);
-    for word in line.split_terminator(' ') {
-        words.push(String::from_str(alloc, word)?)?;
-    }
-    Ok(words)
 }
 
 // The status of a run with these words. All runs here go through it.
@@ -220,6 +212,91 @@ fn is_amended<F: Filing>(alloc: Global, filing: &mut F) -> Result<bool, Memory> 
     Ok(is_filed_twice(alloc, &mut disk, filing)? && amends(alloc, filing, want)?)
 }
 
+// Whether the two revisions of the report are compared so, and what is not on file is refused so.
+fn is_compared<F: Filing>(
+    alloc: Global,
+    disk: &mut MemoryDisk,
+    filing: &mut F,
+) -> Result<bool, Memory> {
+    let usage = "usage: ldar JOURNAL COMMAND\n";
+    let changed = "amended 1 8 1 2\nmonth 6 column 2 from 1 to 0\nend 1\n";
+    let changed_back = "amended 1 8 2 1\nmonth 6 column 2 from 0 to 1\nend 1\n";
+    let rows = [
+        ("amended 1 8 1 2", (0, changed, "")),
+        ("amended 1 8 2 1", (0, changed_back, "")),
+        ("amended 1 8 2 2", (0, "amended 1 8 2 2\nend 0\n", "")),
+        ("amended 1 8 1 3", (11, "", "no such revision 3\n")),
+        ("amended 1 8 4 3", (11, "", "no such revision 4\n")),
+        ("amended 1 7 1 2", (11, "", "no such revision 1\n")),
+        ("amended 2 8 1 2", (11, "", "no such revision 1\n")),
+        (
+            "amended 255 65535 4294967295 1",
+            (11, "", "no such revision 4294967295\n"),
+        ),
+        ("amended 1 8 0 1", (2, "", usage)),
+        ("amended 1 8 1 0", (2, "", usage)),
+        ("amended 1 8 1 4294967296", (2, "", usage)),
+        ("amended 256 8 1 2", (2, "", usage)),
+        ("amended 1 65536 1 2", (2, "", usage)),
+        ("amended 1 8 01 2", (2, "", usage)),
+        ("amended 1 8 1 -2", (2, "", usage)),
+        ("amended 1 8 1", (2, "", usage)),
+        ("amended 1 8 1 2 3", (2, "", usage)),
+        ("amend 1 8 1 2", (2, "", usage)),
+    ];
+    let mut all = true;
+    for (line, want) in rows {
+        all = all && tells(alloc, disk, filing, line, want)?;
+    }
+    Ok(all)
+}
+
+#[test]
+fn two_revisions_are_compared(rt: HostRuntime) -> Result<(), Fail> {
+    let alloc = rt.alloc();
+    let mut disk = MemoryDisk::new(alloc, &[], &[])?;
+    let mut in_map = MapFiling::new(alloc);
+    assert!(rt; is_filed_twice(alloc, &mut disk, &mut in_map)?);
+    // A disk that holds no journal is not asked.
+    assert!(rt; is_compared(alloc, &mut MemoryDisk::new(alloc, &[], &[])?, &mut in_map)?);
+    let mut disk = MemoryDisk::new(alloc, &[], &[])?;
+    let mut in_table = TableFiling::new(InMemory::new());
+    assert!(rt; is_filed_twice(alloc, &mut disk, &mut in_table)?);
+    assert!(rt; is_compared(alloc, &mut disk, &mut in_table)?);
+    Ok(())
+}
+
+// The table fails under a limit on its steps, and the output at its first call.
+#[test]
+fn a_comparison_that_fails_leaves_the_reports(rt: HostRuntime) -> Result<(), Fail> {
+    let alloc = rt.alloc();
+    let mut disk = MemoryDisk::new(alloc, &[], &[])?;
+    let mut filing = TableFiling::new(InMemory::new());
+    assert!(rt; is_filed_twice(alloc, &mut disk, &mut filing)?);
+    filing.set_step_limit(Some(0));
+    let fault = (10, "", "filing fault\n");
+    assert!(rt; tells(alloc, &mut disk, &mut filing, "amended 1 8 1 2", fault)?);
+    assert!(rt; tells(alloc, &mut disk, &mut filing, FILE, fault)?);
+    filing.set_step_limit(None);
+    assert!(rt; is_compared(alloc, &mut disk, &mut filing)?);
+    let mut sinks = Sinks::new(alloc, 0)?;
+    assert_eq!(rt;
+        ran(
+            alloc,
+            &mut disk,
+            &mut filing,
+            &mut sinks,
+            "amended 1 8 1 2",
+            &[]
+        )?,
+        4
+    );
+    assert!(rt; sinks.say(alloc, "", "write fault\n")?);
+    let same = (11, "", "same as revision 2\n");
+    assert!(rt; tells(alloc, &mut disk, &mut filing, FILE, same)?);
+    Ok(())
+}
+
 #[test]
 fn a_report_is_filed_again_when_late_facts_amend_it(rt: HostRuntime) -> Result<(), Fail> {
     let in_map = is_amended(rt.alloc(), &mut MapFiling::new(rt.alloc()))?;
@@ -265,7 +342,7 @@ fn what_there_is_none_of_is_not_filed(rt: HostRuntime) -> Result<(), Fail> {
     Ok(())
 }
 
-// Whether a filing ends `file` so, and counts so many faults.
+// Whether a filing ends `file` so, and counts that many errors.
 fn ends_by(
     alloc: Global,
     disk: &mut MemoryDisk,

@@ -1,9 +1,10 @@
 use crate::runs::{
-    CALM, EMPTY, NEVER, Row, ends, ends_on, failing, has_told, is, ran, says, streams_of,
+    CALM, EMPTY, NEVER, Row, ends, ends_on, failing, has_told, ran, says, streams_of,
 };
 use disk_model::{Disk, MemoryDisk};
 use std::alloc::Global;
 use std::test::Fail;
+use test_kit::is;
 
 const UNIT: &[u8] = b"[[unit]]
 number = 1
@@ -94,7 +95,7 @@ fn a_component_of_no_unit_is_denied(rt: HostRuntime) -> Result<(), Fail> {
     ends_on(rt.alloc(), EMPTY, &row, 17)
 }
 
-// A file of so many valves of process unit 1, the last of them of another unit.
+// A file of this many valves of process unit 1, the last of them of another unit.
 fn valves(alloc: Global, count: u16, unit_of_last: u8) -> Result<String, Fail> {
     let mut text = String::from_str(
         alloc,
@@ -237,14 +238,14 @@ fn passes_over(alloc: Global, call: u64) -> Result<(), Fail> {
 
 #[test]
 fn a_fault_of_the_disk_ends_an_import(rt: HostRuntime) -> Result<(), Fail> {
-    // The calls of an import on an empty journal: it syncs and reads as it opens, and what fails behind that is answered.
+    // The calls of an import on an empty journal: it syncs and reads as it opens, and what fails after that is answered.
     for call in 0..10 {
         passes_over(rt.alloc(), call)?;
     }
     Ok(())
 }
 
-// Sees that a comment of so many bytes ends so.
+// Checks how a file with a comment of this length ends.
 fn is_no_document(alloc: Global, length: usize, status: u8, noted: &str) -> Result<(), Fail> {
     let input = vec![in alloc; b'#'; length]?;
     ends_on(

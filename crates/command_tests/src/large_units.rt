@@ -3,7 +3,7 @@ use crate::views::docked;
 use std::alloc::Global;
 use std::test::Fail;
 
-// Batch 2 of handheld 0: process unit 2 from 2020-01-15, and so many valves in gas service, numbered from 1,000.
+// Batch 2 of handheld 0: process unit 2 from 2020-01-15, and that many valves in gas service, numbered from 1,000.
 fn valves(alloc: Global, count: u8) -> Result<Vec<u8>, Fail> {
     let mut bytes = Vec::from_slice(alloc, b"B\0\0\0\0\0\x02")?;
     bytes.extend_from_slice(&(1 + u16::from(count)).to_be_bytes())?;
@@ -16,7 +16,8 @@ fn valves(alloc: Global, count: u8) -> Result<Vec<u8>, Fail> {
     Ok(bytes)
 }
 
-// Batch 1 of handheld 2: a calibration on 2024-02-20, and a reading of each of so many valves, of 600 ppm for the first of them and of 20 for the others.
+// Batch 1 of handheld 2: a calibration on 2024-02-20, and a reading of each of these valves, 600 ppm for the first `leaking` of them
+// and 20 ppm for the others.
 fn readings(alloc: Global, count: u8, leaking: u8) -> Result<Vec<u8>, Fail> {
     let mut bytes = Vec::from_slice(alloc, b"B\0\x02\0\0\0\x01")?;
     bytes.extend_from_slice(&(1 + u16::from(count)).to_be_bytes())?;
@@ -37,7 +38,7 @@ const DIFFICULT: &[u8] = b"B\0\0\0\0\0\x03\0\x01\x03M=\0\0\x03\xe8\x01\x03\0\x01
     B\0\0\0\0\0\x04\0\x01\x03M=\0\0\x03\xe9\x01\x03\0\x01\
     B\0\0\0\0\0\x05\0\x01\x03M=\0\0\x03\xea\x01\x03\0\x01";
 
-// Sees what is shown of a quarter in which so many valves were monitored, and so many leaked.
+// Sees what is shown of a quarter by how many valves were monitored and how many leaked.
 fn counts(alloc: Global, monitored: u8, leaking: u8, shown: &str) -> Result<(), Fail> {
     let mut input = valves(alloc, monitored)?;
     input.extend_from_slice(&readings(alloc, monitored, leaking)?)?;

@@ -6,6 +6,8 @@ mod batches;
 #[cfg(test)]
 mod filings;
 #[cfg(test)]
+mod hostile;
+#[cfg(test)]
 mod imports;
 #[cfg(test)]
 mod large_units;
@@ -17,3 +19,5 @@ mod runs;
 mod stops;
 #[cfg(test)]
 mod views;
+#[cfg(test)]
+mod working_day;

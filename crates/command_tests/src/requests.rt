@@ -1,9 +1,10 @@
-use crate::runs::{ONE, Row, ends, in_pieces, is};
+use crate::runs::{ONE, Row, ends, in_pieces};
 use crate::stops::calls_of_opening;
 use crate::views::docked;
 use disk_model::MemoryDisk;
 use std::alloc::Global;
 use std::test::Fail;
+use test_kit::is;
 
 // A request with batch 12 of handheld 7.
 pub const SYNC: &str =
@@ -12,7 +13,7 @@ pub const SYNC: &str =
     ]}";
 
 // The same batch number with 501 ppm.
-const CHANGED: &str =
+pub const CHANGED: &str =
     "POST /sync HTTP/1.1\r\nHost: office\r\nContent-Length: 116\r\n\r\n{\"handheld\":7,\"number\":12,\"fa\
     cts\":[{\"kind\":\"calibration\",\"day\":\"2024-02-20\",\"minute\":600,\"instrument\":1,\"gas\":501}\
     ]}";
@@ -29,14 +30,14 @@ const GROUND_OF_PUMPS: &str =
     ts\":[{\"kind\":\"delay\",\"day\":\"2024-03-01\",\"minute\":600,\"component\":1,\"ground\":\"d\",\"s\
     igner\":9,\"expected\":\"2024-06-10\"}]}";
 
-// The answer to batch 12 behind two others.
+// The answer to batch 12 after two others.
 pub const RECEIPT: &str =
     "HTTP/1.1 200 OK\r\nContent-Type: text/plain\r\nContent-Length: 15\r\n\r\nreceipt 7 12 3\n";
 
 // Up to three parts of a text.
 type Parts<'a> = (&'a str, &'a str, &'a str);
 
-// Parts one behind the other.
+// Parts one after the other.
 fn joined(alloc: Global, parts: &Parts) -> Result<String, Fail> {
     let mut text = String::from_str(alloc, parts.0)?;
     text.push_str(parts.1)?;
@@ -264,7 +265,7 @@ fn requests_have_their_answers(rt: HostRuntime) -> Result<(), Fail> {
 const HEAD_TOO_LARGE: &str =
     "HTTP/1.1 431 Request Header Fields Too Large\r\nContent-Type: text/plain\r\nContent-Length: 15\r\nConnection: close\r\n\r\nhead too large\n";
 
-// The request with batch 12, and 8,192 bytes of a head behind it.
+// The request with batch 12, and 8,192 bytes of a head after it.
 fn large_head(alloc: Global) -> Result<Vec<u8>, Fail> {
     let mut input = Vec::from_slice(alloc, SYNC.as_bytes())?;
     input.resize(SYNC.len() + 8_192, b'a')?;
@@ -279,22 +280,16 @@ fn a_head_has_8192_bytes(rt: HostRuntime) -> Result<(), Fail> {
     ends_over_base(rt.alloc(), usize::MAX, &row)
 }
 
-// A request with batch 12 and one of a view.
-const TWO_REQUESTS: Case = (
-    (
-        SYNC,
-        "GET /percent/1/16/2024-03-31 HTTP/1.1\r\nHost: office\r\n\r\n",
-        "",
-    ),
-    0,
-    (
-        RECEIPT,
-        "HTTP/1.1 200 OK\r\nContent-Type: text/plain\r\nContent-Length: 56\r\n\r\n\
-        percent 1 16 leaking 0 monitored 0 not good not skipped\n",
-        "",
-    ),
-    "",
-);
+// A request of a view.
+pub const VIEWED: &str = "GET /percent/1/16/2024-03-31 HTTP/1.1\r\nHost: office\r\n\r\n";
+
+// The answers to batch 12 and to it.
+pub const ANSWERED: &str =
+    "HTTP/1.1 200 OK\r\nContent-Type: text/plain\r\nContent-Length: 15\r\n\r\nreceipt 7 12 3\n\
+    HTTP/1.1 200 OK\r\nContent-Type: text/plain\r\nContent-Length: 56\r\n\r\n\
+    percent 1 16 leaking 0 monitored 0 not good not skipped\n";
+
+const TWO_REQUESTS: Case = ((SYNC, VIEWED, ""), 0, (ANSWERED, "", ""), "");
 
 #[test]
 fn requests_are_answered_in_order(rt: HostRuntime) -> Result<(), Fail> {
@@ -306,7 +301,7 @@ fn requests_byte_by_byte_have_the_same_answers(rt: HostRuntime) -> Result<(), Fa
     answers(rt.alloc(), 1, &TWO_REQUESTS)
 }
 
-// The answers to batch 13 sent three times, where the call behind its gate fails.
+// The answers to batch 13 sent three times, where the call after its gate fails.
 const FAULT: &str =
     "HTTP/1.1 503 Service Unavailable\r\nContent-Type: text/plain\r\nContent-Length: 11\r\n\r\ndisk fault\n";
 

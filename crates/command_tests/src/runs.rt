@@ -4,6 +4,7 @@ use office_commands::run;
 use report_filing::MapFiling;
 use std::alloc::Global;
 use std::test::Fail;
+use test_kit::{is, pieces_of, words_of};
 
 // Handheld 7, batch 12: one calibration on 2024-02-20 at 10:00, instrument 1, 500 ppm.
 pub const BATCH: &[u8] = b"\x42\0\x07\0\0\0\x0c\0\x01\x07\x4d\x3d\x02\x58\0\x01\0\0\x01\xf4";
@@ -13,7 +14,7 @@ pub const OTHER: &[u8] = b"\x42\0\x07\0\0\0\x0c\0\x01\x07\x4d\x3d\x02\x58\0\x01\
 
 pub const NEXT: &[u8] = b"\x42\0\x07\0\0\0\x0d\0\x01\x07\x4d\x3d\x02\x58\0\x01\0\0\x01\xf4";
 
-// Batch 12 cut short, twice, and with a byte behind it that begins no batch.
+// Batch 12 cut short, twice, and with a byte after it that begins no batch.
 pub const CUT: &[u8] = b"\x42\0\x07\0\0\0\x0c\0\x01\x07\x4d\x3d\x02\x58\0\x01\0\0\x01";
 
 pub const TWICE: &[u8] = b"\x42\0\x07\0\0\0\x0c\0\x01\x07\x4d\x3d\x02\x58\0\x01\0\0\x01\xf4\
@@ -42,7 +43,7 @@ pub const EVERY_KIND: &[u8] = b"\x42\x01\x02\x01\x02\x03\x04\0\x0f\
 // The header of a journal and a closed gate.
 pub const EMPTY: &[u8] = b"LDARJNL1\0\0\0\0\0\0\0\0\0";
 
-// A journal with batch 12; with another first byte of the batch; without the gate; and with bytes behind it.
+// A journal with batch 12; with another first byte of the batch; without the gate; and with bytes after it.
 pub const ONE: &[u8] = b"LDARJNL1\0\0\0\0\0\0\0\0\x01\0\0\0\x14\
     \x42\0\x07\0\0\0\x0c\0\x01\x07\x4d\x3d\x02\x58\0\x01\0\0\x01\xf4\0";
 
@@ -79,7 +80,7 @@ pub const CALM: Manner = Manner {
     note: NEVER,
 };
 
-// In pieces of so many bytes, and nothing fails.
+// In pieces of this many bytes, and nothing fails.
 pub fn in_pieces(piece: usize) -> Manner {
     Manner {
         piece,
@@ -120,15 +121,6 @@ impl Streams {
     }
 }
 
-// These bytes in pieces of so many.
-fn pieces_of(alloc: Global, bytes: &[u8], size: usize) -> Result<Vec<Vec<u8>>, Memory> {
-    let mut pieces = Vec::new(alloc);
-    for piece in bytes.chunks(size.max(1)) {
-        pieces.push(Vec::from_slice(alloc, piece)?)?;
-    }
-    Ok(pieces)
-}
-
 // The input of a run.
 fn source_of(alloc: Global, input: &[u8], manner: Manner) -> Result<ListSource, Memory> {
     let pieces = pieces_of(alloc, input, manner.piece)?;
@@ -142,15 +134,6 @@ pub fn streams_of(alloc: Global, input: &[u8], manner: Manner) -> Result<Streams
         output: StampedSink::new(alloc, &[manner.put])?,
         notes: StampedSink::new(alloc, &[manner.note])?,
     })
-}
-
-// The words of a line, in which a blank ends each but the last.
-fn words_of(alloc: Global, line: &str) -> Result<Vec<String>, Memory> {
-    let mut words = Vec::new(alloc);
-    for word in line.split_terminator(' ') {
-        words.push(String::from_str(alloc, word)?)?;
-    }
-    Ok(words)
 }
 
 // The status of a run with these words. All tests run through here.
@@ -189,11 +172,6 @@ pub fn has_told(streams: &Streams, got: (u8, u8), output: &str, noted: &str) -> 
     got.0 == got.1 && was_put(&streams.output, output) && was_put(&streams.notes, noted)
 }
 
-// A failure that names what is wrong, where something is not so.
-pub fn is(so: bool, what: &str) -> Result<(), Fail> {
-    if so { Ok(()) } else { Err(Fail::from(what)) }
-}
-
 // Sees that a run on a disk ends so, and tells how often it asked for input.
 pub fn ends<D: Disk>(alloc: Global, disk: &mut D, manner: Manner, row: &Row) -> Result<u64, Fail> {
     let mut streams = streams_of(alloc, row.1, manner)?;
@@ -214,7 +192,7 @@ pub fn says<D: Disk>(
     Ok(())
 }
 
-// Sees that a run on a disk with these bytes ends so, and leaves so many.
+// Sees that a run on a disk with these bytes ends so, and leaves that many.
 pub fn ends_on(alloc: Global, bytes: &[u8], row: &Row, length: usize) -> Result<(), Fail> {
     let mut disk = MemoryDisk::new(alloc, bytes, &[])?;
     ends(alloc, &mut disk, CALM, row)?;

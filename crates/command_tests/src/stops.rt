@@ -1,7 +1,8 @@
-use crate::runs::{BATCH, EMPTY, NEXT, OF_A_BATCH, ONE, ends, in_pieces, is, says};
+use crate::runs::{BATCH, EMPTY, NEXT, OF_A_BATCH, ONE, ends, in_pieces, says};
 use disk_model::{Disk, MemoryDisk, SureDisk};
 use std::alloc::Global;
 use std::test::Fail;
+use test_kit::is;
 
 // The calls with which `dock` ends where one batch is appended: the frame is written, synced, its gate is written, and synced.
 const APPEND: u64 = 4;
@@ -18,7 +19,7 @@ const NEXT_THRICE: &[u8] = b"\x42\0\x07\0\0\0\x0d\0\x01\x07\x4d\x3d\x02\x58\0\x0
 const TWO: &[u8] = b"\x42\0\x07\0\0\0\x0c\0\x01\x07\x4d\x3d\x02\x58\0\x01\0\0\x01\xf4\
     \x42\0\x07\0\0\0\x0d\0\x01\x07\x4d\x3d\x02\x58\0\x01\0\0\x01\xf4";
 
-const THREE: &[u8] = b"\x42\0\x07\0\0\0\x0c\0\x01\x07\x4d\x3d\x02\x58\0\x01\0\0\x01\xf4\
+pub const THREE: &[u8] = b"\x42\0\x07\0\0\0\x0c\0\x01\x07\x4d\x3d\x02\x58\0\x01\0\0\x01\xf4\
     \x42\0\x07\0\0\0\x0d\0\x01\x07\x4d\x3d\x02\x58\0\x01\0\0\x01\xf4\
     \x42\0\x07\0\0\0\x0e\0\x01\x07\x4d\x3d\x02\x58\0\x01\0\0\x01\xf4";
 
@@ -44,6 +45,19 @@ pub fn calls_of_opening(alloc: Global, word: &str) -> Result<u64, Fail> {
     Ok(disk.calls())
 }
 
+// The disk that a stop inside a call leaves, with this of what the call writes.
+pub fn stopped(
+    alloc: Global,
+    disk: &MemoryDisk,
+    call: u64,
+    left: &[u8],
+) -> Result<MemoryDisk, Fail> {
+    if call >= disk.calls() {
+        return Err(Fail::from("a call"));
+    }
+    Ok(disk.stopped(alloc, call, left)?)
+}
+
 // Sees what `check` says of the journal that a stop inside a call leaves, with this of what the call writes.
 fn leaves(
     alloc: Global,
@@ -52,14 +66,11 @@ fn leaves(
     left: &[u8],
     said: &str,
 ) -> Result<(), Fail> {
-    if call >= disk.calls() {
-        return Err(Fail::from("a call"));
-    }
-    let mut stopped = disk.stopped(alloc, call, left)?;
+    let mut stopped = stopped(alloc, disk, call, left)?;
     says(alloc, &mut stopped, "check", &[], said)
 }
 
-// What `check` says behind a stop inside this call of so many, which leaves this: both batches where the gate is written, or the
+// What `check` says after a stop inside this call, which leaves this: both batches where the gate is written, or the
 // last sync is begun.
 fn said_behind(call: u64, calls: u64, left: &[u8]) -> &'static str {
     let is_synced = calls.saturating_sub(call) == 1;
@@ -113,8 +124,8 @@ fn a_stop_inside_a_frame_leaves_what_was(rt: HostRuntime) -> Result<(), Fail> {
     Ok(())
 }
 
-// The calls behind the opening that fail, and what is answered to a batch that is sent three times. In doubt a run first settles,
-// with the call behind its gate.
+// The calls after the opening that fail, and what is answered to a batch that is sent three times. In doubt a run first settles,
+// with the call after its gate.
 const IN_DOUBT: [(u64, u64, &str); 5] = [
     (0, 0, "disk fault\nreceipt 7 13 2\nreceipt 7 13 2\n"),
     (1, 1, "disk fault\nreceipt 7 13 2\nreceipt 7 13 2\n"),
@@ -198,7 +209,7 @@ fn batches_in_one_piece_share_a_frame(rt: HostRuntime) -> Result<(), Fail> {
 }
 
 // Batches 1 to 17 of handheld 7, each with the calibration of batch 12.
-fn seventeen(alloc: Global) -> Result<Vec<u8>, Fail> {
+pub fn seventeen(alloc: Global) -> Result<Vec<u8>, Fail> {
     let mut input = Vec::new(alloc);
     for number in 1..18 {
         input.extend_from_slice(b"\x42\0\x07\0\0\0")?;

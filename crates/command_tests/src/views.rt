@@ -1,8 +1,9 @@
 // bench/rows.py writes this file.
-use crate::runs::{EMPTY, is, says};
+use crate::runs::{EMPTY, says};
 use disk_model::MemoryDisk;
 use std::alloc::Global;
 use std::test::Fail;
+use test_kit::is;
 
 // Process unit 1 with valves 1 to 4, pumps 5 to 7, relief device 8 and compressor 9, and a precision test of instrument 1.
 const BASE: &[u8] =

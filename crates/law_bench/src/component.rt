@@ -71,7 +71,7 @@ fn component_of(
     }
 }
 
-/// The component with this number, from 0, and so many facts; `None` where they come out of order.
+/// The component with this number, from 0, and that many facts; `None` where they come out of order.
 pub fn made_component(
     alloc: Global,
     history: History,

@@ -11,12 +11,12 @@ pub const SIXTEEN_YEARS: u32 = 5_840;
 /// 2020-01-01, from which the components are in service.
 const FIRST: u32 = 18_262;
 
-/// So many days after the beginning of the components.
+/// The day this many days after the beginning of the components.
 pub fn day_after(days: u32) -> Day {
     Day::at(FIRST + days % 16_000)
 }
 
-/// The day of a place among so many, which are spread over some days.
+/// The day of a place in a history of this length, spread evenly over some days.
 pub fn day_at(place: u32, places: u32, days: u32) -> Day {
     let before = u64::from(place).wrapping_mul(u64::from(days)) / u64::from(places.max(1));
     day_after((before % 16_000) as u32)

@@ -63,7 +63,7 @@ impl History {
         }
     }
 
-    /// The fact at a place among so many.
+    /// The fact at a place in a history of this length.
     pub fn fact(self, number: u32, place: u32, places: u32) -> Fact {
         let day = day_at(place, places, self.days());
         match self {
@@ -113,7 +113,7 @@ impl History {
         }
     }
 
-    /// The day of the place so many places before.
+    /// The day of the place that many places before.
     fn day_before(self, place: u32, before: u32, places: u32) -> Day {
         day_at(place.saturating_sub(before), places, self.days())
     }

@@ -16,7 +16,7 @@ use std::alloc::{AllocError, Global};
 /// The leak definition by which the readings are judged.
 const LIMIT: u32 = 500;
 
-/// The minute of a place among so many: where there is one a day it is the first minute of each.
+/// The minute of a place in a history of this length. With one fact a day it is the first minute of the day.
 fn minute_at(place: u32, places: u32) -> u16
     ensures in_range { result ≤ 1_399 }
 {
@@ -68,7 +68,7 @@ fn drift(place: u32, day: Day, minute: u16) -> Fact
     }
 }
 
-/// The facts of an instrument with so many calibrations.
+/// The facts of an instrument with a number of calibrations.
 fn facts_of(alloc: Global, places: u32) -> Result<Vec<(Key, Fact)>, AllocError> {
     let mut facts = Vec::new(alloc);
     for place in 0..places {
@@ -104,7 +104,7 @@ fn reading(place: u32, day: Day, minute: u16) -> Fact
     }
 }
 
-/// So many readings, one after each calibration.
+/// A number of readings, one after each calibration.
 fn readings_of(alloc: Global, places: u32) -> Result<Vec<(Key, Fact)>, AllocError> {
     let mut readings = Vec::new(alloc);
     for place in 0..places {
@@ -125,7 +125,7 @@ fn facts_of_a_day(alloc: Global, places: u32) -> Result<Vec<(Key, Fact)>, AllocE
     Ok(facts)
 }
 
-/// So many readings of one minute of that day.
+/// A number of readings of one minute of that day.
 fn readings_of_a_day(alloc: Global, places: u32) -> Result<Vec<(Key, Fact)>, AllocError> {
     let day = day_at(0, 1, 0);
     let mut readings = Vec::new(alloc);
@@ -147,7 +147,7 @@ fn add_readings(instrument: &Instrument, readings: &[(Key, Fact)], sum: u64) -> 
     sum
 }
 
-/// A sum over the fitness of each reading, asked so many times of an instrument that is made once.
+/// A sum over the fitness of each reading, asked repeatedly of an instrument that is made once.
 fn sum_once_made(
     alloc: Global,
     facts: &[(Key, Fact)],
@@ -164,7 +164,7 @@ fn sum_once_made(
     Ok(sum)
 }
 
-/// A sum over the fitness of a reading, asked once of each of so many instruments.
+/// A sum over the fitness of a reading, asked once of each instrument.
 fn sum_made_anew(
     alloc: Global,
     facts: &[(Key, Fact)],
@@ -181,7 +181,7 @@ fn sum_made_anew(
     Ok(sum)
 }
 
-/// A sum over the readings, of which there are as many as calibrations, asked so many times.
+/// A sum over the readings, as many as there are calibrations, asked repeatedly.
 pub fn sum_over_readings(alloc: Global, places: u32, passes: u32) -> Result<u64, Memory> {
     let facts = facts_of(alloc, places)?;
     let readings = readings_of(alloc, places)?;

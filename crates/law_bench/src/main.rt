@@ -1,11 +1,11 @@
 //! What `bench/law.py` measures.
 //!
-//! With `CALL HISTORY COMPONENTS FACTS PASSES` it makes so many components with so many facts each, and asks so many times
+//! With `CALL HISTORY COMPONENTS FACTS PASSES` it makes COMPONENTS components with FACTS facts each, and asks PASSES times
 //! for the `events`, the `spans`, the `marks` or the `duties` of each of them. A history is that of a `valve`, of a valve
 //! in its first `year`, of a `pump`, of a valve that leaks `unrepaired`, of a `batch` of leaks on one day, or of a pump's
-//! `drips`. With `CALL SIZE PASSES` it asks so often for an `instrument` of so many calibrations, whether each of so many
-//! readings is `fit`, the same where all of them are of one `day`, for `routes` by so many duties, or for the `repair` of a
-//! leak with so many delays. Without passes it makes what it asks about alone. With no words it does a little of each.
+//! `drips`. With `CALL SIZE PASSES` it asks PASSES times for an `instrument` of SIZE calibrations, whether each of SIZE
+//! readings is `fit`, the same where all of them are of one `day`, for `routes` by SIZE duties, or for the `repair` of a
+//! leak with SIZE delays. Without passes it makes what it asks about alone. With no words it does a little of each.
 #![tactic(auto)]
 
 mod component;

@@ -70,7 +70,7 @@ fn add_repair(
     said::add(said::add(sum, said::of_until(&repair.due)), counted)
 }
 
-/// A sum over the repairs of so many leaks, with so many delays and attempts, and a shutdown for each tenth.
+/// A sum over the repairs of several leaks, each with this many delays and attempts, and a shutdown for each tenth delay.
 pub fn sum_over_repairs(alloc: Global, places: u32, passes: u32) -> Result<u64, AllocError> {
     let delays = delays_of(alloc, places)?;
     let attempts = attempts_of(alloc, places)?;

@@ -7,7 +7,7 @@ use crate::view::View;
 use fact_kinds::Memory;
 use std::alloc::Global;
 
-/// So many components with so many facts each, up to the first whose facts come out of order.
+/// `components` components with `facts` facts each, up to the first whose facts are out of order.
 fn components_of(
     alloc: Global,
     history: History,
@@ -24,7 +24,7 @@ fn components_of(
     Ok(unit)
 }
 
-/// A sum over what each of so many components answers, asked so many times; of its marks each pass adds that of one quarter,
+/// A sum over what each component answers, asked repeatedly; of its marks each pass adds that of one quarter,
 /// since a sum over all of them takes longer than making those of what is counted in none.
 pub fn sum_over_unit(
     alloc: Global,

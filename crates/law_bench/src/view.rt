@@ -33,7 +33,7 @@ impl View {
         })
     }
 
-    /// The place of the quarter behind one, from 0; behind the last comes the first.
+    /// The place of the quarter after one, from 0; the first follows the last.
     pub fn quarter_behind(&self, place: u16) -> u16 {
         if place < self.quarters.saturating_sub(1) {
             place + 1

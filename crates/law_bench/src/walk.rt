@@ -17,7 +17,7 @@ fn met(place: u32) -> Option<Key> {
     }
 }
 
-/// So many monitorings that are due.
+/// This many monitorings that are due.
 fn duties_of(alloc: Global, places: u32) -> Result<Vec<Duty>, AllocError> {
     let mut duties = Vec::new(alloc);
     for place in 0..places {
@@ -42,7 +42,7 @@ fn add_routes(routes: &[Route], sum: u64) -> u64 {
     sum
 }
 
-/// A sum over routes of fifty stops by so many duties, planned so many times, as long as there is memory for them.
+/// A sum over routes of fifty stops by this many duties, planned repeatedly, as long as there is memory for them.
 pub fn sum_over_routes(alloc: Global, places: u32, passes: u32) -> Result<u64, AllocError> {
     let duties = duties_of(alloc, places)?;
     let mut sum = 0;

@@ -5,9 +5,9 @@ ghost use Rattle.office_views.specs.Answers.{IsView};
 use crate::made::startup;
 use ldar_days::{Day, quarter_of};
 use ldar_law::Request;
+use memory_office::Office;
 use office_views::Shown;
 use std::alloc::Global;
-use view_rows::Office;
 
 /// The view that a word names, on a day, and of the quarter or half in which the day lies.
 fn request(view: &str, day: Day) -> Request

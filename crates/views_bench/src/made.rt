@@ -37,14 +37,14 @@ pub fn startup() -> Day
     Day::at(STARTUP)
 }
 
-/// The day for which the views are asked, after so many months.
+/// The day for which the views are asked, after that many months.
 pub fn view_day(months: u32) -> Day {
     Day::at(FIRST)
         .plus_months(months.saturating_sub(1))
         .plus_days(15)
 }
 
-/// The batch of the register with this number, from 0; `None` behind the last.
+/// The batch of the register with this number, from 0; `None` after the last.
 pub fn register_batch(alloc: Global, number: u32) -> Result<Option<Batch>, Memory> {
     let first = number.saturating_mul(512);
     let mut facts = Vec::new(alloc);
@@ -97,7 +97,7 @@ fn valve_at(place: u32) -> u16
     (place % 60_000 + 1) as u16
 }
 
-/// The number of a handheld, from 0, as it is told, and of its instrument.
+/// The number that a handheld, counted from 0, and its instrument have in facts.
 fn number_of(handheld: u32) -> u16
     ensures in_range { 1 ≤ result }
 {
@@ -140,7 +140,7 @@ fn election() -> Fact {
     }
 }
 
-/// A shutdown of ten days, so many days after the election.
+/// A shutdown of ten days, this many days after the election.
 fn shutdown(days: u32) -> Fact {
     Fact {
         day: Day::at(ELECTION).plus_days(days),
@@ -166,7 +166,7 @@ pub fn monthly_batch(alloc: Global, month: u32, handheld: u32) -> Result<Option<
     Ok(Batch::new(number, month, facts))
 }
 
-/// The batch with this number, from 0, of so many readings that come late, 512 at most: each of another valve, on the first day.
+/// The batch with this number, from 0, of at most 512 readings that come late: each of another valve, on the first day.
 pub fn late_batch(alloc: Global, number: u32, readings: u32) -> Result<Option<Batch>, Memory> {
     let first = number.wrapping_mul(512);
     let mut facts = Vec::new(alloc);

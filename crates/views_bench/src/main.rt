@@ -1,6 +1,6 @@
 //! What `bench/views.py` measures.
 //!
-//! With a number of facts it makes a process unit of 20,000 valves and their monthly readings by 40 handhelds, so many facts at
+//! With a number of facts it makes a process unit of 20,000 valves and their monthly readings by 40 handhelds, that many facts at
 //! most but one month at least, in batches of up to 512, and has each batch judged and adopted. Then it answers each line of its
 //! input. One that names a view is answered by the length of its text and a sum over it; the views are of the days after the last
 //! readings, and `other` is the due list of a unit of one valve. At `late N` a batch of N readings is adopted, which come late.
@@ -12,9 +12,9 @@ mod made;
 use asked::said;
 use fact_kinds::Batch;
 use made::{ENTRIES, HANDHELDS, late_batch, monthly_batch, register_batch, view_day};
+use memory_office::Office;
 use std::alloc::Global;
 use std::env;
-use view_rows::Office;
 
 /// How many facts there are of a month.
 const FACTS_A_MONTH: u32 = HANDHELDS * 512;
@@ -45,7 +45,7 @@ fn main(rt: HostRuntime) -> Result<(), anyhow::Error> {
     Ok(())
 }
 
-/// Adopts the batch with this number of so many readings that come late, and says whether it was adopted.
+/// Adopts the batch with this number, of readings that come late, and says whether it was adopted.
 fn adopted_late(
     alloc: Global,
     office: &mut Office,
@@ -57,7 +57,7 @@ fn adopted_late(
     Ok(format!(in alloc; "late: adopted {adopted}")?)
 }
 
-/// Adopts the batches of the register and of so many months. The result is how many were adopted.
+/// Adopts the batches of the register and of the first months. Returns how many were adopted.
 fn adopt_all(alloc: Global, office: &mut Office, months: u32) -> Result<u32, anyhow::Error> {
     let mut adopted = 0u32;
     for number in 0..HANDHELDS {

@@ -1,0 +1,4 @@
+mod answers;
+mod bodies;
+mod cuts;
+mod requests;

@@ -1,4 +1,0 @@
-use Rattle.view_rows.proofs.office.Office.adopt.Given as goal
-
-abbrev pub ghosts-adopt_accepted : goal.ghosts-adopt_accepted
-ghosts-adopt_accepted a = record { name = a.blank.name; parts = a.blank.parts }

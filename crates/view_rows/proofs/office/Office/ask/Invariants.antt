@@ -1,4 +1,0 @@
-use Rattle.view_rows.proofs.office.Office.ask.Given as goal
-
-abbrev pub ghosts-ask_views : goal.ghosts-ask_views
-ghosts-ask_views a = record { name = a.blank.name; parts = a.blank.parts }

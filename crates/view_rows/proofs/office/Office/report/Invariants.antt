@@ -1,4 +1,0 @@
-use Rattle.view_rows.proofs.office.Office.report.Given as goal
-
-abbrev pub ghosts-report_views : goal.ghosts-report_views
-ghosts-report_views a = record { name = a.blank.name; parts = a.blank.parts }

@@ -1,9 +1,0 @@
-mod asked;
-mod duties;
-mod facts;
-mod histories;
-mod orders;
-mod quarters;
-mod reports;
-mod tags;
-mod words;
