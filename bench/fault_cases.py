@@ -2,11 +2,16 @@
 
 strace lists the calls in order, makes one of them fail, or kills the program at it. A sync that fails twice cannot be
 observed on the program, whose commands end at the first error: the crate's own test of its files is run instead, if it was built."""
+import concurrent.futures
+import functools
 import os
 import re
 import shutil
 import subprocess
+import tempfile
 
+import filing
+import rows
 from cases import BENCH, HEADER, HERE, PROGRAM, batch, case, docked, has, held, ldar, made, pass_over, receipted
 
 TESTS = os.path.join(HERE, "crates", "ldar_cli", "out", "ldar_cli_tests")
@@ -219,17 +224,86 @@ def each_piece_of_memory():
     case("no file was made of a word", os.path.exists("dock"), False)
 
 
-def refusing(library, number, words, given):
+SYNC = (b'POST /sync HTTP/1.1\r\nHost: office\r\nContent-Length: 116\r\n\r\n{"handheld":7,"number":12,"facts":'
+        b'[{"kind":"calibration","day":"2024-02-20","minute":600,"instrument":1,"gas":500}]}')
+PERCENT = b"GET /percent/1/16/2024-03-31 HTTP/1.1\r\nHost: office\r\n\r\n"
+NO_MEMORY = b"HTTP/1.1 507 Insufficient Storage\r\nContent-Type: text/plain\r\nContent-Length: 7\r\n\r\nmemory\n"
+UNITS = b'[[unit]]\nnumber = 1\nname = "CRUDE"\nstartup = "2020-01-15"\nolder = false\n'
+VALVES = (b"component,unit,kind,service,designation,plan,month,monomer,replaces,begin\n"
+          b"1,1,valve,gas,none,0,1,0,0,2020-01-15\n2,1,valve,light,none,0,1,0,0,2020-01-15\n")
+FILE = ["file", "1", "8", "2024-03-31"]
+
+
+def runs_of_rows():
+    """The name of a run, what is docked or done before it, its words and its input."""
+    base = b"".join(map(rows.spelled, rows.BASE))
+    batches = {name: [rows.spelled(it) for it in those] for name, those, *_ in rows.OTHERS}
+    leak = batches["LATE_LEAK"]
+    leaked = [(["dock"], base + b"".join(leak))]
+    overdue = [(["dock"], filing.OVERDUE)]
+    return [
+        ("a first batch", [], ["dock"], batch(12)),
+        ("a batch and a view over HTTP", [(["dock"], base)], ["drain"], SYNC + PERCENT),
+        ("a late leak", [(["dock"], base + b"".join(leak[:-1]))], ["dock"], leak[-1]),
+        ("the duties after it", leaked, ["show", "due", "2", "2024-09-10"], b""),
+        ("the tags after it", leaked, ["show", "tags", "2", "2024-09-10"], b""),
+        ("three batches in one frame", [], ["dock"], batch(12) + batch(13) + batch(14)),
+        ("a report that is filed", overdue, FILE, b""),
+        ("a report that is filed already", [*overdue, (FILE, b"")], FILE, b""),
+        ("a report that is amended", [*overdue, (FILE, b""), (["dock"], filing.IN_TIME)], FILE, b""),
+        ("an import of a process unit", [], ["import", "1", "units"], UNITS),
+        ("an import of valves", [(["import", "1", "units"], UNITS)], ["import", "2", "components"], VALVES),
+    ]
+
+
+JOURNALS = ("unit.journal", "unit.journal.filed")
+
+
+def replies(words, text):
+    """The lines of a run that keeps batches, the answers of one that speaks HTTP, and the whole text of any other."""
+    if words[0] in ("dock", "import"):
+        return text.splitlines(True)
+    return [b"HTTP/" + it for it in text.split(b"HTTP/")[1:]] if words[0] == "drain" else [text] * bool(text)
+
+
+def is_fair(words, got, plain):
+    """Whether a run ended as it does with ample memory, but that any reply may be that memory ran out, or it ended so."""
+    said, wanted = replies(words, got[1]), replies(words, plain[1])
+    return (got[0] == plain[0] and len(said) == len(wanted) or got[0] == 6 and len(said) <= len(wanted)) and all(
+        one in (other, b"memory\n", NO_MEMORY) for one, other in zip(said, wanted))
+
+
+def each_piece_of_memory_of_rows():
+    """Refuses each allocation of a run in turn: it ends as without, or by want of memory, and the same run ends well afterwards."""
+    library = shim()
+    if not library:
+        return
+    for name, before, words, given in runs_of_rows():
+        with tempfile.TemporaryDirectory(dir=".") as kept, concurrent.futures.ThreadPoolExecutor(len(os.sched_getaffinity(0))) as lanes:
+            for earlier, more in [(["init"], b""), *before]:
+                ldar("unit.journal", *earlier, given=more, cwd=kept)
+            one = functools.partial(with_refusal, library, kept, ["unit.journal", *words], given)
+            (plain, asked), again = one(0)
+            tried = list(lanes.map(one, range(1, asked + 1)))
+        wrong = [(number, got, later) for number, ((got, _), later) in enumerate(tried, 1)
+                 if not is_fair(words, got, plain) or later not in (plain, again)]
+        case(f"{name}, with each of {asked} pieces of memory refused", (asked > 0, 6 in [it[0][0][0] for it in tried], wrong), (True, True, []))
+
+
+def with_refusal(library, kept, words, given, number):
+    """How a run over a copy of these files ended with the allocation of this number refused, and how the same run ended then."""
+    with tempfile.TemporaryDirectory(dir=".") as folder:
+        for it in JOURNALS:
+            if os.path.exists(f"{kept}/{it}"):
+                shutil.copy(f"{kept}/{it}", folder)
+        return refusing(library, number, words, given, cwd=folder), ldar(*words, given=given, cwd=folder)
+
+
+def refusing(library, number, words, given, cwd="."):
     """How a run ended with the allocation of this number refused, and how many it made."""
-    reads, writes = os.pipe()
-    env = {**os.environ, "LD_PRELOAD": library, "REFUSED": str(number)}
-    command = ["sh", "-c", f'exec "$@" 9>&{writes}', "", "env", f"LD_PRELOAD={library}", f"REFUSED={number}", PROGRAM, *words]
-    env.pop("LD_PRELOAD")
-    done = subprocess.run(command, input=given, capture_output=True, env=env, pass_fds=[writes])
-    os.close(writes)
-    with os.fdopen(reads) as pipe:
-        asked = pipe.read()
-    return (done.returncode, done.stdout), int(asked or 0)
+    command = ["sh", "-c", 'exec "$@" 9>counted', "", "env", f"LD_PRELOAD={library}", f"REFUSED={number}", PROGRAM, *words]
+    done = subprocess.run(command, input=given, capture_output=True, cwd=cwd)
+    return (done.returncode, done.stdout), int(held(f"{cwd}/counted") or 0)
 
 
 def synced_behind_a_failed_sync():
@@ -263,4 +337,5 @@ def file_steps(text):
     return found
 
 
-PARTS = [order_of_calls, each_call_of_init, each_call_of_a_dock, interrupted, one_byte_at_a_time, each_piece_of_memory, synced_behind_a_failed_sync]
+PARTS = [order_of_calls, each_call_of_init, each_call_of_a_dock, interrupted, one_byte_at_a_time, each_piece_of_memory, each_piece_of_memory_of_rows,
+         synced_behind_a_failed_sync]

@@ -44,6 +44,12 @@ def filed(*words, journal=JOURNAL, **more):
     return done.returncode, done.stdout.decode(), done.stderr.decode()
 
 
+def amended(*words, journal=JOURNAL, **more):
+    """A run of `amended`: its status, output and note."""
+    done = subprocess.run([PROGRAM, journal, "amended", *words], stdin=subprocess.DEVNULL, capture_output=True, **more)
+    return done.returncode, done.stdout.decode(), done.stderr.decode()
+
+
 FIRST = (0, "filed 1 8 1\n", "")
 SAME = (11, "", "same as revision 1\n")
 SECOND = (0, "filed 1 8 2\n", "")
@@ -81,6 +87,7 @@ def each_in_a_run_of_its_own():
     overdue()
     for words in (["show", "report", *REPORT], ["show", "due", "1", "2024-03-31"], ["check"]):
         case(f"{words[0]} {words[-1]} ends well", ldar(JOURNAL, *words)[0], 0)
+    case("a revision when there is no file", amended("1", "8", "1", "2"), (11, "", "no such revision 1\n"))
     case("and makes no file beside the journal", sorted(os.listdir()), [JOURNAL])
     kept = held(JOURNAL)
     case("the first report", filed(), FIRST)
@@ -92,7 +99,31 @@ def each_in_a_run_of_its_own():
     case("the report that is amended", filed(), SECOND)
     case("the same again", filed(), (11, "", "same as revision 2\n"))
     case("another half", filed("1", "7", REPORT[2]), (0, "filed 1 7 1\n", ""))
+    compared()
     case("the report that is shown", ldar(JOURNAL, "show", "report", *REPORT)[1].splitlines()[6][:20], b"2024-03 valves 0 0 p")
+
+
+def compared():
+    """The two revisions, each comparison in a run of its own, first without the journal and then beside a locked one."""
+    kept = held(JOURNAL)
+    os.rename(JOURNAL, "elsewhere")
+    for name, words, wanted in (
+        ("what the second revision amends", ("1", "8", "1", "2"), (0, "amended 1 8 1 2\nmonth 6 column 2 from 1 to 0\nend 1\n", "")),
+        ("the other way round", ("1", "8", "2", "1"), (0, "amended 1 8 2 1\nmonth 6 column 2 from 0 to 1\nend 1\n", "")),
+        ("a revision beside itself", ("1", "8", "2", "2"), (0, "amended 1 8 2 2\nend 0\n", "")),
+        ("a revision that is not on file", ("1", "8", "1", "3"), (11, "", "no such revision 3\n")),
+        ("two that are not", ("1", "8", "4", "3"), (11, "", "no such revision 4\n")),
+        ("a revision of the other half", ("1", "7", "1", "2"), (11, "", "no such revision 2\n")),
+        ("a revision 0", ("1", "8", "0", "1"), (2, "", "usage: ldar JOURNAL COMMAND\n")),
+    ):
+        case(name, amended(*words), wanted)
+    case("no journal is made", os.path.exists(JOURNAL), False)
+    os.rename("elsewhere", JOURNAL)
+    with open(JOURNAL, "r+b") as journal:
+        fcntl.flock(journal, fcntl.LOCK_EX)
+        fcntl.lockf(journal, fcntl.LOCK_EX)
+        case("beside a journal that another program has locked", amended("1", "8", "2", "2")[0], 0)
+    case("the journal is as it was", held(JOURNAL) == kept, True)
 
 
 def read_by_sqlite():
@@ -105,6 +136,7 @@ def read_by_sqlite():
     case("the program goes on behind it", filed(), (11, "", "same as revision 2\n"))
     table("UPDATE filed SET months = x'00' WHERE revision = 2")
     case("a row that does not read back", filed(), FAULT)
+    case("compared with the first revision", amended("1", "8", "1", "2"), FAULT)
     table("DELETE FROM filed WHERE revision = 2")
     case("a row that is gone", filed(), SECOND)
     case("is on file again", revisions(), [row(1, 1), row(2, 0)])
@@ -200,6 +232,9 @@ def no_journal():
     case("no file was made", os.listdir(), [JOURNAL])
     case("words that are no command", filed("1", "8", "2024-02-30", journal="other"), (2, "", "usage: ldar JOURNAL COMMAND\n"))
     case("none of them made a file", os.listdir(), [JOURNAL])
+    case("a revision beside a path that holds no journal", amended("1", "8", "1", "1"), (11, "", "no such revision 1\n"))
+    case("made no file", os.listdir(), [JOURNAL])
+    case("a revision in memory", amended("1", "8", "1", "1", journal=":memory:"), (11, "", "no such revision 1\n"))
     case("in memory", filed(journal=":memory:")[0], 7)
 
 
@@ -220,4 +255,5 @@ def main():
     ended()
 
 
-main()
+if __name__ == "__main__":
+    main()

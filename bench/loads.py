@@ -170,8 +170,16 @@ def calibrations(n):
     return register() + batches(2, [precision(DAY - 10)] + facts)
 
 
+def one_day(n):
+    """Readings of one day, with calibrations and failed drift assessments before and after each of them."""
+    facts = [f for i in range(n // 4) for f in (
+        calibration(DAY, i % 1_440), reading(1, DAY, i % 1_440), drift(DAY, i % 1_440, 440 - i % 7), reading(2, DAY, i % 1_440, 490))]
+    return register(valves=2) + batches(2, [precision(DAY - 10)] + facts)
+
+
 LOADS = {
     "drifts": (drifts, "percent 1 16 2024-03-31"),
+    "one day": (one_day, "percent 1 16 2024-03-31"),
     "gases": (gases, "percent 1 16 2024-03-31"),
     "classes": (classes, "due 1 2024-02-28"),
     "difficult": (difficult, "tags 1 2024-02-28"),

@@ -283,10 +283,11 @@ def case_of_view(case):
 
 def main():
     print("""// bench/rows.py writes this file.
-use crate::runs::{EMPTY, is, says};
+use crate::runs::{EMPTY, says};
 use disk_model::MemoryDisk;
 use std::alloc::Global;
 use std::test::Fail;
+use test_kit::is;
 """)
     print("// Process unit 1 with valves 1 to 4, pumps 5 to 7, relief device 8 and compressor 9, and a precision test of instrument 1.")
     constant("BASE", BASE)
@@ -348,4 +349,5 @@ fn a_denied_batch_is_told_its_rule(rt: HostRuntime) -> Result<(), Fail> {
 }""")
 
 
-main()
+if __name__ == "__main__":
+    main()
