@@ -94,6 +94,15 @@ fn no_row_is_found_where_it_does_not_read_back(rt: HostRuntime) -> Result<(), Fa
     assert!(rt; spoil(&rt, path).is_ok());
     assert!(rt; found(alloc, &mut at_path(&rt, path)?, 8).is_err());
     assert!(rt; found(alloc, &mut at_path(&rt, path)?, 9).is_ok());
-    assert!(rt; found(alloc, &mut at_path(&rt, "/no such folder/filed")?, 8).is_err());
     Ok(fs::remove_file(&rt, path)?)
+}
+
+#[test]
+fn no_file_is_made_by_a_question(rt: HostRuntime) -> Result<(), Fail> {
+    let alloc = rt.alloc();
+    let mut table = at_path(&rt, "/no such folder/filed")?;
+    assert!(rt; found(alloc, &mut table, 8).is_ok());
+    let row = row(alloc, 8, 1, 0)?;
+    assert!(rt; table.insert(alloc, &row).is_err());
+    Ok(())
 }
