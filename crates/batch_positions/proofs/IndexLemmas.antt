@@ -36,7 +36,7 @@ IsLastOf-push entries e handheld bound link within last = record {
     later at x in_run below (inl here) = last.no_later at x here in_run below
     later at x in_run below (inr end) = let place = end.0 in absurd (omega arith)
 
--- .. and below the end, if the new entry is of another run
+-- the last entry below the end is the same after an entry of another run is appended
 IsLastOf-beyond : (entries : List Entry) (e : Entry) (handheld link : ℕ) → ¬ (IsInRun handheld e) → IsLastOf entries handheld (length entries + 1) link
     → IsLastOf (entries ++ e ∷ []) handheld (length (entries ++ e ∷ []) + 1) link
 IsLastOf-beyond entries e handheld link other last =
@@ -475,14 +475,14 @@ nothing_indexed heads long none = record {
 
 -- ---- room
 
--- the number of run entries among the last ones, after an entry is appended
+-- the last n + 1 entries after an entry is appended are the last n ones and the new one
 last-push : (n : ℕ) (entries : List Entry) (e : Entry) → n ≤ length entries
     → drop (length (entries ++ e ∷ []) - (n + 1)) (entries ++ e ∷ []) ≡ drop (length entries - n) entries ++ e ∷ []
 last-push n entries e within =
     let place : length (entries ++ e ∷ []) - (n + 1) ≡ length entries - n = omega (arith, length-append entries (e ∷ [])) in
     ap (λ k. drop k (entries ++ e ∷ [])) place ∙ drop-append-le (length entries - n) entries (e ∷ []) (omega arith)
 
--- .. counted with the new one
+-- the number of run entries among the last ones, after an entry is appended
 pub runs_among-push : (n : ℕ) (entries : List Entry) (e : Entry) → n ≤ length entries
     → runs_among (n + 1) (entries ++ e ∷ []) ≡ runs_among n entries + cond e.late 0 1
 runs_among-push n entries e within =

@@ -36,7 +36,7 @@ at_position-push [] y (suc i) x is = absurd cc
 at_position-push (a ∷ xs) y (suc zero) x is = is
 at_position-push (a ∷ xs) y (suc (suc i)) x is = at_position-push xs y (suc i) x is
 
--- .. and is at the last position
+-- an appended element is at the last position
 pub at_position-last : {X : Type 0} (xs : List X) (y : X) → at_position (xs ++ y ∷ []) (suc (length xs)) ≡ Some y
 at_position-last [] y = refl
 at_position-last (x ∷ xs) y = at_position-last xs y

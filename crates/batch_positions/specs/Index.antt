@@ -17,7 +17,7 @@ late_entry identity = record { number = identity.number; earlier = 0; far = 0; h
 abbrev pub IsInRun : ℕ → Entry → Type 0
 IsInRun handheld entry = (entry.late ≡ false) × (entry.handheld ≡ handheld)
 
--- the link is the last entry of a handheld's run below a position, or 0 if there is none
+-- the link is the last entry of a handheld's run below a position, or 0 for no such entry
 pub record IsLastOf (entries : List Entry) (handheld bound link : ℕ) : Type 0 where
   pub within : link < bound
   pub in_run : (entry : Entry) → at_position entries link ≡ Some entry → IsInRun handheld entry
@@ -29,7 +29,7 @@ pub record AreRuns (entries : List Entry) : Type 0 where
   pub rise : (p q : ℕ) (e f : Entry) → at_position entries p ≡ Some e → at_position entries q ≡ Some f
       → IsInRun f.handheld e → f.late ≡ false → p < q → e.number < f.number
 
--- the late ones among entries, the first of which is at this position
+-- the late ones among entries that begin at this position
 abbrev pub lates_of : ℕ → List Entry → List Late
 lates_of position [] = []
 lates_of position (entry ∷ entries) =

@@ -4,5 +4,6 @@ pub mod EntryLemmas
 pub mod KnownLemmas
 pub mod PassedLemmas
 pub mod QuarterLemmas
+pub mod SeenLemmas
 pub mod ShareSteps
 pub mod TableLemmas

@@ -54,7 +54,7 @@ reach_within true index reach within = omega arith
 reach_within false index reach within = omega (arith, within)
 
 -- a fact that changes a component has its number
-named_so : (body : FactBody) (number : ℕ) → changed body ≡ Some number → component_of body ≡ Some number
+pub named_so : (body : FactBody) (number : ℕ) → changed body ≡ Some number → component_of body ≡ Some number
 named_so body number e =
     elim (cases_Bool (is_registered body)) [
       | inl entered ↦ rw entered at e

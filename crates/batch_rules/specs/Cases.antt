@@ -1,5 +1,6 @@
 -- The case of a fact, and the component that the fact requires.
 use Rattle.std.specs.Prelude.{◌≡◌, ℕ, ◌≤◌, Option, List, length, take}
+use Rattle.fact_kinds.specs.declared.limits.TheConstants.{BATCH_FACTS}
 use Rattle.fact_kinds.specs.declared.batch.Batch.{Batch}
 use Rattle.fact_kinds.specs.declared.class.Class.{Class}
 use Rattle.fact_kinds.specs.declared.class.Kind.{Kind}
@@ -30,7 +31,7 @@ kind_and_class_asked case = kind_and_class_by case.known case.entry.0.day case.e
 
 -- the invariant of a case
 pub record IsSound (fact : Stated) (index : ℕ) (known whole : Known) (kind_and_class : Option (Kind × Class)) (asked_before : List (ℕ × ℕ)) : Type 0 where
-  pub few : length known.front.now ≤ 512
-  pub whole_few : length whole.front.now ≤ 512
+  pub few : length known.front.now ≤ BATCH_FACTS
+  pub whole_few : length whole.front.now ≤ BATCH_FACTS
   pub asked : kind_and_class ≡ kind_and_class_asked (case_at fact index known whole)
   pub passed : ArePassed (register_at whole) asked_before

@@ -3,5 +3,6 @@ pub mod Cases
 pub mod KindsAndClasses
 pub mod Known
 pub mod Passed
+pub mod Seen
 pub mod Shares
 pub mod Table

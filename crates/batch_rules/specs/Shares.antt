@@ -1,17 +1,11 @@
 -- The number of valves of a process unit in service on a day, and how many are difficult to monitor (40 CFR 60.482-7a(h)(2)(ii)).
-use Rattle.std.specs.Prelude.{ℕ, Bool, if◌then◌else◌, Option, None}
+use Rattle.std.specs.Prelude.{ℕ, if◌then◌else◌, Option, None}
 use Rattle.fact_kinds.specs.declared.body.FactBody.{FactBody}
 use Rattle.fact_kinds.specs.Named.{component_of}
-use Rattle.ldar_law.specs.Judged.{Register, Case, class_held}
-use Rattle.ldar_law.specs.declared.equipment.Equipment.{Equipment}
+use Rattle.ldar_law.specs.Judged.{Register, Case}
 use Rattle.ldar_law.specs.ShareLaws.{counts_as_valve, counts_as_difficult, adds, count_in}
 use Rattle.ldar_law.specs.Slices.{is_registered}
-use Rattle.ldar_law.specs.Standing.{is_difficult_designated}
 use Rattle.batch_rules.specs.declared.share.Share.{Share}
-
--- the component is difficult to monitor on the day
-abbrev pub is_difficult_on : Register → ℕ → Equipment → Bool
-is_difficult_on register day item = is_difficult_designated (class_held register item day).designation
 
 -- the share of a process unit on a day that a component adds
 abbrev pub added : ℕ → ℕ → Register → ℕ → Share

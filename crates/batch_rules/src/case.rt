@@ -1,4 +1,5 @@
 ghost use Rattle.std.specs.Prelude.{◌≡◌, ◌≤◌, false, IsTrue, length};
+ghost use Rattle.fact_kinds.specs.declared.limits.TheConstants.{BATCH_FACTS};
 
 use crate::kind_and_class::KindAndClass;
 use crate::known_facts::Known;
@@ -47,8 +48,8 @@ impl<'a> Case<'a> {
         whole: Known<'a>,
         passed: &'a Passed,
     ) -> Case<'a>
-        requires few { length known.front.now ≤ 512 }
-        requires whole_few { length whole.front.now ≤ 512 }
+        requires few { length known.front.now ≤ BATCH_FACTS }
+        requires whole_few { length whole.front.now ≤ BATCH_FACTS }
         requires passed { ArePassed (register_at whole) passed.now }
         ensures value { result ≡ case_at fact.now index known.entry whole.entry }
     {
@@ -103,7 +104,7 @@ impl<'a> Case<'a> {
     /// The register and the facts before this one.
     pub fn known(&self) -> &Known<'a>
         ensures value { register_at result.now ≡ self.now.known }
-        ensures few { length result.now.front.now ≤ 512 }
+        ensures few { length result.now.front.now ≤ BATCH_FACTS }
     {
         &self.known
     }
@@ -111,7 +112,7 @@ impl<'a> Case<'a> {
     /// The register and all facts of the batch.
     pub fn whole(&self) -> &Known<'a>
         ensures value { register_at result.now ≡ self.now.whole }
-        ensures few { length result.now.front.now ≤ 512 }
+        ensures few { length result.now.front.now ≤ BATCH_FACTS }
     {
         &self.whole
     }

@@ -1,5 +1,5 @@
 ghost use Rattle.std.specs.Prelude.{◌≡◌, ◌≤◌, true, Some, None, IfSome, List, length, take};
-ghost use Rattle.fact_kinds.specs.declared.limits.TheConstants.{MOST_FACTS};
+ghost use Rattle.fact_kinds.specs.declared.limits.TheConstants.{BATCH_FACTS, MOST_FACTS};
 ghost use Rattle.fact_kinds.specs.declared.batch.Batch.{Batch as FactBatch};
 ghost use Rattle.fact_kinds.specs.Facts.{facts_of};
 ghost use Rattle.fact_store.specs.Kept.{facts_in};
@@ -29,7 +29,7 @@ fn judged<'a>(
     reach: Reach,
     passed: &'a Passed,
 ) -> (Option<u8>, Option<u8>)
-    requires few { length whole.now.front.now ≤ 512 }
+    requires few { length whole.now.front.now ≤ BATCH_FACTS }
     requires place { index ≤ length whole.now.front.now }
     requires within { reach.count ≤ index }
     requires known { register_by whole.now reach.count ≡ register_by whole.now index }
@@ -48,7 +48,7 @@ fn judged<'a>(
 
 /// The first denied fact of a batch, from 1, and the least rule that denies it; `whole` is all that is known with the batch.
 fn first_denied(whole: Known<'_>) -> Option<(u16, u8)>
-    requires few { length whole.front.now ≤ 512 }
+    requires few { length whole.front.now ≤ BATCH_FACTS }
     ensures value { result ≡ denial_after (facts_in whole.entry.register.now) (batch_of whole.entry) }
 {
     // The look-ups go through the batch only up to its last entry in the register.

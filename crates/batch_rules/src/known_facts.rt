@@ -6,6 +6,7 @@
 
 ghost use Rattle.std.specs.Prelude.{◌≡◌, ℕ, ◌<◌, ◌≤◌, ◌^◌, true, Some, None, IsTrue, length, take};
 ghost use Rattle.std.specs.Option.{is_some};
+ghost use Rattle.fact_kinds.specs.declared.limits.TheConstants.{BATCH_FACTS};
 ghost use Rattle.list_words.specs.Order as order;
 ghost use Rattle.ldar_law.specs.RegisterLaws.{class_first, with_class};
 ghost use Rattle.ldar_law.specs.Equipment as law;
@@ -82,7 +83,7 @@ fn is_retired_among(facts: &[Fact], component: u16, day: Day) -> bool
 }
 
 /// The key of a fact of a batch, from its place there (from 0).
-fn key_at(handheld: u16, number: u32, index: usize, fact: &Fact) -> Key
+pub fn key_at(handheld: u16, number: u32, index: usize, fact: &Fact) -> Key
     requires { index < 2 ^ 16 }
     ensures value { result ≡ record { day = fact.now.day; minute = fact.now.minute; handheld = handheld; number = number; index = index } }
 {
@@ -97,7 +98,7 @@ fn key_at(handheld: u16, number: u32, index: usize, fact: &Fact) -> Key
 
 /// The class of the component from a fact on or before a day, or the class before, whichever has the later key. The new
 /// class wins if the keys tie.
-fn later_class(
+pub fn later_class(
     latest: Option<(Key, Class)>,
     component: u16,
     day: Day,
@@ -202,7 +203,7 @@ impl<'a> Known<'a> {
 
     /// The last class that was entered for the component by a day, with its key.
     pub fn class_by(&self, component: u16, day: Day) -> Option<(Key, Class)>
-        requires few { length self.now.front.now ≤ 512 }
+        requires few { length self.now.front.now ≤ BATCH_FACTS }
         ensures value { result ≡ force.class_by day (law.classes_of component (register_at self.now).in_order) }
     {
         let mut latest = self.register.class_entry(component, day);
@@ -215,7 +216,7 @@ impl<'a> Known<'a> {
 
     /// The class of a component on a day.
     pub fn class_of(&self, item: &Equipment, day: Day) -> Class
-        requires few { length self.now.front.now ≤ 512 }
+        requires few { length self.now.front.now ≤ BATCH_FACTS }
         ensures value { result ≡ judged.class_held (register_at self.now) item.now day }
     {
         match self.class_by(item.component, day) {
@@ -226,7 +227,7 @@ impl<'a> Known<'a> {
 
     /// The type of a component and its class on a day, if it was entered.
     fn kind_and_class(&self, component: u16, day: Day) -> KindAndClass
-        requires few { length self.now.front.now ≤ 512 }
+        requires few { length self.now.front.now ≤ BATCH_FACTS }
         ensures value { result ≡ kind_and_class_of (register_at self.now) component day }
     {
         match self.component(component) {
@@ -237,7 +238,7 @@ impl<'a> Known<'a> {
 
     /// The type and class, on the fact's day, of the component that a fact requires.
     pub fn asked(&self, fact: &Fact) -> KindAndClass
-        requires few { length self.now.front.now ≤ 512 }
+        requires few { length self.now.front.now ≤ BATCH_FACTS }
         ensures value { result ≡ kind_and_class_by (register_at self.now) fact.now.day fact.now.body }
     {
         match component_asked(&fact.body) {

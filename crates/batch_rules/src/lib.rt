@@ -15,7 +15,9 @@ mod known_facts;
 mod passed_units;
 mod reach;
 mod rules;
+mod seen;
 mod share;
+mod touched;
 mod valves;
 
 pub use denials::verdict;

@@ -5,29 +5,29 @@
 
 ghost use Rattle.std.specs.Prelude.{◌≡◌, ◌<◌, [], length};
 ghost use Rattle.std.specs.List.{list_any};
+ghost use Rattle.fact_kinds.specs.declared.limits.TheConstants.{BATCH_FACTS};
 ghost use Rattle.batch_rules.specs.Passed.{is_of, with_asked};
 
+use fact_kinds::BATCH_FACTS;
 use ldar_days::Day;
 use std::marker::Model;
-
-/// Maximum number of facts in a batch.
-const MOST: usize = 512;
 
 /// The process units and days for which the rule judged a fact of the batch and passed it. It allocates nothing.
 #[derive(Drop)]
 pub struct Passed {
-    asked: [(u8, Day); MOST],
+    asked: [(u8, Day); BATCH_FACTS],
     count: usize,
 }
 
 impl Model for Passed {
     ghost use Rattle.std.specs.Prelude.{ℕ, ◌≤◌, List, take};
+    ghost use Rattle.fact_kinds.specs.declared.limits.TheConstants.{BATCH_FACTS};
 
     ghost Value = { List (ℕ × ℕ) };
 
     ghost view = { λ p. take p.count p.asked };
 
-    ghost invariant = { λ p. p.count ≤ 512 };
+    ghost invariant = { λ p. p.count ≤ BATCH_FACTS };
 }
 
 impl Passed {
@@ -36,7 +36,7 @@ impl Passed {
         ensures value { result ≡ [] }
     {
         Passed {
-            asked: [(0, Day::at(13_879)); MOST],
+            asked: [(0, Day::at(13_879)); BATCH_FACTS],
             count: 0,
         }
     }
@@ -52,7 +52,7 @@ impl Passed {
 
     /// Adds a process unit on this day, if there is a unit.
     pub fn add(&mut self, unit: Option<u8>, day: Day)
-        requires roomy { length self.old < 512 }
+        requires roomy { length self.old < BATCH_FACTS }
         ensures value { self.new ≡ with_asked unit day self.old }
     {
         if let Some(unit) = unit {

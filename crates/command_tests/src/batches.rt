@@ -8,7 +8,7 @@ use std::alloc::Global;
 use std::test::Fail;
 use test_kit::is;
 
-// What is docked, what is put, and how many bytes the journal has then.
+// Rows of a run, and the length of the journal after each.
 pub const ONCE: [(Row, usize); 10] = [
     (("dock", b"", 7, "", "not a journal\n"), 0),
     (("init", b"", 0, "", ""), 17),
@@ -22,7 +22,7 @@ pub const ONCE: [(Row, usize); 10] = [
     (("check", BATCH, 0, "journal 2 batches 2 facts\n", ""), 67),
 ];
 
-// Sees that a run ends so, and how many bytes the journal has then.
+// Checks the result of a run, and the length of the journal after it.
 fn keeps(alloc: Global, disk: &mut MemoryDisk, row: &Row, length: usize) -> Result<(), Fail> {
     ends(alloc, disk, CALM, row)?;
     is(disk.bytes().len() == length, row.0)
@@ -43,7 +43,7 @@ fn a_handheld_enters_no_equipment(rt: HostRuntime) -> Result<(), Fail> {
     ends_on(rt.alloc(), EMPTY, &row, 17)
 }
 
-// Words that are no command, a line each: the first line has none, and the ninth has one that is empty.
+// Lines of words that are not a command. The first line has no words, and the ninth has an empty word.
 const NO_COMMANDS: &str = "
 dock x
 init init
@@ -81,7 +81,7 @@ show due -h 2024-02-28
 show due 1 --
 show route 1 2024-02-28 -16";
 
-// Sees that words are no command, and that neither the input nor the disk is asked.
+// Checks that words are not a command, and that neither the input nor the disk is read.
 fn is_no_command(alloc: Global, line: &str) -> Result<(), Fail> {
     let mut disk = MemoryDisk::new(alloc, EMPTY, &[])?;
     let row: Row = (line, BATCH, 2, "", "usage: ldar JOURNAL COMMAND\n");
@@ -97,7 +97,7 @@ fn words_outside_the_command_set_touch_nothing(rt: HostRuntime) -> Result<(), Fa
     Ok(())
 }
 
-// An input, and how many bytes the journal has after it.
+// An input, and the length of the journal after it.
 const INPUTS: [(Row, usize); 4] = [
     (("dock", CUT, 8, "", "input cut: 19 bytes left\n"), 17),
     (
@@ -119,7 +119,7 @@ fn an_input_is_docked_up_to_where_it_is_no_batch(rt: HostRuntime) -> Result<(), 
     Ok(())
 }
 
-// Sees that a run ends so and leaves the disk alone, and tells how often it asked for input.
+// Checks the result of a run and that it does not change the disk. Returns how often it read the input.
 fn leaves(alloc: Global, bytes: &[u8], row: &Row) -> Result<u64, Fail> {
     let mut disk = MemoryDisk::new(alloc, bytes, &[])?;
     let takes = ends(alloc, &mut disk, CALM, row)?;
@@ -127,7 +127,7 @@ fn leaves(alloc: Global, bytes: &[u8], row: &Row) -> Result<u64, Fail> {
     Ok(takes)
 }
 
-// Sees that these bytes are refused before anything is taken.
+// Checks that these bytes are refused before the input is read.
 pub fn refuses(alloc: Global, bytes: &[u8], noted: &str) -> Result<(), Fail> {
     for line in ["check", "dock", "show due 1 2024-02-28"] {
         let takes = leaves(alloc, bytes, &(line, b"", 7, "", noted))?;
@@ -202,7 +202,7 @@ fn a_view_is_shown_or_there_is_none(rt: HostRuntime) -> Result<(), Fail> {
     Ok(())
 }
 
-// The call of the input, of the output and of the notes that fails, the status, what is put and what is noted.
+// The failing call of the input, of the output and of the notes; the status, the output and the notes.
 const FAULTS: [(u64, u64, u64, u8, &str, &str); 5] = [
     (0, NEVER, NEVER, 3, "", "read fault\n"),
     (0, NEVER, 0, 4, "", ""),
@@ -211,7 +211,7 @@ const FAULTS: [(u64, u64, u64, u8, &str, &str); 5] = [
     (NEVER, 1, 0, 0, "receipt 7 12 1\n", ""),
 ];
 
-// Sees that docking a batch ends so.
+// Checks the result of docking a batch.
 fn docks(alloc: Global, manner: Manner, status: u8, output: &str, noted: &str) -> Result<(), Fail> {
     let mut disk = MemoryDisk::new(alloc, EMPTY, &[])?;
     ends(
@@ -231,7 +231,7 @@ fn a_fault_of_a_stream_is_told(rt: HostRuntime) -> Result<(), Fail> {
     Ok(())
 }
 
-// Whether a fault of the disk was reported, or answered.
+// Whether a disk error was reported, by the status or as a reply.
 fn has_told_a_fault(streams: &Streams, got: u8) -> bool {
     match got {
         5 => was_put(streams.output(), ""),
@@ -240,7 +240,7 @@ fn has_told_a_fault(streams: &Streams, got: u8) -> bool {
     }
 }
 
-// Sees that a fault of the disk in a run is reported.
+// Checks that a run reports a disk error.
 fn tells_faults(alloc: Global, disk: &mut MemoryDisk, line: &str) -> Result<(), Fail> {
     let before = disk.faults();
     let mut streams = streams_of(alloc, BATCH, CALM)?;
@@ -251,7 +251,7 @@ fn tells_faults(alloc: Global, disk: &mut MemoryDisk, line: &str) -> Result<(), 
     )
 }
 
-// Sees that a batch is receipted, unless a call of the disk fails.
+// Checks that a batch gets a receipt, unless a call of the disk fails.
 fn receipts(alloc: Global, disk: &mut MemoryDisk) -> Result<(), Fail> {
     let before = disk.faults();
     let mut streams = streams_of(alloc, BATCH, CALM)?;
@@ -262,7 +262,7 @@ fn receipts(alloc: Global, disk: &mut MemoryDisk) -> Result<(), Fail> {
     )
 }
 
-// Sees that a fault of this call passes.
+// Checks that after an error of this call, batches are kept again.
 fn passes_over(alloc: Global, call: u64) -> Result<(), Fail> {
     let mut disk = MemoryDisk::new(alloc, &[], &[call])?;
     tells_faults(alloc, &mut disk, "init")?;
@@ -275,14 +275,14 @@ fn passes_over(alloc: Global, call: u64) -> Result<(), Fail> {
 
 #[test]
 fn a_fault_of_the_disk_is_told_where_its_call_was_made(rt: HostRuntime) -> Result<(), Fail> {
-    // `init` reads, writes and syncs. A `dock` syncs and reads before it takes anything; what fails after that is answered.
+    // `init` reads, writes and syncs. `dock` syncs and reads before it reads its input; later errors are replies.
     for call in 0..12 {
         passes_over(rt.alloc(), call)?;
     }
     Ok(())
 }
 
-// Batch 1 of handheld 2: a reading of valve 1, of which no fact was entered.
+// Batch 1 of handheld 2: a reading of valve 1, which is not in the register.
 const UNKNOWN: &[u8] = b"B\0\x02\0\0\0\x01\0\x01\x0aM=\x02g\0\x01\0\x01\0\x01\x01\0\0\x02l\0\0\0\0";
 
 #[test]

@@ -11,23 +11,23 @@ use std::alloc::Global;
 use std::test::Fail;
 use test_kit::words_of;
 
-// Process unit 1 with valve 1, a precision test, and a leak of 2024-02-20 that is repaired on 2024-03-07, a day too late.
+// Process unit 1 with valve 1, a precision test, and a leak of 2024-02-20 that is repaired on 2024-03-07, one day late.
 const OVERDUE: [u8; 154] =
     *b"B\0\0\0\0\0\x01\0\x02\x01Gd\0\0\x01\0CRUDE\0\0\0\0\0\0\0\x02Gd\0\0\0\x01\x01\x01\0\0\x01\0\0\x01\
     B\0\x01\0\0\0\x01\0\x01\x08M\x0c\0<\0\x01\0\0\x01\xf4\0\0\x01\xf4\0\0\x01\xf4\0\0\x01\xf4\
     B\0\x02\0\0\0\x01\0\x05\x07M=\x01,\0\x01\0\0\x01\xf4\x0aM=\x02g\0\x01\0\x01\0\x01\x01\0\0\x02l\0\0\0\0\
     \x0cM?\x02X\0\x01\x01\x07MM\x01,\0\x01\0\0\x01\xf4\x0aMM\x02X\0\x01\0\x01\0\x01\x01\0\0\0\x14\0\0\0\0";
 
-// The late batch: a calibration, and a reading of 20 on 2024-03-06, so that the repair was in time.
+// The late batch: a calibration, and a reading of 20 on 2024-03-06, by which the repair was in time.
 const IN_TIME: [u8; 40] =
     *b"B\0\x02\0\0\0\x02\0\x02\x07ML\x01,\0\x01\0\0\x01\xf4\x0aML\x02X\0\x01\0\x01\0\x01\x01\0\0\0\x14\0\0\0\0";
 
 const FILE: &str = "file 1 8 2024-03-31";
 
-// A call that is never made.
+// The number of a call that is never made.
 const NEVER: u64 = u64::MAX;
 
-// A filing that tells nothing: it fails at the last revision, or has one with the greatest number, or fails where one is put.
+// A filing that exposes no reports. Its last revision cannot be read, or has the greatest number, or a new one cannot be added.
 #[derive(Drop)]
 struct Stub {
     fails: bool,
@@ -78,7 +78,7 @@ impl Filing for Stub {
     }
 }
 
-// What a run puts and notes.
+// The output and the notes of a run.
 #[derive(Drop)]
 struct Sinks {
     output: StampedSink,
@@ -86,7 +86,7 @@ struct Sinks {
 }
 
 impl Sinks {
-    // Sinks of which the output fails at this call.
+    // Sinks whose output fails at this call.
     fn new(alloc: Global, failing: u64) -> Result<Sinks, Memory> {
         Ok(Sinks {
             output: StampedSink::new(alloc, &[failing])?,
@@ -94,7 +94,7 @@ impl Sinks {
         })
     }
 
-    // Whether these two texts were put.
+    // Whether these two texts were written.
     fn say(&self, alloc: Global, output: &str, note: &str) -> Result<bool, Memory> {
         let put = self.output.bytes(alloc)?;
         let noted = self.notes.bytes(alloc)?;
@@ -109,7 +109,7 @@ fn source_of(alloc: Global, input: &[u8]) -> Result<ListSource, Memory> {
     ListSource::new(alloc, &pieces, &[])
 }
 
-// The status of a run with these words. All runs here go through it.
+// The status of a run with these words. All runs in this file use it.
 fn ran<F: Filing>(
     alloc: Global,
     disk: &mut MemoryDisk,
@@ -131,7 +131,7 @@ fn ran<F: Filing>(
     ))
 }
 
-// Whether the words end so, with nothing to read.
+// Whether a run without input has this result.
 fn tells<F: Filing>(
     alloc: Global,
     disk: &mut MemoryDisk,
@@ -159,7 +159,7 @@ fn keeps<F: Filing>(
     Ok(said && status == 0)
 }
 
-// Whether a journal is made, with the overdue repair.
+// Whether a journal is created and keeps the overdue repair.
 fn is_overdue<F: Filing>(
     alloc: Global,
     disk: &mut MemoryDisk,
@@ -170,7 +170,7 @@ fn is_overdue<F: Filing>(
     Ok(made && keeps(alloc, disk, filing, &OVERDUE, lines)?)
 }
 
-// Whether the report is filed once, and no more with the same cells, and again when the late batch is kept.
+// Whether the report is filed once, not again with the same cells, and again after the late batch is kept.
 fn is_filed_twice<F: Filing>(
     alloc: Global,
     disk: &mut MemoryDisk,
@@ -187,7 +187,7 @@ fn is_filed_twice<F: Filing>(
     )
 }
 
-// Whether the second revision on file amends this of the first, and nothing else.
+// Whether the second revision amends exactly this number of the first.
 fn amends<F: Filing>(alloc: Global, filing: &mut F, want: Amended) -> Result<bool, Memory> {
     let Ok(Some(first)) = filing.revision(alloc, 1, 8, 1) else {
         return Ok(false);
@@ -199,10 +199,10 @@ fn amends<F: Filing>(alloc: Global, filing: &mut F, want: Amended) -> Result<boo
     Ok(amended.as_slice() == [want].as_slice())
 }
 
-// Whether the report is filed again over this filing, with one cell amended.
+// Whether the report is filed twice with this filing, with one cell amended.
 fn is_amended<F: Filing>(alloc: Global, filing: &mut F) -> Result<bool, Memory> {
     let mut disk = MemoryDisk::new(alloc, &[], &[])?;
-    // Month 6 is March, and column 2 the valves whose repair was late.
+    // Month 6 is March, and column 2 is the valves with a late repair.
     let want = Amended {
         month: 6,
         column: 2,
@@ -212,7 +212,7 @@ fn is_amended<F: Filing>(alloc: Global, filing: &mut F) -> Result<bool, Memory> 
     Ok(is_filed_twice(alloc, &mut disk, filing)? && amends(alloc, filing, want)?)
 }
 
-// Whether the two revisions of the report are compared so, and what is not on file is refused so.
+// Whether comparing the two revisions of the report, and revisions that are not on file, has these results.
 fn is_compared<F: Filing>(
     alloc: Global,
     disk: &mut MemoryDisk,
@@ -257,7 +257,7 @@ fn two_revisions_are_compared(rt: HostRuntime) -> Result<(), Fail> {
     let mut disk = MemoryDisk::new(alloc, &[], &[])?;
     let mut in_map = MapFiling::new(alloc);
     assert!(rt; is_filed_twice(alloc, &mut disk, &mut in_map)?);
-    // A disk that holds no journal is not asked.
+    // The disk has no journal; `amended` does not read it.
     assert!(rt; is_compared(alloc, &mut MemoryDisk::new(alloc, &[], &[])?, &mut in_map)?);
     let mut disk = MemoryDisk::new(alloc, &[], &[])?;
     let mut in_table = TableFiling::new(InMemory::new());
@@ -266,7 +266,7 @@ fn two_revisions_are_compared(rt: HostRuntime) -> Result<(), Fail> {
     Ok(())
 }
 
-// The table fails under a limit on its steps, and the output at its first call.
+// The table fails if its steps are limited, and the output at its first call.
 #[test]
 fn a_comparison_that_fails_leaves_the_reports(rt: HostRuntime) -> Result<(), Fail> {
     let alloc = rt.alloc();
@@ -305,7 +305,7 @@ fn a_report_is_filed_again_when_late_facts_amend_it(rt: HostRuntime) -> Result<(
     Ok(())
 }
 
-// Whether each of these lines is refused so, over a filing that stays empty.
+// Whether each of these lines is refused in this way, with a filing that stays empty.
 fn are_refused(
     alloc: Global,
     disk: &mut MemoryDisk,
@@ -342,7 +342,7 @@ fn what_there_is_none_of_is_not_filed(rt: HostRuntime) -> Result<(), Fail> {
     Ok(())
 }
 
-// Whether a filing ends `file` so, and counts that many errors.
+// Whether `file` with this filing has this result and this count of errors.
 fn ends_by(
     alloc: Global,
     disk: &mut MemoryDisk,
@@ -357,7 +357,7 @@ fn ends_by(
 #[test]
 fn a_filing_that_fails_or_is_full_is_told(rt: HostRuntime) -> Result<(), Fail> {
     let day = Day::read(b"2024-03-31").ok_or("day")?;
-    // Whether it fails at once, the day of its last revision, and how often it failed.
+    // Whether the first call fails, the day of the last revision, and the number of errors.
     let cases = [
         (true, None, (10, "", "filing fault\n"), 1),
         (false, None, (10, "", "filing fault\n"), 1),

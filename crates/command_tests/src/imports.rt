@@ -48,7 +48,7 @@ const OF_NO_UNIT: &[u8] =
 3,9,valve,gas,none,0,1,0,0,2020-01-15
 ";
 
-// What comes of files of the register that are imported one after the other.
+// The results of importing register files one after the other.
 const REGISTER: [Row; 11] = [
     ("import 1 units", UNIT, 0, "receipt 0 1 1\n", ""),
     ("import 1 units", UNIT, 0, "receipt 0 1 1\n", ""),
@@ -69,7 +69,7 @@ const REGISTER: [Row; 11] = [
     ("check", b"", 0, "journal 2 batches 3 facts\n", ""),
 ];
 
-// Sees that runs over one disk end so.
+// Checks the results of runs over one disk.
 fn end_each(alloc: Global, disk: &mut MemoryDisk, rows: &[Row]) -> Result<(), Fail> {
     for row in rows {
         ends(alloc, disk, CALM, row)?;
@@ -116,10 +116,10 @@ fn with_unit(alloc: Global) -> Result<MemoryDisk, Fail> {
     Ok(MemoryDisk::new(alloc, disk.bytes(), &[])?)
 }
 
-// The call of the input, the output and the notes that fails, the status, what is put and what is noted.
+// The failing call of the input, the output and the notes; the status, the output and the notes.
 type Stop<'a> = (u64, u64, u64, u8, &'a str, &'a str);
 
-// A file of 513 facts is two batches. What stops it in the middle ends the import there.
+// A file of 513 facts is two batches. An error in the middle ends the import there.
 const STOPS: [Stop; 5] = [
     (NEVER, NEVER, NEVER, 0, BOTH, ""),
     (0, NEVER, NEVER, 3, "", "read fault\n"),
@@ -130,7 +130,7 @@ const STOPS: [Stop; 5] = [
 
 const BOTH: &str = "receipt 0 2 2\nreceipt 0 3 3\n";
 
-// .. where the last fact is denied.
+// The same file, with its last fact denied.
 const DENIALS: [Stop; 3] = [
     (NEVER, NEVER, NEVER, 11, UP_TO_IT, "denied 1 17 P2\n"),
     (NEVER, 1, NEVER, 11, "receipt 0 2 2\n", "denied 1 17 P2\n"),
@@ -139,7 +139,7 @@ const DENIALS: [Stop; 3] = [
 
 const UP_TO_IT: &str = "receipt 0 2 2\ndenied 1 17 P2\n";
 
-// Sees that an import of this file ends so.
+// Checks the result of importing this file.
 fn is_stopped(alloc: Global, file: &str, stop: &Stop) -> Result<(), Fail> {
     let (take, put, note, status, output, noted) = *stop;
     let mut disk = with_unit(alloc)?;
@@ -154,7 +154,7 @@ fn is_stopped(alloc: Global, file: &str, stop: &Stop) -> Result<(), Fail> {
     Ok(())
 }
 
-// Sees that imports of 513 valves, the last of them of this unit, end so.
+// Checks the results of importing 513 valves, the last of them of this unit.
 fn are_stopped(alloc: Global, unit_of_last: u8, stops: &[Stop]) -> Result<(), Fail> {
     let file = valves(alloc, 513, unit_of_last)?;
     for stop in stops {
@@ -169,13 +169,13 @@ fn an_import_ends_where_it_is_stopped(rt: HostRuntime) -> Result<(), Fail> {
     are_stopped(rt.alloc(), 9, &DENIALS)
 }
 
-// Sees that an import of this file makes this of a disk.
+// Checks that importing this file gives a disk with these bytes.
 fn completes(alloc: Global, disk: &mut MemoryDisk, file: &str, bytes: &[u8]) -> Result<(), Fail> {
     says(alloc, disk, "import 2 components", file.as_bytes(), BOTH)?;
     is(disk.bytes() == bytes, "the whole journal")
 }
 
-// Sees that an import that was stopped inside a call of the disk is completed by the same command.
+// Checks that an import that was stopped inside a call of the disk is completed by the same command.
 fn completes_behind(
     alloc: Global,
     whole: &MemoryDisk,
@@ -190,7 +190,7 @@ fn completes_behind(
     completes(alloc, &mut disk, file, whole.bytes())
 }
 
-// .. inside each of its calls. Of a write none of its bytes came through, or one, which opens a gate.
+// The same for each call of the disk. Of a write, none of its bytes is on the disk, or one, which opens a gate.
 fn completes_behind_each(alloc: Global, whole: &MemoryDisk, file: &str) -> Result<(), Fail> {
     for call in 0..whole.calls() {
         completes_behind(alloc, whole, file, call, b"")?;
@@ -213,7 +213,7 @@ fn an_import_that_was_cut_off_is_completed(rt: HostRuntime) -> Result<(), Fail> 
     completes_behind_each(rt.alloc(), &whole, file.as_str())
 }
 
-// Sees that an import of a unit ends by a fault of the disk, if there was one, or is receipted.
+// Checks that importing a unit reports a disk error, if there was one, or gets a receipt.
 fn ends_by_fault(alloc: Global, disk: &mut MemoryDisk) -> Result<(), Fail> {
     let mut streams = streams_of(alloc, UNIT, CALM)?;
     let got = ran(alloc, disk, &mut streams, "import 1 units")?;
@@ -226,7 +226,7 @@ fn ends_by_fault(alloc: Global, disk: &mut MemoryDisk) -> Result<(), Fail> {
     is(so, "import 1 units")
 }
 
-// Sees that an import passes over a fault of this call of the disk, if it makes it.
+// Checks that an import can be repeated after an error of this call of the disk, if it makes that call.
 fn passes_over(alloc: Global, call: u64) -> Result<(), Fail> {
     let mut disk = MemoryDisk::new(alloc, EMPTY, &[call])?;
     ends_by_fault(alloc, &mut disk)?;
@@ -238,14 +238,14 @@ fn passes_over(alloc: Global, call: u64) -> Result<(), Fail> {
 
 #[test]
 fn a_fault_of_the_disk_ends_an_import(rt: HostRuntime) -> Result<(), Fail> {
-    // The calls of an import on an empty journal: it syncs and reads as it opens, and what fails after that is answered.
+    // The calls of an import on an empty journal: it syncs and reads to open the journal; later errors are replies.
     for call in 0..10 {
         passes_over(rt.alloc(), call)?;
     }
     Ok(())
 }
 
-// Checks how a file with a comment of this length ends.
+// Checks the result of importing a file that is a comment of this length.
 fn is_no_document(alloc: Global, length: usize, status: u8, noted: &str) -> Result<(), Fail> {
     let input = vec![in alloc; b'#'; length]?;
     ends_on(
@@ -258,7 +258,7 @@ fn is_no_document(alloc: Global, length: usize, status: u8, noted: &str) -> Resu
 
 #[test]
 fn an_input_that_is_too_large_is_not_imported(rt: HostRuntime) -> Result<(), Fail> {
-    // It is a document without an array, and with one byte more it is too large.
+    // It is a document without an array; with one more byte it is too large.
     is_no_document(rt.alloc(), 8_388_608, 11, "bad row 0\n")?;
     is_no_document(rt.alloc(), 8_388_609, 8, "input too large\n")
 }

@@ -3,7 +3,7 @@ use crate::views::docked;
 use std::alloc::Global;
 use std::test::Fail;
 
-// Batch 2 of handheld 0: process unit 2 from 2020-01-15, and that many valves in gas service, numbered from 1,000.
+// Batch 2 of handheld 0: process unit 2 from 2020-01-15, and this many valves in gas service, numbered from 1,000.
 fn valves(alloc: Global, count: u8) -> Result<Vec<u8>, Fail> {
     let mut bytes = Vec::from_slice(alloc, b"B\0\0\0\0\0\x02")?;
     bytes.extend_from_slice(&(1 + u16::from(count)).to_be_bytes())?;
@@ -33,12 +33,12 @@ fn readings(alloc: Global, count: u8, leaking: u8) -> Result<Vec<u8>, Fail> {
     Ok(bytes)
 }
 
-// Batches 3 to 5 of handheld 0, each of which makes a valve of unit 2 difficult to monitor.
+// Batches 3 to 5 of handheld 0. Each makes one valve of unit 2 difficult to monitor.
 const DIFFICULT: &[u8] = b"B\0\0\0\0\0\x03\0\x01\x03M=\0\0\x03\xe8\x01\x03\0\x01\
     B\0\0\0\0\0\x04\0\x01\x03M=\0\0\x03\xe9\x01\x03\0\x01\
     B\0\0\0\0\0\x05\0\x01\x03M=\0\0\x03\xea\x01\x03\0\x01";
 
-// Sees what is shown of a quarter by how many valves were monitored and how many leaked.
+// Checks the view of a quarter, by the number of monitored and of leaking valves.
 fn counts(alloc: Global, monitored: u8, leaking: u8, shown: &str) -> Result<(), Fail> {
     let mut input = valves(alloc, monitored)?;
     input.extend_from_slice(&readings(alloc, monitored, leaking)?)?;
@@ -46,7 +46,7 @@ fn counts(alloc: Global, monitored: u8, leaking: u8, shown: &str) -> Result<(), 
     says(alloc, &mut disk, "show percent 2 16 2024-03-31", &[], shown)
 }
 
-// How many valves were monitored and how many leaked, and what is shown.
+// The number of monitored valves and of leaking ones, and the text of the view.
 const QUARTERS: [(u8, u8, &str); 3] = [
     (
         150,
@@ -73,7 +73,7 @@ fn a_quarter_is_good_where_few_valves_leak(rt: HostRuntime) -> Result<(), Fail> 
     Ok(())
 }
 
-// What is answered to the valves of unit 2, and to three of them that are made difficult to monitor.
+// The replies to the valves of unit 2, and to three of them that are made difficult to monitor.
 const DENIED: &str =
     "receipt 0 2 3\nreceipt 0 3 4\nreceipt 0 4 5\ndenied 1 15 60.482-7a(h)(2)(ii)\n";
 

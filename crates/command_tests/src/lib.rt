@@ -4,6 +4,8 @@
 #[cfg(test)]
 mod batches;
 #[cfg(test)]
+mod drills;
+#[cfg(test)]
 mod filings;
 #[cfg(test)]
 mod hostile;
@@ -11,6 +13,8 @@ mod hostile;
 mod imports;
 #[cfg(test)]
 mod large_units;
+#[cfg(test)]
+mod mirrors;
 #[cfg(test)]
 mod requests;
 #[cfg(test)]

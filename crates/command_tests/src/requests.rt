@@ -24,7 +24,7 @@ const NEXT_SYNC: &str =
     cts\":[{\"kind\":\"calibration\",\"day\":\"2024-02-20\",\"minute\":600,\"instrument\":1,\"gas\":500}\
     ]}";
 
-// A delay for a dual mechanical seal, of a valve.
+// A delay that needs a dual mechanical seal, for a valve.
 const GROUND_OF_PUMPS: &str =
     "POST /sync HTTP/1.1\r\nHost: office\r\nContent-Length: 146\r\n\r\n{\"handheld\":2,\"number\":1,\"fac\
     ts\":[{\"kind\":\"delay\",\"day\":\"2024-03-01\",\"minute\":600,\"component\":1,\"ground\":\"d\",\"s\
@@ -45,10 +45,10 @@ fn joined(alloc: Global, parts: &Parts) -> Result<String, Fail> {
     Ok(text)
 }
 
-// What is requested, the status, what is answered, and what is noted.
+// The request, the status, the response, and the notes.
 type Case<'a> = (Parts<'a>, u8, Parts<'a>, &'a str);
 
-// Sees that a run over the base ends so, where its input comes in pieces of this size.
+// Checks the result of a run over the base, if its input arrives in pieces of this size.
 fn answers(alloc: Global, piece: usize, case: &Case) -> Result<(), Fail> {
     let requests = joined(alloc, &case.0)?;
     let wanted = joined(alloc, &case.2)?;
@@ -62,14 +62,14 @@ fn answers(alloc: Global, piece: usize, case: &Case) -> Result<(), Fail> {
     ends_over_base(alloc, piece, &row)
 }
 
-// Sees that a run over the base ends so, where its input comes in pieces of this size.
+// Checks the result of a run over the base, if its input arrives in pieces of this size.
 fn ends_over_base(alloc: Global, piece: usize, row: &Row) -> Result<(), Fail> {
     let mut disk = docked(alloc, &[], "")?;
     ends(alloc, &mut disk, in_pieces(piece), row)?;
     Ok(())
 }
 
-// Sees that runs over the base end so.
+// Checks the results of runs over the base.
 fn answer_each(alloc: Global, cases: &[Case]) -> Result<(), Fail> {
     for case in cases {
         answers(alloc, usize::MAX, case)?;
@@ -115,7 +115,7 @@ const BATCHES: [Case; 3] = [
     ),
 ];
 
-// Methods, units, days and paths that are not there.
+// Methods, units, days and paths that do not exist.
 const ROUTES: [Case; 7] = [
     (
         ("GET /sync HTTP/1.1\r\n\r\n", SYNC, ""),
@@ -193,7 +193,7 @@ const ROUTES: [Case; 7] = [
     ),
 ];
 
-// Heads and bodies that are wrong, and an input that ends in a body.
+// Wrong heads and bodies, and an input that ends in a body.
 const HEADS: [Case; 5] = [
     (
         ("POST /sync HTTP/1.1\r\nHost: office\r\n\r\n", SYNC, ""),
@@ -280,10 +280,10 @@ fn a_head_has_8192_bytes(rt: HostRuntime) -> Result<(), Fail> {
     ends_over_base(rt.alloc(), usize::MAX, &row)
 }
 
-// A request of a view.
+// A request for a view.
 pub const VIEWED: &str = "GET /percent/1/16/2024-03-31 HTTP/1.1\r\nHost: office\r\n\r\n";
 
-// The answers to batch 12 and to it.
+// The answers to batch 12 and to the view.
 pub const ANSWERED: &str =
     "HTTP/1.1 200 OK\r\nContent-Type: text/plain\r\nContent-Length: 15\r\n\r\nreceipt 7 12 3\n\
     HTTP/1.1 200 OK\r\nContent-Type: text/plain\r\nContent-Length: 56\r\n\r\n\
@@ -301,14 +301,14 @@ fn requests_byte_by_byte_have_the_same_answers(rt: HostRuntime) -> Result<(), Fa
     answers(rt.alloc(), 1, &TWO_REQUESTS)
 }
 
-// The answers to batch 13 sent three times, where the call after its gate fails.
+// The answers to batch 13 sent three times, if the call after its gate fails.
 const FAULT: &str =
     "HTTP/1.1 503 Service Unavailable\r\nContent-Type: text/plain\r\nContent-Length: 11\r\n\r\ndisk fault\n";
 
 const NEXT_RECEIPT: &str =
     "HTTP/1.1 200 OK\r\nContent-Type: text/plain\r\nContent-Length: 15\r\n\r\nreceipt 7 13 2\n";
 
-// Sees that a fault of this call is answered, and the batch kept once.
+// Checks that an error of this call is reported, and that the batch is kept once.
 fn settles(alloc: Global, call: u64, requests: &str, answers: &str) -> Result<(), Fail> {
     let mut disk = MemoryDisk::new(alloc, ONE, &[call])?;
     ends(

@@ -60,10 +60,10 @@ pub const FOLLOWED: &[u8] = b"LDARJNL1\0\0\0\0\0\0\0\0\x01\0\0\0\x14\
 pub const UNIT: &[u8] = b"\x42\0\0\0\0\0\x02\0\x02\x01\x4d\x19\0\0\x02\0COKER\0\0\0\0\0\0\0\
     \x02\x4d\x19\0\0\0\x1e\x02\x01\0\0\x01\0\0\x01";
 
-// A call that is never made.
+// The number of a call that is never made.
 pub const NEVER: u64 = u64::MAX;
 
-// In pieces of which size the input of a run comes, and which call of its input, its output and its notes fails.
+// The size of the pieces of a run's input, and the calls of its input, its output and its notes that fail.
 #[derive(Clone, Copy)]
 pub struct Manner {
     pub piece: usize,
@@ -72,7 +72,7 @@ pub struct Manner {
     pub note: u64,
 }
 
-// In one piece, and nothing fails.
+// One piece and no errors.
 pub const CALM: Manner = Manner {
     piece: usize::MAX,
     take: NEVER,
@@ -80,7 +80,7 @@ pub const CALM: Manner = Manner {
     note: NEVER,
 };
 
-// In pieces of this many bytes, and nothing fails.
+// Pieces of this many bytes and no errors.
 pub fn in_pieces(piece: usize) -> Manner {
     Manner {
         piece,
@@ -90,7 +90,7 @@ pub fn in_pieces(piece: usize) -> Manner {
     }
 }
 
-// In one piece, and these calls fail.
+// One piece, and these calls fail.
 pub fn failing(take: u64, put: u64, note: u64) -> Manner {
     Manner {
         piece: usize::MAX,
@@ -100,13 +100,13 @@ pub fn failing(take: u64, put: u64, note: u64) -> Manner {
     }
 }
 
-// The bytes of a batch with one calibration.
+// The length of a batch with one calibration.
 pub const OF_A_BATCH: usize = 20;
 
-// The words of a run, with a blank between two; its input; its status, what it puts, and what it notes.
+// A run: its words, separated by single blanks; its input; its status, its output, and its notes.
 pub type Row<'a> = (&'a str, &'a [u8], u8, &'a str, &'a str);
 
-// What a run reads, puts and notes.
+// The input, the output and the notes of a run.
 #[derive(Drop)]
 pub struct Streams {
     source: ListSource,
@@ -136,7 +136,7 @@ pub fn streams_of(alloc: Global, input: &[u8], manner: Manner) -> Result<Streams
     })
 }
 
-// The status of a run with these words. All tests run through here.
+// The status of a run with these words. All tests of runs use it.
 pub fn ran<D: Disk>(
     alloc: Global,
     disk: &mut D,
@@ -155,7 +155,7 @@ pub fn ran<D: Disk>(
     ))
 }
 
-// Whether this text was put, and nothing else.
+// Whether exactly this text was written.
 pub fn was_put(sink: &StampedSink, text: &str) -> bool {
     let mut rest = text.as_bytes();
     for piece in sink.pieces() {
@@ -167,12 +167,12 @@ pub fn was_put(sink: &StampedSink, text: &str) -> bool {
     rest.is_empty()
 }
 
-// Whether a run with this status put these two texts.
+// Whether a run with this status wrote these two texts.
 pub fn has_told(streams: &Streams, got: (u8, u8), output: &str, noted: &str) -> bool {
     got.0 == got.1 && was_put(&streams.output, output) && was_put(&streams.notes, noted)
 }
 
-// Sees that a run on a disk ends so, and tells how often it asked for input.
+// Checks the result of a run on a disk. Returns how often it read the input.
 pub fn ends<D: Disk>(alloc: Global, disk: &mut D, manner: Manner, row: &Row) -> Result<u64, Fail> {
     let mut streams = streams_of(alloc, row.1, manner)?;
     let got = ran(alloc, disk, &mut streams, row.0)?;
@@ -180,7 +180,7 @@ pub fn ends<D: Disk>(alloc: Global, disk: &mut D, manner: Manner, row: &Row) -> 
     Ok(streams.source.calls())
 }
 
-// Sees that a run with this input goes well, and puts this.
+// Checks that a run with this input succeeds and writes this output.
 pub fn says<D: Disk>(
     alloc: Global,
     disk: &mut D,
@@ -192,7 +192,7 @@ pub fn says<D: Disk>(
     Ok(())
 }
 
-// Sees that a run on a disk with these bytes ends so, and leaves that many.
+// Checks the result of a run on a disk with these bytes, and the length of the disk after it.
 pub fn ends_on(alloc: Global, bytes: &[u8], row: &Row, length: usize) -> Result<(), Fail> {
     let mut disk = MemoryDisk::new(alloc, bytes, &[])?;
     ends(alloc, &mut disk, CALM, row)?;

@@ -4,7 +4,7 @@ use std::alloc::Global;
 use std::test::Fail;
 use test_kit::is;
 
-// The calls with which `dock` ends where one batch is appended: the frame is written, synced, its gate is written, and synced.
+// The last calls of `dock` when it appends one batch: it writes the frame, syncs, writes the gate, and syncs.
 const APPEND: u64 = 4;
 
 const ONE_BATCH: &str = "journal 1 batches 1 facts\n";
@@ -31,21 +31,21 @@ const BEHIND: &[u8] = b"\x42\0\x07\0\0\0\x0d\0\x01\x07\x4d\x3d\x02\x58\0\x01\0\0
     \x42\0\x07\0\0\0\x0e\0\x01\x07\x4d\x3d\x02\x58\0\x01\0\0\x01\xf4\
     \x42\0\x07\0\0\0\x0f\0\x01\x07\x4d\x3d\x02\x58\0\x01\0\0\x01\xf4";
 
-// A disk whose journal has one batch, and to which a second was docked.
+// A disk whose journal had one batch, after a second one was docked.
 fn docked_next(alloc: Global) -> Result<MemoryDisk, Fail> {
     let mut disk = MemoryDisk::new(alloc, ONE, &[])?;
     says(alloc, &mut disk, "dock", NEXT, "receipt 7 13 2\n")?;
     Ok(disk)
 }
 
-// How many calls a run of this word with no input makes on a disk with one batch.
+// The number of calls that a run of this word without input makes on a disk with one batch.
 pub fn calls_of_opening(alloc: Global, word: &str) -> Result<u64, Fail> {
     let mut disk = MemoryDisk::new(alloc, ONE, &[])?;
     says(alloc, &mut disk, word, &[], "")?;
     Ok(disk.calls())
 }
 
-// The disk that a stop inside a call leaves, with this of what the call writes.
+// The disk after a stop inside a call that leaves these bytes of what the call writes.
 pub fn stopped(
     alloc: Global,
     disk: &MemoryDisk,
@@ -58,7 +58,7 @@ pub fn stopped(
     Ok(disk.stopped(alloc, call, left)?)
 }
 
-// Sees what `check` says of the journal that a stop inside a call leaves, with this of what the call writes.
+// Checks the output of `check` after a stop inside a call that leaves these bytes of what the call writes.
 fn leaves(
     alloc: Global,
     disk: &MemoryDisk,
@@ -70,8 +70,8 @@ fn leaves(
     says(alloc, &mut stopped, "check", &[], said)
 }
 
-// What `check` says after a stop inside this call, which leaves this: both batches where the gate is written, or the
-// last sync is begun.
+// The output of `check` after a stop inside this call that leaves these bytes. Both batches are kept if the gate was written or
+// the stop is in the last sync.
 fn said_behind(call: u64, calls: u64, left: &[u8]) -> &'static str {
     let is_synced = calls.saturating_sub(call) == 1;
     let gate_is_written = calls.saturating_sub(call) == 2 && left == b"\x01".as_slice();
@@ -83,7 +83,7 @@ fn said_behind(call: u64, calls: u64, left: &[u8]) -> &'static str {
 
 const LEFT: [&[u8]; 4] = [b"", b"\0", b"\x07", b"\x01"];
 
-// Sees what a stop inside a call leaves.
+// Checks the journal after a stop inside a call.
 fn stops(alloc: Global, disk: &MemoryDisk, call: u64) -> Result<(), Fail> {
     for left in LEFT {
         leaves(
@@ -124,8 +124,8 @@ fn a_stop_inside_a_frame_leaves_what_was(rt: HostRuntime) -> Result<(), Fail> {
     Ok(())
 }
 
-// The calls after the opening that fail, and what is answered to a batch that is sent three times. In doubt a run first settles,
-// with the call after its gate.
+// The calls after the opening that fail, and the replies to a batch that is sent three times. If a batch is in doubt, a run
+// settles it first, with the call after its gate.
 const IN_DOUBT: [(u64, u64, &str); 5] = [
     (0, 0, "disk fault\nreceipt 7 13 2\nreceipt 7 13 2\n"),
     (1, 1, "disk fault\nreceipt 7 13 2\nreceipt 7 13 2\n"),
@@ -134,7 +134,7 @@ const IN_DOUBT: [(u64, u64, &str); 5] = [
     (2, 3, "disk fault\ndisk fault\nreceipt 7 13 2\n"),
 ];
 
-// Sees that this is answered where these calls fail.
+// Checks the replies if these calls fail.
 fn settles(alloc: Global, faults: &[u64], said: &str) -> Result<(), Fail> {
     let mut disk = MemoryDisk::new(alloc, ONE, faults)?;
     ends(
@@ -160,7 +160,7 @@ fn a_batch_in_doubt_is_settled_before_it_is_receipted(rt: HostRuntime) -> Result
     Ok(())
 }
 
-// Three batches, the size of the pieces in which they come, the lines, and the length of the journal.
+// Three batches, the size of the pieces in which they arrive, the replies, and the length of the journal.
 const FRAMES: [(&[u8], usize, &str, usize); 3] = [
     (
         THREE,
@@ -182,7 +182,7 @@ const FRAMES: [(&[u8], usize, &str, usize); 3] = [
     ),
 ];
 
-// Sees what is answered to some batches, and how many bytes the journal has then.
+// Checks the replies to some batches, and the length of the journal after them.
 fn frames(
     alloc: Global,
     piece: usize,
@@ -230,7 +230,7 @@ fn a_frame_has_at_most_sixteen_batches(rt: HostRuntime) -> Result<(), Fail> {
     let input = seventeen(rt.alloc())?;
     let mut disk = MemoryDisk::new(rt.alloc(), EMPTY, &[])?;
     says(rt.alloc(), &mut disk, "dock", &input, SEVENTEEN)?;
-    // One frame of 320 bytes, and then one of 20.
+    // One frame of 320 bytes, followed by one of 20.
     is(
         disk.bytes().len() == 17 + 5 + 320 + 5 + 20
             && disk.bytes().get(16..21) == Some(b"\x01\0\0\x01\x40".as_slice()),
@@ -247,7 +247,7 @@ fn a_fault_is_answered_to_a_whole_group(rt: HostRuntime) -> Result<(), Fail> {
     says(rt.alloc(), &mut disk, "check", &[], ONE_BATCH)
 }
 
-// The bytes for which there is room, what is answered to a batch, and then to it and another. A journal with one batch has 42
+// The room of the disk in bytes, the reply to a batch, and the replies to it and another one. A journal with one batch has 42
 // bytes, and each further batch of one fact adds 25.
 const ROOMS: [(usize, &str, &str); 3] = [
     (
@@ -259,7 +259,7 @@ const ROOMS: [(usize, &str, &str); 3] = [
     (41, "disk fault\n", "disk fault\ndisk fault\n"),
 ];
 
-// Sees that a disk with so much room answers so.
+// Checks the replies with a disk of this much room.
 fn fills(alloc: Global, room: usize, first: &str, second: &str) -> Result<(), Fail> {
     let mut disk = SureDisk::new(alloc, &[], room)?;
     says(alloc, &mut disk, "init", &[], "")?;

@@ -10,7 +10,7 @@ startup = \"2024-01-15\"
 older = false
 ";
 
-// What came in, and what is shown on the day after: the register's valves, and a duty of each of them.
+// The input and the due list of the next day: the register's valves, and one duty for each of them.
 #[derive(Drop)]
 struct Lists {
     valves: String,
@@ -33,7 +33,7 @@ fn lists_of(alloc: Global) -> Result<Lists, Fail> {
     Ok(Lists { valves, due })
 }
 
-// Puts batch 1 of a handheld: readings of 400 valves from this one on, on 2024-02-20 at 10:00, one of 700 ppm and the others of 20.
+// Appends batch 1 of a handheld: readings of 400 valves from this one on, on 2024-02-20 at 10:00, one of 700 ppm and the others of 20.
 fn put_readings(bytes: &mut Vec<u8>, handheld: u8, first: u16) -> Result<(), Fail> {
     bytes.extend_from_slice(&[b'B', 0, handheld, 0, 0, 0, 1, 1, 0x90])?;
     for n in 0..400u16 {
@@ -47,8 +47,8 @@ fn put_readings(bytes: &mut Vec<u8>, handheld: u8, first: u16) -> Result<(), Fai
     Ok(())
 }
 
-// Puts batch 2 of a handheld: a precision test of its instrument on 2024-02-01, and a calibration and a drift assessment without
-// drift on 2024-02-20, all at 500 ppm.
+// Appends batch 2 of a handheld: a precision test of its instrument on 2024-02-01, and on 2024-02-20 a calibration and a drift
+// assessment without drift, all at 500 ppm.
 fn put_instrument(bytes: &mut Vec<u8>, handheld: u8) -> Result<(), Fail> {
     bytes.extend_from_slice(&[b'B', 0, handheld, 0, 0, 0, 2, 0, 3])?;
     bytes.extend_from_slice(&[8, 0x4d, 0x2a, 0, 60, 0, handheld])?;
@@ -59,7 +59,7 @@ fn put_instrument(bytes: &mut Vec<u8>, handheld: u8) -> Result<(), Fail> {
     Ok(())
 }
 
-// The readings of three handhelds, those of the third twice, and what their instruments measured.
+// The readings of three handhelds, those of the third one twice, and the tests of their instruments.
 fn readings(alloc: Global) -> Result<Vec<u8>, Fail> {
     let mut bytes = Vec::new(alloc);
     for (handheld, first) in [(1, 1), (2, 401), (3, 801), (3, 801)] {

@@ -1,4 +1,4 @@
--- Words of which so many are positionals, one by one.
+-- When words are the positionals of a command.
 use Rattle.std.proofs.Common.{◌≡◌, ◌∙◌, ◌==◌, ◌&&◌, ◌+◌, ◌≤◌, ℕ, Bool, true, false, not, List, [], ◌∷◌}
 use Rattle.std.proofs.Common.{Option, Some, None, is_some, length, map, drop, refl, sym, ap, arith, cond}
 use Rattle.std.proofs.lemmas.Grind.{common_steps}
@@ -7,7 +7,7 @@ use Rattle.std.specs.List.{list_all}
 use Rattle.clap.specs.Words.{Text}
 use Rattle.command_words.specs.Positionals.{are_plain, is_option, is_plain, positionals_of}
 
--- so many words that are no option are positionals
+-- words are positionals exactly if they have this number and none of them is an option
 pub positionals_of-is_some : (count : ℕ) (name : Text) (further : List Text)
     → is_some (positionals_of count (name ∷ further)) ≡ (length further == count && list_all is_plain further)
 positionals_of-is_some count name further = go (length further == count && list_all is_plain further)
@@ -16,7 +16,7 @@ positionals_of-is_some count name further = go (length further == count && list_
     go true = refl
     go false = refl
 
--- so many words, none of which is an option
+-- exactly this number of words, all of them plain
 pub record Plain (count : ℕ) (words : List Text) : Type 0 where
   pub long : length words ≡ count
   pub plain : list_all is_plain words ≡ true
@@ -30,13 +30,13 @@ plain_of count name words tested =
     go true long false plain tested = cc
     go false long c plain tested = cc
 
--- .. are the positionals of a command
+-- such words are the positionals of a command
 pub positionals_of-plain : (count : ℕ) (name : Text) (words : List Text) → Plain count words → positionals_of count (name ∷ words) ≡ Some words
 positionals_of-plain count name words p =
     let same : (length words == count) ≡ true = grind (arith, common_steps) in
     rw (same, p.plain) refl
 
--- the first of them
+-- the first of such words, and the rest
 pub record First (count : ℕ) (words : List Text) : Type 0 where
   pub word : Text
   pub rest : List Text
@@ -58,12 +58,12 @@ first_of_plain count (w ∷ ws) p = go (is_option w) refl p.plain
       further = record { long = omega (arith, p.long); plain = tested };
     }
 
--- .. and none is left
+-- no words are left
 pub none_of_plain : (words : List Text) → Plain 0 words → words ≡ []
 none_of_plain [] p = refl
 none_of_plain (w ∷ ws) p = absurd (omega (arith, p.long))
 
--- of plain words the first is plain, and so are the others
+-- the first of plain words is plain, and so are the others
 pub record PlainFirst (word : Text) (words : List Text) : Type 0 where
   pub plain : is_option word ≡ false
   pub further : list_all is_plain words ≡ true
@@ -75,7 +75,7 @@ plain_first word words all = go (is_option word) refl all
     go true is tested = cc
     go false is tested = record { plain = is; further = tested }
 
--- so many plain words are positionals
+-- plain words of the right number are positionals
 pub positionals_of-counted : (count : ℕ) (name : Text) (further : List Text) → length further ≡ count → list_all is_plain further ≡ true
     → is_some (positionals_of count (name ∷ further)) ≡ true
 positionals_of-counted count name further long plain =
@@ -86,7 +86,7 @@ pub are_plain-positionals : (count : ℕ) (words : List Text) → is_some (posit
 are_plain-positionals count [] tested = cc
 are_plain-positionals count (name ∷ further) tested = (plain_of count name further tested).plain
 
--- words that are no positionals are none
+-- `positionals_of` is None for other words
 pub positionals_of-none : (count : ℕ) (words : List Text) → (is_some (positionals_of count words) ≡ true → ⊥) → positionals_of count words ≡ None
 positionals_of-none count words never = go (positionals_of count words) never
   where
@@ -94,7 +94,7 @@ positionals_of-none count words never = go (positionals_of count words) never
     go None never = refl
     go (Some further) never = absurd (never refl)
 
--- words are plain as a test finds those after the name
+-- words are plain exactly if those after the name are
 pub are_plain-tested : {X : Type 0} (text_of : X → Text) (words further : List X) → 1 ≤ length words → further ≡ drop 1 words
     → are_plain (map text_of words) ≡ list_all (λ word. is_plain (text_of word)) further
 are_plain-tested text_of [] further some is = absurd (omega arith)

@@ -1,4 +1,4 @@
--- Plain words that are too few or too many for the positionals of a command: clap refuses them.
+-- clap refuses plain words if they are fewer or more than the positionals of a command.
 use Rattle.std.proofs.Common.{◌≡◌, ◌∙◌, ℕ, true, false, List, [], ◌∷◌, length, Option, Some, None, is_some, refl, sym, ap, ap₂}
 use Rattle.std.specs.List.{fold, list_all}
 use Rattle.clap.specs.Faults.{defaults_fault, check_fault, entered_fault, fault_of, settle_fault, step_fault, walk_fault}
@@ -7,7 +7,7 @@ use Rattle.clap.specs.Simple.{App, Shape, argument_words, built, entered, names_
 use Rattle.clap.specs.Walk.{Held, Names, Text, Walk, finished, nothing_held, settled, value, walk, walk_from, walked}
 use Rattle.clap.specs.declared.parser.matches.ArgMatches.{ArgMatches}
 use Rattle.clap.specs.declared.error.kind.ErrorKind.TheVariants as kind
-use Rattle.command_words.specs.Parsing.{Finds, command_with, ids_of_two, ids_of_three, ids_of_four, name_in}
+use Rattle.command_words.specs.Parsing.{Finds, command_with, ids_of_one, ids_of_two, ids_of_three, ids_of_four, name_in}
 use Rattle.command_words.specs.Positionals.{are_plain, is_option, is_plain, positionals_of}
 use Rattle.command_words.proofs.PlainWords.{at, given, not_dashes, long_of-plain, short_of-plain, walked-plain}
 use Rattle.command_words.proofs.CountedWords.{takes-no_positional}
@@ -20,13 +20,13 @@ missing = kind.MissingRequiredArgument ∷ []
 abbrev stray : Kinds
 stray = kind.UnknownArgument ∷ []
 
--- a plain word faults where its positional does, or else the words after it do
+-- the error at a plain word is that of its positional, or else that of the words after it
 walk_fault-plain : (s : Shape) (h : Held) (position : ℕ) (w : Text) (rest : List Text) → is_option w ≡ false
     → walk_fault s [] (at h position) (w ∷ rest) ≡ or_else (step_fault s position h value) (walk_fault s [] (given s.rules h position w) rest)
 unfolding walk_fault walked
 walk_fault-plain s h position w rest plain = rw (not_dashes w plain, long_of-plain w plain, short_of-plain w plain) refl
 
--- the words fault so, and the walk ends so
+-- the words cause no error, and the walk ends in this state
 record Goes (s : Shape) (from : Walk) (words : List Text) (end : Walk) : Type 0 where
   walk : fold (walked s.rules []) from words ≡ end
   fault : walk_fault s [] from words ≡ []
@@ -45,14 +45,14 @@ goes_more s h later position next w rest end plain fits goes more = record {
       ∙ ap₂ (λ (kinds : Kinds) (from : Walk). or_else kinds (walk_fault s [] from rest)) fits goes ∙ more.fault;
 }
 
--- a word that no positional takes
+-- a word for which there is no positional
 strays_here : (s : Shape) (h : Held) (position : ℕ) (w : Text) (rest : List Text) → is_option w ≡ false
     → step_fault s position h value ≡ stray → walk_fault s [] (at h position) (w ∷ rest) ≡ stray
 strays_here s h position w rest plain strays =
     walk_fault-plain s h position w rest plain
     ∙ ap (λ (kinds : Kinds). or_else kinds (walk_fault s [] (given s.rules h position w) rest)) strays
 
--- .. behind one that is taken
+-- such a word after one that is accepted
 strays_later : (s : Shape) (h later : Held) (position next : ℕ) (w : Text) (rest : List Text) → is_option w ≡ false
     → step_fault s position h value ≡ [] → given s.rules h position w ≡ at later next
     → walk_fault s [] (at later next) rest ≡ stray → walk_fault s [] (at h position) (w ∷ rest) ≡ stray
@@ -60,7 +60,7 @@ strays_later s h later position next w rest plain fits goes strays =
     walk_fault-plain s h position w rest plain
     ∙ ap₂ (λ (kinds : Kinds) (from : Walk). or_else kinds (walk_fault s [] from rest)) fits goes ∙ strays
 
--- what a command that is built faults by at the end of a walk, of which the words fault so
+-- the error of a built command at the end of a walk, if the words have this error
 abbrev ends_by : App → Kinds → Walk → Kinds
 ends_by a kinds end = or_else kinds (or_else (entered_fault a end.stopped)
     (or_else (settle_fault a.top.rules a.top.args_override_self end.held)
@@ -84,7 +84,7 @@ fault_of-strays a words alone strays =
     ap (λ (kinds : Kinds). ends_by (built a) kinds (walk s.rules (names_of (built a)) nothing_held (argument_words a words)))
     (ap (λ (names : Names). walk_fault s names (walk_from nothing_held) (argument_words a words)) alone ∙ strays)
 
--- ---- words that do not fault are as many as the positionals
+-- ---- words without an error are as many as the positionals
 
 pub counted_none : (name : Text) (further : List Text) → list_all is_plain further ≡ true
     → fault_of (command_with name []) (name ∷ further) ≡ [] → length further ≡ 0
@@ -93,6 +93,25 @@ counted_none name [] plain faultless = refl
 counted_none name (a ∷ rest) plain faultless =
     let app = command_with name [] in
     let strays = fault_of-strays app (name ∷ a ∷ rest) refl (strays_here (built app).top nothing_held 1 a rest (plain_first a rest plain).plain refl) in
+    let bad : stray ≡ [] = sym strays ∙ faultless in
+    cc
+
+pub counted_one : (name : Text) (further : List Text) → list_all is_plain further ≡ true
+    → fault_of (command_with name ids_of_one) (name ∷ further) ≡ [] → length further ≡ 1
+unfolding defaults_fault
+counted_one name [] plain faultless =
+    let app = command_with name ids_of_one in
+    let lacks : fault_of app (name ∷ []) ≡ missing = fault_of-goes app (name ∷ []) (walk_from nothing_held) refl (goes_end (built app).top _) in
+    let bad : missing ≡ [] = sym lacks ∙ faultless in
+    cc
+counted_one name (a ∷ []) plain faultless = refl
+counted_one name (a ∷ b ∷ rest) plain faultless =
+    let app = command_with name ids_of_one in
+    let s = (built app).top in
+    let one = plain_first a (b ∷ rest) plain in
+    let two = plain_first b rest one.further in
+    let strays = fault_of-strays app (name ∷ a ∷ b ∷ rest) refl
+    (strays_later s nothing_held (held_1 a) 1 2 a (b ∷ rest) one.plain refl refl (strays_here s (held_1 a) 2 b rest two.plain refl)) in
     let bad : stray ≡ [] = sym strays ∙ faultless in
     cc
 
@@ -230,9 +249,9 @@ counted_four name (a ∷ b ∷ c ∷ d ∷ e ∷ rest) plain faultless =
     let bad : stray ≡ [] = sym strays ∙ faultless in
     cc
 
--- ---- so words that clap takes are the positionals
+-- ---- words that clap accepts are the positionals
 
--- .. of a command whose words are counted
+-- for a command whose number of words is known
 module _ (count : ℕ) (ids : List Text) (counted : (name : Text) (further : List Text) → list_all is_plain further ≡ true
     → fault_of (command_with name ids) (name ∷ further) ≡ [] → length further ≡ count) where
   pub positionals_of-faultless : (words : List Text) → are_plain words ≡ true → fault_of (command_with (name_in words) ids) words ≡ []
@@ -241,7 +260,7 @@ module _ (count : ℕ) (ids : List Text) (counted : (name : Text) (further : Lis
   positionals_of-faultless (name ∷ further) plain faultless =
       positionals_of-counted count name further (counted name further plain faultless) plain
 
--- .. of one that has no positional
+-- for a command without positionals
 pub is_some-finds : (words : List Text) (found : Option ArgMatches) → Finds (command_with (name_in words) []) words found
     → is_some found ≡ is_some (positionals_of 0 words)
 is_some-finds words None refused =

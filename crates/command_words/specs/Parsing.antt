@@ -21,7 +21,10 @@ positional id = record (new_rule id) { required = true }
 abbrev pub command_with : Text → List Text → App
 command_with name ids = on_top (λ shape. record shape { rules = map positional ids }) (new_app name)
 
--- the ids of two, three and four positionals
+-- the ids of one, two, three and four positionals
+abbrev pub ids_of_one : List Text
+ids_of_one = codes "first" ∷ []
+
 abbrev pub ids_of_two : List Text
 ids_of_two = codes "first" ∷ codes "second" ∷ []
 
@@ -45,12 +48,12 @@ values_in found (id ∷ ids) = in_front (first_value found id) (values_in found 
 abbrev pub IsWantOfMemory : Error → Type 0
 IsWantOfMemory error = kind_of error ≡ OutOfMemory
 
--- clap took the words as those of this command, and found this in them
+-- clap accepted the words for this command, and found this in them
 pub record IsTaken (app : App) (words : List Text) (found : Found) : Type 0 where
   pub faultless : is_simple_and_free app ≡ true → fault_of app words ≡ []
   pub rows : is_simple app ≡ true → rows_of found ≡ matches_of app words
 
--- what a parse found: clap took the words, or would not have taken them, or one of them begins with a hyphen
+-- the result of a parse: clap accepted the words; or it refuses them, or one of them is an option
 abbrev pub Finds : App → List Text → Option ArgMatches → Type 0
 Finds app words None = are_plain words ≡ true → ¬ (takes app words ≡ true)
 Finds app words (Some matches) = (are_plain words ≡ true) × IsTaken app words (found_of matches)

@@ -1,4 +1,4 @@
--- Which words are the positionals of a command, whose name is the first word.
+-- Which words are the positionals of a command. The first word is the command's name.
 use Rattle.std.specs.Prelude.{◌==◌, ◌&&◌, ℕ, Bool, false, not, Option, Some, None, List, [], ◌∷◌, length, if◌then◌else◌}
 use Rattle.std.specs.List.{list_all}
 
@@ -7,16 +7,16 @@ abbrev pub is_option : List ℕ → Bool
 is_option [] = false
 is_option (byte ∷ rest) = byte == 45
 
--- .. and every other word is plain
+-- a word that is not an option is plain
 abbrev pub is_plain : List ℕ → Bool
 is_plain word = not (is_option word)
 
--- so is each word after the first, which is the name of a command
+-- there is a name, and each word after it is plain
 abbrev pub are_plain : List (List ℕ) → Bool
 are_plain [] = false
 are_plain (name ∷ further) = list_all is_plain further
 
--- the words after the first, where they are so many and none of them is an option
+-- the words after the name, if they have this number and none of them is an option
 abbrev pub positionals_of : ℕ → List (List ℕ) → Option (List (List ℕ))
 positionals_of count [] = None
 positionals_of count (name ∷ further) =

@@ -7,4 +7,6 @@ mod parsing;
 mod positionals;
 
 pub use clap::Error;
-pub use positionals::{four_positionals, no_positionals, three_positionals, two_positionals};
+pub use positionals::{
+    four_positionals, no_positionals, one_positional, three_positionals, two_positionals,
+};

@@ -10,8 +10,9 @@ use clap::error::ErrorKind;
 use clap::{Arg, ArgMatches, Command, Error};
 use std::alloc::{AllocError, Global};
 
-/// What clap finds in the words of a command that has positionals of these ids, if it takes the words and none of those after
-/// the name begins with a hyphen. clap by itself takes `-` for a word, passes over `--`, and answers `--help`.
+/// What clap finds in the words of a command that has positionals of these ids. `None` if clap refuses the words or a word after
+/// the name begins with a hyphen; clap itself would take `-` as a word, skip `--`, and answer `--help`. The only error is out of
+/// memory.
 pub fn parse<'a>(
     alloc: Global,
     words: &'a [String],
@@ -37,7 +38,7 @@ pub fn parse<'a>(
     }
 }
 
-/// The command of a name, with required positionals of these ids.
+/// The command with a name, and with required positionals of these ids.
 fn command_with<'a>(
     alloc: Global,
     name: &'a str,
@@ -62,7 +63,7 @@ fn are_plain(words: &[String]) -> bool
     }
 }
 
-/// Whether none of the words begins with a hyphen.
+/// Whether no word begins with a hyphen.
 fn have_no_option(words: &[String]) -> bool
     ensures value { result ≡ list_all (λ word. is_plain (string_bytes word)) words.now }
 {

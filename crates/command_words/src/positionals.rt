@@ -1,14 +1,14 @@
 ghost use Rattle.std.specs.Prelude.{◌≡◌, [], ◌∷◌, map, option_map, is_some, IfOk, IfErr};
 ghost use Rattle.std.specs.String.{string_bytes};
 ghost use Rattle.clap.specs.Words.{found_of};
-ghost use Rattle.command_words.specs.Parsing.{IsWantOfMemory, values_in, ids_of_two, ids_of_three, ids_of_four};
+ghost use Rattle.command_words.specs.Parsing.{IsWantOfMemory, values_in, ids_of_one, ids_of_two, ids_of_three, ids_of_four};
 ghost use Rattle.command_words.specs.Positionals as spec;
 
 use crate::parsing::parse;
 use clap::{ArgMatches, Error};
 use std::alloc::Global;
 
-/// Whether no word follows the name of a command.
+/// Whether no word follows the name of a command. The only error is out of memory.
 pub fn no_positionals(alloc: Global, words: &[String]) -> Result<bool, Error>
     ensures value { IfOk result (λ found. found ≡ is_some (spec.positionals_of 0 (map string_bytes words.now))) }
     ensures memory { IfErr result IsWantOfMemory }
@@ -16,7 +16,20 @@ pub fn no_positionals(alloc: Global, words: &[String]) -> Result<bool, Error>
     Ok(parse(alloc, words, &[])?.is_some())
 }
 
-/// The two words after the name of a command, if these are all, and none begins with a hyphen.
+/// The word after the name of a command, if there is exactly one and it does not begin with a hyphen. The only error is out of
+/// memory.
+pub fn one_positional<'a>(alloc: Global, words: &'a [String]) -> Result<Option<&'a str>, Error>
+    ensures value { IfOk result (λ found. option_map (λ p. p.now ∷ []) found ≡ spec.positionals_of 1 (map string_bytes words.entry.now)) }
+    ensures memory { IfErr result IsWantOfMemory }
+{
+    match parse(alloc, words, &["first"])? {
+        Some(matches) => Ok(one_in(&matches)),
+        None => Ok(None),
+    }
+}
+
+/// The two words after the name of a command, if there are exactly two and none begins with a hyphen. The only error is out of
+/// memory.
 pub fn two_positionals<'a>(
     alloc: Global,
     words: &'a [String],
@@ -31,7 +44,8 @@ pub fn two_positionals<'a>(
     }
 }
 
-/// The three words after the name of a command, if these are all, and none begins with a hyphen.
+/// The three words after the name of a command, if there are exactly three and none begins with a hyphen. The only error is out
+/// of memory.
 pub fn three_positionals<'a>(
     alloc: Global,
     words: &'a [String],
@@ -46,7 +60,8 @@ pub fn three_positionals<'a>(
     }
 }
 
-/// The four words after the name of a command, if these are all, and none begins with a hyphen.
+/// The four words after the name of a command, if there are exactly four and none begins with a hyphen. The only error is out of
+/// memory.
 pub fn four_positionals<'a>(
     alloc: Global,
     words: &'a [String],
@@ -59,6 +74,12 @@ pub fn four_positionals<'a>(
         Some(matches) => Ok(four_in(&matches)),
         None => Ok(None),
     }
+}
+
+fn one_in<'a>(matches: &ArgMatches<'a>) -> Option<&'a str>
+    ensures value { option_map (λ p. p.now ∷ []) result ≡ values_in (found_of matches.now) ids_of_one }
+{
+    matches.get_str("first")
 }
 
 fn two_in<'a>(matches: &ArgMatches<'a>) -> Option<(&'a str, &'a str)>

@@ -32,11 +32,12 @@ use Rattle.ldar_law.proofs.BatchLemmas.{with_retired, equipment_is}
 use Rattle.ldar_law.proofs.EnteredLemmas.{component_where_entered, unit_where_entered}
 use Rattle.ldar_law.proofs.ForceLemmas.{class_keyed, given_ascends, given-put_none, given-put_some}
 use Rattle.component_register.specs.declared.slots.Slot.{Slot}
-use Rattle.component_register.specs.Classes.{class_named, put_if_any, TakesClass}
+use Rattle.component_register.specs.Classes.{class_named, put_if_any, IsByDay, TakesClass}
 use Rattle.component_register.specs.Inside.{slot_by, Holds, IsSound}
 use Rattle.component_register.specs.Members.{unit_joined, TakesMember}
 use Rattle.component_register.specs.Once.{IsFirstOfNumber, AreEnteredOnce}
 use Rattle.component_register.specs.Slots.{row_in, no_slot, slot_with, HasRow, HaveRows, OnlyAdds, TakesEntry, TakesUnit}
+use Rattle.component_register.proofs.DayLemmas.{by_day_more, days_ascend}
 use Rattle.component_register.proofs.FirstLemmas.{first-put, first_day-put, once-put}
 use Rattle.component_register.proofs.MemberLemmas.{members-put}
 
@@ -132,7 +133,9 @@ module _ {Z : Type 0} (facts : List Entry) (e : Entry) (first : IsFirstOfNumber 
         slot = λ n. takes.rows n ∙ ap (slot_with n e.0.day e.1.body) (holds.slot n) ∙ slot_by-put n e facts first up;
         unit = λ n. takes_unit.rows n ∙ ap (λ o. option_or (unit_entered n e.0.day e.1.body) o) (holds.unit n)
             ∙ sym (first-put (λ x. unit_entered n x.0.day x.1.body) e facts (unit_first n e.0.day e.1.body facts first));
-        listed = λ n. takes_class.listed n ∙ ap (put_if_any class_first (class_at n e)) (holds.listed n) ∙ classes_of-put n e facts up;
+        listed = λ n. subst (λ all. IsByDay (items_in new_classes n) all) (classes_of-put n e facts up)
+            (subst (λ kept. IsByDay kept (put_if_any class_first (class_at n e) (classes_of n facts))) (sym (takes_class.listed n))
+            (by_day_more (class_at n e) (items_in classes n) (classes_of n facts) (given_ascends (class_at n) (class_keyed n) facts up) (holds.listed n)));
         members = λ n. takes_member.listed n ∙ ap (put_if_any nat_lt (member_entered n e.1.body)) (holds.members n) ∙ sym (members-put n e facts);
       }
 
@@ -187,9 +190,7 @@ module _ {Z : Type 0} (kept : Kept) (key : Key) (fact : Stated) (body : FactBody
 module _ {Z : Type 0} (kept : Kept) (slots : List Slot) (units : List (Option UnitEntry)) (classes : List (Vec (Key × Class) Z)) (rosters : List (Vec ℕ Z))
     (sound : IsSound kept slots units classes rosters) (number : ℕ) where
   pub classes_ascend : Ascends class_first (items_in classes number)
-  classes_ascend =
-      rw (sound.holds.listed number)
-      (given_ascends (class_at number) (class_keyed number) (facts_in kept) (ascends_in_order goes_first strict_goes_first kept.arrived sound.apart))
+  classes_ascend = days_ascend (items_in classes number) (sound.holds.listed number).days
 
   pub component_held : (slot : Slot) → slot ≡ row_in no_slot slots number
       → equipment_of number (facts_in kept) ≡ option_map (with_retired slot.retired) slot.entered
@@ -200,7 +201,7 @@ module _ {Z : Type 0} (kept : Kept) (slots : List Slot) (units : List (Option Un
   pub class_held_on : (day : ℕ) (slot : Slot) → slot ≡ row_in no_slot slots number → (item : Equipment) → slot.entered ≡ Some item
       → class_in_force number (facts_in kept) day ≡ Some (unwrap_or (option_map (λ entered. entered.1) (class_by day (items_in classes number))) item.class)
   class_held_on day slot is item entered =
-      rw (component_held slot is, entered, sound.holds.listed number) refl
+      rw (component_held slot is, entered, (sound.holds.listed number).in_force day) refl
 
   -- .. and where it was not
   pub no_class_held : (day : ℕ) (slot : Slot) → slot ≡ row_in no_slot slots number → slot.entered ≡ None → class_in_force number (facts_in kept) day ≡ None
@@ -275,7 +276,7 @@ module _ {Z : Type 0} (kept : Kept) (slots : List Slot) (units : List (Option Un
         apart = sound.apart;
         few = sound.few;
         once = sound.once;
-        holds = record { slot = sound.holds.slot; unit = sound.holds.unit; listed = λ n. grows.items n ∙ sound.holds.listed n; members = sound.holds.members };
+        holds = record { slot = sound.holds.slot; unit = sound.holds.unit; listed = λ n. subst (λ items. IsByDay items (classes_of n (facts_in kept))) (sym (grows.items n)) (sound.holds.listed n); members = sound.holds.members };
         slot_room = sound.slot_room;
         unit_room = sound.unit_room;
         class_room = λ n. omega (arith, sound.class_room n, grows.room n);

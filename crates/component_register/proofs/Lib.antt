@@ -1,3 +1,4 @@
+pub mod DayLemmas
 pub mod FirstLemmas
 pub mod HoldLemmas
 pub mod MemberLemmas

@@ -13,7 +13,7 @@ use Rattle.ldar_law.specs.declared.unit_entry.UnitEntry.{UnitEntry}
 use Rattle.ldar_law.specs.Equipment.{retired_on, classes_of, unit_entry_of, members_of}
 use Rattle.ldar_law.specs.Judged.{first_entry}
 use Rattle.component_register.specs.declared.slots.Slot.{Slot}
-use Rattle.component_register.specs.Classes.{class_named}
+use Rattle.component_register.specs.Classes.{class_named, IsByDay}
 use Rattle.component_register.specs.Members.{unit_joined}
 use Rattle.component_register.specs.Once.{AreEnteredOnce}
 use Rattle.component_register.specs.Slots.{row_in, no_slot, HaveRows}
@@ -27,7 +27,7 @@ pub record Holds {Z : Type 0} (facts : List Entry) (slots : List Slot) (units : 
     (classes : List (Vec (Key × Class) Z)) (rosters : List (Vec ℕ Z)) : Type 0 where
   pub slot : (number : ℕ) → row_in no_slot slots number ≡ slot_by number facts
   pub unit : (number : ℕ) → row_in None units number ≡ unit_entry_of number facts
-  pub listed : (number : ℕ) → items_in classes number ≡ classes_of number facts
+  pub listed : (number : ℕ) → IsByDay (items_in classes number) (classes_of number facts)
   pub members : (number : ℕ) → items_in rosters number ≡ members_of number facts
 
 -- what is true inside every register

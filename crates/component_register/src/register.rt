@@ -1,7 +1,5 @@
-ghost use Rattle.std.specs.Prelude.{◌≡◌, ℕ, ◌<◌, ◌≤◌, nat_le, Some, false, [], ◌∷◌, ◌++◌, length, drop, filter, slice_get, option_map, OnOk, OnErr, IfOk};
+ghost use Rattle.std.specs.Prelude.{◌≡◌, ℕ, ◌<◌, ◌≤◌, Some, false, [], ◌∷◌, ◌++◌, length, drop, filter, slice_get, option_map, OnOk, OnErr, IfOk};
 ghost use Rattle.fact_kinds.specs.declared.limits.TheConstants.{MOST_FACTS};
-ghost use Rattle.list_words.specs.Order.{Ascends};
-ghost use Rattle.fact_kinds.specs.Facts.{is_earlier};
 ghost use Rattle.fact_store.specs.Kept.{Kept, facts_in, is_held};
 ghost use Rattle.ldar_law.specs.Equipment as law;
 ghost use Rattle.ldar_law.specs.Force as force;
@@ -16,7 +14,7 @@ use fact_kinds::{Class, Fact, Key, Memory};
 use fact_store::Arrivals;
 use fact_store::lists::{Lists, list_of, make_rooms};
 use ldar_days::Day;
-use ldar_law::{Equipment, UnitEntry, entered_to, is_registered, last_entered};
+use ldar_law::{Equipment, UnitEntry, is_registered, last_entered};
 use std::alloc::Global;
 use std::marker::Model;
 
@@ -28,7 +26,7 @@ pub struct Register {
     store: Arrivals,
     slots: Vec<Slot>,
     units: Units,
-    /// The classes that were entered for each component, in key order.
+    /// The classes that were entered for each component, the last one by key of each day, by day.
     classes: Lists<(Key, Class)>,
     /// The components of each process unit.
     rosters: Lists<u16>,
@@ -116,15 +114,6 @@ impl Register {
         ensures value { result ≡ force.class_by day (law.classes_of component (facts_in self.now)) }
     {
         last_entered(list_of(&self.classes, component), day)
-    }
-
-    /// The classes that were entered for the component by a day, in key order. Whether the component was entered is not
-    /// asked.
-    pub fn classes_to(&self, component: u16, day: Day) -> &[(Key, Class)]
-        ensures value { result.now ≡ filter (λ entered. nat_le entered.0.day day) (law.classes_of component (facts_in self.now)) }
-        ensures ordered { Ascends (λ a b. is_earlier a.0 b.0) result.now }
-    {
-        entered_to(list_of(&self.classes, component), day)
     }
 
     /// The key of the last class that was entered for the component by a day; `None` where there is no such one.

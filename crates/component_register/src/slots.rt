@@ -30,7 +30,7 @@ pub fn row_of<T: Copy>(rows: &[T], empty: T, number: u16) -> T
     if at < rows.len() { rows[at] } else { empty }
 }
 
-/// Adds empty rows until there are so many.
+/// Adds empty rows until there is this number of them.
 fn add_rows<T: Copy>(rows: &mut Vec<T>, empty: T, count: usize) -> Result<(), Memory>
     ensures adds { OnlyAdds empty rows.old.items rows.new.items }
     ensures long { OnOk result (count ≤ vec_len rows.new) }

@@ -17,7 +17,7 @@ pub too_great : (all : Bool) (high n value : ℕ) → high < n → n ≤ value �
 too_great false high n value above more = refl
 too_great true high n value above more = grind (arith, nat_tests)
 
--- .. if the digits up to an index spell a number above the bound
+-- a number is above the bound if its digits up to an index spell a number above it
 pub too_great_at : (text : List ℕ) (index number high more : ℕ) → index < length text
     → fold (λ n digit. 10 * n + (digit - 48)) number (drop index text) ≡ fold (λ n digit. 10 * n + (digit - 48)) 0 text
     → more ≡ 10 * number + (get_or text index 0 - 48) → high < more → None ≡ digits text high

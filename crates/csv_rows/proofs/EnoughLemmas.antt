@@ -21,7 +21,7 @@ Ends p = is_end p.1 ≡ true → ends_at_end p.0 ≡ false
 goes_on : (s : State) (a : Action) → is_end a ≡ false → Ends (s, a)
 goes_on s a on ended = absurd cc
 
--- a choice of two such steps
+-- a choice between two such steps
 either : (b : Bool) (x y : State × Action) → Ends x → Ends y → Ends (if b then x else y)
 either true x y first second = first
 either false x y first second = second
@@ -67,7 +67,7 @@ step_ends st.InComment c =
 step_ends st.AfterCr c =
     either (c == 10) (st.StartRecord, act.Skip) (start_record default_config c) (goes_on st.StartRecord act.Skip refl) (start_record_ends c)
 
--- ---- what is unread after a record
+-- ---- the unread bytes after a record
 
 -- the step of a byte
 abbrev to : State → ℕ → State × Action
@@ -98,7 +98,7 @@ no_more_left (c ∷ rest) s fields field =
       | inr on ↦ rw on (let left = no_more_left rest (to s c).0 (fields_after (to s c).1 fields field) (field_after (to s c).1 c field) in omega (arith, left))
     ]
 
--- .. and fewer, if there were any
+-- reading a record from at least one byte leaves fewer bytes
 fewer_left : (c : ℕ) (rest : List ℕ) (s : State) (fields : List (List ℕ)) (field : List ℕ)
     → length (rest_of (next_record default_config s fields field (c ∷ rest))) ≤ length rest
 unfolding next_record

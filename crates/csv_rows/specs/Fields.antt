@@ -1,4 +1,4 @@
--- The fields of a record that several kinds of file share. Each definition is a value, or None if the field has another form.
+-- The fields of a record, shared by several kinds of files. Each definition is a value, or None if the field has another form.
 use Rattle.std.specs.Prelude.{ℕ, Bool, true, false, ◌==◌, ◌&&◌, nat_le, List, [], ◌∷◌, Option, Some, None, option_and_then, if◌then◌else◌}
 use Rattle.std.specs.List.{list_all}
 use Rattle.std.specs.Char.{is_ascii_digit}
@@ -22,7 +22,7 @@ starts_badly (first ∷ second ∷ rest) = first == 48
 abbrev pub digits : List ℕ → ℕ → Option ℕ
 digits text high = if list_all is_ascii_digit text && nat_le (digits_value text) high then Some (digits_value text) else None
 
--- .. without a leading zero
+-- the number that decimal digits without a leading zero spell, if it is at most the bound
 abbrev pub decimal : List ℕ → ℕ → Option ℕ
 decimal text high = if starts_badly text then None else digits text high
 

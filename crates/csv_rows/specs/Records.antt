@@ -33,6 +33,6 @@ pub record IsReading (reader : TextReader) : Type 0 where
   pub config : reader_config reader ≡ default_config
   pub source : left_of reader ≡ Some (bytes_left reader)
 
--- at most n of the records that the reader has still to read
+-- at most n of the reader's unread records
 abbrev pub records_left : ℕ → TextReader → List (List (List ℕ))
 records_left most reader = records_from default_config most (reader_state reader) (bytes_left reader)

@@ -11,6 +11,8 @@ pub enum FactKind {
     Readings,
     /// Entries of valves.
     Import,
+    /// Classes that make 500 of 20,000 valves difficult to monitor, each of a day of its own in its batch.
+    Difficult,
 }
 
 impl FactKind {
@@ -18,6 +20,7 @@ impl FactKind {
     pub fn of(word: &str) -> FactKind {
         match word {
             "readings" => FactKind::Readings,
+            "difficult" => FactKind::Difficult,
             _ => FactKind::Import,
         }
     }
@@ -64,6 +67,23 @@ fn valve(place: u32, is_difficult: bool) -> Fact {
     }
 }
 
+/// A class that makes a valve difficult to monitor.
+fn difficult(place: u32) -> Fact {
+    Fact {
+        day: Day::at(BEGIN + place % 1_400),
+        minute: (place % 1_440) as u16,
+        body: FactBody::Class {
+            component: (place % 500 + 1) as u16,
+            class: Class {
+                service: Service::Gas,
+                designation: Designation::Difficult,
+                plan: 0,
+                month: 1,
+            },
+        },
+    }
+}
+
 /// A reading, or the calibration of its instrument.
 fn reading(place: u32) -> Fact {
     let instrument = (place / 512 % 200 + 1) as u16;
@@ -89,13 +109,13 @@ fn reading(place: u32) -> Fact {
     }
 }
 
-/// The first entries in the register: the unit, and for readings its 20,000 valves.
+/// The first entries in the register: the unit, and, but for an import, its 20,000 valves.
 pub fn first_entries(alloc: Global, sort: FactKind) -> Result<Vec<Fact>, AllocError> {
     let mut facts = Vec::new(alloc);
     if let Some(fact) = unit() {
         facts.push(fact)?;
     }
-    if sort == FactKind::Readings {
+    if sort != FactKind::Import {
         for place in 0..20_000 {
             facts.push(valve(place, false))?;
         }
@@ -116,11 +136,12 @@ pub fn batch_at(
         some.push(match sort {
             FactKind::Readings => reading(place),
             FactKind::Import => valve(place, place % 35 == 34),
+            FactKind::Difficult => difficult(place),
         })?;
     }
     let handheld = match sort {
         FactKind::Readings => (number % 200 + 1) as u16,
-        FactKind::Import => 0,
+        FactKind::Import | FactKind::Difficult => 0,
     };
     Ok(Batch::new(handheld, number, some))
 }

@@ -1,9 +1,10 @@
 //! The program that `bench/denials.py` measures.
 //!
 //! - `WORK SORT FACTS` makes that many facts in batches of 512. SORT is `readings`, with their calibrations, over a register
-//!   of 20,000 valves, or `import`, valves of which every 35th is difficult to monitor.
-//! - WORK is `none` to only make the facts, `insert` to enter the facts of an import, or `judge` to judge each batch before
-//!   it is entered.
+//!   of 20,000 valves, `import`, valves of which every 35th is difficult to monitor, or `difficult`, classes that make 500 of
+//!   20,000 valves difficult.
+//! - WORK is `none` to only make the facts, `insert` to enter what is no reading, or `judge` to judge each batch before it is
+//!   entered.
 //! - Without words it does a little of each.
 #![tactic(auto)]
 
@@ -31,6 +32,7 @@ fn a_little(rt: &HostRuntime) -> Result<(), anyhow::Error> {
     for work in ["none", "insert", "judge"] {
         measured(rt, work, "readings", 4_000)?;
         measured(rt, work, "import", 2_000)?;
+        measured(rt, work, "difficult", 1_000)?;
     }
     Ok(())
 }
@@ -50,7 +52,7 @@ fn measured(rt: &HostRuntime, work: &str, sort: &str, facts: u32) -> Result<(), 
         if work == "judge" && verdict(&register, 1_000_000, &batch) == Verdict::Pass {
             passed = passed.saturating_add(1);
         }
-        if work != "none" && kind == FactKind::Import {
+        if work != "none" && kind != FactKind::Readings {
             entered = enter(&mut register, entered, batch.facts.as_slice())?;
         }
     }

@@ -29,7 +29,7 @@ abbrev pub after_part : Event → List ℕ → List ℕ → List ℕ
 after_part (Wrote write) left bytes = written write.at (take (length write.bytes) left) bytes
 after_part Synced left bytes = bytes
 
--- the bytes after the calls up to this one, of which the last is partial
+-- the bytes after the calls up to this one, the last of them partial
 abbrev pub stopped_in : ℕ → List ℕ → List Noted → List ℕ → List ℕ
 stopped_in call start [] left = start
 stopped_in call start (noted ∷ past) left =

@@ -4,7 +4,7 @@ use Rattle.disk_model.specs.Faults.{count_after}
 use Rattle.disk_model.specs.Moments.{Change, WroteAt, SyncedAs}
 use Rattle.disk_model.specs.Writes.{written}
 
--- its bytes, its initial bytes, how its calls changed what a crash may leave, latest first, its room, and its count of errors
+-- a disk's bytes, its initial bytes, how its calls changed what a crash may leave, latest first, its room, and its count of errors
 pub record SureState : Type 0 where
   pub bytes : List ℕ
   pub start : List ℕ

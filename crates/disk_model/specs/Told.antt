@@ -1,7 +1,7 @@
 -- Properties of an object that it may expose or hide.
 use Rattle.std.specs.Prelude.{Option, Some, None}
 
--- P holds of the exposed value; nothing is said if it is hidden
+-- P holds of the exposed value, or the value is hidden
 abbrev pub Told : {T : Type 0} → Option T → (T → Type 0) → Type 0
 Told None P = Unit {0}
 Told (Some now) P = P now

@@ -1,4 +1,4 @@
--- Rows in a map by their keys.
+-- Rows in a map, by their keys.
 use Rattle.std.proofs.Common.{◌≡◌, ℕ, ◌+◌, Bool, true, false, ◌||◌, cond, Option, Some, None, Result, Ok, Err, List, [], ◌∷◌, map, is_some, Ordering, refl, sym, ap, ◌∙◌, inl, inr}
 use Rattle.std.specs.List.{list_any}
 use Rattle.std.specs.Option.{option_map_or}
@@ -22,7 +22,7 @@ or_swap true true c = refl
 or_swap true false c = refl
 or_swap false b c = refl
 
--- some element of a list in order passes exactly if one of the list does
+-- some element passes after an insertion exactly if the new one or an old one does
 any_put : {X : Type 0} (before : X → X → Bool) (p : X → Bool) (x : X) (xs : List X) → list_any p (put_in_order before x xs) ≡ (p x || list_any p xs)
 any_put before p x [] = refl
 any_put before p x (y ∷ xs) = elim (cases_Bool (before x y)) [
@@ -34,7 +34,7 @@ pub any_in_order : {X : Type 0} (before : X → X → Bool) (p : X → Bool) (xs
 any_in_order before p [] = refl
 any_in_order before p (x ∷ xs) = any_put before p x (in_order before xs) ∙ ap (λ b. p x || b) (any_in_order before p xs)
 
--- a map has a key exactly if some row is a duplicate of the one with that key
+-- a map has the key of a row exactly if some of its rows is a duplicate of that row
 pub lookup_decides : (row : SealRow) (rows : List SealRow)
     → is_some (lookup (is_at (row_key_cmp (key_of row))) (map keyed rows)) ≡ list_any (is_duplicate row) rows
 unfolding is_duplicate
@@ -54,7 +54,7 @@ insert_by row y rows Equal is none more =
     absurd (false≢true (sym none ∙ ap (λ o. is_eq o || list_any (λ z. is_eq (row_key_cmp (key_of row) (key_of z))) rows) is))
 insert_by row y rows Greater is none more = rw is (ap (λ es. keyed y ∷ es) more)
 
--- putting a row with a new key into the map puts it in order
+-- inserting a row with a new key into the map keeps the rows in order
 pub insert_is : (row : SealRow) (rows : List SealRow) → list_any (is_duplicate row) rows ≡ false
     → insert_entry row_key_cmp (map keyed rows) (key_of row) row ≡ map keyed (put_in_order comes_first row rows)
 unfolding is_duplicate comes_first
@@ -67,7 +67,7 @@ pub values_are : (rows : List SealRow) → values_of (map keyed rows) ≡ rows
 values_are [] = refl
 values_are (row ∷ rows) = ap (λ rs. row ∷ rs) (values_are rows)
 
--- whether a map has the key of a row, by the rows that it has
+-- whether a map has the key of a row, from the rows in it
 found_is : (row : SealRow) (earlier : List SealRow) (old : List (RowKey × SealRow)) (o : Option SealRow) → Has old earlier
     → o ≡ lookup (is_at (row_key_cmp (key_of row))) old → is_some o ≡ list_any (is_duplicate row) (in_order comes_first earlier)
 found_is row earlier old o has is =
@@ -95,7 +95,7 @@ put_bad row earlier old o has is some =
 
 -- ---- the records one after the other
 
--- nothing is left to read
+-- no record is left
 pub rows_done : (at : ℕ) (earlier : List SealRow) (records : List (List (List ℕ))) → records ≡ [] → rows_from at earlier records ≡ Ok earlier
 rows_done at earlier records none = rw none refl
 
@@ -110,7 +110,7 @@ pub rows_more : (at next : ℕ) (earlier more : List SealRow) (fields : List (Li
 rows_more at next earlier more fields records rest is is_next some =
     rw is (ap (λ o. option_map_or (λ rows. rows_from (at + 1) rows rest) o (Err at)) some ∙ ap (λ n. rows_from n more rest) (sym is_next))
 
--- the error of a bad record tells it
+-- the error at a bad record has its number
 pub bad_tells : (at : ℕ) (said : Result (List SealRow) ℕ) (added : Option (List SealRow)) (e : SealError) → (added ≡ None → said ≡ Err at) → IsBadAt at added e
     → TellsRow said e
 bad_tells at said added (Row n) so is = so is.1 ∙ ap Err (sym is.0)

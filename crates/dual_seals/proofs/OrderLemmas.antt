@@ -1,4 +1,4 @@
--- Rows in order, whatever the order of their records.
+-- The order of rows does not depend on the order of their records.
 use Rattle.std.proofs.Common.{◌≡◌, ℕ, ◌+◌, ◌<◌, Bool, true, false, ◌||◌, ◌&&◌, cond, Option, Some, None, Result, Ok, Err, List, [], ◌∷◌, map, Ordering, IsPermutation, refl, sym, ap, ◌∙◌, inl, inr, subst}
 use Rattle.std.specs.Prelude.{IsTrue, filter, nat_eq, nat_le, nat_lt}
 use Rattle.std.specs.List.{AllByRecursion, list_any, cons_option, filter_map}
@@ -36,7 +36,7 @@ less_is Less e = refl
 less_is Equal e = absurd (false≢true e)
 less_is Greater e = absurd (false≢true e)
 
--- rows come one after the other in a strict order
+-- the order of rows is a strict order
 pub strict_rows : IsStrictOrder comes_first
 unfolding comes_first
 strict_rows =
@@ -45,7 +45,7 @@ strict_rows =
       transitive = λ x y z e f. ap is_lt (row_key_cmp_total.trans (key_of x) (key_of y) (key_of z) (less_is _ e) (less_is _ f));
     }
 
--- of two rows that are no duplicates one comes first
+-- of two rows that are not duplicates, one is before the other
 apart_by : (o p : Ordering) → o ≡ ordering_reverse p → is_eq o ≡ false → (is_lt o || is_lt p) ≡ true
 apart_by Less p e differ = refl
 apart_by Equal p e differ = absurd (false≢true (sym differ))
@@ -80,7 +80,7 @@ apart_put earlier more row true none apart is = absurd cc
 apart_put earlier more row false none apart is =
     subst (AllApart comes_first) (some_rows (row ∷ earlier) more is) (apart_all row earlier none, apart)
 
--- a row that is added is no duplicate
+-- a row that is added is no duplicate of an earlier one
 apart_with : (earlier more : List SealRow) (o : Option SealRow) → AllApart comes_first earlier → with_row earlier o ≡ Some more → AllApart comes_first more
 apart_with earlier more None apart is = absurd cc
 apart_with earlier more (Some row) apart is = apart_put earlier more row (list_any (is_duplicate row) earlier) refl apart is
@@ -92,7 +92,7 @@ apart_next : (at : ℕ) (earlier rows : List SealRow) (records : List (List (Lis
 apart_next at earlier rows records None one rest is = absurd cc
 apart_next at earlier rows records (Some more) one rest is = rest more (one more refl) is
 
--- the rows of a file in order differ from each other
+-- no two rows of a file without bad records are duplicates
 apart_from : (at : ℕ) (earlier rows : List SealRow) (records : List (List (List ℕ))) → AllApart comes_first earlier
     → rows_from at earlier records ≡ Ok rows → AllApart comes_first rows
 apart_from at earlier rows [] apart is = subst (AllApart comes_first) (ok_is earlier rows is) apart
@@ -111,7 +111,7 @@ apart_records rows (first ∷ records) is = apart_file rows records (is_header f
 
 -- ---- the numbers of records
 
--- the order of rows does not look at them
+-- the order of rows does not depend on the numbers of their records
 put_unnumbered : (x : SealRow) (xs : List SealRow) → map unnumbered (put_in_order comes_first x xs) ≡ put_in_order comes_first (unnumbered x) (map unnumbered xs)
 unfolding comes_first
 put_unnumbered x [] = refl
@@ -125,7 +125,7 @@ in_order_unnumbered [] = refl
 in_order_unnumbered (x ∷ xs) =
     put_unnumbered x (in_order comes_first xs) ∙ ap (λ ys. put_in_order comes_first (unnumbered x) ys) (in_order_unnumbered xs)
 
--- neither does being apart
+-- whether two rows are duplicates does not depend on the numbers either
 all_unnumbered : (x : SealRow) (xs : List SealRow) → AllByRecursion (λ y. (comes_first x y || comes_first y x) ≡ true) xs
     → AllByRecursion (λ y. (comes_first (unnumbered x) y || comes_first y (unnumbered x)) ≡ true) (map unnumbered xs)
 unfolding comes_first
@@ -136,12 +136,12 @@ apart_unnumbered : (xs : List SealRow) → AllApart comes_first xs → AllApart 
 apart_unnumbered [] apart = tt
 apart_unnumbered (x ∷ xs) apart = (all_unnumbered x xs apart.0, apart_unnumbered xs apart.1)
 
--- nor what rows say of a component
+-- the marks of a component do not depend on the numbers either
 marks_unnumbered : (component day : ℕ) (xs : List SealRow) → filter_map (mark_if component day) (map unnumbered xs) ≡ filter_map (mark_if component day) xs
 marks_unnumbered component day [] = refl
 marks_unnumbered component day (x ∷ xs) = ap (λ ys. cons_option (mark_if component day x) ys) (marks_unnumbered component day xs)
 
--- two files in order with the same rows say the same of a component
+-- two files without bad records and with the same rows have the same marks of a component
 same_marks : (rows more : List SealRow) (component day : ℕ) → AllApart comes_first rows → IsPermutation (map unnumbered rows) (map unnumbered more)
     → marks_of component day (in_order comes_first more) ≡ marks_of component day (in_order comes_first rows)
 unfolding marks_of
@@ -152,7 +152,7 @@ same_marks rows more component day apart moved =
     ∙ sym (in_order_unnumbered rows))
     ∙ marks_unnumbered component day (in_order comes_first rows)
 
--- the duties and tags of one component depend on its marks alone
+-- the duties and tags of one component, from its marks
 abbrev with_marks : Equipment → List Event → ℕ → List Mark → Option (List SealDuty × List SealTag)
 with_marks item events day marks = Some (seal_duties item events marks day, seal_tags item events marks day)
 
@@ -161,7 +161,7 @@ same_item : (day : ℕ) (rows more : List SealRow) (facts : List Entry) → ((c 
 same_item day rows more facts marks None = refl
 same_item day rows more facts marks (Some item) = ap (with_marks item (events_of item facts) day) (marks item.component)
 
--- what marks and facts agree on
+-- equal marks and equal facts give equal duties and tags
 seals_alike : (component day : ℕ) (rows more : List SealRow) (facts others : List Entry) → ((c : ℕ) → marks_of c day rows ≡ marks_of c day more) → facts ≡ others
     → seals_on component day rows facts ≡ seals_on component day more others
 seals_alike component day rows more facts others marks same =
@@ -175,7 +175,7 @@ seals_forget text other rows more history batches component day is is_other move
 
 -- ---- rows in order
 
--- the three parts by which rows compare first
+-- the first three parts by which rows are compared
 by_three : (o p q rest : Ordering) (a b i j m n : ℕ) → MatchOrdering o (a < b) (a ≡ b) (b < a) → MatchOrdering p (i < j) (i ≡ j) (j < i)
     → MatchOrdering q (m < n) (m ≡ n) (n < m) → is_lt (ordering_then o (ordering_then p (ordering_then q rest))) ≡ true
     → (nat_lt b a || (nat_eq b a && (nat_lt j i || (nat_eq j i && nat_lt n m)))) ≡ false
@@ -187,7 +187,7 @@ by_three Equal Equal Greater rest a b i j m n x y z e = absurd cc
 by_three Equal Greater q rest a b i j m n x y z e = absurd cc
 by_three Greater p q rest a b i j m n x y z e = absurd cc
 
--- the row that comes first is not after the other
+-- a row that is before another one is not after it
 not_after : (a b : SealRow) → comes_first a b ≡ true → row_before b a ≡ false
 unfolding comes_first row_before is_before
 not_after a b e =
@@ -203,7 +203,7 @@ rows_rise : (rows : List SealRow) → Ascends comes_first rows → MomentsRise r
 rows_rise [] ascend = tt
 rows_rise (row ∷ rows) ascend = (all_not_after row rows ascend.0, rows_rise rows ascend.1)
 
--- the rows of a file rise
+-- the rows of a file are in order
 rise_of : (records : List (List (List ℕ))) (rows : List SealRow) (said : Result (List SealRow) ℕ) → rows_of_records records ≡ said → in_turn said ≡ Ok rows
     → MomentsRise row_before rows
 rise_of records rows (Ok read) is e =

@@ -1,5 +1,5 @@
--- The seal view does not depend on the order of the records in a file, nor on the order in which batches arrive. Both files must be in order:
--- the number of a bad record does depend on the order of the records.
+-- The seal view does not depend on the order of the records in a file, nor on the order in which batches arrive. This holds only for files
+-- without a bad record, since the number of a bad record depends on the order of the records.
 use Rattle.std.specs.Prelude.{◌≡◌, ℕ, IsTrue, IsPermutation, List, map, Option, option_map, Ok}
 use Rattle.csv_rows.specs.Records.{records_of}
 use Rattle.list_words.specs.Order.{in_order}
@@ -18,7 +18,7 @@ use Rattle.pump_seals.specs.Seals.{duties_by_rows, tags_by_rows}
 use Rattle.dual_seals.specs.RowOrder.{comes_first}
 use Rattle.dual_seals.specs.Rows.{rows_of_records}
 
--- what a row says, without the number of its record
+-- a row without the number of its record
 abbrev pub unnumbered : SealRow → SealRow
 unnumbered row = record { at = 0; what = row.what; component = row.component; day = row.day; minute = row.minute }
 
@@ -30,11 +30,11 @@ events_of item facts = events_in item (classes_of item.component facts) (limit_o
 abbrev pub lists_by : ℕ → List SealRow → List Entry → Equipment → List SealDuty × List SealTag
 lists_by day rows facts item = (duties_by_rows item (events_of item facts) rows day, tags_by_rows item (events_of item facts) rows day)
 
--- .. if the facts enter it
+-- the duties and tags of a component, if the facts enter it
 abbrev pub seals_on : ℕ → ℕ → List SealRow → List Entry → Option (List SealDuty × List SealTag)
 seals_on component day rows facts = option_map (lists_by day rows facts) (equipment_of component facts)
 
--- two files in order with the same rows, and two histories with the same batches, give the same duties and tags
+-- two files without bad records and with the same rows, and two histories with the same batches, give the same duties and tags
 abbrev pub SealsForgetOrder : Type 0
 SealsForgetOrder =
     (text other : List ℕ) (rows more : List SealRow) (history batches : List Batch) (component day : ℕ)

@@ -9,7 +9,7 @@ abbrev pub row_key_cmp : RowKey → RowKey → Ordering
 row_key_cmp =
     then_cmp (on (λ k. k.component) nat_cmp) (then_cmp (on (λ k. k.day) nat_cmp) (then_cmp (on (λ k. k.minute) nat_cmp) (on (λ k. k.rank) nat_cmp)))
 
--- it is a total order
+-- the comparison of row keys is a total order
 pub row_key_cmp_total : IsTotalOrder row_key_cmp
 row_key_cmp_total =
     then_total (on_total (λ k. k.component) nat_cmp_total) (then_total (on_total (λ k. k.day) nat_cmp_total) (then_total (on_total (λ k. k.minute) nat_cmp_total)

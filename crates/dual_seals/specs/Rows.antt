@@ -21,7 +21,7 @@ is_header fields =
     length fields == 5 && (holds (field_at fields 0) (codes "what") && holds (field_at fields 1) (codes "component")
     && holds (field_at fields 2) (codes "day") && holds (field_at fields 3) (codes "minute") && holds (field_at fields 4) (codes "value"))
 
--- a seal is on or off; a sensor's failure is present or gone
+-- a seal is on or off; a sensor's failure is present or gone; None for other words
 unfoldable pub what_of : Option (List ℕ) → Option (List ℕ) → Option SealWhat
 what_of what value =
     if holds what (codes "seal")
@@ -43,23 +43,23 @@ row_of at fields =
 
 -- ---- files
 
--- the rows so far with one more, the latest first, unless it is bad or a duplicate of an earlier one
+-- the rows so far with one more, latest first; None if the record is bad or the row is a duplicate of an earlier one
 abbrev pub with_row : List SealRow → Option SealRow → Option (List SealRow)
 with_row earlier None = None
 with_row earlier (Some row) = if list_any (is_duplicate row) earlier then None else Some (row ∷ earlier)
 
--- the rows of records after earlier ones, the latest first, or the number of the first bad record; the first of them has this number
+-- the rows of records after earlier rows, latest first, or the number of the first bad record; the first of the records has this number
 abbrev pub rows_from : ℕ → List SealRow → List (List (List ℕ)) → Result (List SealRow) ℕ
 rows_from at earlier [] = Ok earlier
 rows_from at earlier (fields ∷ records) =
     option_map_or (λ rows. rows_from (at + 1) rows records) (with_row earlier (row_of at fields)) (Err at)
 
--- the first record must be the header; a file may have no other
+-- the rows of a file, whose first record must be the header; other records may be missing
 abbrev pub rows_of_records : List (List (List ℕ)) → Result (List SealRow) ℕ
 rows_of_records [] = Err 1
 rows_of_records (first ∷ records) = if is_header first then rows_from 2 [] records else Err 1
 
--- rows in order
+-- the rows, in order
 abbrev pub in_turn : Result (List SealRow) ℕ → Result (List SealRow) ℕ
 in_turn (Ok rows) = Ok (in_order comes_first rows)
 in_turn (Err at) = Err at

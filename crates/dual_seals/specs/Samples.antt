@@ -7,7 +7,7 @@ use Rattle.pump_seals.specs.declared.row.SealWhat.{SealWhat}
 abbrev pub fields : List ℕ → List ℕ → List ℕ → List ℕ → List ℕ → List (List ℕ)
 fields what component day minute value = what ∷ component ∷ day ∷ minute ∷ value ∷ []
 
--- .. and of the header
+-- the five fields of the header
 abbrev pub header : List (List ℕ)
 header = fields (codes "what") (codes "component") (codes "day") (codes "minute") (codes "value")
 

@@ -1,4 +1,4 @@
-//! Worked examples of the definitions, as contracts of empty functions: each clause computes.
+//! Worked examples of the definitions: the contracts of empty functions, each clause proved by computing.
 #![tactic(auto, unfolding(csv::specs::Records::field_at, ldar_days::specs::Calendar::first_day, ldar_days::specs::Calendar::month_of, ldar_days::specs::Calendar::month_length, ldar_days::specs::Texts::day_of, csv_rows::specs::Fields::number, csv_rows::specs::Fields::day, pump_seals::specs::Moments::is_before, crate::specs::RowOrder::comes_first, crate::specs::RowOrder::is_duplicate, crate::specs::Rows::what_of, crate::specs::Rows::row_of))]
 
 ghost use Rattle.std.specs.Prelude.{◌≡◌, ◌++◌, ◌∷◌, [], Err, None, Ok, Some, codes, take};
@@ -27,7 +27,7 @@ pub fn words_and_numbers()
     ensures no_day { row_of 2 (fields (codes "seal") (codes "5") (codes "2024-02-30") (codes "0") (codes "on")) ≡ None }
 {}
 
-/// The first bad record is reported by its number. A file needs its header and no other record.
+/// The first bad record is reported by its number. A file needs its header, but no other record.
 pub fn files()
     ensures nothing { rows_of_records [] ≡ Err 1 }
     ensures no_header { rows_of_records (fields (codes "seal") (codes "5") (codes "2024-02-01") (codes "0") (codes "on") ∷ []) ≡ Err 1 }

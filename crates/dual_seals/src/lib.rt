@@ -1,4 +1,4 @@
-//! The view of dual mechanical seal pumps: the rows of a seal file, and the duties and tags of a pump by them (40 CFR
+//! The view of pumps with dual mechanical seals: reads the rows of a seal file, and lists the duties and tags of a pump (40 CFR
 //! 60.482-2a(d)).
 #![tactic(auto)]
 

@@ -1,4 +1,4 @@
-//! The order of rows. `Ord` is written by hand and cites `row_key_cmp`, so that contracts can name it.
+//! The order of rows. `Ord` is implemented by hand and cites `row_key_cmp`, so that contracts can name it.
 
 ghost use Rattle.std.specs.Prelude.{◌≡◌};
 ghost use Rattle.std.proofs.Common.{rules};
@@ -19,7 +19,7 @@ pub struct RowKey {
     pub component: u16,
     pub day: Day,
     pub minute: u16,
-    /// 0 for a seal, 1 for a sensor.
+    /// 0 for a row about the seal, 1 for a row about the sensor.
     pub rank: u8,
 }
 
@@ -56,7 +56,7 @@ impl PartialOrd for RowKey {
     }
 }
 
-/// Whether a row is of the sensor (1), or seals the pump or takes the seal off (0).
+/// 0 for a row about the seal, 1 for a row about the sensor.
 fn rank_of(what: SealWhat) -> u8
     ensures value { result ≡ says_rank what }
 {

@@ -18,7 +18,7 @@ pub fn is_header(row: &ByteRecord) -> bool
             && holds(row.get(4), "value"))
 }
 
-/// What a row says, by its first field and its last.
+/// What a row reports, from its first and its last field; `None` for other words.
 #[tactic(auto, unfolding(crate::specs::Rows::what_of))]
 fn what_of(what: Option<&[u8]>, value: Option<&[u8]>) -> Option<SealWhat>
     ensures value { result ≡ spec.what_of (option_map (λ f. f.now) what.entry) (option_map (λ f. f.now) value.entry) }

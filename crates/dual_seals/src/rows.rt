@@ -1,4 +1,4 @@
-//! The rows of a seal file, read record by record into a map in order, which finds duplicates.
+//! The rows of a seal file. They are read record by record into an ordered map, which finds duplicates.
 
 ghost use Rattle.std.specs.Prelude.{◌≡◌, ◌≤◌, ℕ, [], IfOk, IfErr, OnOk, Ok, Some, length, List, Result};
 ghost use Rattle.csv.specs.Records.{fields_of};
@@ -82,9 +82,9 @@ fn in_order(alloc: Global, rows: BTreeMap<RowKey, SealRow>) -> Result<Vec<SealRo
     }
 }
 
-/// The rows of a seal file, by component, day and minute, and then seals before sensors: CSV, with a header that names the five
-/// columns. A record is bad if it has another form, or if an earlier one has the same first field, component, day and minute. A bad
-/// record is reported by its number, from 1 for the header; only the first one is reported.
+/// The rows of a seal file, by component, day and minute, and then seals before sensors. The file is CSV, with a header that names
+/// the five columns. A record is bad if it has another form, or if an earlier one has the same first field, component, day and
+/// minute. The errors are the first bad record, by its number from 1 for the header, and out of memory.
 pub fn rows_of(alloc: Global, text: &[u8]) -> Result<Vec<SealRow>, SealError>
     requires fits { length text.now ≤ LONGEST_TEXT }
     ensures value { IfOk result (λ rows. spec.seal_rows text.now ≡ Ok rows.items) }
@@ -95,7 +95,7 @@ pub fn rows_of(alloc: Global, text: &[u8]) -> Result<Vec<SealRow>, SealError>
     Ok(rows)
 }
 
-/// The same, but for their order.
+/// The same rows, without the clause on their order.
 #[tactic(auto, unfolding(crate::specs::Rows::seal_rows))]
 fn read(alloc: Global, text: &[u8]) -> Result<Vec<SealRow>, SealError>
     requires fits { length text.now ≤ LONGEST_TEXT }

@@ -31,7 +31,7 @@ distinct_identities (batch ∷ batches) differ =
     let parts = and_parts (not (list_any (is_same_identity batch) batches)) (identities_differ batches) differ in
     (all_fail (is_same_identity batch) batches (not-true (list_any (is_same_identity batch) batches) parts.0), distinct_identities batches parts.1)
 
--- .. and the other way round
+-- identities that are distinct in std's sense are different
 identities_distinct : (history : List Batch) → IsDistinct is_same_identity history → IsTrue (identities_differ history)
 identities_distinct [] distinct = refl
 identities_distinct (batch ∷ batches) distinct =

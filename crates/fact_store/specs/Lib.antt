@@ -1,4 +1,5 @@
 pub mod Came
+pub mod Coming
 pub mod Inside
 pub mod Kept
 pub mod Listing

@@ -68,6 +68,7 @@ impl Index {
         ensures first { (naming : Naming) (arrived : List Entry) → KeepsFirst naming arrived self.old → KeepsFirst naming arrived self.new }
         ensures counted { (arrived : List Entry) (spare : List Stated) (counted : List ℕ) → AreCountsOf self.old arrived spare counted
             → AreCountsOf self.new arrived spare counted }
+        ensures listed { self.new.listed ≡ self.old.listed }
     {
         make_rooms_for(alloc, &mut self.lists, counts)
     }

@@ -145,6 +145,7 @@ impl Indexes {
         ensures first { (arrived : List Entry) → KeepFirst arrived self.old → KeepFirst arrived self.new }
         ensures counted { OnOk result ((arrived : List Entry) (spare : List Stated) → CountAll self.old arrived spare counts.now
             → CountAll self.new arrived spare counts.now) }
+        ensures listed { self.new.readings.listed ≡ self.old.readings.listed }
     {
         self.components.make_room(alloc, &counts.components)?;
         self.units.make_room(alloc, &counts.units)?;
@@ -168,7 +169,7 @@ impl Indexes {
     }
 
     /// Lists the facts that arrived since the last listing, with room for the places of the reserved ones.
-    /// When out of memory, each index lists some of the first facts.
+    /// When out of memory, each index lists some of the first facts, and the index of readings as many as before.
     pub fn catch_up(
         &mut self,
         alloc: Global,
@@ -180,6 +181,7 @@ impl Indexes {
         requires first { KeepFirst arrived.now self.old }
         ensures ok { OnOk result (KeepAll arrived.now spare.now self.new) }
         ensures some { OnErr result (KeepFirst arrived.now self.new) }
+        ensures listed { OnErr result (self.new.readings.listed ≡ self.old.readings.listed) }
     {
         let counts = self.count(alloc, arrived, spare)?;
         self.make_room(alloc, &counts)?;

@@ -1,6 +1,7 @@
 ghost use Rattle.std.specs.Prelude.{◌≡◌, ℕ, ◌+◌, ◌<◌, ◌≤◌, Some, false, [], ◌∷◌, ◌++◌, length, take, drop, slice_get, IfOk, OnOk, OnErr};
 ghost use Rattle.fact_kinds.specs.declared.limits.TheConstants.{MOST_FACTS};
 ghost use Rattle.fact_kinds.specs.Named as named;
+ghost use Rattle.fact_store.specs.Coming.{listed_front, stored};
 ghost use Rattle.fact_store.specs.Kept.{Kept, ArePlacesOf, is_held};
 
 use crate::arrivals::Arrivals;
@@ -32,7 +33,8 @@ impl Model for FactStore {
     ghost invariant = { λ s. KeepAll s.arrivals.arrived s.arrivals.spare s.indexes };
 }
 
-/// Accepted facts as they arrive; the first ones are listed. In contracts they are like a store.
+/// Accepted facts as they arrive; the first ones are listed. In contracts they are like a store, with the number of facts that
+/// are listed.
 #[derive(Drop)]
 pub struct Facts {
     alloc: Global,
@@ -41,12 +43,12 @@ pub struct Facts {
 }
 
 impl Model for Facts {
-    ghost use Rattle.fact_store.specs.Kept.{Kept};
+    ghost use Rattle.fact_store.specs.Coming.{Coming};
     ghost use Rattle.fact_store.specs.Inside.{KeepFirst};
 
-    ghost Value = { Kept };
+    ghost Value = { Coming };
 
-    ghost view = { λ f. f.arrivals };
+    ghost view = { λ f. record { arrived = f.arrivals.arrived; spare = f.arrivals.spare; listed = f.indexes.readings.listed } };
 
     ghost invariant = { λ f. KeepFirst f.arrivals.arrived f.indexes };
 }
@@ -54,7 +56,7 @@ impl Model for Facts {
 impl Facts {
     /// No facts.
     pub fn new(alloc: Global) -> Facts
-        ensures value { result ≡ record { arrived = []; spare = [] } }
+        ensures value { result ≡ record { arrived = []; spare = []; listed = 0 } }
     {
         Facts {
             alloc,
@@ -65,7 +67,7 @@ impl Facts {
 
     /// The facts of a store, all of them listed.
     pub fn of(store: FactStore) -> Facts
-        ensures value { result ≡ store }
+        ensures value { result ≡ record { arrived = store.arrived; spare = store.spare; listed = length store.arrived } }
     {
         Facts {
             alloc: store.alloc,
@@ -110,7 +112,11 @@ impl Facts {
         requires roomy { slice_get self.old.spare 0 ≡ Some fact }
         requires new_key { is_held key self.old.arrived ≡ false }
         requires few { length self.old.arrived < MOST_FACTS }
-        ensures value { self.new ≡ record { arrived = self.old.arrived ++ (key, fact) ∷ []; spare = drop 1 self.old.spare } }
+        ensures value { self.new ≡ record {
+          arrived = self.old.arrived ++ (key, fact) ∷ [];
+          spare = drop 1 self.old.spare;
+          listed = self.old.listed;
+        } }
     {
         self.arrivals.insert(key, fact);
     }
@@ -124,11 +130,20 @@ impl Facts {
         self.arrivals.fact(place, steps)
     }
 
+    /// The places of the readings of an instrument among the listed facts, in key order. Facts that came since the last listing are
+    /// not among them. It takes no memory.
+    pub fn listed_readings(&self, instrument: u16) -> &[Place]
+        ensures value { ArePlacesOf named.reading_instrument instrument (listed_front self.now) result.now }
+        ensures within { self.now.listed ≤ length self.now.arrived }
+    {
+        self.indexes.readings.places_of(instrument)
+    }
+
     /// Moves the facts and the reserved room into a store. The facts that are not listed yet are added to each list at once.
     /// When out of memory, nothing changes.
     pub fn list(&mut self) -> Result<FactStore, Memory>
-        ensures ok { IfOk result (λ store. store ≡ self.old) }
-        ensures empty { OnOk result (self.new ≡ record { arrived = []; spare = [] }) }
+        ensures ok { IfOk result (λ store. store ≡ stored self.old) }
+        ensures empty { OnOk result (self.new ≡ record { arrived = []; spare = []; listed = 0 }) }
         ensures unchanged { OnErr result (self.new ≡ self.old) }
     {
         let alloc = self.alloc;

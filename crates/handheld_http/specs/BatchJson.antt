@@ -19,7 +19,7 @@ fact_of d = do
   body ← body kind d
   Some (record { day = day; minute = minute; body = body })
 
--- the facts in an array, each of which must be one
+-- the facts in an array; each element must be a fact
 abbrev pub facts_of : Items → Option (List Stated)
 facts_of no_items = Some []
 facts_of (item d items) = do

@@ -30,7 +30,7 @@ has_only_members keys (Some members) = list_all (is_among keys) (keys_of members
 unfoldable pub has_only : List (List ℕ) → Data → Bool
 has_only keys d = has_only_members keys (as_object d)
 
--- ---- members, each of which may be missing
+-- ---- members, which may be missing
 
 -- a whole number from `low` to `high`
 unfoldable pub number : ℕ → ℕ → Option Data → Option ℕ

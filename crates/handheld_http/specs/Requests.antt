@@ -63,7 +63,7 @@ is_decimal greatest text = is_number text && not (has_leading_zero text) && nat_
 unfoldable pub decimal_in : ℕ → List ℕ → Option ℕ
 decimal_in greatest text = if is_decimal greatest text then Some (digits_value 10 text) else None
 
--- the unit in a part, or that there is none if the part has another form
+-- the unit in a part, or an error if the part has another form
 abbrev pub unit_in : List ℕ → Result ℕ What
 unit_in text = ok_or (decimal_in 255 text) NoUnit
 

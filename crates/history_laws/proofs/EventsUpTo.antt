@@ -1,12 +1,11 @@
-use Rattle.std.proofs.Common.{◌≡◌, ℕ, ◌+◌, ◌≤◌, Bool, true, false, ◌&&◌, not, nat_eq, nat_le, Option, Some, None, List, [], ◌∷◌, ◌++◌, filter}
-use Rattle.std.proofs.Common.{refl, ap, ◌∙◌, inl, inr, arith}
+use Rattle.std.proofs.Common.{◌≡◌, ℕ, ◌+◌, ◌≤◌, Bool, true, false, ◌&&◌, not, nat_eq, nat_le, Option, Some, None, List, filter}
+use Rattle.std.proofs.Common.{refl, ap, ◌∙◌, arith}
 use Rattle.std.specs.Prelude.{find, option_map}
-use Rattle.std.specs.List.{AllByRecursion, filter_map}
-use Rattle.std.proofs.lemmas.Bool.{cases_Bool, leb-true, le-leb}
+use Rattle.std.specs.List.{filter_map}
+use Rattle.std.proofs.lemmas.Bool.{leb-true, le-leb}
 use Rattle.std.proofs.lemmas.Bool.Decides.{nat_tests}
 use Rattle.list_words.specs.Order.{Ascends}
-use Rattle.list_words.proofs.CutLemmas.{filter_none, filter_all, front_is_cut}
-use Rattle.list_words.proofs.Members.{all_weaker}
+use Rattle.list_words.proofs.CutLemmas.{front_is_cut}
 use Rattle.list_words.proofs.Narrowing.{list_any_narrowed, find_narrowed, find_agree}
 use Rattle.fact_kinds.specs.declared.body.FactBody.{FactBody}
 use Rattle.fact_kinds.specs.declared.body.FactBody.TheVariants.{Reading, Visual, Indication}
@@ -28,11 +27,12 @@ use Rattle.ldar_law.specs.Limits.{limit_of}
 use Rattle.ldar_law.specs.Slices.{facts_of_component}
 use Rattle.ldar_law.proofs.EventLemmas.{events_ascend}
 use Rattle.ldar_law.proofs.TestLemmas.{both}
+use Rattle.ldar_law.proofs.SpansByDayLemmas.{is_first, whole_again}
 use Rattle.ldar_law.specs.Units.{known_with}
 use Rattle.history_laws.specs.DayLaws.{up_to, item_on, events_to, of_unit_to}
 use Rattle.history_laws.specs.DayLaws.{AgreeUpTo, FitnessForgetsLaterDays, EventsUpToADay, EventsByOwnRegister, LimitsAgree, IsCutAt, EventsAreCut}
 use Rattle.history_laws.specs.KnownLaws.{KnownUpToADay}
-use Rattle.history_laws.proofs.UpTo.{filter_swap, given_alike_where, past_day, given_up_to}
+use Rattle.history_laws.proofs.UpTo.{filter_swap, given_alike_where, given_up_to}
 use Rattle.history_laws.proofs.RegisterUpTo.{classes_up_to, stop_is, day_within, standing_forgets_later_days}
 
 -- ---- readings
@@ -188,36 +188,12 @@ known_up_to_a_day t item facts =
 -- ---- the cut
 
 module _ (t : ℕ) where
-  -- the event with the earlier key is first
-  abbrev is_first : Event → Event → Bool
-  is_first a b = is_earlier a.key b.key
-
-  -- after an event of a later day, all events are of later days
-  late_behind : (x : Event) (xs : List Event) → nat_le x.key.day t ≡ false → AllByRecursion (λ y. is_first x y ≡ true) xs
-      → AllByRecursion (λ y. nat_le y.key.day t ≡ false) xs
-  late_behind x xs out all =
-      all_weaker (λ y. is_first x y ≡ true) (λ y. nat_le y.key.day t ≡ false)
-      (λ y first. past_day t x.key.day y.key.day (earlier_day x.key y.key first) out) xs all
-
-  -- the prefix and the rest are the whole list
-  whole_again : (xs : List Event) → Ascends is_first xs → events_to t xs ++ filter (λ e. not (nat_le e.key.day t)) xs ≡ xs
-  whole_again [] up = refl
-  whole_again (x ∷ xs) up =
-      elim (cases_Bool (nat_le x.key.day t)) [
-        | inl within ↦ rw within (ap (λ ys. x ∷ ys) (whole_again xs up.1))
-        | inr out ↦
-            let late = late_behind x xs out up.0 in
-            rw (out, filter_none (λ e. nat_le e.key.day t) xs late)
-            (ap (λ ys. x ∷ ys) (filter_all (λ e. not (nat_le e.key.day t)) xs
-            (all_weaker (λ y. nat_le y.key.day t ≡ false) (λ y. not (nat_le y.key.day t) ≡ true) (λ y f. ap not f) xs late)))
-      ]
-
   -- the cut of events in key order
   pub cut_of : (xs : List Event) → Ascends is_first xs → IsCutAt t xs
   cut_of xs up = record {
     front = front_is_cut is_first (λ e. nat_le e.key.day t) xs up
         (λ x y first within. day_within x.key.day y.key.day t (earlier_day x.key y.key first) (leb-true y.key.day t within));
-    whole = whole_again xs up;
+    whole = whole_again t xs up;
   }
 
 pub events_are_cut : EventsAreCut

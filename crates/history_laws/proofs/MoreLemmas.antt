@@ -240,7 +240,7 @@ members_grow history batch unit differ once =
     ∙ sym (in_order_forgets nat_lt strict_lt (held ++ new) (held ++ in_order nat_lt new) apart moved)
     ∙ sym (put_each_in_order nat_lt strict_lt (in_order nat_lt new) held sorted)
 
--- ---- a component that is left alone
+-- ---- a component that a batch does not affect
 
 -- a fact that is no shutdown of the unit enters none
 not_shut : (number day : ℕ) (body : FactBody) → is_shutdown number body ≡ false → stop_entered number day body ≡ None
@@ -262,7 +262,7 @@ module _ (t : ℕ) (history : List Batch) (batch : Batch) (differ : IsTrue (iden
       ∙ ap (filter q) (part_stays test history batch differ none)
       ∙ sym (filter_swap test q (facts_of history))
 
-  -- the lists of a component that is left alone
+  -- the lists of a component that a batch does not affect
   same_lists : (number unit : ℕ) → LeavesAlone number unit history batch → HasSameLists number unit (facts_to t history) (facts_to t (with_batch history batch))
   same_lists number unit alone =
       let q : Entry → Bool = λ e. nat_le e.0.day t in

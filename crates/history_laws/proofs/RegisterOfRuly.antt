@@ -7,7 +7,7 @@ use Rattle.history_laws.proofs.OnceLemmas.{each_is_entered_once, part_has_each_o
 use Rattle.history_laws.proofs.Origins.{days_are_in_bound, startups_are_in_bound, beginnings_are_in_bound}
 use Rattle.history_laws.proofs.UpTo.{all_of_part}
 
--- what holds for facts in bound, each of which enters a number only once
+-- laws for facts whose days have a bound, and in which each number is entered only once
 register_of : (facts : List Entry) → AllByRecursion (λ e. e.0.day ≤ 46_751) facts → IsEachOnce facts → GivesRegister facts
 register_of facts in_bound once = record {
   startups = λ number unit e. startups_are_in_bound facts number 46_751 unit in_bound e;

@@ -1,19 +1,17 @@
 -- What new facts touch: components that are not touched, components that stay touched, and process units that no new fact names.
-use Rattle.std.proofs.Common.{◌≡◌, ℕ, Bool, true, false, ◌||◌, IsTrue, Some, List, [], ◌∷◌, ◌++◌, filter, refl, sym, ap, ◌∙◌, subst, inl, inr}
+use Rattle.std.proofs.Common.{◌≡◌, ℕ, Bool, true, false, ◌||◌, Some, List, [], ◌∷◌, ◌++◌, filter, refl, sym, ap, ◌∙◌, subst, inl, inr}
 use Rattle.std.specs.List.{AllByRecursion, list_any}
 use Rattle.std.specs.Option.{option_map_or}
-use Rattle.std.proofs.lemmas.Bool.{cases_Bool, false≢true, or_parts}
+use Rattle.std.proofs.lemmas.Bool.{cases_Bool, false≢true}
 use Rattle.std.proofs.lemmas.List.Folds.{list_any-append}
 use Rattle.list_words.specs.Order.{put_each, put_in_order}
 use Rattle.list_words.proofs.Members.{all_weaker}
 use Rattle.list_words.proofs.PutLemmas.{list_any-put}
-use Rattle.fact_kinds.specs.declared.batch.Batch.{Batch}
 use Rattle.fact_kinds.specs.Facts.{Entry, goes_first, entries_of, facts_of}
-use Rattle.fact_kinds.specs.Identity.{identities_differ}
 use Rattle.fact_kinds.specs.Named.{component_of, unit_of, reading_instrument, is_numbered}
 use Rattle.ldar_law.specs.Equipment.{elections_of, members_of, of_unit, unit_entry_of}
 use Rattle.ldar_law.specs.Slices.{facts_of_component, facts_of_unit}
-use Rattle.ldar_law.specs.Stirred.{is_touched, matters, matters_to, touches}
+use Rattle.ldar_law.specs.Stirred.{matters, matters_to, touches}
 use Rattle.ldar_law.proofs.SliceLemmas.{unit_facts_judge, unit_facts_suffice}
 use Rattle.history_laws.specs.MoreLaws.{with_batch}
 use Rattle.history_laws.specs.TouchLaws.{NotTouchedIsUntouched, UntouchedStays, TouchedStays, UnnamedUnitStays}

@@ -1,8 +1,8 @@
-use Rattle.std.proofs.Common.{◌≡◌, ℕ, ◌≤◌, Bool, true, false, not, cond, nat_le, Option, Some, None, List, [], ◌∷◌, filter, slice_get}
-use Rattle.std.proofs.Common.{refl, sym, ap, ◌∙◌, inl, inr, arith}
+use Rattle.std.proofs.Common.{◌≡◌, ℕ, Bool, true, false, not, cond, nat_le, Option, Some, None, List, [], ◌∷◌, filter, slice_get}
+use Rattle.std.proofs.Common.{refl, sym, ap, ◌∙◌, inl, inr}
 use Rattle.std.specs.Prelude.{find, option_and_then}
 use Rattle.std.specs.List.{AllByRecursion, filter_map, cons_option}
-use Rattle.std.proofs.lemmas.Bool.{cases_Bool, false≢true, leb-true, le-leb}
+use Rattle.std.proofs.lemmas.Bool.{cases_Bool}
 use Rattle.list_words.proofs.Ascending.{not_behind}
 use Rattle.list_words.proofs.CutLemmas.{filter_none, filter_all, take_while-cons}
 use Rattle.list_words.proofs.Members.{all_weaker}
@@ -10,6 +10,7 @@ use Rattle.fact_kinds.specs.Facts.{Entry, goes_first, entries_of, facts_of}
 use Rattle.fact_kinds.proofs.KeyOrder.{strict_goes_first}
 use Rattle.std.specs.List.{flat_map}
 use Rattle.ldar_law.proofs.RegisterLemmas.{day_of_later}
+pub use Rattle.ldar_law.proofs.SpansByDayLemmas.{past_day}
 use Rattle.ldar_law.proofs.WeakOrder.{InOrder, each_in_order, weak_goes_first}
 use Rattle.history_laws.specs.DayLaws.{up_to, AreInOrder, HistoryIsInOrder, AscendingAreInOrder, PartIsInOrder, PartUpToADay, FactsAreCut}
 
@@ -98,13 +99,6 @@ given_alike_where f g q same (x ∷ xs) =
     ]
 
 -- ---- the first of facts in order, and the first of those up to a day
-
--- a day after one that is after t is after t
-pub past_day : (t a b : ℕ) → a ≤ b → nat_le a t ≡ false → nat_le b t ≡ false
-past_day t a b no_later out = elim (cases_Bool (nat_le b t)) [
-  | inl e ↦ absurd (false≢true (sym out ∙ le-leb a t (omega (arith, no_later, leb-true b t e))))
-  | inr e ↦ e
-]
 
 -- after a fact of a later day, all facts are of later days
 all_late : (t : ℕ) (e : Entry) (es : List Entry) → nat_le e.0.day t ≡ false → AllByRecursion (λ x. goes_first x e ≡ false) es

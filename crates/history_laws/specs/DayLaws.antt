@@ -18,6 +18,7 @@ use Rattle.ldar_law.specs.Fitness.{fitness_of}
 use Rattle.ldar_law.specs.Force.{class_on, is_in_service, limit_on}
 use Rattle.ldar_law.specs.Units.{known_of, components_of}
 use Rattle.history_laws.specs.RulyLaws.{IsEachOnce}
+pub use Rattle.ldar_law.specs.SpansByDay.{if_come, events_to}
 
 -- the facts with a day of at most t
 abbrev pub up_to : ℕ → List Entry → List Entry
@@ -55,10 +56,6 @@ abbrev pub FactsAreCut : Type 0
 FactsAreCut = (t : ℕ) (facts : List Entry) → AreInOrder facts → AreCutAt t facts
 
 -- ---- the register
-
--- the day, if it is not after t
-abbrev pub if_come : ℕ → Option ℕ → Option ℕ
-if_come t day = option_and_then (λ d. if nat_le d t then Some d else None) day
 
 -- the component as known on a day, without a later retirement
 abbrev pub item_on : ℕ → Equipment → Equipment
@@ -126,10 +123,6 @@ abbrev pub FitnessForgetsLaterDays : Type 0
 FitnessForgetsLaterDays =
     (t : ℕ) (facts : List Entry) (limit : ℕ) (key : Key) (instrument ppm : ℕ) → key.day ≤ t
     → fitness_of (up_to t facts) limit key instrument ppm ≡ fitness_of facts limit key instrument ppm
-
--- the events with a day of at most t
-abbrev pub events_to : ℕ → List Event → List Event
-events_to t events = filter (λ e. nat_le e.key.day t) events
 
 -- with one register, the events from the facts up to a day are the events up to that day from all facts
 abbrev pub EventsUpToADay : Type 0

@@ -17,7 +17,8 @@ DutiesForgetLaterRegister =
     → duties_of (item_on t item) (filter (λ entered. nat_le entered.0.day t) classes) startup events skipped t
     ≡ duties_of item classes startup events skipped t
 
--- such a component adds the same to the counts of a quarter
+-- a component that has begun by the view day adds the same to a quarter's counts by the classes and the retirement known on the day as
+-- by all
 abbrev pub MarksForgetLaterRegister : Type 0
 MarksForgetLaterRegister =
     (t : ℕ) (item : Equipment) (classes : List (Key × Class)) (startup : ℕ) (events : List Event) (delayed : Bool) (quarter : ℕ)

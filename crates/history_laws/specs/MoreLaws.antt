@@ -75,14 +75,14 @@ abbrev pub is_shutdown : ℕ → FactBody → Bool
 is_shutdown number (Shutdown other _) = nat_eq other number
 is_shutdown number _ = false
 
--- a batch leaves a component alone: no fact of it names the component, matters to a reading of it, or shuts down its process unit
+-- a batch does not affect a component: no fact of it names the component, matters to a reading of it, or shuts down its process unit
 pub record LeavesAlone (number unit : ℕ) (history : List Batch) (batch : Batch) : Type 0 where
   pub component : list_any (λ e. is_numbered (component_of e.1.body) number) (entries_of batch) ≡ false
   pub tests : AllByRecursion (λ e. (instrument : ℕ) → reading_instrument e.1.body ≡ Some instrument
       → list_any (matters instrument e.0.day) (entries_of batch) ≡ false) (facts_of_component number (facts_of history))
   pub shutdowns : list_any (λ e. is_shutdown unit e.1.body) (entries_of batch) ≡ false
 
--- a component that a batch leaves alone is the same on a day with the batch and without it
+-- a component that a batch does not affect is the same on a day with the batch and without it
 abbrev pub LeftAloneIsKnownAlike : Type 0
 LeftAloneIsKnownAlike =
     (t : ℕ) (item : Equipment) (history : List Batch) (batch : Batch) → IsTrue (identities_differ (with_batch history batch))

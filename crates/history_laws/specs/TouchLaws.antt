@@ -1,5 +1,5 @@
 -- Laws about what new facts touch when a history grows: the statements of `touches`.
-use Rattle.std.specs.Prelude.{◌≡◌, ℕ, Bool, false, IsTrue, Some, List, ◌++◌}
+use Rattle.std.specs.Prelude.{◌≡◌, ℕ, false, IsTrue, Some, List, ◌++◌}
 use Rattle.std.specs.List.{AllByRecursion, list_any}
 use Rattle.fact_kinds.specs.declared.batch.Batch.{Batch}
 use Rattle.fact_kinds.specs.Facts.{Entry, entries_of, facts_of}

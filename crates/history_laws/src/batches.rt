@@ -19,7 +19,7 @@ pub fn register_grows()
     ensures members { MembersGrow }
 {}
 
-/// A component that a batch leaves alone is the same with the batch and without it, on each day.
+/// A component that a batch does not affect is the same with the batch and without it, on each day.
 pub fn left_alone()
     ensures law { LeftAloneIsKnownAlike }
 {}

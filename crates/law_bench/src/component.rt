@@ -23,7 +23,7 @@ pub struct Component {
     pub ghost events_ordered: { Ascends (λ a b. is_earlier a.key b.key) events.items } by { Ascends-prop (λ a b. is_earlier a.key b.key) events.items },
 }
 
-/// The facts of a component, each alone in its batch.
+/// The facts of a component, each in its own batch.
 fn facts_of(
     alloc: Global,
     history: History,
@@ -38,7 +38,7 @@ fn facts_of(
     Ok(facts)
 }
 
-/// The fitness of its readings, of which the one for each fiftieth place is not fit.
+/// The fitnesses of its readings; every fiftieth one is not fit.
 fn fitness_of(alloc: Global, places: u32) -> Result<Vec<Fitness>, AllocError> {
     let mut fitness = Vec::with_capacity(alloc, places as usize)?;
     for place in 0..places {
@@ -71,7 +71,7 @@ fn component_of(
     }
 }
 
-/// The component with this number, from 0, and that many facts; `None` where they come out of order.
+/// The component with this number, from 0, with `places` facts; `None` if they are out of order.
 pub fn made_component(
     alloc: Global,
     history: History,

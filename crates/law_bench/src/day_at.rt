@@ -1,4 +1,4 @@
-//! The days of what is made, spread evenly over some years.
+//! The days of the bench's facts, spread evenly over some years.
 
 ghost use Rattle.std.specs.Prelude.{◌≤◌};
 ghost use Rattle.ldar_law.specs.declared.numbers.TheConstants.{LAST_FACT_DAY};
@@ -8,7 +8,7 @@ use ldar_days::Day;
 /// Sixteen years.
 pub const SIXTEEN_YEARS: u32 = 5_840;
 
-/// 2020-01-01, from which the components are in service.
+/// 2020-01-01, the first day in service of the components.
 const FIRST: u32 = 18_262;
 
 /// The day this many days after the beginning of the components.

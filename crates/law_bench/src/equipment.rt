@@ -7,7 +7,7 @@ use ldar_days::Day;
 use ldar_law::Equipment;
 use std::alloc::{AllocError, Global};
 
-/// The key of a fact that is alone in its batch.
+/// The key of a fact that is the only one of its batch.
 pub fn key_of(day: Day, minute: u16, number: u32) -> Key {
     Key {
         day,
@@ -18,7 +18,7 @@ pub fn key_of(day: Day, minute: u16, number: u32) -> Key {
     }
 }
 
-/// A class with the month of the quarter that a number gives.
+/// A class with the month of the quarter that a number determines.
 fn class_with(history: History, month: u32) -> Class {
     let service = match history.kind() {
         Kind::Pump => Service::Light,
@@ -46,7 +46,7 @@ pub fn equipment(history: History, number: u32) -> Equipment {
     }
 }
 
-/// The classes that are entered for it in its life: two.
+/// The two classes that are entered for it.
 pub fn classes(
     alloc: Global,
     history: History,

@@ -1,4 +1,4 @@
-//! The facts of a component's life.
+//! The facts of a component's history.
 
 ghost use Rattle.std.specs.Prelude.{◌≤◌};
 
@@ -6,25 +6,25 @@ use crate::day_at::{SIXTEEN_YEARS, day_at};
 use fact_kinds::{Fact, FactBody, Kind, Purpose, VisualState};
 use ldar_days::Day;
 
-/// Whose life it is.
+/// A kind of component and its history.
 #[derive(Clone, Copy, PartialEq, Eq)]
 pub enum History {
-    /// A valve with a leak now and then, for sixteen years.
+    /// A valve that leaks now and then, for sixteen years.
     Valve,
-    /// The same for a year.
+    /// The same valve, for one year.
     Year,
-    /// A pump with its visual inspections.
+    /// A pump with visual inspections.
     Pump,
-    /// A valve that leaks at each reading, and that nobody repairs.
+    /// A valve that leaks at each reading and is never repaired.
     Unrepaired,
     /// A valve with leaks, delays and readings below the leak definition on one day.
     Batch,
-    /// A pump that drips at each visual inspection of a year, and that nobody monitors.
+    /// A pump that drips at each visual inspection of a year and is never monitored.
     Drips,
 }
 
 impl History {
-    /// The history that a word names: that of a valve where it names no other.
+    /// The history that a word names; `Valve` for any other word.
     pub fn of(word: &str) -> History {
         match word {
             "year" => History::Year,
@@ -36,7 +36,7 @@ impl History {
         }
     }
 
-    /// The days over which it goes.
+    /// The number of days of the history.
     pub fn days(self) -> u32 {
         match self {
             History::Year => 365,
@@ -45,7 +45,7 @@ impl History {
         }
     }
 
-    /// The quarters of the process unit that a view at its end asks for.
+    /// The number of quarters of the process unit that a view at its end needs.
     pub fn quarters(self) -> u16 {
         match self {
             History::Year => 6,
@@ -54,7 +54,7 @@ impl History {
         }
     }
 
-    /// Of what kind the component is.
+    /// The kind of the component.
     pub fn kind(self) -> Kind {
         match self {
             History::Pump => Kind::Pump,
@@ -76,8 +76,8 @@ impl History {
         }
     }
 
-    /// How many facts ago a valve leaked, and whether its repair was attempted. It leaks once in sixteen facts. In its first year
-    /// it leaks once in twelve, and what follows is among the twelve, so that of twice the facts there is twice of everything.
+    /// The number of facts since the valve leaked, and whether its repair is attempted. It leaks once in sixteen facts. In its first
+    /// year it leaks once in twelve facts, which include the follow-up, so twice the facts have twice of everything.
     fn since_leak(self, number: u32, place: u32) -> (u32, bool) {
         if matches!(self, History::Year) {
             let at = place.wrapping_add(number % 8);
@@ -87,7 +87,7 @@ impl History {
         (at.wrapping_add(6) % 16, at / 16 % 2 == 0)
     }
 
-    /// A reading of a valve, now and then a leak. There follow an attempt and a reading, or a reading and a delay.
+    /// A reading of a valve, now and then a leak. A leak is followed by an attempt and a reading, or by a reading and a delay.
     fn fact_of_a_valve(self, number: u32, place: u32, places: u32) -> Fact {
         let day = day_at(place, places, self.days());
         let (since, is_attempted) = self.since_leak(number, place);
@@ -113,7 +113,7 @@ impl History {
         }
     }
 
-    /// The day of the place that many places before.
+    /// The day of the place `before` places earlier.
     fn day_before(self, place: u32, before: u32, places: u32) -> Day {
         day_at(place.saturating_sub(before), places, self.days())
     }
@@ -131,7 +131,7 @@ fn fact_of_a_pump(number: u32, place: u32, day: Day) -> Fact {
     }
 }
 
-/// A leak, a delay or a reading below the leak definition, all of one day.
+/// A leak, a delay or a reading below the leak definition, all on one day.
 fn fact_of_a_batch(number: u32, place: u32, places: u32) -> Fact {
     let day = day_at(0, places, 0);
     let third = places / 3;
@@ -144,7 +144,7 @@ fn fact_of_a_batch(number: u32, place: u32, places: u32) -> Fact {
     reading(number, day, Purpose::FollowUp, 100)
 }
 
-/// The number of a component, by its place from 0.
+/// The number of a component, from its place, which counts from 0.
 pub fn component_number(place: u32) -> u16
     ensures in_range { (1 ≤ result) × (result ≤ 60_000) }
 {
@@ -190,7 +190,7 @@ fn attempt(number: u32, day: Day) -> Fact {
     }
 }
 
-/// A delay for want of a process unit shutdown.
+/// A delay until a process unit shutdown.
 fn delay(number: u32, day: Day) -> Fact {
     Fact {
         day,

@@ -1,4 +1,4 @@
-//! An instrument that is calibrated all the time, and its readings.
+//! An instrument with many calibrations, and its readings.
 
 ghost use Rattle.std.specs.Prelude.{◌≤◌};
 ghost use Rattle.list_words.specs.Order.{Ascends};
@@ -25,7 +25,7 @@ fn minute_at(place: u32, places: u32) -> u16
     (over.wrapping_mul(1_400) / places % 1_400) as u16
 }
 
-/// A precision test that is passed.
+/// A precision test that passes.
 fn precision_test(day: Day, minute: u16) -> Fact
     requires { minute ≤ 1_439 }
 {
@@ -40,7 +40,7 @@ fn precision_test(day: Day, minute: u16) -> Fact
     }
 }
 
-/// A calibration; the gas of each eleventh is more than the readings allow.
+/// A calibration. The gas of every eleventh one is too high for the readings.
 fn calibration(place: u32, day: Day, minute: u16) -> Fact
     requires { minute ≤ 1_439 }
 {
@@ -52,7 +52,7 @@ fn calibration(place: u32, day: Day, minute: u16) -> Fact
     }
 }
 
-/// A drift assessment, of which each second is failed.
+/// A drift assessment. Every second one fails.
 fn drift(place: u32, day: Day, minute: u16) -> Fact
     requires { minute ≤ 1_439 }
 {
@@ -68,7 +68,7 @@ fn drift(place: u32, day: Day, minute: u16) -> Fact
     }
 }
 
-/// The facts of an instrument with a number of calibrations.
+/// The facts of an instrument with this many calibrations.
 fn facts_of(alloc: Global, places: u32) -> Result<Vec<(Key, Fact)>, AllocError> {
     let mut facts = Vec::new(alloc);
     for place in 0..places {
@@ -104,7 +104,7 @@ fn reading(place: u32, day: Day, minute: u16) -> Fact
     }
 }
 
-/// A number of readings, one after each calibration.
+/// This many readings, one after each calibration.
 fn readings_of(alloc: Global, places: u32) -> Result<Vec<(Key, Fact)>, AllocError> {
     let mut readings = Vec::new(alloc);
     for place in 0..places {
@@ -115,7 +115,7 @@ fn readings_of(alloc: Global, places: u32) -> Result<Vec<(Key, Fact)>, AllocErro
     Ok(readings)
 }
 
-/// The facts of an instrument whose calibrations are all of one minute, and use a gas that is too high.
+/// The facts of an instrument whose calibrations are all at one minute and use a gas that is too high.
 fn facts_of_a_day(alloc: Global, places: u32) -> Result<Vec<(Key, Fact)>, AllocError> {
     let day = day_at(0, 1, 0);
     let mut facts = Vec::new(alloc);
@@ -125,7 +125,7 @@ fn facts_of_a_day(alloc: Global, places: u32) -> Result<Vec<(Key, Fact)>, AllocE
     Ok(facts)
 }
 
-/// A number of readings of one minute of that day.
+/// This many readings at one minute of that day.
 fn readings_of_a_day(alloc: Global, places: u32) -> Result<Vec<(Key, Fact)>, AllocError> {
     let day = day_at(0, 1, 0);
     let mut readings = Vec::new(alloc);
@@ -135,7 +135,7 @@ fn readings_of_a_day(alloc: Global, places: u32) -> Result<Vec<(Key, Fact)>, All
     Ok(readings)
 }
 
-/// A sum over the fitness of each reading.
+/// Adds the fitness of each reading to a sum.
 fn add_readings(instrument: &Instrument, readings: &[(Key, Fact)], sum: u64) -> u64 {
     let mut sum = sum;
     for reading in readings {
@@ -147,7 +147,7 @@ fn add_readings(instrument: &Instrument, readings: &[(Key, Fact)], sum: u64) -> 
     sum
 }
 
-/// A sum over the fitness of each reading, asked repeatedly of an instrument that is made once.
+/// A sum over the fitness of each reading, computed `passes` times by an instrument that is made once.
 fn sum_once_made(
     alloc: Global,
     facts: &[(Key, Fact)],
@@ -164,7 +164,7 @@ fn sum_once_made(
     Ok(sum)
 }
 
-/// A sum over the fitness of a reading, asked once of each instrument.
+/// A sum over the fitness of a reading, computed once by each of many instruments.
 fn sum_made_anew(
     alloc: Global,
     facts: &[(Key, Fact)],
@@ -181,7 +181,7 @@ fn sum_made_anew(
     Ok(sum)
 }
 
-/// A sum over the readings, as many as there are calibrations, asked repeatedly.
+/// A sum over the readings, as many as there are calibrations, computed `passes` times.
 pub fn sum_over_readings(alloc: Global, places: u32, passes: u32) -> Result<u64, Memory> {
     let facts = facts_of(alloc, places)?;
     let readings = readings_of(alloc, places)?;
@@ -191,7 +191,7 @@ pub fn sum_over_readings(alloc: Global, places: u32, passes: u32) -> Result<u64,
     sum_once_made(alloc, facts.as_slice(), readings.as_slice(), passes)
 }
 
-/// The same of readings and calibrations of one day.
+/// The same sum for readings and calibrations of one day.
 pub fn sum_over_readings_of_a_day(alloc: Global, places: u32, passes: u32) -> Result<u64, Memory> {
     let facts = facts_of_a_day(alloc, places)?;
     let readings = readings_of_a_day(alloc, places)?;
@@ -201,7 +201,7 @@ pub fn sum_over_readings_of_a_day(alloc: Global, places: u32, passes: u32) -> Re
     sum_once_made(alloc, facts.as_slice(), readings.as_slice(), passes)
 }
 
-/// A sum over the first reading, for each of which the instrument is made anew.
+/// A sum over the first reading, for which an instrument is made in each pass.
 pub fn sum_over_makings(alloc: Global, places: u32, passes: u32) -> Result<u64, Memory> {
     let facts = facts_of(alloc, places)?;
     let readings = readings_of(alloc, places.min(1))?;

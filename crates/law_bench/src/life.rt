@@ -1,4 +1,4 @@
-//! What is asked about the life of a component.
+//! The results that are computed from a component's history.
 
 use crate::component::Component;
 use crate::day_at::startup;
@@ -11,7 +11,7 @@ use monitor_calendar::duties_of;
 use skip_periods::marks_to;
 use std::alloc::Global;
 
-/// What is asked.
+/// A result to compute.
 #[derive(Clone, Copy)]
 pub enum Call {
     Events,
@@ -21,7 +21,7 @@ pub enum Call {
 }
 
 impl Call {
-    /// What a word asks: for the duties where it asks for nothing else.
+    /// The result that a word names; the duties for any other word.
     pub fn of(word: &str) -> Call {
         match word {
             "events" => Call::Events,
@@ -32,7 +32,7 @@ impl Call {
     }
 }
 
-/// A sum, with what one more component answers; of its marks, with that of the quarter at a place.
+/// A sum, with the results for one more component. Of its marks, only that of one quarter is added.
 pub fn add_answer(
     alloc: Global,
     call: Call,

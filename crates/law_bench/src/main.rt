@@ -1,11 +1,11 @@
-//! What `bench/law.py` measures.
+//! The program that `bench/law.py` measures.
 //!
-//! With `CALL HISTORY COMPONENTS FACTS PASSES` it makes COMPONENTS components with FACTS facts each, and asks PASSES times
-//! for the `events`, the `spans`, the `marks` or the `duties` of each of them. A history is that of a `valve`, of a valve
-//! in its first `year`, of a `pump`, of a valve that leaks `unrepaired`, of a `batch` of leaks on one day, or of a pump's
-//! `drips`. With `CALL SIZE PASSES` it asks PASSES times for an `instrument` of SIZE calibrations, whether each of SIZE
-//! readings is `fit`, the same where all of them are of one `day`, for `routes` by SIZE duties, or for the `repair` of a
-//! leak with SIZE delays. Without passes it makes what it asks about alone. With no words it does a little of each.
+//! - `CALL HISTORY COMPONENTS FACTS PASSES` makes COMPONENTS components with FACTS facts each, and computes the `events`, the
+//! `spans`, the `marks` or the `duties` of each of them PASSES times. HISTORY is `valve`, `year` (a valve in its first year),
+//! `pump`, `unrepaired` (a valve that leaks and is never repaired), `batch` (leaks on one day), or `drips` (of a pump).
+//! - `CALL SIZE PASSES` computes one of these PASSES times: an `instrument` of SIZE calibrations; the `fit` of SIZE readings; the
+//! same with all of them on one `day`; `routes` by SIZE duties; or the `repair` of a leak with SIZE delays.
+//! - Without passes it only makes the data. Without words it does a little of each.
 #![tactic(auto)]
 
 mod component;
@@ -47,7 +47,7 @@ fn main(rt: HostRuntime) -> Result<(), anyhow::Error> {
     }
 }
 
-/// Asks about the lives of components.
+/// Computes results from the histories of components.
 fn lives(
     rt: &HostRuntime,
     call: &str,
@@ -69,7 +69,7 @@ fn lives(
     Ok(())
 }
 
-/// Asks about what is no component's life.
+/// Computes the other results.
 fn others(rt: &HostRuntime, call: &str, size: u32, passes: u32) -> Result<(), anyhow::Error> {
     let alloc = rt.alloc();
     let sum = match call {
@@ -84,7 +84,7 @@ fn others(rt: &HostRuntime, call: &str, size: u32, passes: u32) -> Result<(), an
 }
 
 fn a_little(rt: &HostRuntime) -> Result<(), anyhow::Error> {
-    // As many passes over the marks as sixteen years have quarters.
+    // The marks have as many passes as sixteen years have quarters.
     for (call, passes) in [("events", 1), ("spans", 1), ("marks", 66), ("duties", 1)] {
         for history in ["valve", "year", "pump", "unrepaired", "batch", "drips"] {
             lives(rt, call, history, 2, 200, passes)?;

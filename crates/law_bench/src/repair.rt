@@ -1,4 +1,4 @@
-//! The repair of a leak that is delayed again and again.
+//! The repair of a leak with many delays.
 
 use crate::day_at::{SIXTEEN_YEARS, day_after, day_at};
 use crate::equipment::key_of;
@@ -54,7 +54,7 @@ fn stops_of(alloc: Global, places: u32) -> Result<Vec<Stop>, AllocError> {
     Ok(stops)
 }
 
-/// A sum, with the repair of a leak detected on a day.
+/// A sum, with the repair of a leak that was detected on a day.
 fn add_repair(
     detected: Day,
     delays: &[DelayEntry],
@@ -70,7 +70,7 @@ fn add_repair(
     said::add(said::add(sum, said::of_until(&repair.due)), counted)
 }
 
-/// A sum over the repairs of several leaks, each with this many delays and attempts, and a shutdown for each tenth delay.
+/// A sum over the repairs of several leaks, each with this many delays and attempts, and one shutdown for ten delays.
 pub fn sum_over_repairs(alloc: Global, places: u32, passes: u32) -> Result<u64, AllocError> {
     let delays = delays_of(alloc, places)?;
     let attempts = attempts_of(alloc, places)?;

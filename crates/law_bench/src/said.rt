@@ -1,9 +1,9 @@
-//! Sums over what is answered, so that no answer can be left out.
+//! Sums over results, so that the compiler cannot leave out computing them.
 
 use fact_kinds::Key;
 use ldar_law::{Duty, Event, Fitness, Mark, Span, Until};
 
-/// A sum with one thing more that was said.
+/// A sum with one more result.
 pub fn add(sum: u64, said: u64) -> u64 {
     sum.wrapping_mul(3).wrapping_add(said)
 }

@@ -24,8 +24,8 @@ fn components_of(
     Ok(unit)
 }
 
-/// A sum over what each component answers, asked repeatedly; of its marks each pass adds that of one quarter,
-/// since a sum over all of them takes longer than making those of what is counted in none.
+/// A sum over the results for each component, computed `passes` times. Of the marks, each pass adds only those of one quarter:
+/// for components that are not counted, adding all marks takes longer than making them.
 pub fn sum_over_unit(
     alloc: Global,
     call: Call,

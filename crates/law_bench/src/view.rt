@@ -1,4 +1,4 @@
-//! What a view at the end of a history asks for.
+//! The arguments of a view at the end of a history.
 
 use crate::day_at::day_after;
 use crate::history::History;
@@ -8,11 +8,11 @@ use std::alloc::{AllocError, Global};
 #[derive(Drop)]
 pub struct View {
     pub day: Day,
-    /// The last quarter that it asks for.
+    /// The last quarter that the view needs.
     pub quarters: u16,
     /// Which quarters of the process unit are skipped.
     pub skipped: Vec<bool>,
-    /// In which quarters the repair of an open leak is delayed.
+    /// In which quarters an open leak's repair is delayed.
     pub delayed: Vec<bool>,
 }
 
@@ -33,7 +33,7 @@ impl View {
         })
     }
 
-    /// The place of the quarter after one, from 0; the first follows the last.
+    /// The place, from 0, of the quarter after this one; the first quarter follows the last.
     pub fn quarter_behind(&self, place: u16) -> u16 {
         if place < self.quarters.saturating_sub(1) {
             place + 1

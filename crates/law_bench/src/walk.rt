@@ -1,4 +1,4 @@
-//! Routes through the components that have duties.
+//! Routes to the components with unmet duties.
 
 use crate::day_at::day_after;
 use crate::equipment::key_of;
@@ -8,7 +8,7 @@ use ldar_law::{Duty, Route};
 use route_planner::routes;
 use std::alloc::{AllocError, Global};
 
-/// What met the monitoring at a place: each tenth is done.
+/// The fact that met the duty at a place; every tenth duty is met.
 fn met(place: u32) -> Option<Key> {
     if place % 10 == 9 {
         Some(key_of(day_after(0), 0, 1))
@@ -17,7 +17,7 @@ fn met(place: u32) -> Option<Key> {
     }
 }
 
-/// This many monitorings that are due.
+/// This many monthly duties.
 fn duties_of(alloc: Global, places: u32) -> Result<Vec<Duty>, AllocError> {
     let mut duties = Vec::new(alloc);
     for place in 0..places {
@@ -42,7 +42,7 @@ fn add_routes(routes: &[Route], sum: u64) -> u64 {
     sum
 }
 
-/// A sum over routes of fifty stops by this many duties, planned repeatedly, as long as there is memory for them.
+/// A sum over routes of fifty stops by this many duties, planned `passes` times, or fewer if it runs out of memory.
 pub fn sum_over_routes(alloc: Global, places: u32, passes: u32) -> Result<u64, AllocError> {
     let duties = duties_of(alloc, places)?;
     let mut sum = 0;

@@ -5,8 +5,8 @@ use disk_model::{Disk, DiskFault};
 use std::fs::File;
 use std::rt::Files;
 
-/// The file at a path as a disk. It is opened and locked at the first call, and made empty where there is none. One that may
-/// not be written is opened for reading alone, and then each write is a fault. It tells nothing of its bytes.
+/// The file at a path as a disk. The first call opens and locks it, and creates it if it does not exist. A file that may not be
+/// written is opened read-only, and each write to it is a disk error. The disk does not expose its bytes.
 #[derive(Drop)]
 pub struct FileDisk<'a, R: Files<File = File> + AllocGlobal> {
     file: JournalFile<'a, R>,

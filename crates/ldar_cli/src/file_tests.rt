@@ -4,7 +4,7 @@ use std::alloc::Global;
 use std::test::Fail;
 use std::{env, fs, process};
 
-// A path in the folder for files that are soon gone, of this process alone.
+// A path in the folder for temporary files, which only this process uses.
 fn path(rt: &HostRuntime, name: &str) -> Result<String, Fail> {
     let folder = env::temp_dir(rt)?;
     let number = process::id(rt.process());
@@ -38,7 +38,7 @@ fn one_disk_has_a_file_at_a_time(rt: HostRuntime) -> Result<(), Fail> {
     Ok(fs::remove_file(&rt, path.as_str())?)
 }
 
-// bench/fault_cases.py runs this with a sync failing whose result is not looked at here, and looks at the calls that follow.
+// bench/fault_cases.py runs this test with a sync that fails. The test ignores the result of that sync and checks the calls after it.
 #[test]
 fn a_file_is_synced_again(rt: HostRuntime) -> Result<(), Fail> {
     let path = path(&rt, "synced")?;
@@ -67,7 +67,7 @@ fn a_file_that_may_not_be_written_is_read(rt: HostRuntime) -> Result<(), Fail> {
     let mut disk = FileDisk::new(&rt, path.as_str());
     assert_eq!(rt; read(&mut disk, rt.alloc())?.as_slice(), b"kept".as_slice());
     assert!(rt; disk.sync().is_ok());
-    // (whoever has every right may write it)
+    // (a user who may write every file can write this one too)
     let written = disk.write_at(0, b"lost").is_ok();
     let left = if written { b"lost" } else { b"kept" };
     assert_eq!(rt; read(&mut disk, rt.alloc())?.as_slice(), left.as_slice());

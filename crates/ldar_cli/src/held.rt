@@ -4,12 +4,12 @@ use std::io;
 use std::os::fd::{AsFd, AsRawFd};
 use std::rt::Files;
 
-// What Linux calls EBADF: the number is no open descriptor.
+// EBADF on Linux: the number is not an open descriptor.
 const NOT_OPEN: i32 = 9;
 
-/// Sees to it that descriptors 0, 1 and 2 are taken before any other file is opened: a file in the place of a closed one
-/// would be read as the input, or have the replies written into it. What stands in for a closed stream fails each read and
-/// write. Where nothing can stand in, this answers the fault of that stream.
+/// Makes sure that descriptors 0, 1 and 2 are in use before any other file is opened. Otherwise a file could get the number of a
+/// closed stream, and would be read as the input or have the replies written to it. Each read and write of a closed stream's
+/// stand-in fails. If there is no stand-in, this returns the read or write error of that stream.
 pub fn hold_descriptors(rt: &HostRuntime) -> Result<[Option<File>; 3], Status> {
     let input = stand_in(rt, &rt.stdin(), Status::ReadFault)?;
     let output = stand_in(rt, &rt.stdout(), Status::WriteFault)?;
@@ -17,8 +17,8 @@ pub fn hold_descriptors(rt: &HostRuntime) -> Result<[Option<File>; 3], Status> {
     Ok([input, output, notes])
 }
 
-/// A file in the place of a closed stream: a folder, of which no byte can be read or written, and which stands in each
-/// file system. The lowest closed descriptor is what the system gives it.
+/// A file in place of a closed stream: the root folder, which exists in every file system and whose bytes cannot be read or
+/// written. The system gives it the lowest free descriptor.
 fn stand_in<R: Files<File = File>, S: AsFd + AsRawFd>(
     rt: &R,
     stream: &S,
@@ -39,7 +39,7 @@ fn stand_in<R: Files<File = File>, S: AsFd + AsRawFd>(
     }
 }
 
-/// Whether a stream is open. An open one may still not be doubled, where too many files are open.
+/// Whether a stream is open. Duplicating an open stream can also fail, if too many files are open.
 fn is_open<S: AsFd>(stream: &S) -> bool {
     match stream.as_fd().try_clone_to_owned() {
         Ok(_) => true,

@@ -8,35 +8,35 @@ use std::os::unix::fs::FileExt;
 use std::path::Path;
 use std::rt::Files;
 
-/// How many bytes are written again at once after a failed sync.
+/// The number of bytes that are written again at a time after a failed sync.
 const PIECE: usize = 4096;
 
-/// A file that is opened at its first use, and locked until it is dropped: one program has it at a time.
+/// A file that is opened at its first use and locked until it is dropped, so only one process can use it at a time.
 #[derive(Drop)]
 pub struct JournalFile<'a, R: Files<File = File> + AllocGlobal> {
     rt: &'a R,
     path: &'a str,
     file: Option<File>,
-    /// What the last good sync does not cover: at first all that an earlier program may have left.
+    /// What the last successful sync does not cover. At first it is everything, since an earlier process may have left unsynced bytes.
     unsynced: Range,
-    /// The last sync failed, and nothing has been synced since.
+    /// The last sync failed, and none has succeeded since.
     failed: bool,
     folder: Folder,
 }
 
-/// Places in the file, up to before `end`.
+/// Places in the file, from `start` to before `end`.
 #[derive(Clone, Copy)]
 struct Range {
     start: u64,
     end: u64,
 }
 
-/// What is known of the folder that holds the file.
+/// What is known about the folder that contains the file.
 #[derive(Clone, Copy, PartialEq, Eq)]
 enum Folder {
     Unsynced,
     Synced,
-    /// Its sync failed once: a later one may answer that all is well though the file's name is lost.
+    /// A sync of it failed. A later sync could succeed although the file's name is lost.
     Doubtful,
 }
 
@@ -55,7 +55,7 @@ impl<'a, R: Files<File = File> + AllocGlobal> JournalFile<'a, R> {
         }
     }
 
-    /// Opens and locks the file. The places of the standard streams are never a journal's.
+    /// Opens and locks the file. It never uses descriptors 0 to 2, which belong to the standard streams.
     fn open(&mut self) -> io::Result<()> {
         if self.file.is_some() {
             return Ok(());
@@ -91,7 +91,8 @@ impl<'a, R: Files<File = File> + AllocGlobal> JournalFile<'a, R> {
         }
     }
 
-    /// Makes bytes and length durable, and at the first sync the file's name in its folder, whoever made the file.
+    /// Makes the bytes and the length durable. The first sync also makes the file's name in its folder durable, whichever process
+    /// created the file.
     pub fn sync(&mut self) -> io::Result<()> {
         self.open()?;
         if let Some(file) = &self.file {
@@ -121,7 +122,7 @@ impl<'a, R: Files<File = File> + AllocGlobal> JournalFile<'a, R> {
 }
 
 impl Range {
-    /// The places of both and those between them.
+    /// The smallest range that contains both.
     fn with(self, other: Range) -> Range {
         if self.start >= self.end {
             return other;
@@ -133,7 +134,7 @@ impl Range {
     }
 }
 
-/// Opens the file, or makes it where there is none. Where it may not be written it is opened for reading alone.
+/// Opens the file, or creates it if it does not exist. If it may not be written, it is opened read-only.
 fn opened<R: Files<File = File>>(rt: &R, path: &str) -> io::Result<File> {
     match OpenOptions::new().read(true).write(true).open(rt, path) {
         Ok(file) => Ok(file),
@@ -153,7 +154,7 @@ fn made<R: Files<File = File>>(rt: &R, path: &str) -> io::Result<File> {
         .open(rt, path)
 }
 
-/// Reads once, again where a signal came in between.
+/// Reads once. Tries again if a signal interrupts the read.
 fn read_once(file: &File, at: u64, into: &mut [u8]) -> Option<usize>
     ensures within { IfSome result (λ n. n ≤ length into.old) }
 {
@@ -170,8 +171,8 @@ fn read_once(file: &File, at: u64, into: &mut [u8]) -> Option<usize>
     None
 }
 
-/// Writes what stands in a range again, piece by piece. After a failed sync the system may take these bytes for written
-/// that never came to the disk, and another sync alone would pass over them.
+/// Writes the bytes of a range again, piece by piece. After a failed sync the system may count these bytes as written although
+/// they never reached the disk, so another sync would skip them.
 fn write_again(file: &File, range: Range) -> io::Result<()> {
     let end = range.end.min(file.metadata()?.len());
     let mut at = range.start;
@@ -191,7 +192,7 @@ fn write_again(file: &File, range: Range) -> io::Result<()> {
     Err(io::Error::from(ErrorKind::Other))
 }
 
-/// Syncs the folder that holds the file: where the path is a link, the one that holds what it leads to.
+/// Syncs the folder that contains the file. If the path is a symbolic link, it is the folder of the file that the link leads to.
 fn sync_folder<R: Files<File = File> + AllocGlobal>(rt: &R, path: &str) -> io::Result<()> {
     if std::fs::symlink_metadata(rt, path)?
         .file_type()

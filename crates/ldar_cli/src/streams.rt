@@ -7,10 +7,10 @@ use std::rt::Clock;
 use std::thread;
 use std::time::Duration;
 
-/// For how many milliseconds a stream that is not blocking, and that has or takes nothing now, is left alone.
+/// The pause in milliseconds before a non-blocking stream that was not ready is tried again.
 const PAUSE: u64 = 10;
 
-/// Standard input. It tells nothing of its bytes.
+/// Standard input. It does not expose its bytes.
 #[derive(Drop)]
 pub struct StdSource<'a, C: Clock> {
     stdin: Stdin,
@@ -48,7 +48,7 @@ fn pause<C: Clock>(clock: &C) {
     thread::sleep(clock, Duration::from_millis(PAUSE));
 }
 
-/// Reads once, again where a signal came in between, and waits where nothing has come yet.
+/// Reads once. Tries again if a signal interrupts the read, or if a non-blocking stream has no bytes yet.
 fn read_once<C: Clock, R: Read>(clock: &C, reader: &mut R, into: &mut [u8]) -> Option<usize>
     ensures within { IfSome result (λ n. n ≤ length into.old) }
 {
@@ -65,7 +65,7 @@ fn read_once<C: Clock, R: Read>(clock: &C, reader: &mut R, into: &mut [u8]) -> O
     None
 }
 
-/// Standard output or standard error. It tells nothing of its pieces.
+/// Standard output or standard error. It does not expose its pieces.
 #[derive(Drop)]
 pub struct StdSink<'a, W: Write + Drop, C: Clock> {
     writer: W,
@@ -102,7 +102,8 @@ impl<W: Write + Drop, C: Clock> Sink for StdSink<'_, W, C> {
     }
 }
 
-/// Writes once, again where a signal came in between, and waits where nothing is taken yet. A write that took nothing is none.
+/// Writes once. Tries again if a signal interrupts the write, or if a non-blocking stream accepts nothing yet. A write of no bytes
+/// is an error.
 fn write_once<C: Clock, W: Write>(clock: &C, writer: &mut W, bytes: &[u8]) -> Option<usize>
     ensures within { IfSome result (λ n. n ≤ length bytes.now) }
     ensures some { IfSome result (λ n. 0 < n) }

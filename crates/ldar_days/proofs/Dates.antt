@@ -22,7 +22,7 @@ place_civil : (m place : ℕ) → IsMonth m → place < month_length m → IsCiv
 unfolding month_length
 place_civil m place h lt = ((omega (arith, signed_arith), omega (arith, signed_arith)), (omega arith, omega arith), (omega arith, omega arith))
 
--- .. and has the day number of that place
+-- each place of a month has the day number of the first day plus the place
 days_from_civil-place : (m place : ℕ) → 23_640 ≤ m → days_from_civil (pos (m / 12)) (m % 12 + 1) (place + 1) ≡ pos (first_day m + place)
 days_from_civil-place m place h =
     omega (arith, signed_arith, first_day-civil m h, days_from_civil-day (pos (m / 12)) (m % 12 + 1) 1 (place + 1) (omega arith) (omega arith))
@@ -52,7 +52,7 @@ date_of n h =
       day_in = c.2;
     }
 
--- that date has the day's number
+-- jiff's date of a day has the day's number
 date_of-epoch_day : (n : ℕ) (h : IsDay n) → epoch_day (date_of n h) ≡ pos n
 unfolding date_of
 date_of-epoch_day n h =
@@ -65,7 +65,7 @@ pub date_parts_are : (d : Date) (n : ℕ) → IsDay n → epoch_day d ≡ pos n
 unfolding date_of
 date_parts_are d n h e = epoch_day_injective d (date_of n h) (e ∙ sym (date_of-epoch_day n h))
 
--- .. and the day's text
+-- the text of a date with the number of a day is the day's text
 pub date_text-day_text : (d : Date) (n : ℕ) → IsDay n → epoch_day d ≡ pos n → date_text d ≡ day_text n
 date_text-day_text d n h e = let are = date_parts_are d n h e in rw (are.0, are.1, are.2) refl
 
@@ -95,11 +95,11 @@ some_is (Some x) k n none value day same = rw (value.1, same) refl
 pub date_year : (d : Date) (n : ℕ) → IsDay n → epoch_day d ≡ pos n → d.year ≡ pos (month_of n / 12)
 date_year d n h e = (date_parts_are d n h e).0
 
--- its month
+-- the month of a day's date
 pub date_month : (d : Date) (n : ℕ) → IsDay n → epoch_day d ≡ pos n → d.month ≡ month_of n % 12 + 1
 date_month d n h e = (date_parts_are d n h e).1
 
--- and its day of the month
+-- the day of the month of a day's date
 pub date_day : (d : Date) (n : ℕ) → IsDay n → epoch_day d ≡ pos n → d.day ≡ place_of n + 1
 date_day d n h e = (date_parts_are d n h e).2
 

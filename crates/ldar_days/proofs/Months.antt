@@ -156,7 +156,7 @@ month_of-begun : (n : ℕ) → first_day (near n + 1) ≤ n → month_of n ≡ n
 unfolding month_of
 month_of-begun n h = grind (arith, nat_tests)
 
--- .. and the first of the two otherwise
+-- the month of a day is the first of the two if the second begins after the day
 month_of-ahead : (n : ℕ) → n < first_day (near n + 1) → month_of n ≡ near n
 unfolding month_of
 month_of-ahead n h = grind (arith, nat_tests)
@@ -172,7 +172,7 @@ month_of-is n h =
           rw (month_of-begun n begun) (omega (arith, near_high n h))
     ]
 
--- .. and in no other month
+-- a day is in no other month than its own
 pub month_of-only : (n m : ℕ) → IsDay n → 23_640 ≤ m → IsInMonth m n → m ≡ month_of n
 month_of-only n m h low inside =
     let is = month_of-is n h in

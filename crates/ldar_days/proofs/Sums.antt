@@ -9,11 +9,11 @@ pub month_of-day_at : (m place : ℕ) → IsMonth m → month_of (day_at m place
 month_of-day_at m place h =
     month_of-day m (min place (month_length m - 1)) h (omega (arith, month_length_bounds m))
 
--- its place is the requested one, or the month's last
+-- the day at a place of a month has that place, or the month's last one
 pub place_of-day_at : (m place : ℕ) → IsMonth m → place_of (day_at m place) ≡ min place (month_length m - 1)
 place_of-day_at m place h = rw (month_of-day_at m place h) (omega arith)
 
--- it is in the calendar if the month is
+-- the day at a place of a month is in the calendar if the month is
 pub day_at_bounds : (m place : ℕ) → IsMonth m → IsDay (day_at m place)
 day_at_bounds m place h =
     let bounds = month_bounds m h in

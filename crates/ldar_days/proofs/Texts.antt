@@ -22,12 +22,12 @@ day_named-day_text n h =
 the_test : (n : ℕ) (same : Bool) → Bool
 the_test n same = nat_le 13_879 n && nat_le n 47_481 && same
 
--- it passes for a day
+-- the test passes for a day
 passes : (n : ℕ) → IsDay n → the_test n true ≡ true
 unfolding the_test
 passes n h = grind (arith, nat_tests)
 
--- .. and only for a day
+-- the test passes only for a day
 passed : (n : ℕ) (same : Bool) → the_test n same ≡ true → IsDay n × (same ≡ true)
 unfolding the_test
 passed n same h = grind (arith, nat_tests)

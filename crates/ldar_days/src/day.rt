@@ -145,7 +145,7 @@ impl Day {
         requires { days ≤ 47_481 }
         ensures value { epoch_day result ≡ pos (self + days) }
     {
-        self.date().saturating_add(i64::from(days).days())
+        Date::from_plain(civil::Date::from_days_since_min(self.number() + days + EPOCH))
     }
 
     // The date `months` months later, possibly after the calendar's end.

@@ -57,7 +57,7 @@ pub filled-append : (xs ys : List Field) → AllByRecursion IsFilled xs → AllB
 filled-append [] ys h k = k
 filled-append (x ∷ xs) ys h k = (h.0, filled-append xs ys h.1 k)
 
--- .. and only if both lists are
+-- if joined fields are in their ranges, those of both lists are
 pub filled-front : (xs ys : List Field) → AllByRecursion IsFilled (xs ++ ys) → AllByRecursion IsFilled xs × AllByRecursion IsFilled ys
 filled-front [] ys h = (tt, h)
 filled-front (x ∷ xs) ys h = let rest = filled-front xs ys h.1 in ((h.0, rest.0), rest.1)

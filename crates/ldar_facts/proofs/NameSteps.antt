@@ -64,7 +64,7 @@ pub is_some : (bytes : List ℕ) (found : Option (List ℕ)) → IsName bytes �
 is_some bytes (Some name) is none = refl
 is_some bytes None is none = absurd (none refl is)
 
--- .. and it is the one with these bytes
+-- the name that `Name::new` finds has these bytes
 pub same_name : (bytes : List ℕ) (found : Option (List ℕ)) (name : List ℕ) → found ≡ Some name → IfSome found (λ name. IsName bytes × (name ≡ bytes))
     → bytes ≡ name
 same_name bytes (Some other) name is given = let same : other ≡ name = cc in sym given.1 ∙ same

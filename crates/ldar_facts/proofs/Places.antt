@@ -45,7 +45,7 @@ number_ends (suc more) ranges n (b ∷ bytes) v rest e =
     let step = no_value (may_be more ranges (n * 256 + b)) (number_from more ranges (n * 256 + b) bytes) (Wrong (suc (length bytes))) (v, rest) e in
     number_ends more ranges (n * 256 + b) bytes v rest step.1
 
--- .. also for a number at a place
+-- the unread bytes after a number at a place are those its width after the place
 pub number_to : (width at : ℕ) (ranges : List (ℕ × ℕ)) (bytes : List ℕ) (v : ℕ) (rest : List ℕ)
     → number_from width ranges 0 (drop at bytes) ≡ Ok (v, rest) → number_from width ranges 0 (drop at bytes) ≡ Ok (v, drop (at + width) bytes)
 number_to width at ranges bytes v rest e =
@@ -62,7 +62,7 @@ name_ends bytes rest name are e =
     ∙ rw (length-replicate {A = ℕ} (12 - length (name_form.value p.0)) 0) (omega (arith, fits)) in
     sym (rw p.2 (drop_at (name_form.text p.0) rest 12 len))
 
--- .. also for a name at a place
+-- the unread bytes after a name at a place are those twelve bytes after the place
 pub name_to : (at : ℕ) (bytes rest : List ℕ) (result : Result (List ℕ) ReadEnd) → IsBytes bytes → Takes name_form.read result (drop at bytes) rest
     → Takes name_form.read result (drop at bytes) (drop (at + 12) bytes)
 name_to at bytes rest (Ok name) are e =

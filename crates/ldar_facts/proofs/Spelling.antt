@@ -64,7 +64,7 @@ all_written batch i bytes so_far le some few any_handheld any_number =
 pub more : (old mid new added other : List ℕ) → mid ≡ old ++ added → new ≡ mid ++ other → new ≡ old ++ (added ++ other)
 more old mid new added other first second = second ∙ ap (λ l. l ++ other) first ∙ append_assoc old added other
 
--- .. also if the last call was not out of memory
+-- what two calls append is the joined bytes, if the last call was not out of memory
 pub last : (old mid new added other : List ℕ) {E : Type 0} (answer : Result (Unit {0}) E) → mid ≡ old ++ added → OnOk answer (new ≡ mid ++ other)
     → OnOk answer (new ≡ old ++ (added ++ other))
 last old mid new added other (Ok x) first second = more old mid new added other first second

@@ -84,7 +84,7 @@ module _ {A B : Type 0} (first : Form A) (next : A → Form B) where
       let q = (next (first.value p.0)).reads.leads step.0.1 b rest follows in
       ((p.0, q.0), q.1)
 
-  -- .. and its text is at the start of the bytes
+  -- the text of a value that is read is at the start of the bytes
   found : (bytes : List ℕ) (b : B) (rest : List ℕ) → IsBytes bytes → read bytes ≡ Ok (b, rest) → (p : Both) × (value p ≡ b) × (bytes ≡ text p ++ rest)
   found bytes b rest are e =
       let step = then_ok (first.read bytes) (λ x. (next x.0).read x.1) (b, rest) e in
@@ -200,17 +200,17 @@ Either true P Q = P
 Either false P Q = Q
 
 module _ {A : Type 0} (first second : Form A) where
-  -- its value
+  -- the value of the form that the test selects
   abbrev pub either_value : (test : Bool) → Either test first.Path second.Path → A
   either_value true p = first.value p
   either_value false p = second.value p
 
-  -- its bytes
+  -- the bytes of the form that the test selects
   abbrev pub either_text : (test : Bool) → Either test first.Path second.Path → List ℕ
   either_text true p = first.text p
   either_text false p = second.text p
 
-  -- its reading
+  -- the reading of the form that the test selects
   abbrev pub either_read : Bool → List ℕ → Outcome A
   either_read test bytes = if test then first.read bytes else second.read bytes
 

@@ -4,7 +4,7 @@ use Rattle.std.specs.Prelude.{◌≡◌, ℕ, suc, ◌<◌, List, ◌∷◌, ◌
 use Rattle.ldar_facts.specs.declared.read_end.ReadEnd.{ReadEnd}
 use Rattle.ldar_facts.specs.declared.read_end.ReadEnd.TheVariants.{Short, Wrong}
 
--- a value and the unread bytes, or the reason why there is none
+-- a value and the unread bytes, or the reason why no value was read
 abbrev pub Outcome : Type 0 → Type 0
 Outcome A = Result (A × List ℕ) ReadEnd
 
@@ -41,7 +41,7 @@ pub record Reads {P A : Type 0} (value : P → A) (text : P → List ℕ) (read 
   pub some : P
   -- each value that is read belongs to a text
   pub leads : (bytes : List ℕ) (a : A) (rest : List ℕ) → read bytes ≡ Ok (a, rest) → (p : P) × (value p ≡ a)
-  -- .. and its text is at the start of the bytes
+  -- the text of a value that is read is at the start of the bytes
   pub found : (bytes : List ℕ) (a : A) (rest : List ℕ) → IsBytes bytes → read bytes ≡ Ok (a, rest)
       → (p : P) × (value p ≡ a) × (bytes ≡ text p ++ rest)
   -- each text is read

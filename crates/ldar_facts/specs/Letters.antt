@@ -10,7 +10,7 @@ use Rattle.ldar_facts.specs.Number.{number_form}
 abbrev pub letters : List (ℕ × ℕ)
 letters = (45, 45) ∷ (48, 57) ∷ (65, 90) ∷ []
 
--- the same, and the zero byte
+-- the bytes of names, and the zero byte
 abbrev pub letters_or_zero : List (ℕ × ℕ)
 letters_or_zero = (0, 0) ∷ letters
 

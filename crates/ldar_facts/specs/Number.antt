@@ -351,7 +351,7 @@ module _ (width : ℕ) (ranges : List (ℕ × ℕ)) (proper : IsTrue (is_proper 
   abbrev One : Type 0
   One = (v : ℕ) × IsAmong v ranges
 
-  -- .. is a number that begins with nothing
+  -- a number in the ranges begins with no digits read
   in_width : (p : One) → IsIn (256 ^ width) 0 p.0
   in_width p = let fit = fits width ranges p.0 (each_proper width ranges proper) p.1 in record { low = omega arith; high = omega arith }
 

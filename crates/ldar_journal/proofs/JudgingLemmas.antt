@@ -16,7 +16,7 @@ ahead_parts : (place : ℕ) (window bytes : List ℕ) → IsAhead place window b
 ahead_parts place window bytes ahead =
     sym (take-append-drop (length window) (drop place bytes)) ∙ ap (λ (l : List ℕ). l ++ drop (length window) (drop place bytes)) (sym ahead)
 
--- two reads, the first of which keeps the window at its place
+-- two reads; after the first one the window is still at its place
 steps : (a b c : Option (List ℕ)) (place : ℕ) (first middle : List ℕ) (P : List ℕ → Type 0) → BothTold a b (λ old new. new ≡ old)
     → BothTold a b (λ old new. IsAhead place first old → IsAhead place middle old) → BothTold b c (λ old new. IsAhead place middle old → P old)
     → BothTold a c (λ old new. IsAhead place first old → P old)

@@ -9,7 +9,7 @@
 //! 5. The frames may be kept: each has 1 to 16 batches, no identity occurs twice, and there are at most 8,000,000 facts.
 //!    This holds with the frame in doubt too (`counted`, `in_doubt`).
 //! 6. `end` is the length of header and frames, also on a disk that exposes no bytes; `torn` is the length of the frame
-//!    in doubt after its gate, and 0 if there is none (`counted`, `in_doubt`).
+//!    in doubt after its gate, and 0 if no frame is in doubt (`counted`, `in_doubt`).
 //! 7. Only `append` opens a gate, after the bytes that follow it are stable, so a crash leaves the whole frame or none
 //!    of it (`append`: `any_moment`; `settle`: `any_moment`).
 

@@ -5,7 +5,7 @@ use Rattle.list_words.proofs.Ascending.{before_all}
 
 -- Ascending lists, tested two neighbours at a time.
 module _ {X : Type 0} (before : X → X → Bool) where
-  -- the last element alone is in order
+  -- a single element is in order
   pub alone : (xs : List X) (n : ℕ) → length xs ≤ n + 1 → Ascends before (drop n xs)
   alone [] zero few = tt
   alone [] (suc n) few = tt
@@ -13,7 +13,7 @@ module _ {X : Type 0} (before : X → X → Bool) where
   alone (x ∷ y ∷ xs) zero few = absurd (omega arith)
   alone (x ∷ xs) (suc n) few = alone xs n (omega (arith, few))
 
-  -- one more element in front keeps the order if it is before the first one
+  -- one more element at the head keeps the order if it is before the first one
   pub one_in_front : IsStrictOrder before → (xs : List X) (n : ℕ) (d e : X) → 1 < n → n ≤ length xs →
       before (get_or xs (n - 1 - 1) d) (get_or xs (n - 1) e) ≡ true → Ascends before (drop (n - 1) xs) → Ascends before (drop (n - 1 - 1) xs)
   one_in_front strict xs n d e some within first up =

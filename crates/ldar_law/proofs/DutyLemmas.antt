@@ -54,7 +54,7 @@ block_later : (cause low later : ℕ) (ds : List Duty) → low ≤ later → IsB
 block_later cause low later ds le block =
     (block.0, all_implied (IsFrom cause later) (IsFrom cause low) (λ d h. let due : later ≤ d.due = h.1 in (h.0, omega (arith, le, due))) ds block.1)
 
--- one more duty in front
+-- one more duty at the head
 block_more : (cause low : ℕ) (o : Option Duty) (ds : List Duty) → IfSome o (IsOf cause low) → IsBlock cause low ds → IsBlock cause low (cons_option o ds)
 block_more cause low None ds this block = block
 block_more cause low (Some d) ds this block =

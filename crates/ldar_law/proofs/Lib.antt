@@ -19,6 +19,7 @@ pub mod RouteLemmas
 pub mod ShareLemmas
 pub mod SliceLemmas
 pub mod SpanLemmas
+pub mod SpansByDayLemmas
 pub mod TagLemmas
 pub mod TestLemmas
 pub mod VerdictLemmas

@@ -43,7 +43,7 @@ all_skipped : (b : Bool) (s : Span) (P : Span → Type 0) (rest : List Span) →
 all_skipped true s P rest e all = absurd (false≢true (sym e))
 all_skipped false s P rest e all = all
 
--- one more span in front, which is closed before all of the rest
+-- one more span at the head, which is closed before all others
 one_more : (b : Bool) (s : Span) (rest : List Span) → (b ≡ true → AllByRecursion (λ r. closes_before s r ≡ true) rest) → Ascends closes_before rest →
     Ascends closes_before (cons_option (if b then Some s else None) rest)
 one_more true s rest h asc = (h refl, asc)

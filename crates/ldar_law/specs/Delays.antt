@@ -71,7 +71,7 @@ module _ (detected : ℕ) (attempts : List ℕ) (stops : List Stop) where
       -- 40 CFR 60.482-9a(e): the stock of valve assemblies is depleted
       else end_of_second attempts (stops_after detected stops)
 
-  -- the due day set by the last delay that is not ignored, or the fifteenth day if there is none
+  -- the due day set by the last delay that is not ignored; if all are ignored, the fifteenth day
   abbrev pub due_given : Option DelayEntry → Until
   due_given None = Date (repair_by detected)
   due_given (Some delay) = due_by delay.«ground» delay.key.day

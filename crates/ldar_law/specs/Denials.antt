@@ -200,7 +200,7 @@ abbrev pub valves_in_service : Register → ℕ → ℕ → List Equipment
 valves_in_service register unit day =
     filter (λ item. nat_eq item.unit unit && is_valve item.kind && serves_on register day item) (components_once register)
 
--- those of these valves that are difficult to monitor by their class on the day
+-- the valves among these that are difficult to monitor by their class on the day
 abbrev pub difficult_among : Register → ℕ → List Equipment → List Equipment
 difficult_among register day valves = filter (λ item. is_difficult_designated (class_held register item day).designation) valves
 

@@ -62,7 +62,7 @@ module _ (item : Equipment) (classes : List (Key × Class)) where
   indication_on day SensorSort present = Sensor present (is_sensor_leak day present)
   indication_on day EvidenceSort present = Evidence present
 
--- the same, with the leak definition of each day in parts per million
+-- a component with its classes in key order, and the leak definition of each day in parts per million
 module _ (item : Equipment) (classes : List (Key × Class)) (limit : ℕ → ℕ) where
   -- a counting reading of at least the leak definition is a leak (40 CFR 60.482-2a(b)(1), 60.482-7a(b), 60.482-8a(b))
   abbrev pub is_reading_leak : ℕ → Bool → ℕ → Bool

@@ -30,7 +30,7 @@ is_in_service item day = nat_le item.begin day && not (has_come item.retired day
 abbrev pub regime_on : Equipment → List (Key × Class) → ℕ → Regime
 regime_on item classes day = regime_of item.kind (class_on item classes day).service
 
--- its leak definition on the day, in parts per million
+-- the leak definition of the component on the day, in parts per million
 abbrev pub limit_on : Equipment → List (Key × Class) → ℕ → ℕ
 limit_on item classes day = limit_of item.kind item.monomer (class_on item classes day)
 

@@ -39,6 +39,7 @@ pub mod SmallOffice
 pub mod SmallRegister
 pub mod SmallReport
 pub mod Spans
+pub mod SpansByDay
 pub mod Standing
 pub mod Stirred
 pub mod Tags

@@ -40,15 +40,15 @@ module _ (item : Equipment) (classes : List (Key × Class)) (startup : ℕ) (eve
   abbrev pub is_counted : Bool
   is_counted = is_under_valve_rules item classes (judging_day startup quarter day) && not (is_nde item classes (judging_day startup quarter day))
 
-  -- it has a counting routine reading in the quarter
+  -- the component has a counting routine reading in the quarter
   abbrev pub is_read : Bool
   is_read = list_any (λ e. is_routine e.what && is_in_quarter startup quarter e.key.day) events
 
-  -- it has a counting routine reading in the quarter that is a leak
+  -- the component has a counting routine reading in the quarter that is a leak
   abbrev pub is_found_leaking : Bool
   is_found_leaking = list_any (λ e. is_routine_leak e.what && is_in_quarter startup quarter e.key.day) events
 
-  -- it begins in the quarter, and its first monitoring was due before the day and was not done (our own rule)
+  -- the component begins in the quarter, and its first monitoring was due before the day and was not done (our own rule)
   abbrev pub is_first_missed : Bool
   is_first_missed =
       is_in_quarter startup quarter item.begin && is_first_owed item classes startup (min (first_due item) day)

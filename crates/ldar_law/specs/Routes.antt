@@ -18,6 +18,6 @@ with_stop stops duty = if list_any (λ stop. nat_eq stop duty.component) stops t
 abbrev pub stops_in_order : List Duty → List ℕ
 stops_in_order duties = fold with_stop [] (in_order is_more_urgent (filter (λ d. is_none d.met) duties))
 
--- those components in routes of `stops` stops each, the last one possibly shorter
+-- the components with a duty that is not done, in that order, in routes of `stops` stops each, the last one possibly shorter
 unfoldable pub routes_of : List Duty → ℕ → List Route
 routes_of duties stops = map (λ part. record { stops = part }) (cut stops (stops_in_order duties))

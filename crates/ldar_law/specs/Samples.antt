@@ -44,7 +44,7 @@ each_fact =
     ∷ Calibration 1 500 ∷ Precision 1 500 (500, 500, 500) ∷ Drift 1 500 (440, 440, 440) ∷ Reading 1 1 1 Routine 20 0 ∷ Visual 1 Drips
     ∷ AttemptFact 1 false ∷ DelayFact 1 1 9 None ∷ ReleaseFact 1 ∷ Indication 1 SensorSort true ∷ []
 
--- those facts, with keys of one minute
+-- a fact of each kind, with keys of one minute
 abbrev pub each_entry : List Entry
 each_entry = map (fact 1 0) each_fact
 

@@ -96,7 +96,7 @@ entered_on day class = (key day 0, class)
 abbrev pub second_month : Class
 second_month = record { service = Gas; designation = Plain; plan = 0; month = 2 }
 
--- the same class, entered on 2024-01-02
+-- gas service, monitored in the second month of a quarter, entered on 2024-01-02
 abbrev pub second_months : Key × Class
 second_months = entered_on (date 2024 1 2) second_month
 

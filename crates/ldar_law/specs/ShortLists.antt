@@ -44,7 +44,7 @@ of_cause cause duties = filter (λ d. nat_eq d.cause cause) duties
 abbrev pub duties_on : ℕ → Equipment → List Event → List Duty
 duties_on day item events = duties_of item [] (date 2020 1 15) events [] day
 
--- those duties, with classes entered for the component
+-- the duties on a day of a component of unit 1, with classes entered for the component
 abbrev pub duties_with : ℕ → Equipment → List (Key × Class) → List Event → List Duty
 duties_with day item classes events = duties_of item classes (date 2020 1 15) events [] day
 
@@ -95,7 +95,7 @@ known item classes events = record {
 abbrev pub mark_with : ℕ → ℕ → Equipment → List (Key × Class) → List Event → Mark
 mark_with day quarter item classes events = mark_in (date 2020 1 15) day quarter (known item classes events)
 
--- the same, without entered classes
+-- what a component of unit 1 without entered classes adds to the counts of a quarter, as of a day
 abbrev pub mark_on : ℕ → ℕ → Equipment → List Event → Mark
 mark_on day quarter item events = mark_with day quarter item [] events
 

@@ -35,7 +35,7 @@ report_of_unit unit half day facts = report_on unit half day (map sheet_of (comp
 
 -- ---- the views, from the facts up to a view day
 
--- a view of a unit, or that there is none if it was not entered by the day
+-- a view of a unit, or that the unit does not exist if it was not entered by the day
 abbrev pub of_unit : ℕ → List Entry → (UnitEntry → Reply) → Reply
 of_unit unit facts view = elim (unit_entry_of unit facts) [ None ↦ NoSuch NoUnit | Some entry ↦ view entry ]
 

@@ -13,7 +13,7 @@ use Rattle.ldar_law.specs.Percent.{is_good}
 abbrev pub Past : Type 0
 Past = Bool × Bool
 
--- the mode elected on a day, by elections in key order; 0 if there is none
+-- the mode elected on a day, by elections in key order; 0 for no election
 abbrev pub mode_on : List ElectionEntry → ℕ → ℕ
 mode_on elections day = option_map_or (λ e. e.mode) (last_such (λ e. nat_le e.key.day day) elections) 0
 

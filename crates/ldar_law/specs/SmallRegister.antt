@@ -58,14 +58,14 @@ retired_valve =
 abbrev pub serves : List Batch → ℕ → ℕ → Option Bool
 serves history view day = option_map (λ item. is_in_service item day) (equipment_of 7 (facts_to view history))
 
--- three components of unit 1, of which 3 and 9 are retired, and one of unit 2
+-- three components of unit 1, two of them (3 and 9) retired, and one of unit 2
 abbrev pub two_units : List Batch
 two_units =
     entered 1 (at (date 2020 2 1) 0 (ComponentFact 9 1 Valve false false (plain Gas)) ∷ at (date 2020 2 1) 0 (ComponentFact 3 1 Pump false false (plain Light))
     ∷ at (date 2020 2 2) 0 (ComponentFact 5 2 Relief false false (plain Gas)) ∷ at (date 2020 2 2) 0 (ComponentFact 7 1 Valve false false (plain Gas))
     ∷ at (date 2020 2 3) 0 (Retire 3) ∷ at (date 2020 2 3) 0 (Retire 9) ∷ []) ∷ []
 
--- shutdowns of unit 1: thirty days from 2020-03-01, and one of which the calendar has two days; and one of each other unit
+-- shutdowns of unit 1: thirty days from 2020-03-01, and one that the calendar cuts to two days; and one of each other unit
 abbrev pub shutdowns : List Batch
 shutdowns = entered 1 (at (date 2099 12 30) 0 (Shutdown 1 10) ∷ at (date 2020 3 1) 0 (Shutdown 1 30)
     ∷ at (date 2020 4 1) 0 (Shutdown 2 5) ∷ at (date 2020 5 1) 0 (Shutdown 3 7) ∷ []) ∷ []

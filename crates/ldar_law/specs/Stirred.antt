@@ -20,7 +20,7 @@ is_of_matter instrument day tested (Drift of value readings) = nat_eq of instrum
 is_of_matter instrument day tested (Precision of value readings) = nat_eq of instrument && nat_le tested day && nat_le day (later_by 3 tested)
 is_of_matter instrument day tested _ = false
 
--- the same for a fact with its key
+-- a fact with its key matters to the readings of a day with an instrument
 abbrev pub matters : ℕ → ℕ → Entry → Bool
 matters instrument day e = is_of_matter instrument day e.0.day e.1.body
 
@@ -28,7 +28,7 @@ matters instrument day e = is_of_matter instrument day e.0.day e.1.body
 abbrev pub matters_to : Entry → Entry → Bool
 matters_to reading e = option_map_or (λ instrument. matters instrument reading.0.day e) (reading_instrument reading.1.body) false
 
--- these numbers, each once
+-- the numbers of a list, each once
 abbrev pub each_once : List ℕ → List ℕ
 each_once [] = []
 each_once (number ∷ numbers) = number ∷ filter (λ other. not (nat_eq other number)) (each_once numbers)

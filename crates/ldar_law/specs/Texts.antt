@@ -24,7 +24,7 @@ end_of_line = codes "\n"
 abbrev pub end_line : ℕ → List ℕ
 end_line count = codes "end " ++ decimal count ++ end_of_line
 
--- a day, or a hyphen if there is none
+-- a day, or a hyphen for no day
 abbrev pub day_or_hyphen : Option ℕ → List ℕ
 day_or_hyphen None = codes "-"
 day_or_hyphen (Some day) = day_text day

@@ -1,5 +1,5 @@
 -- A process unit by the facts up to a view day: its components with their events and tags, and the unit's lists.
-use Rattle.std.specs.Prelude.{ℕ, ◌-◌, Bool, option_map, unwrap_or, List, filter, filter_map, flat_map, map}
+use Rattle.std.specs.Prelude.{ℕ, ◌-◌, Bool, Option, option_map, unwrap_or, List, filter, filter_map, flat_map, map}
 use Rattle.list_words.specs.Ranges.{from_to}
 use Rattle.ldar_days.specs.Calendar.{month_of}
 use Rattle.ldar_days.specs.Quarters.{quarter_of}
@@ -11,6 +11,7 @@ use Rattle.ldar_law.specs.declared.duty.Duty.{Duty}
 use Rattle.ldar_law.specs.declared.election.ElectionEntry.{ElectionEntry}
 use Rattle.ldar_law.specs.declared.equipment.Equipment.{Equipment}
 use Rattle.ldar_law.specs.declared.event.Event.{Event}
+use Rattle.ldar_law.specs.declared.history.History.{History}
 use Rattle.ldar_law.specs.declared.of_unit.OfUnit.{OfUnit}
 use Rattle.ldar_law.specs.declared.route.Route.{Route}
 use Rattle.ldar_law.specs.declared.tag.Tag.{Tag}
@@ -43,6 +44,10 @@ abbrev pub known_of : List Entry → Equipment → Known
 known_of facts item =
     let classes = classes_of item.component facts in
     known_with item classes (events_in item classes (limit_on item classes) facts) (of_unit item.unit facts)
+
+-- a component with its judged events, by the facts in key order; none if no fact enters it
+abbrev pub history_of_component : ℕ → List Entry → Option History
+history_of_component number facts = option_map (λ item. record { equipment = item; events = (known_of facts item).events }) (equipment_of number facts)
 
 -- the components of a unit, ascending by number
 abbrev pub components_of : ℕ → List Entry → List Known

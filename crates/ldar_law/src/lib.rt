@@ -16,6 +16,7 @@ pub mod examples;
 mod fitness;
 mod grounds;
 mod happening;
+mod history;
 mod items;
 mod key_order;
 pub mod laws;
@@ -58,6 +59,7 @@ pub use grounds::{
     GROUND_WITHDRAWN,
 };
 pub use happening::has_leak;
+pub use history::History;
 pub use items::Items;
 pub use key_order::are_in_key_order;
 pub use leak_definition::limit;

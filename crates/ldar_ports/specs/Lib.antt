@@ -1,3 +1,5 @@
+pub mod Front
+pub mod ListFront
 pub mod ListSource
 pub mod Sink
 pub mod Source

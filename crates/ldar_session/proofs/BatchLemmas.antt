@@ -1,13 +1,12 @@
 -- The requests of batches at the front, and what a connection of batches is served.
-use Rattle.std.proofs.Common.{◌≡◌, ◌⊎◌, ◌≢◌, inl, inr, ℕ, zero, suc, ◌<◌, ◌≤◌, Bool, List, [], ◌∷◌, ◌++◌, length, take, Option, Some, None, refl, arith, length-append}
+use Rattle.std.proofs.Common.{◌≡◌, ◌≢◌, inl, inr, ℕ, zero, suc, ◌<◌, Bool, List, [], ◌∷◌, ◌++◌, length, Option, Some, None, refl, arith, length-append}
 use Rattle.std.specs.List.{AllByRecursion}
-use Rattle.fact_kinds.specs.declared.batch.Batch.{Batch}
-use Rattle.ldar_facts.specs.Grammar.{Begins, HasNoBatch, Spells}
+use Rattle.ldar_facts.specs.Grammar.{HasNoBatch}
 use Rattle.ldar_facts.proofs.GrammarLaws.{spelling_length}
 use Rattle.ldar_law.specs.Machine.{Turn}
 use Rattle.ldar_session.specs.Batches.{IsBatch, IsUnfinished, batch_speech}
 use Rattle.ldar_session.specs.Served.{Served}
-use Rattle.ldar_session.specs.Speech.{HasAnswer, IsAnswered, IsAway, NoneJoins}
+use Rattle.ldar_session.specs.Speech.{HasAnswer, IsAnswered, NoneJoins}
 
 -- the beginning of a batch is at most as long as the longest batch
 pub begun_fits : (bytes : List ℕ) → IsUnfinished bytes → length bytes < 16_384

@@ -7,8 +7,8 @@ use Rattle.ldar_ports.specs.Source.{Takes}
 use Rattle.ldar_ports.specs.Window.{WindowState, after_taking}
 use Rattle.ldar_ports.proofs.TakesLemmas.{takes_more}
 use Rattle.ldar_session.specs.declared.ended.TheConstants.{MOST_ANSWERS}
-use Rattle.ldar_session.specs.declared.ended.Ended.{Ended}
-use Rattle.ldar_session.specs.declared.ended.Ended.TheVariants.{Done, Stopped, CutShort, Refused, ReadFault, WriteFault, Memory}
+use Rattle.ldar_ports.specs.declared.ended.Ended.{Ended}
+use Rattle.ldar_ports.specs.declared.ended.Ended.TheVariants.{Done, Stopped, CutShort, Refused, ReadFault, WriteFault, Memory}
 use Rattle.ldar_session.specs.Served.{Served, items_of, texts_of}
 use Rattle.ldar_session.specs.Speech.{Speech, AreAnswered, Ends, EndsInput, EndsRefused, EndsUnsaid, IsPartProgress, IsRefusal}
 use Rattle.ldar_session.proofs.ItemLemmas.{are_some_more}

@@ -1,5 +1,5 @@
 -- Items at the front of some bytes, what was served of them, and their groups.
-use Rattle.std.proofs.Common.{◌≡◌, ℕ, ◌+◌, ◌<◌, ◌≤◌, ◌⊎◌, Bool, true, false, List, [], ◌∷◌, ◌++◌, length, map, take, drop, Option, Some, inl, inr}
+use Rattle.std.proofs.Common.{◌≡◌, ℕ, ◌+◌, ◌<◌, ◌≤◌, ◌⊎◌, Bool, true, false, List, [], ◌∷◌, ◌++◌, length, map, take, drop, Some, inl, inr}
 use Rattle.std.proofs.Common.{refl, sym, ap, subst, ◌∙◌, append_assoc, arith}
 use Rattle.std.specs.List.{flat_map, AllByRecursion}
 use Rattle.std.proofs.lemmas.List.{append-nil, take-append-drop, drop-drop, length-drop, length-map}
@@ -7,7 +7,7 @@ use Rattle.std.proofs.lemmas.Grind.{flat_map-append}
 use Rattle.ldar_law.specs.declared.reply.Reply.{Reply}
 use Rattle.ldar_law.specs.declared.request.Request.{Request}
 use Rattle.ldar_law.specs.Machine.{Call, Turn}
-use Rattle.office_book.specs.Asking.{IsFromHandheld, requests_of}
+use Rattle.office_interface.specs.Asking.{IsFromHandheld, requests_of}
 use Rattle.ldar_session.specs.declared.item.Question.{Question}
 use Rattle.ldar_session.specs.Served.{Served, items_of, texts_of, turns_of}
 use Rattle.ldar_session.specs.Speech.{Speech, AreAnswered, AreInFront, AsksEach, HasAnswer, IsAnswered, IsGroup, IsQuestion, NoneJoins}

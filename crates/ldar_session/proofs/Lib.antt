@@ -8,3 +8,4 @@ pub mod StampLemmas
 pub mod StreamLemmas
 pub mod Stretches
 pub mod TalkLemmas
+pub mod WorkLemmas

@@ -1,15 +1,14 @@
 -- What is known about the request at the front, and what it asks for.
 use Rattle.std.proofs.Common.{◌≡◌, ◌⊎◌, inl, inr, ℕ, ◌+◌, ◌-◌, ◌<◌, ◌≤◌, Bool, true, false, cond, not, nat_lt, List, [], ◌++◌, length, take, drop, min}
 use Rattle.std.proofs.Common.{get_or, Option, Some, None, Result, Ok, Err, codes}
-use Rattle.std.proofs.Common.{refl, sym, ap, subst, ◌∙◌, length-take, length-append, arith}
+use Rattle.std.proofs.Common.{sym, ap, subst, ◌∙◌, length-take, length-append, arith}
 use Rattle.std.specs.Str.Parse.{digits_value}
 use Rattle.std.proofs.lemmas.Bool.{cases_lt}
 use Rattle.std.proofs.lemmas.List.{append-nil, get_or-drop, length-drop}
 use Rattle.memchr.specs.Find.{OccursAt, Nowhere}
-use Rattle.fact_kinds.specs.declared.batch.Batch.{Batch}
 use Rattle.ldar_law.specs.declared.request.Request.{Request}
 use Rattle.ldar_law.specs.declared.request.Request.TheVariants.{Sync}
-use Rattle.office_book.specs.Asking.{IsFromHandheld}
+use Rattle.office_interface.specs.Asking.{IsFromHandheld}
 use Rattle.handheld_http.specs.declared.answer.Answer.TheVariants.{Not as AsksNothing}
 use Rattle.handheld_http.specs.declared.answer.Asked.{Asked}
 use Rattle.handheld_http.specs.declared.answer.Asked.TheVariants.{Request as Asks, Not}
@@ -21,7 +20,7 @@ use Rattle.handheld_http.specs.Answers.{IsRefusalStatus, answer_bytes}
 use Rattle.handheld_http.specs.Cuts.{BeginsRequest, IsCut, IsExtent, Refuses, HasNoHeadYet}
 use Rattle.handheld_http.specs.Heads.{Pair, empty_line, longest_body, body_length, length_by, stated_length, is_number, is_post, count_named}
 use Rattle.handheld_http.specs.Heads.{value_of, pairs_of}
-use Rattle.handheld_http.specs.Items.{IsItem, IsWhole}
+use Rattle.handheld_http.specs.Items.{IsItem}
 use Rattle.handheld_http.specs.Requests.{Means}
 use Rattle.handheld_http.proofs.ItemLaws.{SameBefore-append, Begins-take, Begins-unique, body_length_le, whole_front, more_is_none_with}
 use Rattle.handheld_http.proofs.ItemLaws.{refused_is_none_with}

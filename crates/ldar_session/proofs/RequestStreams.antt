@@ -5,8 +5,8 @@ use Rattle.std.specs.List.{flat_map, AllByRecursion}
 use Rattle.std.proofs.Math.Seq.{take-append_seam}
 use Rattle.handheld_http.specs.Items.{IsItem, IsWhole, HasNoItem}
 use Rattle.handheld_http.proofs.ItemLaws.{Begins-unique, items_in_range, more_is_none_with, no_proper_front_with, refused_is_none_with}
-use Rattle.ldar_session.specs.declared.ended.Ended.{Ended}
-use Rattle.ldar_session.specs.declared.ended.Ended.TheVariants.{Done, Stopped, CutShort, Refused, ReadFault, WriteFault, Memory}
+use Rattle.ldar_ports.specs.declared.ended.Ended.{Ended}
+use Rattle.ldar_ports.specs.declared.ended.Ended.TheVariants.{Done, Stopped, CutShort, Refused, ReadFault, WriteFault, Memory}
 use Rattle.ldar_session.specs.Served.{Served, items_of}
 use Rattle.ldar_law.specs.Machine.{Turn}
 use Rattle.ldar_session.specs.Session.{Ends, LeavesNone}

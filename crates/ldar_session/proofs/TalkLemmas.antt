@@ -7,9 +7,9 @@ use Rattle.list_words.proofs.Members.{all_append}
 use Rattle.ldar_law.specs.Machine.{Call}
 use Rattle.ldar_ports.specs.Sink.{Piece, Puts, IsStamped, bytes_of, stamps_of}
 use Rattle.ldar_ports.proofs.PutsLemmas.{stamps_of-stamped}
-use Rattle.office_book.specs.Asking.{replies_of}
+use Rattle.office_interface.specs.Asking.{replies_of}
 use Rattle.ldar_session.specs.declared.item.Unasked.{Unasked}
-use Rattle.ldar_session.specs.Served.{Served, Stretch, Talk, items_of, texts_of, turns_of}
+use Rattle.ldar_session.specs.Served.{Served, Talk, items_of, texts_of, turns_of}
 use Rattle.ldar_session.specs.Speech.{Speech, HasAnswer, IsAway, IsUnasked, answers_text}
 use Rattle.ldar_session.proofs.ItemLemmas.{AskedEach, served_in, turns_of-served_in, texts_of-served_in, are_answered, have_answers}
 use Rattle.ldar_session.proofs.StampLemmas.{all_replicate}

@@ -1,5 +1,5 @@
 -- Items that are batches, and the line that answers each of them.
-use Rattle.std.specs.Prelude.{◌≡◌, ℕ, Bool, false, List, MatchOption}
+use Rattle.std.specs.Prelude.{◌≡◌, ℕ, false, List, MatchOption}
 use Rattle.fact_kinds.specs.declared.batch.Batch.{Batch}
 use Rattle.ldar_facts.specs.Grammar.{Begins, HasNoBatch, IsFirstWrongPlace, Spells}
 use Rattle.ldar_law.specs.declared.request.Request.{Request}

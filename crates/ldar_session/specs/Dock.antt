@@ -1,6 +1,6 @@
 -- The end of a connection of batches.
 use Rattle.std.specs.Prelude.{ℕ, List, Option}
-use Rattle.ldar_session.specs.declared.ended.Ended.{Ended}
+use Rattle.ldar_ports.specs.declared.ended.Ended.{Ended}
 use Rattle.ldar_session.specs.Batches.{batch_speech}
 use Rattle.ldar_session.specs.Served.{Served}
 use Rattle.ldar_session.specs.Speech as speech

@@ -4,3 +4,4 @@ pub mod Requests
 pub mod Served
 pub mod Session
 pub mod Speech
+pub mod Working

@@ -1,8 +1,8 @@
 -- The end of a connection of HTTP requests.
 use Rattle.std.specs.Prelude.{◌≡◌, ℕ, List, [], ◌∷◌, ◌++◌, length, Option}
 use Rattle.ldar_session.specs.declared.ended.TheConstants.{MOST_ANSWERS}
-use Rattle.ldar_session.specs.declared.ended.Ended.{Ended}
-use Rattle.ldar_session.specs.declared.ended.Ended.TheVariants.{Done, Stopped, CutShort, Refused, ReadFault, WriteFault, Memory}
+use Rattle.ldar_ports.specs.declared.ended.Ended.{Ended}
+use Rattle.ldar_ports.specs.declared.ended.Ended.TheVariants.{Done, Stopped, CutShort, Refused, ReadFault, WriteFault, Memory}
 use Rattle.ldar_session.specs.Requests.{IsStream, request_speech}
 use Rattle.ldar_session.specs.Served.{Served, items_of}
 use Rattle.ldar_session.specs.Speech as speech

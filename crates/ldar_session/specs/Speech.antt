@@ -7,11 +7,11 @@ use Rattle.ldar_law.specs.declared.reply.Reply.{Reply}
 use Rattle.ldar_law.specs.declared.request.Request.{Request}
 use Rattle.ldar_law.specs.declared.request.Request.TheVariants.{Sync}
 use Rattle.ldar_ports.specs.Source.{HasEnded}
-use Rattle.office_book.specs.Asking.{MayShareFrame, IsFromHandheld}
+use Rattle.office_interface.specs.Asking.{MayShareFrame, IsFromHandheld}
 use Rattle.ldar_session.specs.declared.answer.Progress.{Progress}
 use Rattle.ldar_session.specs.declared.ended.TheConstants.{MOST_ANSWERS}
-use Rattle.ldar_session.specs.declared.ended.Ended.{Ended}
-use Rattle.ldar_session.specs.declared.ended.Ended.TheVariants.{Done, Stopped, CutShort, Refused, ReadFault, WriteFault, Memory}
+use Rattle.ldar_ports.specs.declared.ended.Ended.{Ended}
+use Rattle.ldar_ports.specs.declared.ended.Ended.TheVariants.{Done, Stopped, CutShort, Refused, ReadFault, WriteFault, Memory}
 use Rattle.ldar_session.specs.declared.item.Front.{Front}
 use Rattle.ldar_session.specs.declared.item.Front.TheVariants.{Whole, Unfinished, Wrong}
 use Rattle.ldar_session.specs.declared.item.Item.{Item}

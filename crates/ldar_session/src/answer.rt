@@ -2,7 +2,7 @@ ghost use Rattle.std.specs.Prelude.{◌≡◌, ◌<◌, ◌≤◌, ◌⊎◌, �
 ghost use Rattle.std.specs.List.{AllByRecursion};
 ghost use Rattle.disk_model.specs.Faults.{Rose};
 ghost use Rattle.ldar_law.specs.Machine.{Call};
-ghost use Rattle.office_book.specs.Asking.{requests_of, replies_of, MayShareFrame, HasRule};
+ghost use Rattle.office_interface.specs.Asking.{requests_of, replies_of, MayShareFrame, HasRule};
 ghost use Rattle.ldar_session.specs.Served.{Served, Talk, clock_beside, items_of};
 ghost use Rattle.ldar_session.specs.Speech.{AreAnswered, AsksEach, GoesOn, HasAnswer, IsItem, Serves, answers_text};
 
@@ -15,7 +15,7 @@ use disk_model::Disk;
 use fact_kinds::FRAME_BATCHES;
 use ldar_law::{Reply, Request};
 use ldar_ports::{Sink, put_all};
-use office_book::Office;
+use office_interface::Office;
 use std::alloc::Global;
 
 /// The items that were answered in one call: their bytes, their number, and whether the last one closes the connection.

@@ -1,6 +1,6 @@
 ghost use Rattle.std.specs.Prelude.{◌≡◌, ◌++◌, IfOk, OnOk};
 ghost use Rattle.ldar_law.specs.Replies.{reply_text};
-ghost use Rattle.office_book.specs.Asking.{HasRule};
+ghost use Rattle.office_interface.specs.Asking.{HasRule};
 ghost use Rattle.ldar_session.specs.Batches.{batch_speech};
 ghost use Rattle.ldar_session.specs.Speech.{IsFront, NoOtherJoins};
 

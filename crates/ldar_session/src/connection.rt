@@ -17,7 +17,7 @@ use crate::protocol::Protocol;
 use crate::requests::{REQUEST_WINDOW, Requests};
 use fact_kinds::FRAME_BATCHES;
 use ldar_ports::{Sink, Source, Window};
-use office_book::Office;
+use office_interface::Office;
 use std::alloc::Global;
 
 /// Passes the batches of an input to an office, and writes the lines of its replies. Batches of handhelds other than 0

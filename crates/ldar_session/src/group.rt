@@ -1,6 +1,6 @@
 ghost use Rattle.std.specs.Prelude.{◌≡◌, ◌<◌, ◌≤◌, ◌⊎◌, ◌↔◌, true, length, drop, IsTrue, IfOk, OnOk, IfNone, IfSome};
 ghost use Rattle.std.specs.List.{AllByRecursion};
-ghost use Rattle.office_book.specs.Asking.{IsFromHandheld};
+ghost use Rattle.office_interface.specs.Asking.{IsFromHandheld};
 ghost use Rattle.ldar_session.specs.Speech.{AreInFront, IsGroup, IsQuestion, NoneJoins};
 
 use crate::Memory;

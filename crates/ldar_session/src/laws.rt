@@ -9,7 +9,7 @@ ghost use Rattle.ldar_session.specs.Batches.{IsBatch, IsSpelling};
 ghost use Rattle.ldar_session.specs.Requests.{AreRequests, IsStream};
 ghost use Rattle.ldar_session.specs.Served.{Served, HasItsClock, items_of};
 ghost use Rattle.ldar_session.specs.Session.{Ends, LeavesNone};
-ghost use Rattle.ldar_session.specs.declared.ended.Ended.{Ended};
+ghost use Rattle.ldar_ports.specs.declared.ended.Ended.{Ended};
 
 /// If no batch is at the front of the rest, each whole batch at the front of the bytes was served, in order.
 pub fn every_batch_is_served()

@@ -14,8 +14,10 @@ mod item;
 pub mod laws;
 mod protocol;
 mod requests;
+mod working;
 
 pub use connection::{dock, session};
 pub use ended::{Ended, MOST_ANSWERS};
+pub use working::{Worked, work};
 /// Out of memory.
 pub use std::alloc::AllocError as Memory;

@@ -1,5 +1,5 @@
 ghost use Rattle.std.specs.Prelude.{◌≡◌, ◌++◌, ℕ, List, IfOk, OnOk};
-ghost use Rattle.office_book.specs.Asking.{HasRule};
+ghost use Rattle.office_interface.specs.Asking.{HasRule};
 ghost use Rattle.ldar_session.specs.Speech.{Speech, IsFront, Learns, NoOtherJoins};
 
 use crate::Memory;

@@ -1,12 +1,12 @@
 -- Tags as known on a day, one after the other.
-use Rattle.std.proofs.Common.{◌≡◌, ℕ, ◌+◌, ◌<◌, Bool, false, nat_le, List, [], ◌∷◌, ◌++◌, length, take, drop, get_or, filter, map, count_by, refl, sym, ap, ◌∙◌, arith}
+use Rattle.std.proofs.Common.{◌≡◌, ℕ, nat_le, List, [], ◌∷◌, length, map, count_by, refl, sym, ap, ◌∙◌, arith}
 use Rattle.std.proofs.lemmas.List.Sums.{length-filter}
 use Rattle.ldar_law.specs.declared.event.Event.{Event}
 use Rattle.ldar_law.specs.declared.span.Span.{Span}
 use Rattle.fact_kinds.specs.declared.class.Kind.{Kind}
-use Rattle.history_laws.specs.DayLaws.{events_to}
-use Rattle.history_laws.specs.SpanLaws.{span_on, detected_by}
-use Rattle.history_laws.proofs.SpanLemmas.{spans_up_to_a_day}
+use Rattle.ldar_law.specs.SpansByDay.{events_to}
+use Rattle.ldar_law.specs.SpansByDay.{span_on, detected_by}
+use Rattle.ldar_law.proofs.SpansByDayLemmas.{spans_up_to_a_day}
 use Rattle.ldar_law.specs.Spans.{spans_of}
 use Rattle.list_words.specs.Order.{Ascends}
 use Rattle.fact_kinds.specs.Facts.{is_earlier}

@@ -188,7 +188,7 @@ module _ (events : List Event) (i : ℕ) (e : Event) (within : i < length events
     | inr by ↦ ahead k low by ∙ attempt_past fails
   ]
 
--- after the last event there is none
+-- no attempt follows the last event
 pub attempt_none : (events : List Event) (i : ℕ) → length events ≤ i → law.attempt_after (drop i events) ≡ None
 attempt_none events i past = ap law.attempt_after (drop_all i events past)
 

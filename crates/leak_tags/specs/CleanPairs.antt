@@ -52,6 +52,6 @@ pub record TellsLast (months : CleanMonths) (events : List Event) (place : ℕ) 
 abbrev pub IsLastPair : ℕ → List Event → Type 0
 IsLastPair pair events = (first : ℕ) → 0 < first → is_clean_twice_from events first ≡ nat_le first pair
 
--- the same, needed only for a valve
+-- for a valve, the first of the last two clean months in a row; any number for another component
 abbrev pub IsPairFor : Kind → ℕ → List Event → Type 0
 IsPairFor kind pair events = is_valve kind ≡ true → IsLastPair pair events

@@ -5,7 +5,7 @@ ghost use Rattle.leak_tags.specs.OpenLeaks as spec;
 /// on them (40 CFR 60.482-9a(f)).
 #[derive(Clone, Copy)]
 pub struct BelowMonths {
-    /// The last such month, or 0 if there is none.
+    /// The last such month, or 0 for none.
     pub last: u32,
     /// Whether the month before it is one too.
     pub before: bool,

@@ -7,7 +7,7 @@ use ldar_law::Event;
 /// The next attempt at a repair, from one search ahead.
 #[derive(Clone, Copy)]
 pub struct NextAttempt {
-    /// The place after the attempt, or a place past all events if there is none.
+    /// The place after the attempt, or a place past all events for no attempt.
     pub end: usize,
     /// The day of the attempt.
     pub day: Option<Day>,

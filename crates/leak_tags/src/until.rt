@@ -4,8 +4,8 @@ ghost use Rattle.std.specs.Prelude.{◌≡◌, ◌+◌, ◌++◌, ◌∷◌, [],
 ghost use Rattle.std.specs.Prelude.{vec_len, vec_capacity, count_by, filter, map};
 ghost use Rattle.list_words.specs.Order.{Ascends};
 ghost use Rattle.fact_kinds.specs.Facts.{is_earlier};
-ghost use Rattle.history_laws.specs.DayLaws.{if_come, events_to};
-ghost use Rattle.history_laws.specs.SpanLaws as known;
+ghost use Rattle.ldar_law.specs.SpansByDay.{if_come, events_to};
+ghost use Rattle.ldar_law.specs.SpansByDay as known;
 ghost use Rattle.ldar_law.specs.Spans as law;
 ghost use Rattle.leak_tags.specs.CleanPairs.{IsPairFor};
 

@@ -17,7 +17,7 @@ list_any_narrowed p q implies (x ∷ xs) =
       | inr e ↦ rw (e, fails_too p q implies x e) (list_any_narrowed p q implies xs)
     ]
 
--- .. nor the first one found
+-- a filter by q does not change the first element that passes p, which implies q
 pub find_narrowed : {X : Type 0} (p q : X → Bool) → ((x : X) → p x ≡ true → q x ≡ true) → (xs : List X) → find p (filter q xs) ≡ find p xs
 find_narrowed p q implies [] = refl
 find_narrowed p q implies (x ∷ xs) =
@@ -26,7 +26,7 @@ find_narrowed p q implies (x ∷ xs) =
       | inr e ↦ rw (e, fails_too p q implies x e) (find_narrowed p q implies xs)
     ]
 
--- .. nor the last one
+-- a filter by q does not change the last element that passes p, which implies q
 pub last_such_narrowed : {X : Type 0} (p q : X → Bool) → ((x : X) → p x ≡ true → q x ≡ true) → (xs : List X) → last_such p (filter q xs) ≡ last_such p xs
 last_such_narrowed p q implies [] = refl
 last_such_narrowed p q implies (x ∷ xs) =
@@ -35,7 +35,7 @@ last_such_narrowed p q implies (x ∷ xs) =
       | inr e ↦ rw e (last_such_narrowed p q implies xs ∙ sym (last_such-cons p x xs ∙ rw (fails_too p q implies x e) (option_or-None (last_such p xs))))
     ]
 
--- .. nor all of them
+-- a filter by q does not change which elements pass p, which implies q
 pub filter_narrowed : {X : Type 0} (p q : X → Bool) → ((x : X) → p x ≡ true → q x ≡ true) → (xs : List X) → filter p (filter q xs) ≡ filter p xs
 filter_narrowed p q implies [] = refl
 filter_narrowed p q implies (x ∷ xs) =
@@ -59,12 +59,12 @@ pub list_any_agree : {X : Type 0} (p q : X → Bool) → ((x : X) → p x ≡ q 
 list_any_agree p q same [] = refl
 list_any_agree p q same (x ∷ xs) = rw (same x, list_any_agree p q same xs) refl
 
--- .. and find the same first one
+-- two tests that agree on each element find the same first one
 pub find_agree : {X : Type 0} (p q : X → Bool) → ((x : X) → p x ≡ q x) → (xs : List X) → find p xs ≡ find q xs
 find_agree p q same [] = refl
 find_agree p q same (x ∷ xs) = rw (same x, find_agree p q same xs) refl
 
--- .. and select the same elements
+-- two tests that agree on each element select the same elements
 pub filter_agree : {X : Type 0} (p q : X → Bool) → ((x : X) → p x ≡ q x) → (xs : List X) → filter p xs ≡ filter q xs
 filter_agree p q same [] = refl
 filter_agree p q same (x ∷ xs) = rw (same x, filter_agree p q same xs) refl

@@ -1,4 +1,4 @@
-//! An office in memory: it judges each batch before it adopts it, and shows what the adopted ones say.
+//! An office in memory: it judges each batch before it adopts it, and shows views of the adopted batches.
 #![tactic(auto)]
 
 mod office;

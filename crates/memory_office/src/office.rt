@@ -20,8 +20,8 @@ use std::marker::{Brand, Model};
 use std::slice::from_ref;
 use std::sync::ledger::{Blank, Ledger};
 
-/// The batches that were adopted, in the order in which they came, and what they show. Contracts see them beside those that
-/// have room.
+/// The batches that were adopted, in the order in which they arrived, with their views. In contracts it is these batches, and the
+/// spare ones, for which there is room.
 #[derive(Drop)]
 pub struct Office {
     views: Views,
@@ -33,16 +33,17 @@ impl Model for Office {
     ghost use Rattle.std.specs.Prelude.{◌≡◌, map};
     ghost use Rattle.fact_kinds.specs.Identity.{identity_of};
     ghost use Rattle.office_views.specs.Held.{Held};
+    ghost use Rattle.office_views.specs.Viewed.{held_of};
 
     ghost Value = { Held };
 
-    ghost view = { λ o. o.views };
+    ghost view = { λ o. held_of o.views };
 
     ghost invariant = { λ o. o.identities.items ≡ map identity_of o.views.adopted };
 }
 
 impl Office {
-    /// An office without a batch. It takes no memory.
+    /// An office without batches. Allocates nothing.
     pub fn new(alloc: Global) -> Office
         ensures value { result ≡ record { adopted = []; spare = [] } }
     {
@@ -52,7 +53,7 @@ impl Office {
         }
     }
 
-    /// Makes room for a batch alone. After `Memory` all is as it was.
+    /// Makes room for this batch and no other. When out of memory, nothing changes.
     pub fn reserve(&mut self, batch: &Batch) -> Result<(), Memory>
         ensures roomy { OnOk result (self.new ≡ record self.old { spare = batch.now ∷ [] }) }
         ensures adopted { self.new.adopted ≡ self.old.adopted }
@@ -61,7 +62,7 @@ impl Office {
         self.views.reserve(from_ref(batch))
     }
 
-    /// Adopts a batch that has room, if it is new and passes. The result is whether it did.
+    /// Adopts a batch that has room, if it is new and passes. Returns whether it was adopted. When out of memory, nothing changes.
     pub fn adopt(&mut self, batch: &Batch) -> Result<bool, Memory>
         requires roomy { slice_get self.old.spare 0 ≡ Some batch.now }
         ensures value { IfOk result (λ adopted. adopted ≡ law_accepts self.old.adopted batch.now) }
@@ -77,7 +78,7 @@ impl Office {
         Ok(true)
     }
 
-    /// Whether a batch is new and passes after those that were adopted.
+    /// Whether a batch is new and passes after the adopted ones.
     pub fn is_accepted(&self, batch: &Batch) -> bool
         ensures value { result ≡ law_accepts self.now.adopted batch.now }
         ensures new { IsTrue result → IsNew self.now.adopted batch.now }
@@ -86,7 +87,7 @@ impl Office {
         self.is_new(batch) && is_pass(&self.judged(batch))
     }
 
-    /// The verdict on a batch after those that were adopted.
+    /// The verdict on a batch after the adopted ones.
     pub fn judged(&self, batch: &Batch) -> Verdict
         ensures value { result ≡ verdict_on self.now.adopted batch.now }
     {
@@ -94,14 +95,14 @@ impl Office {
         verdict(self.views.register(), facts, batch)
     }
 
-    /// Whether no batch with the identity of this one was adopted.
+    /// Whether no adopted batch has the identity of this one.
     fn is_new(&self, batch: &Batch) -> bool
         ensures value { result ≡ is_none (position_of (identity_of batch.now) self.now.adopted) }
     {
         !is_among(&self.identities, &batch.identity())
     }
 
-    /// What a view shows of the adopted batches, as known on its day.
+    /// What a view shows of the adopted batches, as of its day. The only error is out of memory.
     pub fn ask(&mut self, request: &Request) -> Result<Shown, Memory>
         requires view { IsView request.now }
         ensures value { IsShown result (law.shown self.old.adopted request.now) }
@@ -110,7 +111,7 @@ impl Office {
         ask_views::<Brand>(&mut self.views, request, Blank::new(1))
     }
 
-    /// The report of a half of a process unit as known on a day.
+    /// The report of a half of a process unit as of a day (40 CFR 60.487a(c)), or the error.
     pub fn report(&mut self, unit: u16, half: u16, day: Day) -> Result<Report, AskError>
         ensures value { Tells result (report_asked unit half day (facts_to day self.old.adopted)) }
         ensures unchanged { self.new ≡ self.old }
@@ -129,14 +130,14 @@ fn is_pass(verdict: &Verdict) -> bool
     }
 }
 
-/// Whether an identity is among some.
+/// Whether an identity is one of these.
 fn is_among(identities: &[Identity], identity: &Identity) -> bool
     ensures value { result ≡ list_any (is_identity identity.now) identities.now }
 {
     identities.iter().any(|kept| is_same(identity, kept))
 }
 
-/// Whether two identities are one.
+/// Whether two identities are equal.
 fn is_same(a: &Identity, b: &Identity) -> bool
     ensures value { result ≡ is_identity a.now b.now }
 {
@@ -151,7 +152,7 @@ fn adopt_accepted<L: Ledger>(views: &mut Views, batch: &Batch, blank: Blank)
     requires roomy { slice_get views.old.spare 0 ≡ Some batch.now }
     requires passes { verdict_on views.old.adopted batch.now ≡ Pass }
     requires new_identity { IsNew views.old.adopted batch.now }
-    ensures value { views.new ≡ record { adopted = views.old.adopted ++ batch.now ∷ []; spare = drop 1 views.old.spare } }
+    ensures value { views.new ≡ record views.old { adopted = views.old.adopted ++ batch.now ∷ []; spare = drop 1 views.old.spare } }
 {
     let mut steps = Steps::<L>::new(blank);
     views.adopt(batch, &mut steps);

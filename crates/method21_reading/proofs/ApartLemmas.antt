@@ -1,4 +1,4 @@
--- A reading is judged alike by all facts of its instrument and by those that matter, each sort apart.
+-- The facts of an instrument, sorted into one list for each kind, judge a reading as all facts do.
 use Rattle.std.proofs.Common.{◌≡◌, ℕ, ◌+◌, ◌≤◌, Bool, true, false, not, ◌&&◌, nat_eq, nat_lt}
 use Rattle.std.proofs.Common.{nat_le, Option, Some, None, List, [], ◌∷◌, length, take, drop, find}
 use Rattle.std.proofs.Common.{filter, get_or, option_map, refl, sym, ap, ◌∙◌, inl, inr, arith}
@@ -27,7 +27,7 @@ use Rattle.method21_reading.specs.Instruments.{is_calibrating, is_passed_test, i
 use Rattle.method21_reading.proofs.FrontLemmas.{filter_front, filter_behind, last_such_both, latest_decides}
 use Rattle.method21_reading.proofs.LaterLemmas.{later_rises}
 
--- ---- what is of an instrument is of its sort
+-- ---- facts of an instrument, by kind
 
 calibrates : (instrument : ℕ) (body : FactBody) → is_calibration instrument body ≡ true → is_calibrating body ≡ true
 calibrates instrument (Calibration of gas) e = refl
@@ -45,20 +45,20 @@ fails : (instrument limit ppm : ℕ) (body : FactBody) → is_drift_past instrum
 fails instrument limit ppm (Drift of value readings) e = (both (both e).0).1
 fails instrument limit ppm _ e = absurd (false≢true e)
 
--- ---- lists that stand for the facts
+-- ---- lists in place of all facts
 
 module _ (facts calibrations tests drifts : List Entry) (key : Key) where
-  -- for what asks for calibrations of the day
+  -- a test that passes only calibrations of the day has the same result on the list of calibrations as on all facts
   abbrev StandForDay : Type 0
   StandForDay =
       (p : Entry → Bool) → ((e : Entry) → p e ≡ true → is_of_day key.day e ≡ true) → ((e : Entry) → p e ≡ true → is_calibrating e.1.body ≡ true)
       → list_any p calibrations ≡ list_any p facts
 
-  -- .. for passed precision tests
+  -- the list of passed precision tests has the same result as all facts
   abbrev StandForTests : Type 0
   StandForTests = (p : Entry → Bool) → ((e : Entry) → p e ≡ true → is_passed_test e.1.body ≡ true) → list_any p tests ≡ list_any p facts
 
-  -- .. and for the first drift assessment of the day
+  -- a test that passes only failed drift assessments of the day finds the same one in their list as in all facts
   abbrev StandForDrifts : Type 0
   StandForDrifts =
       (p : Entry → Bool) → ((e : Entry) → p e ≡ true → is_of_day key.day e ≡ true) → ((e : Entry) → p e ≡ true → is_failed_drift e.1.body ≡ true)
@@ -74,7 +74,7 @@ module _ (facts calibrations tests drifts : List Entry) (key : Key) where
     tested_same : (instrument : ℕ) → is_tested tests key instrument ≡ is_tested facts key instrument
     tested_same instrument = of_tests _ (λ e t. passes instrument e.1.body (both (both t).0).0)
 
-    -- what lies between a reading and a fact of its day is of the day
+    -- a fact between the reading and a fact of its day is of the day
     between : (e : Entry) (later : Key) → later.day ≡ key.day → is_earlier key e.0 ≡ true → is_earlier e.0 later ≡ true → is_of_day key.day e ≡ true
     between e later same after before =
         eq-eqb e.0.day key.day (omega (arith, same, earlier_day key e.0 after, earlier_day e.0 later before))
@@ -103,9 +103,9 @@ module _ (facts calibrations tests drifts : List Entry) (key : Key) where
     apart_is_whole limit instrument ppm =
         rw (calibrated_same instrument, within_same instrument (limit + GAS_MARGIN), tested_same instrument, voided_same limit instrument ppm) refl
 
--- ---- one answer after the other
+-- ---- reasons one after the other
 
--- the first of three tests that fails gives the answer, and else what is left does
+-- the first of three tests that fails decides the result, and `left` is the result if none fails
 first_answer : (a b c : Bool) (left : Fitness) →
     unwrap_or (if not a then Some NoCalibration else if not b then Some GasTooHigh else if not c then Some NoPrecision else None) left
     ≡ (if not a then NoCalibration else if not b then GasTooHigh else if not c then NoPrecision else left)
@@ -114,7 +114,7 @@ first_answer true false c left = refl
 first_answer true true false left = refl
 first_answer true true true left = refl
 
--- what speaks against a reading gives its fitness, and else the drift assessments do
+-- the result is the reason against the reading if there is one, and otherwise that of the drift assessments
 refused_or_voided : (calibrations tests drifts : List Entry) (key : Key) (limit instrument ppm : ℕ) →
     unwrap_or (refusal_apart calibrations tests limit key instrument) (unless_voided (find (is_voided_by calibrations key instrument limit ppm) drifts))
     ≡ fitness_apart calibrations tests drifts limit key instrument ppm
@@ -122,22 +122,22 @@ refused_or_voided calibrations tests drifts key limit instrument ppm =
     first_answer (is_calibrated calibrations key instrument) (is_calibrated_within calibrations key instrument (limit + GAS_MARGIN))
     (is_tested tests key instrument) (unless_voided (find (is_voided_by calibrations key instrument limit ppm) drifts))
 
--- nothing is found that never passes
+-- a test that never passes finds nothing
 finds_none : (p : Entry → Bool) → ((e : Entry) → p e ≡ false) → (es : List Entry) → find p es ≡ None
 finds_none p never [] = refl
 finds_none p never (e ∷ es) = rw (never e) (finds_none p never es)
 
--- no drift voids a reading that isn't below the leak definition
+-- no drift voids a reading that is not below the leak definition
 pub never_voided : (calibrations drifts : List Entry) (key : Key) (limit instrument ppm : ℕ) → limit ≤ ppm →
     find (is_voided_by calibrations key instrument limit ppm) drifts ≡ None
 never_voided calibrations drifts key limit instrument ppm reached =
     let not_below : nat_lt ppm limit ≡ false = le-ltb ppm limit reached in
     finds_none (is_voided_by calibrations key instrument limit ppm) (λ e. rw not_below refl) drifts
 
--- ---- the facts of the day and the sorts judge
+-- ---- readings judged by the facts of the day and by the lists
 
 module _ (facts : List Entry) (key : Key) where
-  -- the facts of the day judge as all do, with all for the precision tests
+  -- the facts of the day, with all facts for the precision tests, judge as all facts do
   pub day_judges : (today : List Entry) (limit instrument ppm : ℕ) → today ≡ filter (is_of_day key.day) facts →
       fitness_apart today facts today limit key instrument ppm ≡ fitness_of facts limit key instrument ppm
   day_judges today limit instrument ppm is =
@@ -146,7 +146,7 @@ module _ (facts : List Entry) (key : Key) where
       (λ p day sort. list_any_narrowed p (is_of_day key.day) day facts) (λ p sort. refl) (λ p day sort. find_narrowed p (is_of_day key.day) day facts)
       limit instrument ppm)
 
-  -- .. and so do the sorts apart
+  -- the separate lists judge as all facts do
   pub sorts_judge : (apart : Apart) (limit instrument ppm : ℕ) → AreThoseOf facts apart →
       unwrap_or (refusal_apart apart.calibrations apart.tests limit key instrument)
       (unless_voided (find (is_voided_by apart.calibrations key instrument limit ppm) apart.drifts))
@@ -159,14 +159,14 @@ module _ (facts : List Entry) (key : Key) where
       (λ p day sort. ap (find p) those.drifts ∙ find_narrowed p (λ e. is_failed_drift e.1.body) sort facts)
       limit instrument ppm
 
--- ---- the latest precision test
+-- ---- the last precision test
 
--- of a test on this day, if there is one
+-- a test of a mapped option
 map_or_map : {X Y : Type 0} (f : Y → Bool) (g : X → Y) (o : Option X) → option_map_or f (option_map g o) false ≡ option_map_or (λ x. f (g x)) o false
 map_or_map f g None = refl
 map_or_map f g (Some x) = refl
 
--- the last one passed before the reading decides
+-- the last precision test before the reading that passed decides
 pub tested_by_last : (facts : List Entry) (key : Key) (instrument count : ℕ) → Ascends goes_first facts → count ≤ length facts →
     IsPartitionPoint (λ e. is_earlier e.0 key ≡ true) (λ e. is_earlier e.0 key ≡ false) facts count →
     option_map_or (λ tested. nat_le key.day (later_by 3 tested))
@@ -185,7 +185,7 @@ tested_by_last facts key instrument count up within parts =
 
 -- ---- the facts of a day
 
--- those of it stand behind the earlier ones and in front of the later ones
+-- the facts of a day are after the earlier ones and before the later ones
 pub day_part : (facts : List Entry) (day from count : ℕ) → from ≤ length facts → count ≤ length (drop from facts) →
     IsPartitionPoint (λ e. nat_lt e.0.day day ≡ true) (λ e. nat_lt e.0.day day ≡ false) facts from →
     IsPartitionPoint (λ e. nat_le e.0.day day ≡ true) (λ e. nat_le e.0.day day ≡ false) (drop from facts) count →

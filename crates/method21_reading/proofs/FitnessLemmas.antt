@@ -31,13 +31,13 @@ fitness_among_all limit facts key body fitness given =
     λ all instrument reads own.
     given ∙ ap (λ es. fitness_by limit es key body) own ∙ own_suffice limit all key body instrument reads
 
--- a calibration with a gas within the bound is one
+-- a calibration with a gas within the bound is a calibration
 pub within_calibrates : (instrument most : ℕ) (body : FactBody) →
     is_calibration_within instrument most body ≡ true → is_calibration instrument body ≡ true
 within_calibrates instrument most (Calibration of gas) e = (both e).0
 within_calibrates instrument most _ e = absurd (false≢true e)
 
--- .. of the day before the reading
+-- the same for an earlier calibration on the day of the reading
 within_calibrates_for : (key : Key) (instrument most : ℕ) (e : Entry) →
     (is_calibration_within instrument most e.1.body && nat_eq e.0.day key.day && is_earlier e.0 key) ≡ true →
     (is_calibration instrument e.1.body && nat_eq e.0.day key.day && is_earlier e.0 key) ≡ true
@@ -46,21 +46,21 @@ within_calibrates_for key instrument most e t =
     let on_day = both parts.0 in
     and_from _ _ (and_from _ _ (within_calibrates instrument most e.1.body on_day.0) on_day.1) parts.1
 
--- a reading before which such a one was made is calibrated for
+-- if an earlier calibration of the day used a gas within the bound, some earlier calibration of the day exists
 within_is_calibrated : (calibrations : List Entry) (key : Key) (instrument most : ℕ) →
     is_calibrated_within calibrations key instrument most ≡ true → is_calibrated calibrations key instrument ≡ true
 within_is_calibrated calibrations key instrument most =
     list_any_implied (λ e. is_calibration_within instrument most e.1.body && nat_eq e.0.day key.day && is_earlier e.0 key)
     (λ e. is_calibration instrument e.1.body && nat_eq e.0.day key.day && is_earlier e.0 key) (within_calibrates_for key instrument most) calibrations
 
--- .. so that the precision tests alone can speak against it
+-- after such a calibration only the precision tests can speak against the reading
 pub refusal_within : (calibrations tests : List Entry) (limit : ℕ) (key : Key) (instrument : ℕ) (tested : Bool) →
     is_calibrated_within calibrations key instrument (limit + GAS_MARGIN) ≡ true → tested ≡ is_tested tests key instrument →
     (if not tested then Some NoPrecision else None) ≡ refusal_apart calibrations tests limit key instrument
 refusal_within calibrations tests limit key instrument tested within is =
     rw (within_is_calibrated calibrations key instrument (limit + GAS_MARGIN) within, within, sym is) refl
 
--- .. where the least gas tells what it is
+-- the reason against a reading that has an earlier calibration of the day, if the least gas decides whether one is within the bound
 pub refusal_by : (calibrations tests : List Entry) (limit : ℕ) (key : Key) (instrument gas : ℕ) (tested : Bool) →
     is_calibrated calibrations key instrument ≡ true → nat_le gas (limit + GAS_MARGIN) ≡ is_calibrated_within calibrations key instrument (limit + GAS_MARGIN) →
     tested ≡ is_tested tests key instrument →

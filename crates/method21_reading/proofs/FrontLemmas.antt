@@ -1,4 +1,4 @@
--- Of an ordered list, what passes a test stands in front of the rest, or in one part; and the last that passes decides what grows.
+-- When the elements of an ordered list that pass a test are a prefix or another part of it, and when the last one that passes decides.
 use Rattle.std.proofs.Common.{◌≡◌, ℕ, zero, suc, ◌+◌, ◌<◌, ◌≤◌, Bool, true, false, ◌&&◌, ◌||◌, cond, Option, Some, None, List, [], ◌∷◌, ◌++◌, length}
 use Rattle.std.proofs.Common.{take, drop, filter, get_or, refl, sym, ap, ◌∙◌, subst, inl, inr, arith}
 use Rattle.std.specs.List.{AllByRecursion, AllWithin, list_any}
@@ -12,7 +12,7 @@ use Rattle.list_words.specs.Words.{last_such}
 use Rattle.list_words.proofs.CutLemmas.{filter_none, filter_all}
 use Rattle.list_words.proofs.WordLemmas.{last_such-cons, option_or-None}
 
--- what holds of each element holds at a place, and back
+-- a property of each element holds of the element at a place
 at_place : {X : Type 0} (P : X → Type 0) (xs : List X) (j : ℕ) (d : X) → AllByRecursion P xs → j < length xs → P (get_or xs j d)
 at_place P [] j d all within = absurd (omega arith)
 at_place P (x ∷ xs) zero d all within = all.0
@@ -22,7 +22,7 @@ by_places : {X : Type 0} (P : X → Type 0) (xs : List X) → ((k : ℕ) (d : X)
 by_places P [] each = tt
 by_places P (x ∷ xs) each = (each 0 x (omega arith), by_places P xs (λ k d within. each (suc k) d (omega (arith, within))))
 
--- where all that is before what passes does, what passes of an ascending list stands in front
+-- in an ascending list, a test that passes each element before a passing one passes exactly a prefix
 pub stands_in_front : {X : Type 0} (before : X → X → Bool) (p : X → Bool) → ((x y : X) → before x y ≡ true → p y ≡ true → p x ≡ true) →
     (xs : List X) → Ascends before xs → IsPartitionedBy p xs
 stands_in_front before p closed [] up i j d le within t = absurd (omega arith)
@@ -33,7 +33,7 @@ stands_in_front before p closed (x ∷ xs) up (suc i) zero d le within t = absur
 stands_in_front before p closed (x ∷ xs) up (suc i) (suc j) d le within t =
     stands_in_front before p closed xs up.1 i j d (omega (arith, le)) (omega (arith, within)) t
 
--- a part of an ascending list ascends
+-- a suffix of an ascending list ascends
 pub ascends_drop : {X : Type 0} (before : X → X → Bool) (n : ℕ) (xs : List X) → Ascends before xs → Ascends before (drop n xs)
 ascends_drop before zero xs up = up
 ascends_drop before (suc n) [] up = up
@@ -47,7 +47,7 @@ all_filter P p (x ∷ xs) all =
       | inr f ↦ rw f (all_filter P p xs all.1)
     ]
 
--- .. and so does what of it passes a test
+-- a filtered ascending list ascends
 pub ascends_filter : {X : Type 0} (before : X → X → Bool) (p : X → Bool) (xs : List X) → Ascends before xs → Ascends before (filter p xs)
 ascends_filter before p [] up = tt
 ascends_filter before p (x ∷ xs) up =
@@ -56,7 +56,7 @@ ascends_filter before p (x ∷ xs) up =
       | inr f ↦ rw f (ascends_filter before p xs up.1)
     ]
 
--- what passes in front, and nowhere else, is that front
+-- if exactly the first `count` elements pass, they are the filtered list
 pub filter_front : {X : Type 0} (p : X → Bool) (xs : List X) (count : ℕ) → count ≤ length xs → AllWithin (λ x. p x ≡ true) xs 0 count →
     AllWithin (λ x. p x ≡ false) xs count (length xs) → filter p xs ≡ take count xs
 filter_front p xs count within here late =
@@ -71,7 +71,7 @@ filter_front p xs count within here late =
     ap (filter p) (sym (take-append-drop count xs)) ∙ filter-append p front rest ∙ ap (λ ys. filter p front ++ ys) none_late
     ∙ append-nil (filter p front) ∙ all_here
 
--- where nothing of a front passes, what passes stands behind it
+-- if none of the first elements passes, the filtered list is that of the rest
 pub filter_behind : {X : Type 0} (p : X → Bool) (xs : List X) (from : ℕ) → from ≤ length xs → AllWithin (λ x. p x ≡ false) xs 0 from →
     filter p xs ≡ filter p (drop from xs)
 filter_behind p xs from within early =
@@ -81,7 +81,7 @@ filter_behind p xs from within early =
     (λ k d l. let at : k < from = omega (arith, l, long) in rw (get_or-take from xs k d at) (early k d (omega arith) at))) in
     ap (filter p) (sym (take-append-drop from xs)) ∙ filter-append p front (drop from xs) ∙ ap (λ ys. ys ++ filter p (drop from xs)) none_early
 
--- two tests, of which one is known
+-- a conjunction whose second test is known
 and_passed : (a b : Bool) → b ≡ true → (a && b) ≡ a
 and_passed true b t = t
 and_passed false b t = refl
@@ -98,7 +98,7 @@ or_true : (a : Bool) → (a || true) ≡ true
 or_true true = refl
 or_true false = refl
 
--- the last that passes both tests is the last that passes one, of those that pass the other
+-- the last element that passes both tests is the last that passes one, among those that pass the other
 pub last_such_both : {X : Type 0} (p q : X → Bool) (xs : List X) → last_such (λ x. p x && q x) xs ≡ last_such p (filter q xs)
 last_such_both p q [] = refl
 last_such_both p q (x ∷ xs) =
@@ -116,7 +116,7 @@ last_such_both p q (x ∷ xs) =
 same_some : {X : Type 0} (x y : X) → Some x ≡ Some y → x ≡ y
 same_some x y e = cc
 
--- what holds of each holds of the last that passes
+-- a property of an optional element and of another one holds of the choice
 holds_either : {X : Type 0} (P : X → Type 0) (x y : X) (o : Option X) (b : Bool) → (o ≡ Some y → P y) → P x →
     option_or o (cond b (Some x) None) ≡ Some y → P y
 holds_either P x y None true rest here e = subst P (same_some x y e) here
@@ -128,7 +128,7 @@ last_holds P p [] y all e = cc
 last_holds P p (x ∷ xs) y all e =
     holds_either P x y (last_such p xs) (p x) (λ found. last_holds P p xs y all.1 found) all.0 (sym (last_such-cons p x xs) ∙ e)
 
--- one element in front of others: where the last of these passes, it decides
+-- one more element before others: if some of those pass p, the last of them decides
 latest_step : {X : Type 0} (r : X → Bool) (x : X) (b any : Bool) (o : Option X) → any ≡ option_map_or r o false →
     ((y : X) → o ≡ Some y → r x ≡ true → r y ≡ true) → ((b && r x) || any) ≡ option_map_or r (option_or o (cond b (Some x) None)) false
 latest_step r x true any None is grows = rw is (or_false (r x))
@@ -139,7 +139,7 @@ latest_step r x b any (Some y) is grows =
       | inr f ↦ ap (λ a. a || any) (and_failed b (r x) f) ∙ is
     ]
 
--- where what a test tells grows along an ascending list, the last one alone is asked
+-- if r passes each element after one that it passes, the last element that passes p decides whether some element passes both
 pub latest_decides : {X : Type 0} (before : X → X → Bool) (p r : X → Bool) → ((x y : X) → before x y ≡ true → r x ≡ true → r y ≡ true) →
     (xs : List X) → Ascends before xs → list_any (λ x. p x && r x) xs ≡ option_map_or r (last_such p xs) false
 latest_decides before p r grows [] up = refl
@@ -148,7 +148,7 @@ latest_decides before p r grows (x ∷ xs) up =
     (λ y found t. grows x y (last_holds (λ z. before x z ≡ true) p xs y up.0 found) t)
     ∙ ap (λ o. option_map_or r o false) (sym (last_such-cons p x xs))
 
--- where what passes stands in front, the first that fails parts it from the rest
+-- if the passing elements are a prefix, a place with only passing elements before it and a failing one at it is its end
 pub parted_at : {X : Type 0} (p : X → Bool) (xs : List X) (count : ℕ) → IsPartitionedBy p xs → AllWithin (λ x. p x ≡ true) xs 0 count →
     ((d : X) → count < length xs → p (get_or xs count d) ≡ false) → IsPartitionPoint (λ x. p x ≡ true) (λ x. p x ≡ false) xs count
 parted_at p xs count parted passed failed = (
@@ -159,7 +159,7 @@ parted_at p xs count parted passed failed = (
   ],
 )
 
--- what holds of the element at a place within a list holds whatever would stand in for it
+-- a property of the element at a place within the list does not depend on the default
 pub same_within : {X : Type 0} (P : X → Type 0) (xs : List X) (count : ℕ) (x d : X) → x ≡ get_or xs count x → count < length xs → P x → P (get_or xs count d)
 same_within P [] count x d is within h = absurd (omega arith)
 same_within P (y ∷ ys) zero x d is within h = subst P is h

@@ -1,4 +1,4 @@
--- The least gas beside the last calibration of the instrument tells of all of its day before a place.
+-- The least gas kept for the last calibration of an instrument is that of all its calibrations of the day before a place.
 use Rattle.std.proofs.Common.{◌≡◌, ℕ, ◌+◌, ◌-◌, ◌<◌, ◌≤◌, min, Bool, true, false, ◌||◌, nat_eq, nat_lt, nat_le, Option, Some, None, List, [], ◌∷◌, ◌++◌}
 use Rattle.std.proofs.Common.{length, take, filter, get_or, refl, sym, ap, ◌∙◌, subst, inl, inr, arith}
 use Rattle.std.specs.List.{AllWithin, list_any}
@@ -29,7 +29,7 @@ module _ (facts : List Entry) (count place instrument day : ℕ) (bound : place 
   abbrev OnlyCalibrations : (Entry → Bool) → Type 0
   OnlyCalibrations p = (e : Entry) → p e ≡ true → is_calibration instrument e.1.body ≡ true
 
-  -- .. and only facts of the day
+  -- only facts of the day pass
   abbrev OnlyOfDay : (Entry → Bool) → Type 0
   OnlyOfDay p = (e : Entry) → p e ≡ true → nat_eq e.0.day day ≡ true
 
@@ -42,7 +42,7 @@ module _ (facts : List Entry) (count place instrument day : ℕ) (bound : place 
   pub none_in_front : (p : Entry → Bool) → OnlyCalibrations p → place ≡ 0 → list_any p (take count facts) ≡ false
   none_in_front p only is = to_place p only ∙ ap (λ n. list_any p (take n facts)) is
 
-  -- the last one is of an earlier day
+  -- the last calibration is of an earlier day
   pub none_of_day : (p : Entry → Bool) → OnlyCalibrations p → OnlyOfDay p → Ascends goes_first facts → 0 < place →
       ((d : Entry) → (get_or facts (place - 1) d).0.day < day) → list_any p (take count facts) ≡ false
   none_of_day p only of_day up some earlier =
@@ -58,14 +58,14 @@ module _ (facts : List Entry) (count place instrument day : ℕ) (bound : place 
 
   module _ (d : Entry) (some : 0 < place) (last : is_calibration instrument (get_or facts (place - 1) d).1.body ≡ true)
       (here : (get_or facts (place - 1) d).0.day ≡ day) where
-    -- the last one is of the day
+    -- the last calibration is of the day
     pub some_of_day : list_any (calibrates_on instrument day) (take count facts) ≡ true
     some_of_day =
         to_place (calibrates_on instrument day) (λ e t. (both t).0)
         ∙ any_in_front (calibrates_on instrument day) facts (place - 1) place d (omega (arith, some)) (omega (arith, bound, within))
         (and_from _ _ last (eq-eqb (get_or facts (place - 1) d).0.day day here))
 
-    -- .. and the gas beside it is the least
+    -- the gas kept for it is the least of the day
     pub least_of_day : (least : List ℕ) (gas most : ℕ) → AreLeast facts least → place ≤ length least → gas ≡ get_or least (place - 1) gas →
         nat_le gas most ≡ list_any (calibrates_within_on instrument most day) (take count facts)
     least_of_day least gas most sound known is =
@@ -79,11 +79,11 @@ module _ (facts : List Entry) (count place instrument day : ℕ) (bound : place 
         ∙ ap (λ n. list_any (calibrates_within_on instrument most day) (take n facts)) back
         ∙ sym (to_place (calibrates_within_on instrument most day) (λ e t. within_calibrates instrument most e.1.body (both t).0))
 
--- a day that is not after another and not that day is before it
+-- a day that is not after another one and not equal to it is before it
 pub earlier_than : (x day : ℕ) → nat_le x day ≡ true → nat_eq x day ≡ false → x < day
 earlier_than x day le differ = grind (arith, nat_tests)
 
--- ---- one calibration more
+-- ---- one more calibration
 
 or_last : (a b : Bool) → (a || (b || false)) ≡ (a || b)
 or_last true b = refl
@@ -120,7 +120,7 @@ no_calibration : (instrument : ℕ) (body : FactBody) → calibration_in body �
 no_calibration instrument (Calibration of known) is = cc
 no_calibration instrument _ is = refl
 
--- the least gas up to a calibration is the smaller of its own and the least before it
+-- the least gas up to a calibration is the smaller of its own gas and the least one before it
 pub least_up_to : (facts : List Entry) (at instrument gas day : ℕ) (other : Option ℕ) → at < length facts →
     ((d : Entry) → calibration_in (get_or facts at d).1.body ≡ Some (instrument, gas)) → ((d : Entry) → (get_or facts at d).0.day ≡ day) →
     ((most : ℕ) → option_map_or (λ g. nat_le g most) other false ≡ list_any (calibrates_within_on instrument most day) (take at facts)) →
@@ -143,7 +143,7 @@ least_up_to facts at instrument gas day other within is of before =
 pub least_of_none : (facts : List Entry) (at gas : ℕ) → ((d : Entry) → calibration_in (get_or facts at d).1.body ≡ None) → IsLeastAt facts at gas
 least_of_none facts at gas none = λ number most d t. absurd (false≢true (sym (no_calibration number (get_or facts at d).1.body (none d)) ∙ t))
 
--- one least gas more
+-- one more least gas
 pub least_more : (facts : List Entry) (least : List ℕ) (gas : ℕ) → length least < length facts → AreLeast facts least → IsLeastAt facts (length least) gas →
     AreLeast facts (least ++ gas ∷ [])
 least_more facts least gas short sound here = record {

@@ -5,21 +5,21 @@ use Rattle.std.proofs.lemmas.Bool.Decides.{nat_tests}
 use Rattle.ldar_days.specs.Calendar.{first_day, month_of, end_by, day_at, later_by}
 use Rattle.ldar_days.proofs.Months.{first_day-lt, month_length_bounds}
 
--- the month of a later day is no earlier one
+-- the month of a later day is not earlier
 month_rises : (a b : ℕ) → a ≤ b → month_of a ≤ month_of b
 unfolding month_of
 month_rises a b le = grind (arith, nat_tests)
 
--- months begin with January 1970
+-- no month is before January 1970
 month_low : (n : ℕ) → 23_640 ≤ month_of n
 unfolding month_of
 month_low n = grind (arith, nat_tests)
 
--- within a month
+-- for two days of the same month
 place_rises : (m k a b : ℕ) → a ≤ b → end_by (day_at (m + k) (a - first_day m)) ≤ end_by (day_at (m + k) (b - first_day m))
 place_rises m k a b le = omega (arith, le)
 
--- the sum of a later day is no earlier one
+-- the sum of a later day is not earlier
 pub later_rises : (k a b : ℕ) → a ≤ b → later_by k a ≤ later_by k b
 later_rises k a b le =
     elim (cases_lt (month_of a) (month_of b)) [

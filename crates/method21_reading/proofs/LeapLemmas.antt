@@ -1,4 +1,4 @@
--- Leaps pass over no drift assessment that voids a reading.
+-- Leaps skip no drift assessment that voids a reading.
 use Rattle.std.proofs.Common.{◌≡◌, ℕ, ◌+◌, ◌-◌, ◌*◌, ◌<◌, ◌≤◌, Bool, true, false, not, ◌&&◌, nat_eq, Option, Some, None, List, length, set, get_or}
 use Rattle.std.proofs.Common.{refl, sym, ap, ◌∙◌, subst, inl, inr, arith, mul-le-mul_right, mul-le-mul_left, mul-lt-mul_of_pos_right}
 use Rattle.std.specs.Prelude.{unwrap_or}
@@ -14,9 +14,9 @@ use Rattle.method21_reading.specs.declared.leaps.Leap.{Leap}
 use Rattle.method21_reading.specs.Leaps.{is_clear, failed_in, NonePast, LeadsOver, LeapsTo, LeapsFrom, leap_in}
 use Rattle.method21_reading.proofs.PlaceLemmas.{fails_right, fails_left, not_is_true}
 
--- ---- one assessment and another
+-- ---- two assessments
 
--- a reading for which one leaves room has room by another that drifted no further: v, s and w, t are their known values and sums
+-- if an assessment does not void a reading, nor does one that drifted no further; their known values and sums are v, s and w, t
 carried : (limit ppm v s w t : ℕ) → 0 < v → ppm * (3 * v) ≤ limit * s → s * (3 * w) ≤ 3 * v * t → ppm * (3 * w) ≤ limit * t
 carried limit ppm v s w t pos room no_further =
     elim (cases_lt (limit * t) (ppm * (3 * w))) [
@@ -28,7 +28,7 @@ carried limit ppm v s w t pos room no_further =
       | inr le ↦ le
     ]
 
--- a known value from which a mean has drifted is not 0
+-- the known value of a failed drift assessment is not 0
 not_zero : (value sum : ℕ) → has_drifted value sum ≡ true → 0 < value
 not_zero value sum e = let lt = ltb-true (3 * value) ((3 * value - sum) * 10) e in omega (arith, lt)
 
@@ -48,13 +48,13 @@ some_three a b c d e f is = (
 to_not : (b : Bool) → b ≡ false → not b ≡ true
 to_not b f = rw f refl
 
--- one that is clear voids nothing
+-- an assessment that does not void a reading is not past it
 pub clear_not_past : (instrument limit ppm : ℕ) (body : FactBody) → is_clear instrument limit ppm body ≡ true → is_drift_past instrument limit ppm body ≡ false
 clear_not_past instrument limit ppm (Drift of value readings) e =
     fails_right (nat_eq of instrument && has_drifted value (sum_of readings)) _ (not_is_true _ (both e).1)
 clear_not_past instrument limit ppm _ e = refl
 
--- where one that drifted further than none between them is clear, none between them voids the reading
+-- if an assessment does not void a reading, nor does one that drifted no further
 between_not_past : (instrument limit ppm of value : ℕ) (readings : ℕ × ℕ × ℕ) (body : FactBody) →
     is_clear instrument limit ppm (Drift of value readings) ≡ true → is_drift_past of (3 * value) (sum_of readings) body ≡ false →
     is_drift_past instrument limit ppm body ≡ false
@@ -74,7 +74,7 @@ between_not_past instrument limit ppm of value readings (Drift other known found
     ]
 between_not_past instrument limit ppm of value readings _ clear no_further = refl
 
--- where one that drifted further is clear, so is the other
+-- if an assessment that drifted further does not void a reading, nor does the other one
 further_clear : (instrument limit ppm of value : ℕ) (readings : ℕ × ℕ × ℕ) (body : FactBody) → has_drifted value (sum_of readings) ≡ true →
     is_drift_past of (3 * value) (sum_of readings) body ≡ true → is_clear instrument limit ppm body ≡ true →
     is_clear instrument limit ppm (Drift of value readings) ≡ true
@@ -88,7 +88,7 @@ further_clear instrument limit ppm of value readings (Drift other known found) d
     (carried limit ppm known (sum_of found) value (sum_of readings) (not_zero known (sum_of found) own.1) room (omega (arith, more)))))
 further_clear instrument limit ppm of value readings _ drifted further clear = absurd (false≢true clear)
 
--- what is read of a failed drift assessment
+-- the numbers of a failed drift assessment
 pub drift_in : (body : FactBody) (of limit sum : ℕ) → failed_in body ≡ Some (of, limit, sum) →
     (value : ℕ) × (readings : ℕ × ℕ × ℕ) × (body ≡ Drift of value readings) × (has_drifted value (sum_of readings) ≡ true)
     × (limit ≡ 3 * value) × (sum ≡ sum_of readings)
@@ -112,7 +112,7 @@ no_drift_in instrument limit ppm _ is = refl
 
 -- ---- places
 
--- what holds of two stretches holds of both together
+-- a property on two consecutive ranges holds on both together
 pub joined_within : {X : Type 0} (P : X → Type 0) (xs : List X) (low mid high : ℕ) → AllWithin P xs low mid → AllWithin P xs mid high → AllWithin P xs low high
 joined_within P xs low mid high first second k d above below =
     elim (cases_lt k mid) [
@@ -120,7 +120,7 @@ joined_within P xs low mid high first second k d above below =
       | inr le ↦ second k d le below
     ]
 
--- a leap to the first that drifted further, and on from there
+-- the leap to the first assessment that drifted further, with a jump from there
 pub leaps_further : (facts : List Entry) (at of value : ℕ) (readings : ℕ × ℕ × ℕ) (next jump depth : ℕ) →
     ((d : Entry) → (get_or facts at d).1.body ≡ Drift of value readings) → has_drifted value (sum_of readings) ≡ true →
     at + 1 ≤ next → next ≤ length facts → next ≤ jump → jump ≤ length facts → NonePast of (3 * value) (sum_of readings) facts (at + 1) next →
@@ -152,7 +152,7 @@ leaps_further facts at of value readings next jump depth is drifted later bound 
           (here, joined_within (λ e. is_drift_past instrument limit ppm e.1.body ≡ false) facts at next jump (over instrument limit ppm d here) rest.1);
     }
 
--- a leap from what is no failed drift assessment
+-- the leap from a fact that is no failed drift assessment
 pub leaps_on : (facts : List Entry) (at depth : ℕ) → at < length facts →
     ((d : Entry) (instrument limit ppm : ℕ) → is_clear instrument limit ppm (get_or facts at d).1.body ≡ false) →
     LeapsTo facts at (record { next = at + 1; jump = length facts; depth = depth })
@@ -163,20 +163,20 @@ leaps_on facts at depth within never = record {
   jump = λ instrument limit ppm d short clear. absurd (omega (arith, short));
 }
 
--- where nothing is jumped over
+-- a jump of length 0 skips nothing
 pub leads_nowhere : (facts : List Entry) (place : ℕ) → LeadsOver facts place place
 leads_nowhere facts place = λ instrument limit ppm d within clear. (clear, λ k e above below. absurd (omega (arith, above, below)))
 
 module _ (facts : List Entry) (leaps : List Leap) (from : ℕ) (sound : LeapsFrom facts leaps from) where
-  -- the leap from a place within
+  -- the leap from a place within the list
   leap_within : (place : ℕ) → from ≤ place → place < length facts → LeapsTo facts place (leap_in leaps place)
   leap_within place above within = sound.each place _ above within
 
-  -- .. and that from the end
+  -- the jump at the end
   jump_at_end : (place : ℕ) → length facts ≤ place → (leap_in leaps place).jump ≡ length facts
   jump_at_end place past = ap (λ l. l.jump) (get_or_past leaps place _ (omega (arith, past, sound.all))) ∙ sound.all
 
-  -- two jumps in a row
+  -- two jumps, one after the other
   pub two_jumps : from ≤ length facts →
       let far = (leap_in leaps from).jump in let farther = (leap_in leaps far).jump in
       ((from ≤ farther) × (farther ≤ length facts)) × LeadsOver facts from farther
@@ -205,7 +205,7 @@ module _ (facts : List Entry) (leaps : List Leap) (from : ℕ) (sound : LeapsFro
             ((omega (arith, within, end), omega (arith, end)), λ instrument limit ppm d short clear. absurd (omega (arith, short, end)))
       ]
 
--- one leap more
+-- one more leap
 pub leaps_more : (facts : List Entry) (leaps : List Leap) (at : ℕ) (leap : Leap) → at < length facts → LeapsFrom facts leaps (at + 1) → LeapsTo facts at leap →
     LeapsFrom facts (set leaps at leap) at
 leaps_more facts leaps at leap within sound to = record {
@@ -220,6 +220,6 @@ leaps_more facts leaps at leap within sound to = record {
   ];
 }
 
--- leaps from a place on are leaps from a later one on
+-- the leaps from a place on include those from a later place on
 pub leaps_later : (facts : List Entry) (leaps : List Leap) (from : ℕ) → LeapsFrom facts leaps 0 → LeapsFrom facts leaps from
 leaps_later facts leaps from sound = record { all = sound.all; each = λ at d above below. sound.each at d (omega arith) below }

@@ -1,4 +1,4 @@
--- A place that parts a list, found between two others.
+-- A partition point of a list, found between two places.
 use Rattle.std.proofs.Common.{◌≡◌, ℕ, ◌+◌, ◌-◌, ◌<◌, ◌≤◌, Bool, true, false, nat_lt, nat_le, List, length, take, drop, get_or}
 use Rattle.std.proofs.Common.{refl, sym, ap, ◌∙◌, subst, inl, inr, arith}
 use Rattle.std.specs.List.{AllWithin}
@@ -23,18 +23,18 @@ module _ {X : Type 0} (p : X → Bool) (xs : List X) (low high : ℕ) (rises : l
   part_length : length part ≡ high - low
   part_length = length-take-le (high - low) (drop low xs) (omega (arith, rises, within, length-drop low xs))
 
-  -- an element of the part stands further on in the list
+  -- an element of the part is further on in the list
   part_at : (i : ℕ) (d : X) → i < high - low → get_or part i d ≡ get_or xs (low + i) d
   part_at i d l = get_or-take (high - low) (drop low xs) i d l ∙ get_or-drop low xs i d
 
-  -- where what passes stands in front, it does so in each part
+  -- if the passing elements of the list are a prefix, those of the part are
   pub parted_part : IsPartitionedBy p xs → IsPartitionedBy p part
   parted_part parted i j d le l t =
       let at : j < high - low = omega (arith, l, part_length) in
       let there : p (get_or xs (low + j) d) ≡ true = ap p (sym (part_at j d at)) ∙ t in
       ap p (part_at i d (omega (arith, le, at))) ∙ parted (low + i) (low + j) d (omega (arith, le)) (omega (arith, at, rises, within)) there
 
-  -- the place that parts the part between what passes and what fails parts the list
+  -- a partition point of the part gives one of the list, if all elements before the part pass and all after it fail
   pub parted_whole : (place : ℕ) → place ≤ length part → AllWithin (λ x. p x ≡ true) xs 0 low → AllWithin (λ x. p x ≡ false) xs high (length xs)
       → IsPartitionPoint (λ x. p x ≡ true) (λ x. p x ≡ false) part place
       → IsPartitionPoint (λ x. p x ≡ true) (λ x. p x ≡ false) xs (low + place)
@@ -60,7 +60,7 @@ module _ {X : Type 0} (p : X → Bool) (xs : List X) (low high : ℕ) (rises : l
         ],
       )
 
--- the same of a front, which is the part from the first element on
+-- the same for a prefix
 module _ {X : Type 0} (p : X → Bool) (xs : List X) (high : ℕ) (within : high ≤ length xs) where
   no_less : high - 0 ≡ high
   no_less = omega arith
@@ -81,7 +81,7 @@ module _ {X : Type 0} (p : X → Bool) (xs : List X) (high : ℕ) (within : high
       (λ k d above below. absurd (omega (arith, below))) behind
       (subst (λ ys. IsPartitionPoint (λ x. p x ≡ true) (λ x. p x ≡ false) ys place) as_part parted))
 
--- facts in key order: those of earlier days stand in front, and those up to a day
+-- in key order, the facts of earlier days are a prefix, and so are those up to a day
 pub before_in_front : (day : ℕ) (facts : List Entry) → Ascends goes_first facts → IsPartitionedBy (λ e. nat_lt e.0.day day) facts
 before_in_front day facts up =
     stands_in_front goes_first (λ e. nat_lt e.0.day day)
@@ -92,7 +92,7 @@ up_to_in_front day facts up =
     stands_in_front goes_first (λ e. nat_le e.0.day day)
     (λ x y before t. le-leb x.0.day day (omega (arith, earlier_day x.0 y.0 before, leb-true y.0.day day t))) facts up
 
--- where one is of a later day than the given, so are those behind it
+-- if a fact is of a later day than the given one, so are the facts after it
 pub later_behind : (day high : ℕ) (facts : List Entry) → Ascends goes_first facts → ((d : Entry) → nat_le (get_or facts high d).0.day day ≡ false)
     → AllWithin (λ e. nat_lt day e.0.day ≡ true) facts high (length facts)
 later_behind day high facts up late k d above below =

@@ -8,7 +8,7 @@ use Rattle.ldar_law.proofs.WeakOrder.{weak_earlier}
 use Rattle.list_words.proofs.Narrowing.{find_agree}
 use Rattle.method21_reading.specs.Readings.{is_before, earlier_of, nearer, is_voided_until}
 
--- what implies the other side of an or adds nothing
+-- a disjunction whose second part implies the first one
 or_right_only : (a b : Bool) → (a ≡ true → b ≡ true) → b ≡ (a || b)
 or_right_only true b implies = implies refl
 or_right_only false b implies = refl
@@ -18,7 +18,7 @@ or_left_only true b implies = refl
 or_left_only false true implies = implies refl
 or_left_only false false implies = refl
 
--- a key that is not after another is before all that the other is before
+-- if one key is not after another, it is before every key that the other one is before
 carried : (k n later : Key) → is_earlier k n ≡ false → is_earlier k later ≡ true → is_earlier n later ≡ true
 carried k n later not_before before =
     elim (cases_Bool (is_earlier n later)) [
@@ -26,7 +26,7 @@ carried k n later not_before before =
       | inr t ↦ absurd (false≢true (sym not_before ∙ (weak_earlier (λ key. key)).carries k later n before t))
     ]
 
--- the earlier of two keys is before a third where one of them is
+-- the earlier of two keys is before a third one exactly if one of them is
 before_either : (next : Option Key) (k later : Key) → is_before (earlier_of next k) later ≡ (is_before next later || is_earlier k later)
 before_either None k later = refl
 before_either (Some n) k later =
@@ -43,7 +43,7 @@ or_assoc : (a b c : Bool) → ((a || b) || c) ≡ (a || (b || c))
 or_assoc true b c = refl
 or_assoc false b c = refl
 
--- one fact more
+-- one more fact
 nearer_is : (key : Key) (instrument : ℕ) (next : Option Key) (e : Entry) (later : Key) → is_before (nearer key instrument next e) later
     ≡ (is_before next later || (is_calibration instrument e.1.body && is_earlier key e.0 && is_earlier e.0 later))
 nearer_is key instrument next e later =
@@ -63,7 +63,7 @@ nearer_step key instrument next e es later =
 pub nearest_of_all : (next : Option Key) (later : Key) → (is_before next later || false) ≡ is_before next later
 nearest_of_all next later = sym (or_false (is_before next later))
 
--- the next calibration alone says what lies between
+-- the next calibration decides whether a calibration is between
 pub voided_same : (calibrations drifts : List Entry) (next : Option Key) (key : Key) (instrument limit ppm : ℕ) →
     ((later : Key) → is_calibrated_before calibrations key instrument later ≡ is_before next later) →
     find (is_voided_until next key instrument limit ppm) drifts ≡ find (is_voided_by calibrations key instrument limit ppm) drifts

@@ -22,19 +22,19 @@ pub not_is_false : (a : Bool) → not a ≡ false → a ≡ true
 not_is_false true e = refl
 not_is_false false e = absurd (false≢true (sym e))
 
--- a test with one that fails fails
+-- a conjunction fails if its second test does
 pub fails_right : (a b : Bool) → b ≡ false → (a && b) ≡ false
 fails_right a b f = rw f (and_false a)
 
 pub fails_left : (a b : Bool) → a ≡ false → (a && b) ≡ false
 fails_left a b f = rw f refl
 
--- what fails where another passes
+-- a test that implies a failing one fails
 pub fails_where : (a b : Bool) → (a ≡ true → b ≡ true) → b ≡ false → a ≡ false
 fails_where true b implies f = absurd (false≢true (sym f ∙ implies refl))
 fails_where false b implies f = refl
 
--- where nothing from one place to another passes, the fronts up to both are the same to the test
+-- if no element from one place to another passes, the test has the same result on the prefixes up to both
 pub any_front : {X : Type 0} (p : X → Bool) (xs : List X) (low high : ℕ) → low ≤ high → high ≤ length xs → AllWithin (λ x. p x ≡ false) xs low high →
     list_any p (take high xs) ≡ list_any p (take low xs)
 any_front p xs zero zero le within none = refl
@@ -47,7 +47,7 @@ any_front p (x ∷ xs) (suc low) (suc high) le within none =
     ap (λ b. p x || b)
     (any_front p xs low high (omega (arith, le)) (omega (arith, within)) (λ k d a b. none (suc k) d (omega (arith, a)) (omega (arith, b))))
 
--- where nothing of a front passes, the rest is the same to the test as the whole
+-- if no element of a prefix passes, the test has the same result on the rest as on the whole list
 pub any_behind : {X : Type 0} (p : X → Bool) (xs : List X) (from : ℕ) → from ≤ length xs → AllWithin (λ x. p x ≡ false) xs 0 from →
     list_any p xs ≡ list_any p (drop from xs)
 any_behind p xs zero within none = refl
@@ -55,7 +55,7 @@ any_behind p [] (suc from) within none = absurd (omega (arith, within))
 any_behind p (x ∷ xs) (suc from) within none =
     rw (none 0 x (omega arith) (omega arith)) (any_behind p xs from (omega (arith, within)) (λ k d a b. none (suc k) d (omega arith) (omega (arith, b))))
 
--- some element that passes a second test passes a first one
+-- some element passes both tests exactly if one passes the first test among those that pass the second
 pub any_both : {X : Type 0} (p q : X → Bool) (xs : List X) → list_any (λ x. p x && q x) xs ≡ list_any p (filter q xs)
 any_both p q [] = refl
 any_both p q (x ∷ xs) =
@@ -64,7 +64,7 @@ any_both p q (x ∷ xs) =
       | inr f ↦ rw (f, and_false (p x)) (any_both p q xs)
     ]
 
--- an element at a place of a front passes
+-- some element of a prefix passes if the one at a place of it does
 pub any_in_front : {X : Type 0} (p : X → Bool) (xs : List X) (k n : ℕ) (d : X) → k < n → n ≤ length xs → p (get_or xs k d) ≡ true → list_any p (take n xs) ≡ true
 any_in_front p xs k zero d lt within t = absurd (omega (arith, lt))
 any_in_front p [] k (suc n) d lt within t = absurd (omega (arith, within))
@@ -75,13 +75,13 @@ any_in_front p (x ∷ xs) (suc k) (suc n) d lt within t =
       | inr f ↦ rw f (any_in_front p xs k n d (omega (arith, lt)) (omega (arith, within)) t)
     ]
 
--- none is found where none passes
+-- nothing is found if no element passes
 pub find_none : {X : Type 0} (p : X → Bool) (xs : List X) → AllWithin (λ x. p x ≡ false) xs 0 (length xs) → find p xs ≡ None
 find_none p [] none = refl
 find_none p (x ∷ xs) none =
     rw (none 0 x (omega arith) (omega arith)) (find_none p xs (λ k d a b. none (suc k) d (omega arith) (omega (arith, b))))
 
--- the first that passes is found
+-- the first element that passes is found
 pub find_at : {X : Type 0} (p : X → Bool) (xs : List X) (place : ℕ) (d : X) → place < length xs → p (get_or xs place d) ≡ true →
     AllWithin (λ x. p x ≡ false) xs 0 place → find p xs ≡ Some (get_or xs place d)
 find_at p [] place d within t none = absurd (omega (arith, within))
@@ -90,14 +90,14 @@ find_at p (x ∷ xs) (suc place) d within t none =
     rw (none 0 x (omega arith) (omega arith))
     (find_at p xs place d (omega (arith, within)) t (λ k e a b. none (suc k) e (omega arith) (omega (arith, b))))
 
--- where what passes a second test is before what doesn't, no element behind one that fails it passes both
+-- if each element before one that passes r passes r too, no element after one that fails r passes both tests
 none_later : {X : Type 0} (before : X → X → Bool) (p r : X → Bool) → ((x y : X) → before x y ≡ true → r y ≡ true → r x ≡ true) → (x : X) → r x ≡ false →
     (xs : List X) → AllByRecursion (λ y. before x y ≡ true) xs → list_any (λ y. p y && r y) xs ≡ false
 none_later before p r closed x fails [] all = refl
 none_later before p r closed x fails (y ∷ ys) all =
     rw (fails_right (p y) (r y) (fails_where (r y) (r x) (λ t. closed x y all.0 t) fails)) (none_later before p r closed x fails ys all.1)
 
--- .. and so the first that passes the first test decides
+-- the first element that passes p decides whether some element passes both
 pub first_decides : {X : Type 0} (before : X → X → Bool) (p r : X → Bool) → ((x y : X) → before x y ≡ true → r y ≡ true → r x ≡ true) →
     (xs : List X) → Ascends before xs → list_any (λ x. p x && r x) xs ≡ option_map_or r (find p xs) false
 first_decides before p r closed [] up = refl

@@ -1,4 +1,4 @@
--- The first failed drift assessment after a reading that leaves no room for it decides whether one voids it.
+-- The first failed drift assessment after a reading by which it may be a leak decides whether one voids it.
 use Rattle.std.proofs.Common.{◌≡◌, ℕ, ◌+◌, ◌<◌, ◌≤◌, Bool, true, false, not, ◌&&◌, nat_eq, nat_lt, nat_le, Option, Some, None, List, length, find}
 use Rattle.std.proofs.Common.{get_or, drop, option_map, refl, sym, ap, ◌∙◌, inl, inr, arith}
 use Rattle.std.specs.List.{AllWithin}
@@ -22,11 +22,11 @@ use Rattle.method21_reading.proofs.LeapLemmas.{joined_within}
 use Rattle.method21_reading.proofs.NearLemmas.{up_to_in_front}
 use Rattle.method21_reading.proofs.PlaceLemmas.{any_behind, find_none, find_at, first_decides, fails_left, fails_right, fails_where}
 
--- an entry to stand in where a list has none
+-- an arbitrary entry with this key
 some_entry : Key → Entry
 some_entry key = (key, record { day = 0; minute = 0; body = Retire 0 })
 
--- ---- the next calibration, behind those that are earlier than the reading
+-- ---- the next calibration, after the facts that are earlier than the reading
 
 not_later : (key other : Key) → is_earlier other key ≡ true → is_earlier key other ≡ false
 not_later key other before =
@@ -55,7 +55,7 @@ next_behind facts count key instrument later up within earlier =
     (λ x y before t. (strict_earlier (λ k. k)).transitive x.0 y.0 later before t) (drop count facts) (ascends_drop goes_first count facts up)
     ∙ before_found (find next (drop count facts)) later
 
--- ---- the first that leaves no room
+-- ---- the first such assessment
 
 module _ (facts : List Entry) (key : Key) (instrument limit ppm from place : ℕ) (after : from ≤ place) (within : place ≤ length facts)
     (parts : IsPartitionPoint (λ e. is_earlier key e.0 ≡ false) (λ e. is_earlier key e.0 ≡ true) facts from)
@@ -79,7 +79,7 @@ module _ (facts : List Entry) (key : Key) (instrument limit ppm from place : ℕ
 later_day : (x day : ℕ) → day ≤ x → nat_eq x day ≡ false → day < x
 later_day x day le differ = grind (arith, nat_tests)
 
--- ---- whether one voids the reading
+-- ---- whether an assessment voids the reading
 
 past_of : (a b c d e : Bool) → ((((a && b) && c) && d) && e) ≡ true → (b && d) ≡ true
 past_of true true true true e t = refl
@@ -112,12 +112,12 @@ module _ (calibrations facts : List Entry) (key : Key) (instrument limit ppm : �
   not_past low high none k d a b =
       fails_where (voids (get_or facts k d)) (is_past_after key instrument limit ppm (get_or facts k d)) (voids_past (get_or facts k d)) (none k d a b)
 
-  -- none leaves no room
+  -- there is no such assessment
   pub none_voids : AllWithin (λ e. is_past_after key instrument limit ppm e ≡ false) facts 0 (length facts) → find voids facts ≡ None
   none_voids none = find_none voids facts (not_past 0 (length facts) none)
 
   module _ (up : Ascends goes_first facts) (drift : Key) (first : IsFirstPast facts key instrument limit ppm drift) where
-    -- what is before the first is before each later one
+    -- a key before the first one is before each later one
     before_later : (other : Key) → is_earlier other drift ≡ true → AllWithin (λ e. is_earlier other e.0 ≡ true) facts first.place (length facts)
     before_later other before k d a b =
         elim (cases_Bool (is_earlier other (get_or facts k d).0)) [
@@ -140,7 +140,7 @@ module _ (calibrations facts : List Entry) (key : Key) (instrument limit ppm : �
         find_none voids facts
         (joined_within (λ e. voids e ≡ false) facts 0 first.place (length facts) (not_past 0 first.place first.none_before) later)
 
-    -- the first is of another day
+    -- the first one is of another day
     pub none_of_day : nat_eq drift.day key.day ≡ false → find voids facts ≡ None
     none_of_day differ =
         none_from_first (λ k d a b.
@@ -154,7 +154,7 @@ module _ (calibrations facts : List Entry) (key : Key) (instrument limit ppm : �
         fails_where (voids e) (nat_eq e.0.day key.day) (voids_of_day e)
         (ne_eqb e.0.day key.day (λ same. absurd (false≢true (sym not_early ∙ le-leb e.0.day key.day (omega (arith, same)))))))
 
-    -- the instrument was calibrated before it
+    -- a calibration is between the reading and the first one
     pub none_uncalibrated : is_calibrated_before calibrations key instrument drift ≡ true → find voids facts ≡ None
     none_uncalibrated between =
         none_from_first (λ k d a b.
@@ -166,7 +166,7 @@ module _ (calibrations facts : List Entry) (key : Key) (instrument limit ppm : �
         fails_right (nat_lt ppm limit && is_drift_past instrument limit ppm e.1.body && nat_eq e.0.day key.day && is_earlier key e.0)
         (not (is_calibrated_before calibrations key instrument e.0)) (rw still refl))
 
-    -- .. and else it voids the reading
+    -- a first assessment of the day without a calibration before it voids a reading below the leak definition
     pub voided_by_first : ppm < limit → drift.day ≡ key.day → is_calibrated_before calibrations key instrument drift ≡ false →
         unless_voided (find voids facts) ≡ Voided drift
     voided_by_first below same uncalibrated =

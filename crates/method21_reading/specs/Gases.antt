@@ -1,4 +1,4 @@
--- The least gas of the calibrations of an instrument and a day, beside each calibration.
+-- For each calibration, the least gas of the calibrations of its instrument on its day, up to that calibration.
 use Rattle.std.specs.Prelude.{◌≡◌, ℕ, ◌+◌, ◌<◌, ◌≤◌, min, Bool, true, ◌&&◌, nat_eq, nat_le, Option, Some, None, List, length, take, get_or}
 use Rattle.std.specs.List.{list_any}
 use Rattle.fact_kinds.specs.declared.body.FactBody.{FactBody}
@@ -10,7 +10,7 @@ use Rattle.ldar_law.specs.Fitness.{is_calibration, is_calibration_within}
 abbrev pub calibrates_on : ℕ → ℕ → Entry → Bool
 calibrates_on instrument day e = is_calibration instrument e.1.body && nat_eq e.0.day day
 
--- .. with a gas of at most so much
+-- a calibration of the instrument on the day with a gas of at most this concentration
 abbrev pub calibrates_within_on : ℕ → ℕ → ℕ → Entry → Bool
 calibrates_within_on instrument most day e = is_calibration_within instrument most e.1.body && nat_eq e.0.day day
 
@@ -24,14 +24,14 @@ abbrev pub smaller : Option ℕ → ℕ → ℕ
 smaller None gas = gas
 smaller (Some other) gas = min other gas
 
--- this is the least gas of the calibrations of the instrument and day of the one at a place, up to that one
+-- the gas is the least one of the calibrations of the instrument and day of the calibration at this place, up to that calibration
 abbrev pub IsLeastAt : List Entry → ℕ → ℕ → Type 0
 IsLeastAt facts at gas =
     (instrument most : ℕ) (d : Entry)
     → is_calibration instrument (get_or facts at d).1.body ≡ true
     → nat_le gas most ≡ list_any (calibrates_within_on instrument most (get_or facts at d).0.day) (take (at + 1) facts)
 
--- these are the least gases beside the first facts
+-- the list has the least gas for each of the first facts
 pub record AreLeast (facts : List Entry) (least : List ℕ) : Type 0 where
   pub within : length least ≤ length facts
   pub each : (at d : ℕ) → at < length least → IsLeastAt facts at (get_or least at d)

@@ -1,4 +1,4 @@
--- What of an instrument's facts judges readings, each sort apart, and readings judged by these sorts (40 CFR 60.485a(b)).
+-- The facts of an instrument that decide on its readings, one list for each kind, and readings judged by these lists (40 CFR 60.485a(b)).
 use Rattle.std.specs.Prelude.{◌≡◌, ℕ, ◌+◌, Bool, true, false, not, nat_eq, if◌then◌else◌, Option, Some, None, List, [], ◌∷◌, ◌++◌, filter, find}
 use Rattle.fact_kinds.specs.declared.body.FactBody.{FactBody}
 use Rattle.fact_kinds.specs.declared.body.FactBody.TheVariants.{Calibration, Precision, Drift}
@@ -14,23 +14,23 @@ abbrev pub is_calibrating : FactBody → Bool
 is_calibrating (Calibration of gas) = true
 is_calibrating _ = false
 
--- a precision test that was passed
+-- a precision test that passed
 abbrev pub is_passed_test : FactBody → Bool
 is_passed_test (Precision of value readings) = is_precise value (sum_of readings)
 is_passed_test _ = false
 
--- a drift assessment that found the instrument more than 10 percent below the known value
+-- a drift assessment in which the mean is more than 10 percent below the known value
 abbrev pub is_failed_drift : FactBody → Bool
 is_failed_drift (Drift of value readings) = has_drifted value (sum_of readings)
 is_failed_drift _ = false
 
--- the facts of these sorts, each in key order
+-- the facts of the three kinds, each list in key order
 pub record Apart : Type 0 where
   pub calibrations : List Entry
   pub tests : List Entry
   pub drifts : List Entry
 
--- they are those among some facts
+-- the lists have exactly the facts of each kind among these facts
 pub record AreThoseOf (facts : List Entry) (apart : Apart) : Type 0 where
   pub calibrations : apart.calibrations ≡ filter (λ e. is_calibrating e.1.body) facts
   pub tests : apart.tests ≡ filter (λ e. is_passed_test e.1.body) facts
@@ -40,7 +40,7 @@ pub record AreThoseOf (facts : List Entry) (apart : Apart) : Type 0 where
 abbrev pub is_of_day : ℕ → Entry → Bool
 is_of_day day e = nat_eq e.0.day day
 
--- the fitness of a reading, judged by calibrations, precision tests and drift assessments that stand apart
+-- the fitness of a reading, judged by separate lists of calibrations, passed precision tests and failed drift assessments
 abbrev pub fitness_apart : (calibrations tests drifts : List Entry) → ℕ → Key → ℕ → ℕ → Fitness
 fitness_apart calibrations tests drifts limit key instrument ppm =
     if not (is_calibrated calibrations key instrument) then NoCalibration
@@ -48,11 +48,11 @@ fitness_apart calibrations tests drifts limit key instrument ppm =
     else if not (is_tested tests key instrument) then NoPrecision
     else unless_voided (find (is_voided_by calibrations key instrument limit ppm) drifts)
 
--- why a reading may not be used before which no calibration used a gas within the bound
+-- why a reading may not be used if no earlier calibration of its day has a gas within the bound
 abbrev pub without_gas_within : (calibrations : List Entry) → Key → ℕ → Fitness
 without_gas_within calibrations key instrument = if is_calibrated calibrations key instrument then GasTooHigh else NoCalibration
 
--- why the calibrations and the precision tests that stand apart speak against a reading, if they do
+-- the reason against a reading by the lists of calibrations and passed precision tests, if there is one
 abbrev pub refusal_apart : (calibrations tests : List Entry) → ℕ → Key → ℕ → Option Fitness
 refusal_apart calibrations tests limit key instrument =
     if not (is_calibrated calibrations key instrument) then Some NoCalibration
@@ -60,6 +60,6 @@ refusal_apart calibrations tests limit key instrument =
     else if not (is_tested tests key instrument) then Some NoPrecision
     else None
 
--- a list with one fact more behind it, where its body passes a test
+-- a list with one more fact at its end, if the fact's body passes a test
 abbrev pub added : (FactBody → Bool) → Entry → List Entry → List Entry
 added test e es = es ++ (if test e.1.body then e ∷ [] else [])

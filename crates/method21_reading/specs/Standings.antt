@@ -1,4 +1,4 @@
--- What the rule makes of a component over days between which no class is entered for it.
+-- How the rule treats a component on days between which no class is entered for it.
 use Rattle.std.specs.Prelude.{◌≡◌, ℕ, Bool, not, ◌&&◌, ◌||◌, List}
 use Rattle.fact_kinds.specs.declared.class.Class.{Class}
 use Rattle.fact_kinds.specs.declared.key.Key.{Key}
@@ -11,7 +11,7 @@ use Rattle.ldar_law.specs.Standing.{are_valve_rules, are_pump_rules, are_compres
 use Rattle.method21_reading.specs.declared.rules.Rules.{Rules}
 use Rattle.method21_reading.specs.declared.standing.Standing.{Standing}
 
--- what the rule makes of a component of a class, with a leak definition
+-- how the rule treats a component of a class, with a leak definition
 abbrev pub rules_of : Equipment → Class → ℕ → Rules
 rules_of item class limit = record {
   left_out = leave_out (regime_of item.kind class.service);
@@ -27,15 +27,15 @@ rules_of item class limit = record {
 abbrev pub drips_leak_on : Equipment → List (Key × Class) → ℕ → Bool
 drips_leak_on item classes day = is_under_pump_rules item classes day && not (is_nde item classes day)
 
--- .. and what its sensor indicates (40 CFR 60.482-3a(f))
+-- its sensor's indications are leaks on a day, by the classes entered for it (40 CFR 60.482-3a(f))
 abbrev pub sensors_leak_on : Equipment → List (Key × Class) → ℕ → Bool
 sensors_leak_on item classes day = is_under_compressor_rules item classes day && not (is_nde item classes day)
 
--- what the rule makes of it on a day, by the classes entered for it and the leak definition of each day
+-- how the rule treats it on a day, by the classes entered for it and the leak definition of each day
 abbrev pub rules_on : Equipment → List (Key × Class) → (ℕ → ℕ) → ℕ → Rules
 rules_on item classes limit day = rules_of item (class_on item classes day) (limit day)
 
--- the rule makes this of it, by a class that is in force on each of its days
+-- the rules are those of a class, and that class is in force on each day of its range
 abbrev pub StandsSo : Equipment → List (Key × Class) → Standing → Type 0
 StandsSo item classes standing =
     (standing.rules ≡ rules_of item standing.under.class (limit_of item.kind item.monomer standing.under.class)) × IsInForce item classes standing.under

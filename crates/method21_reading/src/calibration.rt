@@ -17,7 +17,7 @@ pub fn is_calibration(instrument: u16, body: &FactBody) -> bool
     }
 }
 
-/// Whether a fact is a calibration of the instrument with a gas of at most so many parts per million.
+/// Whether a fact is a calibration of the instrument with a gas of at most `most` parts per million.
 fn is_calibration_within(instrument: u16, most: u64, body: &FactBody) -> bool
     ensures value { result ≡ law.is_calibration_within instrument most body.now }
 {
@@ -39,7 +39,7 @@ pub fn is_calibrated(facts: &[(Key, Fact)], key: &Key, instrument: u16) -> bool
     })
 }
 
-/// Whether one of these used a gas of at most so many parts per million.
+/// Whether such a calibration used a gas of at most `most` parts per million.
 pub fn is_calibrated_within(facts: &[(Key, Fact)], key: &Key, instrument: u16, most: u64) -> bool
     ensures value { result ≡ law.is_calibrated_within facts.now key.now instrument most }
 {
@@ -61,7 +61,7 @@ pub fn next_calibration(facts: &[(Key, Fact)], key: &Key, instrument: u16) -> Op
     next
 }
 
-/// The same among facts in key order, of which the first `count` are earlier than the reading.
+/// The key of the next calibration after a reading, from facts in key order. The first `count` facts are earlier than the reading.
 pub fn calibration_after(
     facts: &[(Key, Fact)],
     count: usize,
@@ -86,7 +86,7 @@ fn first_later(facts: &[(Key, Fact)], key: &Key, instrument: u16) -> Option<Key>
         .map(|e| e.0)
 }
 
-/// The next calibration, when one more fact has been looked at.
+/// The next calibration after a reading, with one more fact.
 fn nearer(key: &Key, instrument: u16, next: Option<Key>, e: &(Key, Fact)) -> Option<Key>
     ensures value { result ≡ readings.nearer key.now instrument next e.now }
 {
@@ -97,7 +97,7 @@ fn nearer(key: &Key, instrument: u16, next: Option<Key>, e: &(Key, Fact)) -> Opt
     }
 }
 
-/// The earlier of a key and another, if there is one.
+/// The earlier of an optional key and another key.
 fn earlier_of(nearest: Option<Key>, key: &Key) -> Option<Key>
     ensures value { result ≡ readings.earlier_of nearest key.now }
 {

@@ -8,8 +8,8 @@ use crate::near::{Spread, count_before, high_from};
 use fact_kinds::{Fact, Key};
 use ldar_days::Day;
 
-/// How many facts in front are of a day or an earlier one, looked for in steps that double, since those of one day are
-/// mostly few, and then by halving.
+/// The number of facts of the day or an earlier one. A day mostly has few facts, so it searches in steps that double, and then
+/// by binary search.
 fn count_to(facts: &[(Key, Fact)], day: Day) -> usize
     requires ordered { Ascends goes_first facts.now }
     ensures bound { result ≤ length facts.now }
@@ -19,7 +19,7 @@ fn count_to(facts: &[(Key, Fact)], day: Day) -> usize
     facts[..high].partition_point(|e| e.0.day <= day)
 }
 
-/// The facts of a day, among facts in key order.
+/// The facts of a day, from facts in key order.
 pub fn facts_on(facts: &[(Key, Fact)], spread: Spread, day: Day) -> &[(Key, Fact)]
     requires ordered { Ascends goes_first facts.now }
     ensures value { result.now ≡ filter (is_of_day day) facts.now }

@@ -7,7 +7,7 @@ use crate::calibration::next_calibration;
 use crate::precision::sum_of;
 use fact_kinds::{Fact, FactBody, Key, precedes};
 
-/// Whether the mean of three readings lies more than 10 percent below the known value (40 CFR 60.485a(b)(2)).
+/// Whether the mean of three readings is more than 10 percent below the known value (40 CFR 60.485a(b)(2)).
 pub fn has_drifted(value: u32, readings: (u32, u32, u32)) -> bool
     ensures value { result ≡ law.has_drifted value (law.sum_of readings) }
 {
@@ -32,8 +32,7 @@ pub fn is_above_drifted(limit: u32, ppm: u32, value: u32, readings: (u32, u32, u
     times(limit, sum_of(readings)) < times(ppm, 3 * u64::from(value))
 }
 
-/// Whether a fact is a drift assessment of the instrument that leaves no room for such a reading below the leak
-/// definition.
+/// Whether a fact is a drift assessment of the instrument by which such a reading may be a leak.
 pub fn is_drift_past(instrument: u16, limit: u32, ppm: u32, fact: &Fact) -> bool
     ensures value { result ≡ law.is_drift_past instrument limit ppm fact.now.body }
 {
@@ -51,7 +50,7 @@ pub fn is_drift_past(instrument: u16, limit: u32, ppm: u32, fact: &Fact) -> bool
     }
 }
 
-/// Whether the key, if there is one, is earlier than another.
+/// Whether the key exists and is earlier than another one.
 pub fn is_before_key(key: &Option<Key>, later: &Key) -> bool
     ensures value { result ≡ is_before key.now later.now }
 {
@@ -61,8 +60,8 @@ pub fn is_before_key(key: &Option<Key>, later: &Key) -> bool
     }
 }
 
-/// The first drift assessment of the day after a reading below the leak definition that voids it, where this is
-/// the next calibration after the reading.
+/// The first drift assessment of the day that voids a reading below the leak definition, if `next` is the next calibration after
+/// the reading.
 fn first_voiding(
     facts: &[(Key, Fact)],
     next: &Option<Key>,
@@ -85,8 +84,8 @@ fn first_voiding(
         .map(|e| e.0)
 }
 
-/// The first drift assessment of the day after a reading below the leak definition that voids it, with no
-/// calibration between them (40 CFR 60.485a(b)(2)).
+/// The first drift assessment of the day that voids an earlier reading below the leak definition, with no calibration between
+/// the two (40 CFR 60.485a(b)(2)).
 pub fn voiding_drift(
     calibrations: &[(Key, Fact)],
     drifts: &[(Key, Fact)],

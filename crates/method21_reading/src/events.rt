@@ -18,7 +18,7 @@ use std::alloc::Global;
 
 /// The events of a component: its facts in key order, each judged on its own day by the classes entered for it, which are in
 /// key order too (40 CFR 60.482-2a(b), 60.482-3a(f), 60.482-7a(b), 60.482-8a(b)). `fitness` has one element for each reading,
-/// in order; a reading for which none is left is not fit.
+/// in order. A reading past its end is not fit. Returns an error if it is out of memory.
 pub fn events_of(
     alloc: Global,
     equipment: &Equipment,
@@ -46,7 +46,7 @@ pub fn events_of(
     Ok(events)
 }
 
-/// What a fact of the component is, by what the rule makes of the component on its day; a reading by its fitness.
+/// The event of a fact of the component, by how the rule treats the component on its day; a reading by its fitness.
 fn judged(
     equipment: &Equipment,
     rules: &Rules,
@@ -59,8 +59,8 @@ fn judged(
     happening(equipment, rules, e.0.day, fitness, &e.1.body)
 }
 
-/// Adds a fact of the component as an event, if it is one, judged by what the rule makes of the component on its day; a
-/// reading by its fitness, which has no effect on another fact.
+/// Adds a fact of the component as an event, if it is one. It is judged by how the rule treats the component on its day, and a
+/// reading also by its fitness. The fitness has no effect on other facts.
 pub fn push_event(
     events: &mut Vec<Event>,
     equipment: &Equipment,
@@ -84,7 +84,7 @@ fn is_reading(body: &FactBody) -> bool
     matches!(*body, FactBody::Reading { .. })
 }
 
-/// The fitness that is next.
+/// The next fitness.
 fn next_fitness(left: &[Fitness]) -> Fitness
     ensures value { result ≡ law.next_fitness left.now }
 {
@@ -94,7 +94,7 @@ fn next_fitness(left: &[Fitness]) -> Fitness
     }
 }
 
-/// The fitness of the readings after a fact.
+/// The fitnesses that remain after a fact.
 fn fitness_left<'a>(body: &FactBody, left: &'a [Fitness]) -> &'a [Fitness]
     ensures value { result.now ≡ law.fitness_left body.now left.now }
 {

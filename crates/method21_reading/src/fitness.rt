@@ -13,11 +13,11 @@ use crate::precision::is_tested;
 use fact_kinds::{Fact, FactBody, Key};
 use ldar_law::{Fitness, GAS_MARGIN};
 
-/// Whether a reading with this key may be used, judged by a leak definition in parts per million by volume, and the
-/// first reason why not (40 CFR 60.485a(b); EPA Method 21, sections 8.1.2 and 10.1). The facts of its instrument
-/// are in key order (`are_in_key_order` of `ldar_law` is the test); facts of others among them have no effect. A fact
-/// that is no reading has no calibration. The facts of the reading's day are found by halving; for many readings of an
-/// instrument see `Instrument`.
+/// Whether a reading with this key may be used, judged by a leak definition in parts per million by volume; if not, the
+/// first reason (40 CFR 60.485a(b); EPA Method 21, sections 8.1.2 and 10.1). The facts must be in key order, which
+/// `are_in_key_order` of `ldar_law` tests. Facts of other instruments have no effect. For a fact that is no reading it returns
+/// `NoCalibration`. The facts of the reading's day are found by binary search. For many readings of one instrument use
+/// `Instrument`.
 pub fn fit(reading: &Fact, key: &Key, limit: u32, instrument: &[(Key, Fact)]) -> Fitness
     requires ordered { Ascends goes_first instrument.now }
     ensures value { result ≡ fitness_by limit instrument.now key.now reading.now.body }
@@ -33,7 +33,7 @@ pub fn fit(reading: &Fact, key: &Key, limit: u32, instrument: &[(Key, Fact)]) ->
     }
 }
 
-/// Whether a reading of so many parts per million with this instrument may be used.
+/// Whether a reading of `ppm` parts per million with this instrument may be used.
 fn judged(facts: &[(Key, Fact)], limit: u32, key: &Key, instrument: u16, ppm: u32) -> Fitness
     requires ordered { Ascends goes_first facts.now }
     ensures value { result ≡ fitness_of facts.now limit key.now instrument ppm }
@@ -42,7 +42,7 @@ fn judged(facts: &[(Key, Fact)], limit: u32, key: &Key, instrument: u16, ppm: u3
     judged_apart(today, facts, today, limit, key, instrument, ppm)
 }
 
-/// Why a reading may not be used before which no calibration used a gas within the bound.
+/// Why a reading may not be used if no earlier calibration of its day has a gas within the bound.
 fn why_not_within(calibrations: &[(Key, Fact)], key: &Key, instrument: u16) -> Fitness
     ensures value { result ≡ without_gas_within calibrations.now key.now instrument }
 {
@@ -53,8 +53,8 @@ fn why_not_within(calibrations: &[(Key, Fact)], key: &Key, instrument: u16) -> F
     }
 }
 
-/// Why the calibrations and the precision tests that stand apart speak against a reading, if they do. Before most
-/// readings some calibration used a gas within the bound, and no other is looked for.
+/// The reason against a reading by its instrument's calibrations and passed precision tests, if there is one. Most readings
+/// have a calibration with a gas within the bound, so other calibrations are looked for only if that fails.
 pub fn refused(
     calibrations: &[(Key, Fact)],
     tests: &[(Key, Fact)],
@@ -76,7 +76,7 @@ pub fn refused(
     None
 }
 
-/// The same as `judged` by calibrations, precision tests and drift assessments that stand apart.
+/// The result of `judged`, from separate lists of calibrations, precision tests and drift assessments.
 fn judged_apart(
     calibrations: &[(Key, Fact)],
     tests: &[(Key, Fact)],

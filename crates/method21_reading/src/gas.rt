@@ -22,7 +22,7 @@ fn is_of(instrument: u16, e: &(Key, Fact)) -> bool
     is_calibration(instrument, &e.1.body)
 }
 
-/// How many of the first `count` facts remain without those after the last calibration of an instrument.
+/// The number of facts, of the first `count`, up to and including the last calibration of an instrument; 0 without a calibration.
 fn count_to_last(facts: &[(Key, Fact)], count: usize, instrument: u16) -> usize
     requires within { count ≤ length facts.now }
     ensures bound { result ≤ count }
@@ -72,7 +72,7 @@ fn calibration_in(body: &FactBody) -> Option<(u16, u32)>
     }
 }
 
-/// The smaller of a gas and another, if there is one.
+/// The smaller of an optional gas and another one.
 fn smaller(other: Option<u32>, gas: u32) -> u32
     ensures value { result ≡ gases.smaller other gas }
 {
@@ -100,7 +100,7 @@ fn least_at(facts: &[(Key, Fact)], least: &[u32], at: usize) -> u32
     }
 }
 
-/// The least gas beside each calibration.
+/// For each calibration, the least gas of its instrument and day so far. Returns an error if it is out of memory.
 pub fn least_gases(alloc: Global, facts: &[(Key, Fact)]) -> Result<Vec<u32>, Memory>
     requires ordered { Ascends goes_first facts.now }
     ensures value { IfOk result (λ least. AreLeast facts.now least.items) }

@@ -11,8 +11,7 @@ use fact_kinds::{FactBody, Purpose, Sort, VisualState};
 use ldar_days::Day;
 use ldar_law::{Equipment, Fitness, Happening};
 
-/// Whether a reading of the day counts: it is fit, and the component is in service and in no service that is left
-/// out.
+/// Whether a reading of the day counts: it is fit, and the component is in service and not in an excluded service.
 fn counts(item: &Equipment, rules: &Rules, day: Day, fit: bool) -> bool
     ensures value { (classes : List (SomeKey × SomeClass)) → rules.now.left_out ≡ is_left_out item.now classes day
         → result ≡ law.counts_on item.now classes day fit }
@@ -31,7 +30,7 @@ fn has_drips(state: VisualState) -> bool
     }
 }
 
-/// Whether drips of the day that are designated as a leak are one (40 CFR 60.482-2a(b)(2)(ii)).
+/// Whether a visual inspection of the day designates drips that are a leak (40 CFR 60.482-2a(b)(2)(ii)).
 fn is_drip_leak(item: &Equipment, rules: &Rules, day: Day, state: VisualState) -> bool
     ensures value { (classes : List (SomeKey × SomeClass)) → rules.now.drips_leak ≡ drips_leak_on item.now classes day
         → result ≡ law.is_drip_leak item.now classes day state }
@@ -105,8 +104,8 @@ fn indication(item: &Equipment, rules: &Rules, day: Day, sort: Sort, present: bo
     }
 }
 
-/// A fact of a component by what the rule makes of it on the day, judged; a reading by its fitness. What the register
-/// says of it is no event.
+/// The event of a fact of a component, by how the rule treats the component on the day; a reading by its fitness. An entry in
+/// the register is no event.
 pub fn happening(
     item: &Equipment,
     rules: &Rules,

@@ -1,4 +1,4 @@
-//! An instrument made ready once, for its many readings.
+//! An instrument that is prepared once, for its many readings.
 
 ghost use Rattle.std.specs.Prelude.{◌≡◌, ℕ, ◌≤◌, true, false, nat_le, List, find, IfOk, IfSome, IsNone, length};
 ghost use Rattle.std.specs.List.{AllWithin};
@@ -24,21 +24,21 @@ use ldar_law::{Fitness, GAS_MARGIN};
 use std::alloc::Global;
 use std::marker::Model;
 
-/// What of an instrument's facts judges its readings: the calibrations, the precision tests that were passed and the drift
-/// assessments that were failed, each apart and in key order. A reading is judged in a time that grows as the logarithm
-/// of their number, however many are of its day, if all are of one instrument.
+/// The facts of an instrument that decide on its readings: the calibrations, the precision tests that passed and the drift
+/// assessments that failed, each list in key order. If all are of one instrument, the time to judge a reading grows as the
+/// logarithm of their number, however many of them are of the reading's day.
 #[derive(Drop)]
 pub struct Instrument {
     calibrations: Vec<(Key, Fact)>,
     /// How the days of the calibrations are spread.
     calibrated: Spread,
-    /// Beside each calibration, the least gas of its day so far.
+    /// For each calibration, the least gas of its day so far.
     least: Vec<u32>,
     tests: Vec<(Key, Fact)>,
     /// How the days of the tests are spread.
     tested: Spread,
     drifts: Vec<(Key, Fact)>,
-    /// Where a search goes on from each drift assessment.
+    /// Where a search continues from each drift assessment.
     leaps: Vec<Leap>,
 }
 
@@ -60,8 +60,8 @@ impl Model for Instrument {
 }
 
 impl Instrument {
-    /// The instrument with these facts, in key order (`are_in_key_order` of `ldar_law` is the test); facts of other
-    /// instruments among them have no effect. An error: no memory for what is kept of them.
+    /// The instrument with these facts, which must be in key order (`are_in_key_order` of `ldar_law` tests it). Facts of other
+    /// instruments have no effect. The only error is out of memory.
     pub fn new(alloc: Global, facts: &[(Key, Fact)]) -> Result<Instrument, Memory>
         requires ordered { Ascends goes_first facts.now }
         ensures value { IfOk result (AreThoseOf facts.now) }
@@ -95,7 +95,7 @@ impl Instrument {
         self.calibrations.as_slice()
     }
 
-    /// The least gas beside each calibration.
+    /// For each calibration, the least gas of its day so far.
     fn least(&self) -> &[u32]
         ensures sound { AreLeast self.now.calibrations result.now }
         ensures all { length result.now ≡ length self.now.calibrations }
@@ -111,14 +111,14 @@ impl Instrument {
         self.drifts.as_slice()
     }
 
-    /// Where a search goes on from each of them.
+    /// Where a search continues from each failed drift assessment.
     fn leaps(&self) -> &[Leap]
         ensures sound { LeapsFrom self.now.drifts result.now 0 }
     {
         self.leaps.as_slice()
     }
 
-    /// How many calibrations are earlier than a reading.
+    /// The number of calibrations that are earlier than a reading.
     fn calibrations_before(&self, key: &Key) -> usize
         ensures bound { result ≤ length self.now.calibrations }
         ensures partitioned { IsPartitionPoint (λ e. is_earlier e.0 key.now ≡ true) (λ e. is_earlier e.0 key.now ≡ false) self.now.calibrations result }
@@ -126,14 +126,15 @@ impl Instrument {
         count_earlier(self.calibrations(), self.calibrated, key)
     }
 
-    /// Whether some precision test that was passed is earlier than the reading with this key, and three months old at most.
+    /// Whether some passed precision test is earlier than the reading with this key, and at most three months old.
     fn is_tested(&self, key: &Key, instrument: u16) -> bool
         ensures value { result ≡ is_tested_by self.now.tests key.now instrument }
     {
         is_tested(self.tests.as_slice(), self.tested, key, instrument)
     }
 
-    /// The least gas of the calibrations of the instrument that are earlier than the reading and of its day.
+    /// The least gas of the instrument's calibrations that are earlier on the day of the reading. The first `count` calibrations
+    /// are earlier than the reading.
     fn least_gas(&self, count: usize, key: &Key, instrument: u16) -> Option<u32>
         requires count { IsPartitionPoint (λ e. is_earlier e.0 key.now ≡ true) (λ e. is_earlier e.0 key.now ≡ false) self.now.calibrations count }
         requires bound { count ≤ length self.now.calibrations }
@@ -149,7 +150,7 @@ impl Instrument {
         )
     }
 
-    /// Why the calibrations and the precision tests speak against a reading, if they do. The first `count` calibrations are
+    /// The reason against a reading by the calibrations and precision tests, if there is one. The first `count` calibrations are
     /// earlier than the reading.
     fn refusal(&self, count: usize, limit: u32, key: &Key, instrument: u16) -> Option<Fitness>
         requires count { IsPartitionPoint (λ e. is_earlier e.0 key.now ≡ true) (λ e. is_earlier e.0 key.now ≡ false) self.now.calibrations count }
@@ -171,7 +172,7 @@ impl Instrument {
         }
     }
 
-    /// The first failed drift assessment after a reading with this key that leaves no room for it below the leak definition.
+    /// The first failed drift assessment after a reading with this key by which the reading may be a leak.
     fn drift_past(&self, limit: u32, key: &Key, instrument: u16, ppm: u32) -> Option<Key>
         ensures none { IsNone result → AllWithin (λ e. is_past_after key.now instrument limit ppm e ≡ false) self.now.drifts 0 (length self.now.drifts) }
         ensures first { IfSome result (IsFirstPast self.now.drifts key.now instrument limit ppm) }
@@ -186,8 +187,8 @@ impl Instrument {
         None
     }
 
-    /// What the failed drift assessments of its day make of a reading against which nothing else speaks. The first `count`
-    /// calibrations are earlier than the reading.
+    /// `Voided` if a drift assessment voids the reading, and otherwise `Fit`, for a reading that the calibrations and precision
+    /// tests allow. The first `count` calibrations are earlier than the reading.
     fn unless_voided(
         &self,
         count: usize,
@@ -219,7 +220,7 @@ impl Instrument {
         }
     }
 
-    /// Whether a reading of so many parts per million with an instrument may be used.
+    /// Whether a reading of `ppm` parts per million with an instrument may be used.
     fn judged(&self, limit: u32, key: &Key, instrument: u16, ppm: u32) -> Fitness
         ensures value { (facts : List Entry) → AreThoseOf facts self.now → result ≡ fitness_of facts limit key.now instrument ppm }
     {
@@ -244,9 +245,9 @@ impl Instrument {
         }
     }
 
-    /// Whether a reading with this key may be used, judged by a leak definition in parts per million by volume, and the
-    /// first reason why not (40 CFR 60.485a(b); EPA Method 21, sections 8.1.2 and 10.1): what `fit` answers among the facts
-    /// with which the instrument was made. A fact that is no reading has no calibration.
+    /// Whether a reading with this key may be used, judged by a leak definition in parts per million by volume; if not, the
+    /// first reason (40 CFR 60.485a(b); EPA Method 21, sections 8.1.2 and 10.1). It is the result of the function `fit` for the
+    /// facts from which the instrument was made. For a fact that is no reading it returns `NoCalibration`.
     pub fn fit(&self, reading: &Fact, key: &Key, limit: u32) -> Fitness
         ensures value { (facts : List Entry) → AreThoseOf facts self.now → result ≡ fitness_by limit facts key.now reading.now.body }
         ensures of_all { (facts : List Entry) → AreThoseOf facts self.now → IsFitnessAmongAll limit facts key.now reading.now.body result }

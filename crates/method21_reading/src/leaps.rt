@@ -1,8 +1,8 @@
-//! The first failed drift assessment from a place on that voids a reading, found in a number of steps that grows as the
-//! logarithm of the number of assessments.
+//! Finds the first failed drift assessment, from a place on, that voids a reading. The number of steps grows as the logarithm
+//! of the number of assessments.
 //!
-//! From an assessment, `next` leads to the first later one of the instrument that drifted further: those between them void
-//! no reading that it doesn't void itself. `jump` leads over several such steps at once. The lengths of the jumps are
+//! `next` of an assessment is the first later one of the instrument that drifted further. If an assessment does not void a
+//! reading, neither do those between it and `next`. `jump` skips several such steps at once. The lengths of the jumps are
 //! those of skew binary numbers (Myers, "An applicative random-access stack"), so few of them lead to any later place.
 
 ghost use Rattle.std.specs.Prelude.{◌≡◌, ℕ, ◌+◌, ◌*◌, ◌<◌, ◌≤◌, true, false, IfOk, length};
@@ -15,18 +15,18 @@ use crate::drift::{has_drifted, is_above_drifted, is_drift_past};
 use fact_kinds::{Fact, FactBody, Key, Memory};
 use std::alloc::Global;
 
-/// Where a search goes on from a drift assessment that doesn't void the reading. The end of the facts is a place too.
+/// Where a search continues from a drift assessment that does not void the reading. The end of the facts is a place too.
 #[derive(Clone, Copy)]
 pub struct Leap {
     /// The first later assessment of the instrument that drifted further.
     pub next: usize,
-    /// A place to which one or more such steps lead.
+    /// A place that one or more such steps reach.
     pub jump: usize,
-    /// How many such steps lead to the end.
+    /// The number of such steps to the end.
     pub depth: usize,
 }
 
-/// Whether a fact is a failed drift assessment of the instrument that doesn't void such a reading.
+/// Whether a fact is a failed drift assessment of the instrument that does not void such a reading.
 fn is_clear(instrument: u16, limit: u32, ppm: u32, fact: &Fact) -> bool
     ensures value { result ≡ is_clear_of instrument limit ppm fact.now.body }
 {
@@ -44,7 +44,7 @@ fn is_clear(instrument: u16, limit: u32, ppm: u32, fact: &Fact) -> bool
     }
 }
 
-/// A later place, with no assessment before it that voids the reading, if the one at a place doesn't.
+/// A later place, with no assessment from `at` up to it that voids the reading. The one at `at` must not void it.
 fn later_place(
     facts: &[(Key, Fact)],
     leaps: &[Leap],
@@ -69,8 +69,8 @@ fn later_place(
     leap.next
 }
 
-/// The place of the first drift assessment of the instrument, from a place on, that leaves no room for such a reading below
-/// the leak definition; the number of facts if there is none.
+/// The place of the first drift assessment of the instrument, from a place on, by which such a reading may be a leak. It is the
+/// number of facts if there is no such assessment.
 pub fn first_past(
     facts: &[(Key, Fact)],
     leaps: &[Leap],
@@ -106,7 +106,7 @@ fn leap_from(leaps: &[Leap], place: usize) -> Leap
     }
 }
 
-/// Where a place jumps whose next place is given: as far as two jumps from there lead, if these are equally long.
+/// The jump of a place whose next place is `next`: two jumps from `next` if these are equally long, and otherwise `next`.
 fn jump_past(facts: &[(Key, Fact)], leaps: &[Leap], next: usize) -> usize
     requires within { next ≤ length facts.now }
     requires sound { LeapsFrom facts.now leaps.now next }
@@ -141,7 +141,7 @@ fn failed_in(fact: &Fact) -> Option<(u16, u32, u32)>
     }
 }
 
-/// The leap from a place, when those from later places are known.
+/// The leap from a place, from the leaps of later places.
 fn leap_at(facts: &[(Key, Fact)], leaps: &[Leap], at: usize) -> Leap
     requires within { at < length facts.now }
     requires sound { LeapsFrom facts.now leaps.now (at + 1) }
@@ -149,7 +149,7 @@ fn leap_at(facts: &[(Key, Fact)], leaps: &[Leap], at: usize) -> Leap
 {
     match failed_in(&facts[at].1) {
         Some((instrument, known, sum)) => {
-            // An assessment drifted further if it voids a reading that is at the leak definition less the drift of this one.
+            // An assessment drifted further if it voids a reading equal to the leak definition less the drift of this one.
             let next = first_past(facts, leaps, at + 1, instrument, known, sum);
             let jump = jump_past(facts, leaps, next);
             let depth = leap_from(leaps, next).depth.saturating_add(1);
@@ -163,7 +163,7 @@ fn leap_at(facts: &[(Key, Fact)], leaps: &[Leap], at: usize) -> Leap
     }
 }
 
-/// The leaps from all places.
+/// The leaps from all places. Returns an error if it is out of memory.
 pub fn leaps_of(alloc: Global, facts: &[(Key, Fact)]) -> Result<Vec<Leap>, Memory>
     ensures value { IfOk result (λ leaps. LeapsFrom facts.now leaps.items 0) }
 {

@@ -1,6 +1,6 @@
-//! Looking for a day among facts in key order: from where it would stand if their days were spread evenly, outwards in
-//! steps that double, and then by halving between the last two. An instrument is calibrated every so many days, so that
-//! the first step mostly finds it; where it is not, a search takes at most twice the steps of halving alone.
+//! Searches for a day among facts in key order. A search begins where the day would be if the days were spread evenly, goes
+//! outward in steps that double, and ends with a binary search between the last two places. Instruments are calibrated at
+//! regular intervals, so the first step mostly finds the day. Otherwise a search takes at most twice the steps of a binary search.
 
 ghost use Rattle.std.specs.Prelude.{◌≡◌, ◌≤◌, true, false, nat_lt, length};
 ghost use Rattle.std.specs.List.{AllWithin};
@@ -11,8 +11,8 @@ ghost use Rattle.fact_kinds.specs.Facts.{is_earlier, goes_first};
 use fact_kinds::{Fact, Key, precedes};
 use ldar_days::Day;
 
-/// How the days of some facts are spread: the number of the first, and how many places there are a day, in parts of
-/// 2^32. It tells where a search begins and nothing else, so that a wrong one would cost steps alone.
+/// How the days of some facts are spread: the number of the first day, and the number of places for each day, in units of
+/// 1 / 2^32. It decides only where a search begins, so a wrong value costs time but changes no result.
 #[derive(Clone, Copy)]
 pub struct Spread {
     first: u32,
@@ -20,7 +20,7 @@ pub struct Spread {
 }
 
 impl Spread {
-    /// That of facts in key order.
+    /// The spread of facts in key order.
     pub fn of(facts: &[(Key, Fact)]) -> Spread {
         match (facts.first(), facts.last()) {
             (Some(first), Some(last)) => {
@@ -33,7 +33,7 @@ impl Spread {
         }
     }
 
-    /// That of so many facts from one day to another, told by their numbers.
+    /// The spread of `count` facts from one day to another, each given by its number.
     fn between(first: u32, last: u32, count: usize) -> Spread {
         let days = u64::from(last.saturating_sub(first)).max(1);
         Spread {
@@ -42,14 +42,14 @@ impl Spread {
         }
     }
 
-    /// The place at which a day would stand if the days were spread evenly from the first to the last.
+    /// The place of a day if the days were spread evenly from the first to the last.
     fn place(self, day: Day) -> usize {
         let past = u64::from(day.number().saturating_sub(self.first));
         (past.wrapping_mul(self.places).wrapping_add(1 << 31) >> 32) as usize
     }
 }
 
-/// A place at which the facts in front are of days before a given one, from a place on downwards.
+/// A place, at most `place`, before which all facts are of days before the given one.
 fn low_from(facts: &[(Key, Fact)], place: usize, day: Day) -> usize
     requires ordered { Ascends goes_first facts.now }
     requires within { place ≤ length facts.now }
@@ -65,7 +65,7 @@ fn low_from(facts: &[(Key, Fact)], place: usize, day: Day) -> usize
     low
 }
 
-/// A place from which on the facts are of days after a given one, from a place on upwards.
+/// A place, at least `place`, from which on all facts are of days after the given one.
 pub fn high_from(facts: &[(Key, Fact)], place: usize, day: Day) -> usize
     requires ordered { Ascends goes_first facts.now }
     requires within { place ≤ length facts.now }
@@ -81,7 +81,7 @@ pub fn high_from(facts: &[(Key, Fact)], place: usize, day: Day) -> usize
     high
 }
 
-/// How many facts in front are of days before a given one.
+/// The number of facts of days before a given one.
 pub fn count_before(facts: &[(Key, Fact)], spread: Spread, day: Day) -> usize
     requires ordered { Ascends goes_first facts.now }
     ensures bound { result ≤ length facts.now }
@@ -93,7 +93,7 @@ pub fn count_before(facts: &[(Key, Fact)], spread: Spread, day: Day) -> usize
     low + facts[low..high].partition_point(|e| e.0.day < day)
 }
 
-/// How many facts in front have an earlier key.
+/// The number of facts with an earlier key.
 pub fn count_earlier(facts: &[(Key, Fact)], spread: Spread, key: &Key) -> usize
     requires ordered { Ascends goes_first facts.now }
     ensures bound { result ≤ length facts.now }
@@ -105,7 +105,7 @@ pub fn count_earlier(facts: &[(Key, Fact)], spread: Spread, key: &Key) -> usize
     low + facts[low..high].partition_point(|e| precedes(&e.0, key))
 }
 
-/// How many facts in front have no later key.
+/// The number of facts with the same key or an earlier one.
 pub fn count_up_to(facts: &[(Key, Fact)], key: &Key) -> usize
     requires ordered { Ascends goes_first facts.now }
     ensures bound { result ≤ length facts.now }

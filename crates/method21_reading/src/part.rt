@@ -1,4 +1,4 @@
-//! The sorts of an instrument's facts that judge its readings, each put apart as the facts come.
+//! Sorts an instrument's facts into the three kinds that decide on its readings.
 
 ghost use Rattle.std.specs.Prelude.{◌≡◌, ◌++◌, ◌∷◌, [], if◌then◌else◌, OnOk};
 ghost use Rattle.method21_reading.specs.Instruments.{added, is_calibrating, is_failed_drift, is_passed_test};
@@ -7,7 +7,7 @@ use crate::drift::has_drifted;
 use crate::precision::is_precise;
 use fact_kinds::{Fact, FactBody, Key, Memory};
 
-/// Adds a fact, where it is kept.
+/// Adds a fact if `is_kept` is true.
 fn keep(kept: &mut Vec<(Key, Fact)>, is_kept: bool, e: &(Key, Fact)) -> Result<(), Memory>
     ensures taken { OnOk result (kept.new.items ≡ kept.old.items ++ (if is_kept then e.now ∷ [] else [])) }
 {
@@ -17,8 +17,8 @@ fn keep(kept: &mut Vec<(Key, Fact)>, is_kept: bool, e: &(Key, Fact)) -> Result<(
     Ok(())
 }
 
-/// Adds a fact to those of its sort: the calibrations, the precision tests that were passed, or the drift assessments
-/// that found the instrument more than 10 percent below the known value.
+/// Adds a fact to the list of its kind: the calibrations, the precision tests that passed, or the drift assessments with a
+/// mean more than 10 percent below the known value.
 pub fn keep_apart(
     calibrations: &mut Vec<(Key, Fact)>,
     tests: &mut Vec<(Key, Fact)>,

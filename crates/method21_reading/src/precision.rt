@@ -17,7 +17,7 @@ pub fn sum_of(readings: (u32, u32, u32)) -> u64
     u64::from(readings.0) + u64::from(readings.1) + u64::from(readings.2)
 }
 
-/// Whether the mean of three readings lies within 10 percent of the known value (EPA Method 21, section 8.1.2).
+/// Whether the mean of three readings is within 10 percent of the known value (EPA Method 21, section 8.1.2).
 pub fn is_precise(value: u32, readings: (u32, u32, u32)) -> bool
     ensures value { result ≡ law.is_precise value (law.sum_of readings) }
 {
@@ -26,7 +26,7 @@ pub fn is_precise(value: u32, readings: (u32, u32, u32)) -> bool
     sum.saturating_sub(known) * 10 <= known && known.saturating_sub(sum) * 10 <= known
 }
 
-/// Whether a fact is a precision test of the instrument that was passed.
+/// Whether a fact is a precision test of the instrument that passed.
 fn is_passed_precision(instrument: u16, body: &FactBody) -> bool
     ensures value { result ≡ law.is_passed_precision instrument body.now }
 {
@@ -40,7 +40,7 @@ fn is_passed_precision(instrument: u16, body: &FactBody) -> bool
     }
 }
 
-/// The day of the last precision test of the instrument that was passed.
+/// The day of the last precision test of the instrument that passed.
 fn last_passed(facts: &[(Key, Fact)], instrument: u16) -> Option<Day>
     ensures value { result ≡ option_map (λ e. e.0.day) (last_such (λ e. law.is_passed_precision instrument e.1.body) facts.now) }
 {
@@ -58,7 +58,7 @@ fn is_within_three_months(day: Day, tested: Day) -> bool
     day <= tested.plus_months(3)
 }
 
-/// Whether a precision test, if there was one, is three months old at most on a day.
+/// Whether a precision test exists and is at most three months old on a day.
 fn is_recent(tested: Option<Day>, day: Day) -> bool
     ensures value { result ≡ option_map_or (λ tested. nat_le day (later_by 3 tested)) tested false }
 {
@@ -68,9 +68,9 @@ fn is_recent(tested: Option<Day>, day: Day) -> bool
     }
 }
 
-/// Whether some precision test that was passed is earlier than the reading with this key, and three months old at
-/// most (EPA Method 21, section 8.1.2). The last one before the reading decides: of facts in key order, those before
-/// the reading are counted by halving, and from there back to that test they are looked at.
+/// Whether some passed precision test is earlier than the reading with this key, and at most three months old (EPA Method 21,
+/// section 8.1.2). The last one before the reading decides. The facts before the reading are counted by binary search; the
+/// search for the test goes backward from there.
 pub fn is_tested(facts: &[(Key, Fact)], spread: Spread, key: &Key, instrument: u16) -> bool
     requires ordered { Ascends goes_first facts.now }
     ensures value { result ≡ law.is_tested facts.now key.now instrument }

@@ -1,5 +1,5 @@
-//! What the rule makes of a component, its leak definition among it, from one fact to the next: it stays the same until a
-//! day on which a class is entered, so that most facts need no search for a class.
+//! How the rule treats a component, including its leak definition, from one fact to the next. It stays the same until a day on
+//! which a class is entered, so most facts need no search for a class.
 
 ghost use Rattle.std.specs.Prelude.{◌≡◌};
 ghost use Rattle.list_words.specs.Order.{Ascends};
@@ -12,16 +12,16 @@ use fact_kinds::{Class, Key};
 use ldar_days::Day;
 use ldar_law::{ClassInForce, Equipment};
 
-/// What the rule makes of a component over some days.
+/// How the rule treats a component on a range of days.
 #[derive(Clone, Copy)]
 pub struct Standing {
-    /// The class by which it does.
+    /// The class in force on these days.
     pub under: ClassInForce,
     pub rules: Rules,
 }
 
 impl Standing {
-    /// That of a component before any class was entered for it, whose classes are in key order.
+    /// The rules before any class is entered for the component. Its classes are in key order.
     pub fn at_first(equipment: &Equipment, classes: &[(Key, Class)]) -> Standing
         requires ordered { Ascends (λ a b. is_earlier a.0 b.0) classes.now }
         ensures value { StandsSo equipment.now classes.now result }
@@ -33,7 +33,7 @@ impl Standing {
         }
     }
 
-    /// That of another day; the same if the day is one of its days.
+    /// The rules on another day. They stay the same if the day is in the range.
     pub fn moved_to(self, equipment: &Equipment, classes: &[(Key, Class)], day: Day) -> Standing
         requires ordered { Ascends (λ a b. is_earlier a.0 b.0) classes.now }
         requires value { StandsSo equipment.now classes.now self }

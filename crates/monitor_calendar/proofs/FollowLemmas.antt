@@ -178,7 +178,7 @@ each_passed_over f xs (suc n) d within none =
 
 -- ---- steps of the walk
 
--- an event, as the default where there is none
+-- an arbitrary event, as a default
 abbrev blank : Event
 blank = record { key = record { day = 0; minute = 0; handheld = 0; number = 0; index = 0 }; what = Retire }
 

@@ -28,7 +28,7 @@ given : (number : ℕ) (b : Bool) (d : Duty) → Own number d → IfSome (cond b
 given number true d own = own
 given number false d own = tt
 
--- one more duty in front, if there is one
+-- one more duty at the head, if there is one
 one_own : (number : ℕ) (o : Option Duty) (ds : List Duty) → IfSome o (Own number) → AllByRecursion (Own number) ds →
     AllByRecursion (Own number) (cons_option o ds)
 one_own number None ds own all = all

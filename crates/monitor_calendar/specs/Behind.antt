@@ -1,4 +1,4 @@
--- What a walk over the months carries along: a summary of the events of earlier months.
+-- What a walk over the months keeps: a summary of the events of earlier months.
 use Rattle.std.specs.Prelude.{◌≡◌, ℕ, ◌+◌, ◌-◌, ◌<◌, ◌≤◌, Bool, true, false, ◌&&◌, nat_eq, nat_lt, nat_le, if◌then◌else◌, Option, Some, None, IfSome, List}
 use Rattle.std.specs.List.{AllByRecursion, list_any}
 use Rattle.ldar_days.specs.Calendar.{month_of}
@@ -36,7 +36,7 @@ pub record Tells (past : PastMonths) (last : ℕ) (events : List Event) : Type 0
   pub first : (k : ℕ) → past.leak < k → reads_in events k ≡ true → reads_in events (k + 1) ≡ true → IsBy past.pair k
   pub pair : IfSome past.pair (λ k. (past.leak < k) × (reads_in events k ≡ true) × (reads_in events (k + 1) ≡ true))
 
--- the first of two months in a row, the second of which may be this one
+-- the first of two months in a row that have such a reading, if this month has one too
 abbrev pub pair_from : Option ℕ → ℕ → ℕ → Option ℕ
 pair_from (Some first) below month = Some first
 pair_from None below month = if nat_eq (month - 1) below then Some below else None

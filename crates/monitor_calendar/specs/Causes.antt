@@ -20,19 +20,19 @@ pub record IsOf (asked : Asked) (judged : Judged) (day : ℕ) : Type 0 where
   pub regime : judged.regime ≡ regime_on asked.item.now asked.classes.now day
   pub class : judged.class ≡ class_on asked.item.now asked.classes.now day
 
--- it is monitored yearly: a valve that is difficult to monitor, or a valve, pump or compressor with no detectable emissions
+-- the component is monitored yearly: a valve that is difficult to monitor, or a valve, pump or compressor with no detectable emissions
 abbrev pub is_yearly_judged : Judged → Bool
 is_yearly_judged judged =
     judged.serves
     && ((are_valve_rules judged.regime && is_difficult_designated judged.class.designation)
     || ((are_valve_rules judged.regime || are_pump_rules judged.regime || are_compressor_rules judged.regime) && is_nde_designated judged.class.designation))
 
--- it is monitored in the month: a pump, or a valve whose month is not quarterly
+-- the component is monitored in the month: a pump, or a valve whose month is not quarterly
 abbrev pub is_monthly_judged : Judged → Bool → Bool
 is_monthly_judged judged is_quarterly =
     judged.serves && is_none_designated judged.class.designation && (are_pump_rules judged.regime || (are_valve_rules judged.regime && not is_quarterly))
 
--- it is a pump without a designation
+-- the component is a pump without a designation
 abbrev pub is_plain_pump : Judged → Bool
 is_plain_pump judged = judged.serves && are_pump_rules judged.regime && is_none_designated judged.class.designation
 

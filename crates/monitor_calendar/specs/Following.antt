@@ -57,11 +57,11 @@ abbrev pub event_by : List Event → ℕ → ℕ → Option Event
 event_by events place due = comes_by (slice_get events place) due
 
 module _ (asked : Asked) where
-  -- it is a relief device in service on the day
+  -- the component is a relief device in service on the day
   abbrev pub is_served_relief : ℕ → Bool
   is_served_relief day = is_in_service asked.item.now day && standing.is_under_relief_rules asked.item.now asked.classes.now day
 
-  -- it is in heavy liquid service, and in service, on the day
+  -- the component is in heavy liquid service, and in service, on the day
   abbrev pub is_served_heavy_liquid : ℕ → Bool
   is_served_heavy_liquid day = is_in_service asked.item.now day && standing.is_under_heavy_liquid_rules asked.item.now asked.classes.now day
 
@@ -73,7 +73,7 @@ module _ (asked : Asked) where
   is_asked_by Release is_repeated e = happenings.is_release e.what && is_served_relief e.key.day
   is_asked_by Evidence is_repeated e = happenings.has_evidence e.what && is_served_heavy_liquid e.key.day
 
-  -- the duty, where the first later event that would meet it is at this place
+  -- the duty, if the first later event that would meet it is at this place
   abbrev pub after_by : After → Bool → Event → ℕ → Option Duty
   after_by after is_repeated e next =
       causes.duty asked (cause_of after) e.key.day (end_by (e.key.day + 5)) (is_asked_by after is_repeated e)

@@ -64,7 +64,7 @@ impl After {
         }
     }
 
-    /// The place of the first event from `from` on that would meet the duty, or the number of events if there is none.
+    /// The place of the first event from `from` on that would meet the duty, or the number of events if no event would.
     fn next_place(self, events: &[Event], from: usize) -> usize
         requires from { from ≤ length events.now }
         ensures value { following.IsNext self events.now from result }
@@ -170,7 +170,7 @@ impl Asked<'_> {
         judged.serves && judged.regime.are_heavy_liquid_rules()
     }
 
-    /// The duty after an event that leads to one, where the first later event that would meet it is at `next`.
+    /// The duty after an event that leads to one. The first later event that would meet it is at `next`.
     fn after_event(&self, after: After, is_asked: bool, e: &Event, next: usize) -> Option<Duty>
         ensures value { (is_repeated : Bool) → is_asked ≡ following.is_asked_by self.now after is_repeated e.now
             → result ≡ following.after_by self.now after is_repeated e.now next }

@@ -11,7 +11,7 @@ use fact_kinds::{Class, Key};
 use ldar_days::Day;
 use ldar_law::{Equipment, Event, LISTED_DAYS, Regime};
 
-/// A question: what must be done at a component, as the list of a day has it.
+/// A question: which duties of a component are on the list of a day.
 #[derive(Clone, Copy)]
 pub struct Asked<'a> {
     pub item: &'a Equipment,
@@ -68,8 +68,8 @@ impl Asked<'_> {
         due.min(self.day)
     }
 
-    /// The first day since the component's beginning on which a duty of the list can be due. Earlier duties are not
-    /// listed, so that no period of earlier years is looked at.
+    /// The first day since the component's beginning on which a duty of the list can be due. Earlier duties are not listed, so no
+    /// period of earlier years is searched.
     pub fn earliest(&self) -> Day
         ensures value { result ≡ max self.now.item.now.begin (self.now.day - listed_days) }
         ensures in_range { IsDay result }

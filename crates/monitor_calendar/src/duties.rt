@@ -12,10 +12,10 @@ use ldar_days::Day;
 use ldar_law::{Duty, Equipment, Event};
 use std::alloc::Global;
 
-/// The duties of a component as the list of a day has them (40 CFR 60.482-2a, 60.482-3a, 60.482-4a, 60.482-7a,
-/// 60.482-8a), in order of cause, due day and event. `startup` is that of its process unit; `skipped` is which of the
-/// unit's quarters are skipped, from quarter 1 on. The classes and the events are the component's own, in key order.
-/// Returns an error if it is out of memory.
+/// The duties of a component that are on the list of a day (40 CFR 60.482-2a, 60.482-3a, 60.482-4a, 60.482-7a, 60.482-8a),
+/// in order of cause, due day and event. `startup` is that of its process unit; `skipped` is which of the unit's quarters are
+/// skipped, from quarter 1 on. The classes and the events are the component's own, in key order. Returns an error if it is
+/// out of memory.
 ///
 /// Duties that were due more than 366 days before the day are not listed and not looked at.
 #[tactic(auto, unfolding(ldar_law::specs::Duties::duties_of))]

@@ -1,4 +1,4 @@
-//! The duties of a component as the list of a day has them, for each of the nine causes.
+//! The duties of a component that are on the list of a day, for each of the nine causes.
 //!
 //! Tests: `rule_tests::duties`.
 #![tactic(auto)]

@@ -46,7 +46,7 @@ impl MonthDays {
         }
     }
 
-    /// This month, or the next one if that is the month wanted.
+    /// This month, or the next one if that one is asked for.
     pub fn moved_to(self, number: u32) -> MonthDays
         requires near { (self.month ≤ number) × (number ≤ self.month + 1) }
         requires to { number ≤ 25_199 }

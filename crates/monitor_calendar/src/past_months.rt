@@ -13,9 +13,9 @@ use ldar_law::{Event, quarter_start};
 /// 60.482-7a(c)(1)).
 #[derive(Clone, Copy)]
 pub struct PastMonths {
-    /// The month of the last leak, or 0 if there is none.
+    /// The month of the last leak, or 0 for none.
     pub leak: u32,
-    /// The last month after it with a counting routine reading below the leak definition, or 0 if there is none. It does not
+    /// The last month after it with a counting routine reading below the leak definition, or 0 for none. It does not
     /// matter after two months in a row are known.
     pub below: u32,
     /// The first month after it that has such a reading and is followed by a month that has one.
@@ -82,7 +82,7 @@ impl PastMonths {
         }
     }
 
-    /// The first of two months in a row, the second of which may be this one.
+    /// The first of two months in a row that have such a reading, if this month has one too.
     fn pair_with(self, month: u32) -> Option<u32>
         requires month { 23_640 ≤ month }
         ensures value { result ≡ pair_with self month }

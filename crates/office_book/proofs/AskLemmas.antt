@@ -11,7 +11,7 @@ use Rattle.ldar_law.specs.declared.reply.Reply.{Reply}
 use Rattle.ldar_law.specs.declared.reply.Reply.TheVariants.{Receipt, Conflict, Denied, Full, Shown, NoSuch, Fault, Memory}
 use Rattle.ldar_law.specs.declared.request.Request.{Request}
 use Rattle.ldar_law.specs.Machine.{State, Call, Finding}
-use Rattle.office_book.specs.Asking.{requests_of, replies_of, HasRule}
+use Rattle.office_interface.specs.Asking.{requests_of, replies_of, HasRule}
 use Rattle.office_book.specs.Moves.{Moves}
 use Rattle.office_book.specs.Safe.{Leads, state_of}
 use Rattle.office_book.specs.Serving.{Serves, IsFound}

@@ -22,7 +22,7 @@ use Rattle.ldar_law.specs.Replies.{HasRule}
 use Rattle.ldar_law.specs.Verdicts.{is_pass, is_ruly, verdict_on}
 use Rattle.ldar_law.proofs.Gifts.{cases_Option}
 use Rattle.office_book.specs.Archive.{MayCome}
-use Rattle.office_book.specs.Asking.{IsFromHandheld, IsSync, MayShareFrame}
+use Rattle.office_interface.specs.Asking.{IsFromHandheld, IsSync, MayShareFrame}
 use Rattle.office_book.specs.Grouped.{IsOfHandheld, IsSaid, IsTold, IsSorted, IsUnwritten, before_adding}
 use Rattle.office_book.specs.Room.{AddsNothing, IsNoFault, PutsNoFault}
 use Rattle.office_book.specs.Serving.{certain, uncertain, added, Serves}
@@ -139,7 +139,7 @@ batch_same history batch (NoSuch what) after none answers = absurd answers
 batch_same history batch Fault after none answers = absurd answers
 batch_same history batch Memory after none answers = absurd answers
 
--- its reply leaves the history unchanged
+-- a request that adds nothing leaves the history unchanged
 answers_same : (history : List Batch) (request : Request) (reply : Reply) (after : List Batch) → batch_added history request ≡ None
     → Answers history request reply after → after ≡ history
 answers_same history (Sync batch) reply after none answers = batch_same history batch reply after none answers
@@ -282,7 +282,7 @@ said_adds history batch (NoSuch what) answers = absurd answers
 said_adds history batch Fault answers = absurd answers
 said_adds history batch Memory answers = absurd answers
 
--- such a batch adds nothing
+-- a batch that is not added adds nothing to a history
 adds_none : (history : List Batch) (batch : Batch) (reply : Reply) → IsSaid history batch reply → added history (Sync batch ∷ []) ≡ []
 adds_none history batch reply said =
     ap (λ (o : Option Batch). elim o as (λ _. List Batch) [ None ↦ [] | Some more ↦ more ∷ [] ])
@@ -356,7 +356,7 @@ sorted_none history may = record {
   before = refl;
 }
 
--- the requests so far and one more, none of which adds a batch
+-- the requests so far and one more; no request adds a batch
 pub unwritten_next : (history : List Batch) (asked : List Request) (said : List Reply) (batch : Batch) (reply : Reply)
     → IsUnwritten history asked said → Serves ⊥ history (Sync batch ∷ []) (reply ∷ []) (certain history) → HasRule reply
     → IsUnwritten history (asked ++ Sync batch ∷ []) (said ++ reply ∷ [])
@@ -597,7 +597,7 @@ quiet_memory faulty history (request ∷ requests) (reply ∷ replies) next serv
     let rest = quiet_memory faulty history requests replies next wanting.1 all.1 in
     ((λ is. let clash : Fault ≡ Memory = sym is ∙ all.0 in cc, rest.0), rest.1)
 
--- each of these ways
+-- requests that add nothing, in each of the three ways, have no disk error and leave the history unchanged
 pub quiet : (faulty : Type 0) (history : List Batch) (requests : List Request) (replies : List Reply) (next : State)
     → Serves faulty history requests replies next → AddsNothing history next.history requests replies
     → AllByRecursion IsNoFault replies × (next.history ≡ history)

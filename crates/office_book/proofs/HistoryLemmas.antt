@@ -24,7 +24,7 @@ use Rattle.ldar_law.proofs.VerdictLemmas.{ruly_is_each, passes_undenied}
 use Rattle.history_laws.proofs.Passing.{one_more_passes}
 use Rattle.office_book.specs.Archive.{IsKeptAt}
 
--- nothing was found, so there is none
+-- an option without a value is None
 none_where : (o : Option ℕ) → is_some o ≡ false → o ≡ None
 none_where None none = refl
 none_where (Some n) none = absurd (false≢true (sym none))
@@ -40,7 +40,7 @@ cut_at history batches i batch within is =
     ∙ append_assoc (take i batches) (batch ∷ []) (drop (i + 1) batches))
     ∙ sym (append_assoc history (take i batches) (batch ∷ drop (i + 1) batches))
 
--- it passes after those before it
+-- one of the batches passes after those before it
 pub passes_at : (history batches : List Batch) (i : ℕ) (batch : Batch) → i < length batches → batch ≡ get_or batches i batch
     → IsTrue (is_ruly (history ++ batches))
     → verdict_on (history ++ take i batches) batch ≡ Pass
@@ -63,12 +63,12 @@ new_where_kept history batch kept =
       | inr new ↦ none_where (position_of (identity_of batch) history) new
     ]
 
--- it is new after those before it
+-- one of the batches is new after those before it
 pub new_at : (history batches : List Batch) (i : ℕ) (batch : Batch) → i < length batches → batch ≡ get_or batches i batch → IsKept (history ++ batches)
     → IsNew (history ++ take i batches) batch
 new_at history batches i batch within is kept = new_where_kept (history ++ take i batches) batch (kept_to history batches i batch within is kept)
 
--- its identity is new after those before it
+-- the identity of a new batch is not among those of the history
 pub new_identity : (history : List Batch) (identities : List Identity) (batch : Batch) → identities ≡ map identity_of history → IsNew history batch
     → position_in (identity_of batch) identities ≡ None
 new_identity history identities batch known new =

@@ -65,7 +65,7 @@ accepted history batch new passes = accepted_by (position_of (identity_of batch)
 added_by : (b : Bool) (batch : Batch) → b ≡ true → (if b then Some batch else None) ≡ Some batch
 added_by b batch is = rw is refl
 
--- such a batch is added
+-- a new batch that passes is added
 pub adds_it : (history : List Batch) (batch : Batch) → IsNew history batch → verdict_on history batch ≡ Pass → batch_added history (Sync batch) ≡ Some batch
 adds_it history batch new passes = added_by (is_accepted history batch) batch (accepted history batch new passes)
 

@@ -16,7 +16,7 @@ use Rattle.ldar_law.specs.declared.reply.Reply.{Reply}
 use Rattle.ldar_law.specs.declared.reply.Reply.TheVariants.{Fault}
 use Rattle.ldar_law.specs.declared.request.Request.{Request}
 use Rattle.ldar_law.specs.Machine.{State, Moment, Call, Turn, Finding, not_asked, they_stand, they_are_gone, Steps, IsOfCall, settled}
-use Rattle.office_book.specs.Asking.{requests_of, replies_of}
+use Rattle.office_interface.specs.Asking.{requests_of, replies_of}
 use Rattle.office_book.specs.Safe.{StandsIn, IsSafe, Leads, state_of, moment_of, frames_written}
 use Rattle.office_book.specs.Moves.{Moves}
 use Rattle.office_book.specs.Serving.{Serves, IsFound, turns_of, certain, has_some}

@@ -49,7 +49,7 @@ first_behind before batch after fact number ruly denied =
           (undenied (first_denial a y) (facts_with a y) ((ruly_is_each before).0 ruly a y b stands));
     })
 
--- the same for one of the batches after a history
+-- a batch after a history that is denied after those before it is the first denied one
 pub first_at : (history batches : List Batch) (i : ℕ) (batch : Batch) (fact number : ℕ) → i < length batches → batch ≡ get_or batches i batch
     → IsTrue (is_ruly (history ++ take i batches)) → verdict_on (history ++ take i batches) batch ≡ Denied fact number
     → first_unruly (history ++ batches) ≡ Some (length (history ++ take i batches) + 1, number)
@@ -86,20 +86,20 @@ pub passes_next : (history batches : List Batch) (i : ℕ) (batch : Batch) (adop
 passes_next history batches i batch adopted within is kept same passes =
     passes (subst (λ (l : List Batch). facts_with l batch ≤ 8_000_000) (sym same) (fits_at history batches i batch within is kept))
 
--- such a batch is new
+-- the next batch is new after the adopted ones
 pub new_next : (history batches : List Batch) (i : ℕ) (batch : Batch) (adopted : List Batch) → i < length batches → batch ≡ get_or batches i batch
     → IsKept (history ++ batches) → adopted ≡ history ++ take i batches → IsNew adopted batch
 new_next history batches i batch adopted within is kept same =
     subst (λ (l : List Batch). IsNew l batch) (sym same) (new_at history batches i batch within is kept)
 
--- the prefix that ends with it
+-- the adopted batches and the next one are a prefix
 pub front_next : (history batches : List Batch) (i : ℕ) (batch : Batch) (adopted : List Batch) → i < length batches → batch ≡ get_or batches i batch
     → adopted ≡ history ++ take i batches → adopted ++ batch ∷ [] ≡ history ++ take (i + 1) batches
 front_next history batches i batch adopted within is same =
     ap (λ (l : List Batch). l ++ batch ∷ []) same ∙ append_assoc history (take i batches) (batch ∷ [])
     ∙ ap (λ (l : List Batch). history ++ l) (sym (next_one batches i batch within is))
 
--- that prefix is ruly
+-- the prefix with the next batch is ruly if that batch passes
 pub ruly_next : (history batches : List Batch) (i : ℕ) (batch : Batch) (adopted : List Batch) → i < length batches → batch ≡ get_or batches i batch
     → adopted ≡ history ++ take i batches → IsTrue (is_ruly (history ++ take i batches)) → verdict_on adopted batch ≡ Pass
     → IsTrue (is_ruly (history ++ take (i + 1) batches))
@@ -107,7 +107,7 @@ ruly_next history batches i batch adopted within is same ruly passes =
     subst (λ (l : List Batch). IsTrue (is_ruly l)) (front_next history batches i batch adopted within is same)
     (ruly_more adopted batch (subst (λ (l : List Batch). IsTrue (is_ruly l)) (sym same) ruly) passes)
 
--- it is the first batch with room
+-- the next batch is the first one with room
 pub room_next : (batches spare : List Batch) (i : ℕ) (batch : Batch) → i < length batches → batch ≡ get_or batches i batch → spare ≡ drop i batches
     → slice_get spare 0 ≡ Some batch
 room_next batches spare i batch within is left =

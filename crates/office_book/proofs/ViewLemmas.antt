@@ -42,13 +42,13 @@ serves_shown faulty history request next view stays (Err e) reply is told =
     subst (λ (r : Reply). Serves faulty history (request ∷ []) (r ∷ []) next) (sym is)
     (inr (told.2.0, told.1 ∙ ap (λ (r : Reply). Some r) told.2.1), stays)
 
--- it names no rule
+-- the reply to a view names no rule
 pub shown_ruled : {E : Type 0} (result : Result View E) (reply : Reply) → reply ≡ reply_shown result → HasRule reply
 shown_ruled (Ok (Text text)) reply is = subst HasRule (sym is) tt
 shown_ruled (Ok (NoneOf what)) reply is = subst HasRule (sym is) tt
 shown_ruled (Err e) reply is = subst HasRule (sym is) tt
 
--- it is no disk error
+-- the reply to a view is no disk error
 pub shown_faultless : {E : Type 0} (result : Result View E) (reply : Reply) → reply ≡ reply_shown result → IsNoFault reply
 shown_faultless (Ok (Text text)) reply is = subst IsNoFault (sym is) (λ fault. cc)
 shown_faultless (Ok (NoneOf what)) reply is = subst IsNoFault (sym is) (λ fault. cc)

@@ -8,7 +8,7 @@ use Rattle.ldar_law.specs.declared.request.Request.{Request}
 use Rattle.ldar_law.specs.declared.request.Request.TheVariants.{Sync}
 use Rattle.ldar_law.specs.Machine.{Answers, batch_added}
 use Rattle.office_book.specs.Archive.{MayCome}
-use Rattle.office_book.specs.Asking.{HasRule}
+use Rattle.office_interface.specs.Asking.{HasRule}
 use Rattle.office_book.specs.Serving.{certain, added, Serves}
 
 -- the batch is of a handheld other than 0
@@ -40,13 +40,13 @@ pub record IsSorted (history : List Batch) (requests : List Request) (said : Lis
   pub ruled : AllByRecursion HasRule said
   pub before : first ≡ before_adding history requests
 
--- the replies to requests of which none adds a batch, because it is out of memory
+-- the replies to requests that add no batch, because the office is out of memory
 pub record IsUnwritten (history : List Batch) (requests : List Request) (said : List Reply) : Type 0 where
   pub serves : Serves ⊥ history requests said (certain history)
   pub ruled : AllByRecursion HasRule said
 
--- the first of the other batches with the identity of this one, where the first of them has position `first`: its position, and whether it
--- is the same batch
+-- the first of the other batches with the identity of this one: its position, and whether it is the same batch; the other batches begin at
+-- position `first`
 pub record IsAmong (first : ℕ) (others : List Batch) (batch : Batch) (position : ℕ) (same : Bool) : Type 0 where
   pub stands : position_from (is_of (identity_of batch)) first others ≡ Some position
   pub kept : Batch

@@ -1,5 +1,4 @@
 pub mod Archive
-pub mod Asking
 pub mod Grouped
 pub mod Kept
 pub mod Moves

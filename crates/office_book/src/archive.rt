@@ -1,4 +1,4 @@
-ghost use Rattle.std.specs.Prelude.{◌≡◌, ◌↔◌, ◌+◌, ◌<◌, ◌≤◌, List, IsTrue, Some, [], ◌++◌, length, take, drop, map, OnOk, IfSome, IsNone};
+ghost use Rattle.std.specs.Prelude.{◌≡◌, ◌↔◌, ◌+◌, ◌<◌, ◌≤◌, List, IsTrue, Some, [], ◌++◌, length, take, drop, map, IfOk, OnOk, IfSome, IsNone};
 ghost use Rattle.fact_kinds.specs.declared.batch.Batch.{Batch as FactBatch};
 ghost use Rattle.fact_kinds.specs.declared.limits.TheConstants.{MOST_FACTS};
 ghost use Rattle.fact_kinds.specs.Facts.{facts_of, facts_to};
@@ -7,9 +7,12 @@ ghost use Rattle.ldar_journal.specs.Image.{IsKept};
 ghost use Rattle.ldar_law.specs.Machine.{batch_at, IsNew};
 ghost use Rattle.ldar_law.specs.Shown as law;
 ghost use Rattle.ldar_law.specs.Slices.{register_facts};
+ghost use Rattle.ldar_law.specs.Units.{history_of_component};
 ghost use Rattle.ldar_law.specs.Verdicts.{is_ruly, verdict_on};
 ghost use Rattle.office_book.specs.Archive.{IsKeptAt, MayCome};
 ghost use Rattle.office_views.specs.Answers.{report_asked, IsShown, IsView, Tells};
+ghost use Rattle.office_views.specs.Totals.{totals_asked};
+ghost use Rattle.office_views.specs.Viewed.{held_of};
 
 use crate::Memory;
 use batch_positions::Positions;
@@ -17,8 +20,11 @@ use batch_rules::verdict;
 use fact_kinds::Batch;
 use fact_store::Steps;
 use ldar_days::Day;
-use ldar_law::{Report, Request, Verdict};
-use office_views::{AskError, Shown, Views, ask_views, report_views};
+use ldar_law::{History, Report, Request, Verdict};
+use office_views::{
+    AskError, Shown, Totals, Views, ask_views, events_of_views, report_views, total_views,
+};
+use std::alloc::Global;
 use std::marker::{Brand, Model};
 use std::sync::ledger::{Blank, Ledger};
 
@@ -33,12 +39,13 @@ pub struct Archive {
 impl Model for Archive {
     ghost use Rattle.office_book.specs.Archive.{IsArchive};
     ghost use Rattle.office_views.specs.Held.{Held};
+    ghost use Rattle.office_views.specs.Viewed.{held_of};
 
     ghost Value = { Held };
 
-    ghost view = { λ a. a.views };
+    ghost view = { λ a. held_of a.views };
 
-    ghost invariant = { λ a. IsArchive a.views a.positions };
+    ghost invariant = { λ a. IsArchive (held_of a.views) a.positions };
 }
 
 impl Archive {
@@ -48,7 +55,7 @@ impl Archive {
         requires ruly { IsTrue (is_ruly views.adopted) }
         requires known { positions.identities ≡ map identity_of views.adopted }
         requires none { views.spare ≡ [] }
-        ensures value { result ≡ views }
+        ensures value { result ≡ held_of views }
     {
         Archive { views, positions }
     }
@@ -94,6 +101,15 @@ impl Archive {
         }
     }
 
+    /// A copy of the kept batch at a position, from 1.
+    pub fn batch_at(&self, alloc: Global, position: u32) -> Result<Batch, Memory>
+        requires from_1 { 1 ≤ position }
+        requires within { position ≤ length self.now.adopted }
+        ensures value { IfOk result (λ batch. batch_at self.now.adopted position ≡ Some batch) }
+    {
+        copy_at::<Brand>(&self.views, alloc, position, Blank::new(1))
+    }
+
     /// The verdict on a batch after the kept ones and others that make no entry in the register and have this many
     /// facts.
     pub fn judged_behind(&self, facts: u64, batch: &Batch) -> Verdict
@@ -120,6 +136,22 @@ impl Archive {
         ensures unchanged { self.new ≡ self.old }
     {
         report_views::<Brand>(&mut self.views, unit, half, day, Blank::new(1))
+    }
+
+    /// How many lines the lists of a process unit have as of a day, from the kept batches, or `None` if there is no such unit.
+    pub fn totals(&mut self, unit: u16, day: Day) -> Result<Option<Totals>, Memory>
+        ensures value { IfOk result (λ totals. totals ≡ totals_asked unit day (facts_to day self.old.adopted)) }
+        ensures unchanged { self.new ≡ self.old }
+    {
+        total_views::<Brand>(&mut self.views, unit, day, Blank::new(1))
+    }
+
+    /// A component with its judged events as of a day, from the kept batches, or `None` if no fact has entered it by then.
+    pub fn events(&mut self, component: u16, day: Day) -> Result<Option<History>, Memory>
+        ensures value { IfOk result (λ history. history ≡ history_of_component component (facts_to day self.old.adopted)) }
+        ensures unchanged { self.new ≡ self.old }
+    {
+        events_of_views::<Brand>(&mut self.views, component, day, Blank::new(1))
     }
 }
 
@@ -166,4 +198,22 @@ fn is_kept_at<L: Ledger>(views: &Views, position: u32, batch: &Batch, blank: Bla
 {
     let mut steps = Steps::<L>::new(blank);
     views.is_kept_at(position, batch, &mut steps)
+}
+
+/// A copy of the batch kept at a position, from 1.
+fn copy_at<L: Ledger>(
+    views: &Views,
+    alloc: Global,
+    position: u32,
+    blank: Blank,
+) -> Result<Batch, Memory>
+    requires name { blank.name ≡ L.name }
+    requires parts { blank.parts ≡ L.parts }
+    requires some_part { 0 < L.parts }
+    requires from_1 { 1 ≤ position }
+    requires within { position ≤ length views.now.adopted }
+    ensures value { IfOk result (λ batch. batch_at views.now.adopted position ≡ Some batch) }
+{
+    let mut steps = Steps::<L>::new(blank);
+    views.batch_at(alloc, position, &mut steps)
 }

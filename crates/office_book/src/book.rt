@@ -9,19 +9,22 @@
 //!    use `Book::stands`).
 //! 6. The archive finds a batch at its position in the journal (`IsArchive`: `known`).
 
-ghost use Rattle.std.specs.Prelude.{◌≡◌, ◌+◌, ◌<◌, ◌^◌, [], length};
+ghost use Rattle.std.specs.Prelude.{◌≡◌, ◌+◌, ◌<◌, ◌≤◌, ◌^◌, [], Some, length, IfOk};
 ghost use Rattle.fact_kinds.specs.declared.limits.TheConstants.{FRAME_BATCHES};
 ghost use Rattle.fact_kinds.specs.Facts.{facts_of};
 ghost use Rattle.ldar_journal.specs.Crash.{OnDisk};
 ghost use Rattle.ldar_journal.specs.Image.{batches_of};
 ghost use Rattle.ldar_journal.specs.Shelf.{OpensAs};
+ghost use Rattle.ldar_law.specs.Machine.{batch_at};
 ghost use Rattle.office_book.specs.Archive.{MayCome};
 ghost use Rattle.office_book.specs.Safe.{StandsIn, state_of};
 
+use crate::Memory;
 use crate::archive::Archive;
 use disk_model::Disk;
 use fact_kinds::Batch;
 use ldar_journal::Journal;
+use std::alloc::Global;
 use std::marker::Model;
 
 /// An office over a journal. In contracts it is the journal: its disk, its frames, and the batches of a frame in doubt.
@@ -51,6 +54,15 @@ impl<D: Disk> Book<D> {
         ensures facts { result.1 ≡ length (facts_of (batches_of self.now.frames)) }
     {
         self.archive.counts()
+    }
+
+    /// A copy of the kept batch at a position, from 1. Batches in doubt have no position, and the disk is not called.
+    pub fn batch_at(&self, alloc: Global, position: u32) -> Result<Batch, Memory>
+        requires from_1 { 1 ≤ position }
+        requires within { position ≤ length (batches_of self.now.frames) }
+        ensures value { IfOk result (λ batch. batch_at (batches_of self.now.frames) position ≡ Some batch) }
+    {
+        self.archive.batch_at(alloc, position)
     }
 
     /// The position of the next kept batch, from 1.

@@ -8,7 +8,7 @@ ghost use Rattle.ldar_law.specs.declared.reply.Reply.TheVariants as replied;
 ghost use Rattle.ldar_law.specs.declared.request.Request.TheVariants as asked;
 ghost use Rattle.ldar_law.specs.Machine.{Call};
 ghost use Rattle.office_book.specs.Archive.{MayCome};
-ghost use Rattle.office_book.specs.Asking.{requests_of, replies_of, IsSync, MayShareFrame, HasRule};
+ghost use Rattle.office_interface.specs.Asking.{requests_of, replies_of, IsSync, MayShareFrame, HasRule};
 ghost use Rattle.office_book.specs.Grouped.{IsOfHandheld, IsSorted, IsTold, IsUnwritten};
 ghost use Rattle.office_book.specs.Moves.{Moves};
 ghost use Rattle.office_book.specs.Room.{AddsNothing, HasRoom, HasRoomFor, IsNoFault};

@@ -6,6 +6,7 @@ ghost use Rattle.ldar_journal.specs.Image.{IsKept};
 ghost use Rattle.ldar_law.specs.declared.verdict.Verdict.TheVariants as verdicts;
 ghost use Rattle.ldar_law.specs.Verdicts.{is_ruly, facts_with, verdict_on};
 ghost use Rattle.office_book.specs.Opened.{HasTaken};
+ghost use Rattle.office_views.specs.Viewed.{held_of};
 
 use crate::Memory;
 use crate::archive::judged_after;
@@ -22,7 +23,7 @@ pub fn take_frame(views: &mut Views, batches: &[Batch]) -> Result<Option<(u32, u
     requires kept { IsKept (views.old.adopted ++ batches.now) }
     requires few { length (views.old.adopted ++ batches.now) ≤ MOST_FACTS }
     requires ruly { IsTrue (is_ruly views.old.adopted) }
-    ensures value { IfOk result (HasTaken (views.old.adopted ++ batches.now) views.new) }
+    ensures value { IfOk result (HasTaken (views.old.adopted ++ batches.now) (held_of views.new)) }
 {
     views.reserve(batches)?;
     Ok(take_in::<Brand>(views, batches, Blank::new(1)))
@@ -37,7 +38,7 @@ fn take_in<L: Ledger>(views: &mut Views, batches: &[Batch], blank: Blank) -> Opt
     requires kept { IsKept (views.old.adopted ++ batches.now) }
     requires few { length (views.old.adopted ++ batches.now) ≤ MOST_FACTS }
     requires ruly { IsTrue (is_ruly views.old.adopted) }
-    ensures value { HasTaken (views.old.adopted ++ batches.now) views.new result }
+    ensures value { HasTaken (views.old.adopted ++ batches.now) (held_of views.new) result }
 {
     let mut steps = Steps::<L>::new(blank);
     for batch in batches {

@@ -10,7 +10,6 @@ mod frame;
 mod group;
 mod intake;
 pub mod laws;
-mod office;
 mod opening;
 mod replies;
 mod requests;
@@ -18,7 +17,7 @@ mod settlement;
 mod views;
 
 pub use book::Book;
-pub use office::Office;
+pub use office_interface::Office;
 pub use opening::{BookError, BookWhy, open_book};
 /// Out of memory.
 pub use std::alloc::AllocError as Memory;

@@ -12,6 +12,7 @@ ghost use Rattle.ldar_journal.specs.Opening.{IsOpened, IsRefused};
 ghost use Rattle.ldar_journal.specs.Window.{OnlyReads};
 ghost use Rattle.ldar_law.specs.Verdicts.{is_ruly};
 ghost use Rattle.office_book.specs.Opened.{HasTaken, IsDenied, IsNoBook, why_no_book};
+ghost use Rattle.office_views.specs.Viewed.{held_of};
 
 use crate::archive::Archive;
 use crate::book::Book;
@@ -91,7 +92,7 @@ fn read_journal<D: Disk>(
     ensures opens { IfOk result (λ r. IsOpened (D.content disk) (D.content r.0.disk) r.0.frames) }
     ensures kept { IfOk result (λ r. IsKept (batches_of r.0.frames)) }
     ensures known { IfOk result (λ r. r.1.identities ≡ map identity_of (batches_of r.0.frames)) }
-    ensures taken { IfOk result (λ r. HasTaken (batches_of r.0.frames) r.2.views r.2.denied) }
+    ensures taken { IfOk result (λ r. HasTaken (batches_of r.0.frames) (held_of r.2.views) r.2.denied) }
     ensures refused { IfErr result (λ e. IsRefused (D.content disk) (D.content e.disk) e.why) }
     ensures any_moment { MatchResult result (λ r. LeavesOnly D.clock D.left disk r.0.disk (D.images disk))
         (λ e. LeavesOnly D.clock D.left disk e.disk (D.images disk)) }
@@ -117,7 +118,7 @@ fn read_journal<D: Disk>(
 /// Adopts the batches of all frames.
 fn read_frames<D: Disk>(alloc: Global, opening: &mut Opening<D>) -> Result<Intake, OpenWhy>
     requires first { opening.old.frames ≡ [] }
-    ensures taken { IfOk result (λ intake. HasTaken (batches_of opening.new.frames) intake.views intake.denied) }
+    ensures taken { IfOk result (λ intake. HasTaken (batches_of opening.new.frames) (held_of intake.views) intake.denied) }
     ensures ended { OnOk result (opening.new.ended ≡ true) }
     ensures not_a_journal { result ≢ Err OpenWhy.NotAJournal }
     ensures damaged { IfErr result (IfDamaged (λ at. Told (D.content opening.old.disk) (λ bytes. IsDamagedAt bytes at))) }
@@ -142,8 +143,8 @@ fn read_frame<D: Disk>(
     frame: &mut Vec<Batch>,
     intake: &mut Intake,
 ) -> Result<bool, OpenWhy>
-    requires taken { HasTaken (batches_of opening.old.frames) intake.old.views intake.old.denied }
-    ensures taken { OnOk result (HasTaken (batches_of opening.new.frames) intake.new.views intake.new.denied) }
+    requires taken { HasTaken (batches_of opening.old.frames) (held_of intake.old.views) intake.old.denied }
+    ensures taken { OnOk result (HasTaken (batches_of opening.new.frames) (held_of intake.new.views) intake.new.denied) }
     ensures more { result ≡ Ok true → fact_count (batches_of opening.old.frames) < fact_count (batches_of opening.new.frames) }
     ensures few { fact_count (batches_of opening.new.frames) ≤ MOST_FACTS }
     ensures ended { result ≡ Ok false → opening.new.ended ≡ true }
@@ -175,7 +176,7 @@ fn over_journal<D: Disk>(
     requires settled { journal.doubt ≡ [] }
     requires kept { IsKept (batches_of journal.frames) }
     requires known { positions.identities ≡ map identity_of (batches_of journal.frames) }
-    requires taken { HasTaken (batches_of journal.frames) intake.views intake.denied }
+    requires taken { HasTaken (batches_of journal.frames) (held_of intake.views) intake.denied }
     ensures value { IfOk result (λ book. book ≡ journal) }
     ensures ruly { OnOk result (IsTrue (is_ruly (batches_of journal.frames))) }
     ensures same { IfErr result (λ e. e.disk ≡ journal.disk) }

@@ -91,8 +91,8 @@ fn facts_in(batches: &[Batch]) -> u64
     facts
 }
 
-/// The position of the batch with the identity of this one among others, the first of which has position `first`, and whether
-/// it is the same batch.
+/// The position of the first of the other batches with the identity of this one, and whether it is the same batch. The other
+/// batches begin at position `first`.
 fn among(first: u32, others: &[Batch], batch: &Batch) -> Option<(u32, bool)>
     requires fits { first + length others.now < 2 ^ 32 }
     ensures none { IsNone result → position_from (is_of (identity_of batch.now)) first others.now ≡ None }

@@ -5,7 +5,7 @@ ghost use Rattle.ldar_journal.specs.Crash.{AnswersInRoom};
 ghost use Rattle.ldar_journal.specs.Image.{batches_of};
 ghost use Rattle.ldar_law.specs.declared.reply.Reply.TheVariants as replied;
 ghost use Rattle.ldar_law.specs.Machine.{Call};
-ghost use Rattle.office_book.specs.Asking.{requests_of, replies_of, IsSync, MayShareFrame, HasRule};
+ghost use Rattle.office_interface.specs.Asking.{requests_of, replies_of, IsSync, MayShareFrame, HasRule};
 ghost use Rattle.office_book.specs.Room.{AddsNothing, HasRoomFor, IsNoFault, PutsNoFault};
 ghost use Rattle.office_book.specs.Safe.{Leads};
 ghost use Rattle.office_book.specs.SafeLaws.{leads_stays, leads_joins};
@@ -14,9 +14,9 @@ ghost use Rattle.office_views.specs.Answers.{IsView};
 
 use crate::Memory;
 use crate::book::Book;
-use crate::office::Office;
 use disk_model::Disk;
 use ldar_law::{Reply, Request};
+use office_interface::Office;
 use std::alloc::Global;
 use std::slice::{from_mut, from_ref};
 

@@ -1,24 +1,26 @@
-ghost use Rattle.std.specs.Prelude.{◌≡◌, ◌≤◌, [], ◌∷◌};
+ghost use Rattle.std.specs.Prelude.{◌≡◌, ◌≤◌, [], ◌∷◌, IfOk};
 ghost use Rattle.disk_model.specs.Faults.{Rose};
 ghost use Rattle.fact_kinds.specs.Facts.{facts_to};
 ghost use Rattle.ldar_journal.specs.Crash.{AnswersInRoom};
 ghost use Rattle.ldar_journal.specs.Image.{batches_of};
 ghost use Rattle.ldar_law.specs.Machine.{Call};
 ghost use Rattle.ldar_law.specs.Shown as law;
-ghost use Rattle.office_book.specs.Asking.{requests_of, replies_of, HasRule};
+ghost use Rattle.ldar_law.specs.Units.{history_of_component};
+ghost use Rattle.office_interface.specs.Asking.{requests_of, replies_of, HasRule};
 ghost use Rattle.office_book.specs.Moves.{Moves};
 ghost use Rattle.office_book.specs.Room.{IsNoFault};
 ghost use Rattle.office_book.specs.Safe.{Leads, state_of};
 ghost use Rattle.office_book.specs.Serving.{Serves};
 ghost use Rattle.office_book.specs.Viewed.{reply_shown};
 ghost use Rattle.office_views.specs.Answers.{report_asked, IsShown, IsView, Tells};
+ghost use Rattle.office_views.specs.Totals.{totals_asked};
 
 use crate::Memory;
 use crate::book::Book;
 use disk_model::Disk;
 use ldar_days::Day;
-use ldar_law::{Reply, Report, Request};
-use office_views::{AskError, Shown};
+use ldar_law::{History, Reply, Report, Request};
+use office_views::{AskError, Shown, Totals};
 use std::alloc::Global;
 
 impl<D: Disk> Book<D> {
@@ -80,6 +82,29 @@ impl<D: Disk> Book<D> {
         ensures unchanged { self.new ≡ self.old }
     {
         self.archive.report(unit, half, day)
+    }
+
+    /// How many lines the lists of a process unit have as of a day, or `None` if there is no such unit. Batches in doubt do
+    /// not count, and the disk is not called.
+    pub fn totals(&mut self, unit: u16, day: Day) -> Result<Option<Totals>, Memory>
+        ensures value { IfOk result (λ totals. totals ≡ totals_asked unit day (facts_to day (batches_of self.old.frames))) }
+        ensures unchanged { self.new ≡ self.old }
+    {
+        self.archive.totals(unit, day)
+    }
+
+    /// A component with its judged events as of a day, or `None` if no fact has entered it by then. Batches in doubt do not count, and the
+    /// disk is not called.
+    pub fn events(
+        &mut self,
+        _alloc: Global,
+        component: u16,
+        day: Day,
+    ) -> Result<Option<History>, Memory>
+        ensures value { IfOk result (λ history. history ≡ history_of_component component (facts_to day (batches_of self.old.frames))) }
+        ensures unchanged { self.new ≡ self.old }
+    {
+        self.archive.events(component, day)
     }
 }
 

@@ -1,6 +1,6 @@
 -- Serving a connection over an opened journal: the run from the opened history, and what a crash at any moment leaves of it.
 use Rattle.std.proofs.Common.{◌≡◌, ◌⊎◌, inl, inr, ℕ, ◌≤◌, Option, Some, None, List, []}
-use Rattle.std.proofs.Common.{◌∷◌, ◌++◌, length, take, drop, IsTrue, MatchOption, refl, sym, ◌∙◌, ap, subst, arith}
+use Rattle.std.proofs.Common.{◌∷◌, length, take, drop, IsTrue, MatchOption, refl, sym, ◌∙◌, ap, subst, arith}
 use Rattle.std.specs.List.{AllByRecursion}
 use Rattle.std.specs.Option.{option_to_list}
 use Rattle.list_words.proofs.Members.{all_append}
@@ -29,7 +29,7 @@ use Rattle.office_commands.proofs.RulyLemmas.{run_ruly, is_ruly_state}
 
 -- ---- receipts, and the lines that say them
 
--- what a turn receipted stands in each image left since its clock
+-- what a turn receipted is in each image left since its clock
 abbrev IsKeptSince : (ℕ → List ℕ → Type 0) → Turn → Type 0
 IsKeptSince left turn = IsReceiptKept (left turn.clock) turn
 
@@ -85,7 +85,7 @@ opened_stays None (Some new) frames opened = absurd opened
 opened_stays (Some old) None frames opened = absurd opened
 opened_stays (Some old) (Some new) frames opened = opened.0
 
--- what stands in the first state of a run stands in the run
+-- what opens in the first state of a run opens in the run
 stands_first : (state : State) (calls : List Call) (image : List ℕ) → StandsIn state image → StandsInRun state calls image
 stands_first state [] image stands = stands
 stands_first state (call ∷ calls) image stands = inl stands
@@ -99,7 +99,7 @@ run_keeps (call ∷ calls) start end run =
     let rest = run_keeps calls call.end end run.1 in
     (omega (arith, count.0, count.1, rest.0), omega (arith, time, rest.1))
 
--- what was opened tells to the end
+-- what was opened exposes its bytes to the end
 pub tells_to_end : (x y z : Option (List ℕ)) (frames : List (List Batch)) → IsOpened x y frames → BothTold y z (λ _ _. Unit {0})
     → BothTold x z (λ _ _. Unit {0})
 tells_to_end None None z frames opened tells = tells
@@ -117,7 +117,7 @@ module _ {D : Type 0} (content_of : D → Option (List ℕ)) (images_of : D → 
   abbrev look : D → SeenDisk
   look = seen content_of images_of left_of clock_of faults_of
 
-  -- an image of the disk that was opened stands in the state that it was opened to
+  -- an image of the disk that was opened opens in the state that it was opened to
   opened_stands : (start : Shelf D) (bytes same : List ℕ) → same ≡ bytes → OpensTo bytes start.frames → Only same (images_of start.disk)
       → (image : List ℕ) → images_of start.disk image → StandsIn (state_of start) image
   opened_stands start bytes same is opens only image now =
@@ -162,7 +162,7 @@ module _ {D : Type 0} (content_of : D → Option (List ℕ)) (images_of : D → 
         ];
       }
 
-  -- .. where the disk tells its bytes
+  -- .. if the disk exposes its bytes
   safe_told : (old : D) (start end : Shelf D) (calls : List Call) (served : List Served) (put : List Piece) (x y z : Option (List ℕ))
       → IsOpened x y start.frames → Told y (λ bytes. Only bytes (images_of start.disk)) → BothTold y z (λ _ _. Unit {0})
       → OnDisk z (images_of end.disk) (StandsIn (state_of end)) → Told y (λ _. IsSafe clock_of left_of start calls end)
@@ -182,7 +182,7 @@ module _ {D : Type 0} (content_of : D → Option (List ℕ)) (images_of : D → 
       stands.1
 
   -- a connection over an opened disk
-  served_over : {E : Type 0} (IsItem : Served → Type 0) (Closes : E → List Served → List ℕ → Option (List ℕ) → List ℕ → Type 0)
+  unfoldable served_over : {E : Type 0} (IsItem : Served → Type 0) (Closes : E → List Served → List ℕ → Option (List ℕ) → List ℕ → Type 0)
       (old : D) (start end : Shelf D) (ended : E) (at at' : Streams)
       → IsOpened (content_of old) (content_of start.disk) start.frames → start.doubt ≡ [] → IsTrue (is_ruly (batches_of start.frames))
       → LeavesOnly clock_of left_of old start.disk (images_of old) → Told (content_of start.disk) (λ bytes. Only bytes (images_of start.disk))
@@ -239,6 +239,27 @@ module _ {D : Type 0} (content_of : D → Option (List ℕ)) (images_of : D → 
       subst (λ (d : D). IsConnection IsItem Closes ended at at' (look old) (look d)) (sym same)
       (served_over IsItem Closes old start end ended at at' opened settled ruly entry only keeps talk
       (subst (λ (d : D). OnDisk (content_of d) (images_of d) (StandsIn (state_of end))) same stands))
+
+  -- .. and begins and ends as the office
+  pub served_with : {E : Type 0} (IsItem : Served → Type 0) (Closes : E → List Served → List ℕ → Option (List ℕ) → List ℕ → Type 0)
+      (old new : D) (start end : Shelf D) (ended : E) (at at' : Streams)
+      → IsOpened (content_of old) (content_of start.disk) start.frames → start.doubt ≡ [] → IsTrue (is_ruly (batches_of start.frames))
+      → LeavesOnly clock_of left_of old start.disk (images_of old) → Told (content_of start.disk) (λ bytes. Only bytes (images_of start.disk))
+      → Keeps clock_of name_of faults_of old start.disk
+      → Talks (Leads content_of left_of clock_of name_of faults_of) clock_of IsItem Closes ended start end at at' → new ≡ end.disk
+      → OnDisk (content_of new) (images_of new) (StandsIn (state_of end))
+      → (run : IsConnection IsItem Closes ended at at' (look old) (look new)) × (run.history ≡ batches_of start.frames)
+      × (run.last.state.history ≡ batches_of end.frames) × (run.opening.clock ≡ clock_of start.disk)
+  unfolding served_over
+  served_with IsItem Closes old new start end ended at at' opened settled ruly entry only keeps talk same stands =
+      subst (λ (d : D). (run : IsConnection IsItem Closes ended at at' (look old) (look d)) × (run.history ≡ batches_of start.frames)
+      × (run.last.state.history ≡ batches_of end.frames) × (run.opening.clock ≡ clock_of start.disk)) (sym same) (
+        served_over IsItem Closes old start end ended at at' opened settled ruly entry only keeps talk
+            (subst (λ (d : D). OnDisk (content_of d) (images_of d) (StandsIn (state_of end))) same stands),
+        refl,
+        refl,
+        refl,
+      )
 
   -- a run keeps what each call keeps
   pub run_keeps_disk : (start end : Shelf D) (calls : List Call) → Leads content_of left_of clock_of name_of faults_of start calls end

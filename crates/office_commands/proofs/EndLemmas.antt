@@ -1,5 +1,5 @@
 -- How commands end: what was not opened, what was shown, and which statuses report which faults.
-use Rattle.std.proofs.Common.{◌≡◌, ◌<◌, ℕ, Option, Some, length, List, [], ◌∷◌, ◌++◌, IsTrue, refl, sym, ◌∙◌, subst}
+use Rattle.std.proofs.Common.{◌≡◌, ◌<◌, ℕ, Option, length, List, [], ◌∷◌, ◌++◌, IsTrue, refl, sym, subst}
 use Rattle.disk_model.specs.Told.{BothTold, Told}
 use Rattle.disk_model.proofs.ToldLemmas.{BothTold-weaker, Told-weaker}
 use Rattle.ldar_journal.specs.Crash.{LeavesOnly, OnDisk}
@@ -12,8 +12,8 @@ use Rattle.ldar_law.specs.Verdicts.{is_ruly}
 use Rattle.office_book.specs.declared.opening.BookWhy.{BookWhy}
 use Rattle.office_book.specs.declared.opening.BookWhy.TheVariants as reasons
 use Rattle.office_book.specs.Opened.{IsNoBook}
-use Rattle.ldar_session.specs.declared.ended.Ended.{Ended}
-use Rattle.ldar_session.specs.declared.ended.Ended.TheVariants as ends
+use Rattle.ldar_ports.specs.declared.ended.Ended.{Ended}
+use Rattle.ldar_ports.specs.declared.ended.Ended.TheVariants as ends
 use Rattle.office_commands.specs.declared.status.Status.{Status}
 use Rattle.office_commands.specs.declared.status.Status.TheVariants.{Done, NotEmpty}
 use Rattle.office_commands.specs.declared.command.Question.{Question}
@@ -75,7 +75,7 @@ module _ {D : Type 0} (content_of : D → Option (List ℕ)) (images_of : D → 
     alone = record { unchanged = refused.unchanged; leaves = record { since = leaves.since } };
   }
 
-  -- a journal that was opened and handed back was left alone
+  -- a journal that was opened and handed back is unchanged
   handed_back : (old new : D) (start : Shelf D) → HasFrames (content_of old) (content_of start.disk) start.frames
       → LeavesOnly clock_of left_of old start.disk (images_of old) → new ≡ start.disk
       → LeavesAlone (seen content_of images_of left_of clock_of faults_of old) (seen content_of images_of left_of clock_of faults_of new)

@@ -11,7 +11,7 @@ use Rattle.office_commands.specs.declared.status.Status.TheVariants.{Done, Write
 use Rattle.office_commands.specs.Filing.{ReportEnds, filed_text}
 use Rattle.office_commands.specs.Statuses.{TextEnds}
 
--- a report that was put on file, by the status of the line that tells it
+-- a report that was put on file, by the status of the line that prints it
 pub filed_ends : (report : Report) (revision : ℕ) (status : Status) (filed filed' : Option (List Filed)) (pieces pieces' : Option (List Piece))
     → (status ≡ Done) ⊎ (status ≡ WriteFault) → Told filed (λ all. Follows report revision (latest_of report.unit report.half all))
     → BothTold filed filed' (λ all more. more ≡ all ++ filed_as revision report ∷ [])

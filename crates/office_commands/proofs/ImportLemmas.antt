@@ -27,7 +27,7 @@ items_none : (served : List Served) → AllByRecursion IsSent served → items_o
 items_none [] each = refl
 items_none (s ∷ served) each = ap (λ l. l ++ items_of served) each.0.no_item ∙ items_none served each.1
 
--- the bytes that were read stand behind no item
+-- the bytes that were read are after no item
 pub takes_text : (served : List Served) (old new : Option (List ℕ)) (text : List ℕ) → AllByRecursion IsSent served → Takes old text new
     → Takes old (items_of served ++ text) new
 takes_text served old new text each takes = subst (λ (l : List ℕ). Takes old (l ++ text) new) (sym (items_none served each)) takes

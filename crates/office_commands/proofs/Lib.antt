@@ -1,10 +1,13 @@
 mod ConnectionLemmas
+mod DrillLemmas
+mod DrillTurns
 mod EndLemmas
 mod FaultLemmas
 mod FilingLemmas
 mod ImportLemmas
+mod MirrorLemmas
 mod NoteLemmas
-mod NumberLemmas
+mod OfferLemmas
 mod RulyLemmas
 mod SendingLemmas
 mod StatusLemmas

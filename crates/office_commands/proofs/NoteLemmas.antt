@@ -6,7 +6,7 @@ use Rattle.ldar_ports.specs.Sink.{Piece, Puts, bytes_of}
 use Rattle.ldar_ports.proofs.PutsLemmas.{puts_more}
 use Rattle.office_commands.specs.Statuses.{Said, IsPut}
 
--- a text of which all is said, and one behind it
+-- a text that was written whole, and one after it
 pub said_more : (first second : List ℕ) (old middle new : Option (List Piece)) (none unsaid : List ℕ) → none ≡ []
     → Said first old middle none → Said second middle new unsaid → Said (first ++ second) old new unsaid
 said_more first second old middle new none unsaid all one two = record {
@@ -19,7 +19,7 @@ said_more first second old middle new none unsaid all one two = record {
       ∙ ap (λ (l : List ℕ). l ++ unsaid) (sym (flat_map-append (λ (piece : Piece). piece.bytes) one.put two.put));
 }
 
--- a text of which a front is said, and more that is unsaid
+-- a text of which a prefix was written, and more that was not
 pub said_part : (first second : List ℕ) (old new : Option (List Piece)) (unsaid : List ℕ) → Said first old new unsaid
     → Said (first ++ second) old new (unsaid ++ second)
 said_part first second old new unsaid one = record {
@@ -28,17 +28,17 @@ said_part first second old new unsaid one = record {
   says = ap (λ (l : List ℕ). l ++ second) one.says ∙ append_assoc (bytes_of one.put) unsaid second;
 }
 
--- a text of which all is said, and one put behind it
+-- a text that was written whole, and one written after it
 pub put_more : {T E : Type 0} (first second : List ℕ) (old middle new : Option (List Piece)) (none : List ℕ) (r : Result T E) → none ≡ []
     → Said first old middle none → IsPut second middle new r → IsPut (first ++ second) old new r
 put_more first second old middle new none r all one two = (two.0, said_more first second old middle new none two.0 all one two.1, two.2)
 
--- a text of which a front is said, of a longer one
+-- a text of which a prefix was written, of a longer one
 pub put_part : {T E : Type 0} (first second : List ℕ) (old new : Option (List Piece)) (unsaid : List ℕ) (r : Result T E) (e : E) → r ≡ Err e
     → Said first old new unsaid → IsPut (first ++ second) old new r
 put_part first second old new unsaid r e failed one = (unsaid ++ second, said_part first second old new unsaid one, rw failed tt)
 
--- a text of which nothing is unsaid
+-- a text of which nothing is unwritten
 pub said_whole : (text : List ℕ) (old new : Option (List Piece)) (put : List Piece) (unsaid : List ℕ) → Puts old put new
     → text ≡ bytes_of put ++ unsaid → unsaid ≡ [] → Said text old new []
 said_whole text old new put unsaid puts says none = record {

@@ -24,7 +24,7 @@ pub record IsRulyState (state : State) : Type 0 where
 
 -- ---- batches that are accepted
 
--- an accepted batch goes behind a ruly history
+-- an accepted batch after a ruly history makes a ruly history
 accepted_ruly : (history : List Batch) (batch : Batch) → IsTrue (is_ruly history) → IsTrue (is_accepted history batch)
     → IsTrue (is_ruly (history ++ batch ∷ []))
 accepted_ruly history batch ruly accepted =
@@ -51,7 +51,7 @@ added_ruly history (Route unit day stops) batch ruly is = absurd cc
 added_ruly history (Percent unit quarter day) batch ruly is = absurd cc
 added_ruly history (ReportView unit half day) batch ruly is = absurd cc
 
--- what a turn adds, and what those behind it do, goes behind a ruly history
+-- what a turn and the turns after it add keeps a history ruly
 turn_added_ruly : (history : List Batch) (request : Request) (turns : List Turn) (found : Option Batch) → batch_added history request ≡ found
     → ((longer : List Batch) → IsTrue (is_ruly longer) → IsTrue (is_ruly (longer ++ batches_added longer turns))) → IsTrue (is_ruly history)
     → IsTrue (is_ruly (history ++ (elim found [
@@ -63,7 +63,7 @@ turn_added_ruly history request turns (Some batch) is others ruly =
     subst (λ (l : List Batch). IsTrue (is_ruly l)) (append_assoc history (batch ∷ []) (batches_added (history ++ batch ∷ []) turns))
     (others (history ++ batch ∷ []) (added_ruly history request batch ruly is))
 
--- what turns add goes behind a ruly history
+-- what turns add keeps a history ruly
 all_added_ruly : (turns : List Turn) (history : List Batch) → IsTrue (is_ruly history) → IsTrue (is_ruly (history ++ batches_added history turns))
 all_added_ruly [] history ruly = subst (λ (l : List Batch). IsTrue (is_ruly l)) (sym (append-nil history)) ruly
 all_added_ruly (turn ∷ turns) history ruly =
@@ -173,14 +173,14 @@ steps_ruly (turn ∷ turns) state next steps ruly =
 
 -- ---- images
 
--- an image that stands in a ruly state opens to a ruly history
+-- an image that opens in a ruly state opens to a ruly history
 stands_ruly : (state : State) (image : List ℕ) → IsRulyState state → StandsIn state image → OpensRuly image
 stands_ruly state image ruly stands = elim stands [
   | inl before ↦ record { history = state.history; opens = before; ruly = ruly.history }
   | inr after ↦ record { history = state.history ++ state.doubt; opens = after; ruly = ruly.doubt }
 ]
 
--- .. and so does one that stands in a run from a ruly state
+-- .. and so does one that opens in a run from a ruly state
 pub run_ruly : (calls : List Call) (start end : Moment) (image : List ℕ) → Runs start calls end → IsRulyState start.state
     → StandsInRun start.state calls image → OpensRuly image
 run_ruly [] start end image run ruly stands = stands_ruly start.state image ruly stands

@@ -15,7 +15,7 @@ use Rattle.ldar_law.specs.declared.request.Request.TheVariants.{Sync}
 use Rattle.ldar_law.specs.Machine.{State, Moment, Call, Turn, Answers, AnswersBatch, IsAnswered, Steps, Runs, settled}
 use Rattle.ldar_law.specs.Replies.{reply_text}
 use Rattle.ldar_ports.specs.Sink.{Piece, Puts, IsStamped, bytes_of}
-use Rattle.office_book.specs.Asking.{requests_of, replies_of}
+use Rattle.office_interface.specs.Asking.{requests_of, replies_of}
 use Rattle.office_commands.specs.declared.batches.Sent.{Sent}
 use Rattle.office_commands.specs.declared.batches.Sent.TheVariants.{Done, Unreceipted, WriteFault, Memory}
 use Rattle.office_commands.specs.declared.batches.Unkept.{Unkept}
@@ -49,7 +49,7 @@ unfolding sent_in
 are_sent [] = tt
 are_sent (turn ∷ turns) = (record { no_item = refl; says = refl }, are_sent turns)
 
--- a request that was asked alone, and a front of the line of its reply
+-- a request that was asked by itself, and a prefix of the line of its reply
 pub sent_put : {O : Type 0} (led : O → List Call → O → Type 0) (clock_of : O → ℕ) (old new : O) (call : Call) (reply : Reply)
     (pieces pieces' : Option (List Piece)) (put : List Piece) (unsaid : List ℕ) (clock : ℕ) → led old (call ∷ []) new → replies_of call ≡ reply ∷ []
     → Puts pieces put pieces' → reply_text reply ≡ bytes_of put ++ unsaid → All (IsStamped clock) put → call.end.clock ≤ clock → clock ≤ clock_of new
@@ -58,7 +58,7 @@ sent_put led clock_of old new call reply pieces pieces' put unsaid clock run rep
     talk_call IsSent led clock_of old new call pieces pieces' put (sent_in call.turns) unsaid clock run (turns_of-sent_in call.turns) (are_sent call.turns)
     puts (texts_of-sent_in call.turns ∙ ap (flat_map reply_text) replied ∙ append-nil (reply_text reply) ∙ said) stamped late le
 
--- .. of which nothing is said
+-- .. of which nothing was written
 pub sent_unsaid : {O : Type 0} (led : O → List Call → O → Type 0) (clock_of : O → ℕ) (old new : O) (call : Call) (pieces : Option (List Piece))
     → led old (call ∷ []) new → Talk IsSent led clock_of old new pieces pieces (sent_in call.turns) (texts_of (sent_in call.turns))
 sent_unsaid led clock_of old new call pieces run =
@@ -142,7 +142,7 @@ ends_one call request replies.Memory unsaid old new receipted ended asked replie
 pub unsaid_short : (text put unsaid : List ℕ) → text ≡ put ++ unsaid → length unsaid ≤ length text
 unsaid_short text put unsaid says = let long = ap length says ∙ length-append put unsaid in omega (arith, long)
 
--- what is said of one turn is its line
+-- what is written of one turn is its line
 pub text_of_one : (call : Call) (reply : Reply) → replies_of call ≡ reply ∷ [] → texts_of (sent_in call.turns) ≡ reply_text reply
 text_of_one call reply replied = texts_of-sent_in call.turns ∙ ap (flat_map reply_text) replied ∙ append-nil (reply_text reply)
 
@@ -178,12 +178,12 @@ turn_of_batch (turn ∷ turns) state next batch reply asked told steps =
     let is : turn.reply ≡ reply = cc in
     of_batch_by reply state turn batch turns next same is (subst (λ (r : Reply). StepsBy r state turn turns next) is steps)
 
--- the reply to a batch that was asked alone
+-- the reply to a batch that was asked by itself
 pub call_of_batch : (start end : Moment) (call : Call) (batch : Batch) (reply : Reply) → Runs start (call ∷ []) end
     → requests_of call ≡ Sync batch ∷ [] → replies_of call ≡ reply ∷ [] → IsOfBatch reply
 call_of_batch start end call batch reply runs asked told = turn_of_batch call.turns start.state call.end.state batch reply asked told runs.0.steps
 
--- ---- one behind others
+-- ---- one after others
 
 turns_of-append : (first more : List Served) → turns_of (first ++ more) ≡ turns_of first ++ turns_of more
 turns_of-append first more = flat_map-append (λ (s : Served). option_to_list s.turn) first more
@@ -203,7 +203,7 @@ all_more one two first more all next = record {
       all.receipts next.receipts);
 }
 
--- one was answered so behind others that are receipted, with further requests behind it
+-- one was answered so after others that are receipted, with further requests after it
 up_to_more : (reply : Reply) (one two rest : List Request) (first more : List Served) → AllReceipted one first [] → SentUpTo reply two more
     → SentUpTo reply (one ++ (two ++ rest)) (first ++ more)
 up_to_more reply one two rest first more all next = record {

@@ -1,13 +1,12 @@
--- Which exit statuses tell which faults.
+-- Which exit statuses report which errors.
 use Rattle.std.proofs.Common.{◌≡◌, ◌⊎◌, inl, inr, ℕ, nat_eq, Bool, true, false, Option, List, refl, sym, ap, ◌∙◌, arith, if◌then◌else◌}
-use Rattle.disk_model.specs.Faults.{Rose}
 use Rattle.ldar_ports.specs.Sink.{Piece}
 use Rattle.office_commands.specs.declared.status.Status.{Status}
 use Rattle.office_commands.specs.declared.status.Status.TheVariants.{Done, Usage, ReadFault, WriteFault, DiskFault, Memory}
 use Rattle.office_commands.specs.declared.status.Status.TheVariants.{NotAJournal, Damaged, Unruly, CutShort, BadInput, TooLarge, NotEmpty}
 use Rattle.office_commands.specs.declared.status.Status.TheVariants.{BadRow, Conflict, Denied, Full, NoSuch, FilingFault, SameReport, NoRevisionLeft}
 use Rattle.office_commands.specs.declared.status.Status.TheVariants.{NoSuchRevision, NoSuchPosition, Stranger}
-use Rattle.office_commands.specs.Statuses.{status_number, number_unnoted, IsNoted}
+use Rattle.office_commands.specs.Statuses.{status_number, IsNoted}
 
 -- the status that reports a fault by this number; any other for a number that reports none
 fault_numbered : ℕ → Status → Status

@@ -19,7 +19,7 @@ use Rattle.office_commands.specs.declared.command.Task.{Task}
 use Rattle.office_commands.specs.declared.command.Task.TheVariants.{Dock, Drain, Import, Ask}
 use Rattle.office_commands.specs.declared.status.Status.{Status}
 use Rattle.office_commands.specs.Imports.{EndsImport}
-use Rattle.office_commands.specs.Run.{Ends, TaskEnds}
+use Rattle.office_commands.specs.Run.{Ends, task_row}
 use Rattle.office_commands.specs.Scene.{SeenDisk, Streams, seen}
 use Rattle.office_commands.specs.Sending.{IsSent}
 use Rattle.office_commands.specs.Tasks.{Does}
@@ -46,7 +46,7 @@ module _ {D : Type 0} (content_of : D → Option (List ℕ)) (images_of : D → 
       → Keeps clock_of name_of faults_of old start.disk
       → Does (Leads content_of left_of clock_of name_of faults_of) clock_of task status start end at at' → new ≡ end.disk
       → OnDisk (content_of new) (images_of new) (StandsIn (state_of end))
-      → TaskEnds task status at at' (seen content_of images_of left_of clock_of faults_of old) (seen content_of images_of left_of clock_of faults_of new)
+      → (task_row task).ends status at at' (seen content_of images_of left_of clock_of faults_of old) (seen content_of images_of left_of clock_of faults_of new)
   task_ends Dock status old new start end at at' opened settled ruly entry only keeps does same stands = (
     does.0,
     does.1,

@@ -1,5 +1,5 @@
 -- The command that words are is the one that their positionals are.
-use Rattle.std.proofs.Common.{◌≡◌, ◌∙◌, ◌==◌, ◌+◌, ℕ, Bool, true, false, not, Option, Some, None, List, [], ◌∷◌, length, refl, arith, if◌then◌else◌}
+use Rattle.std.proofs.Common.{◌≡◌, ◌==◌, ◌+◌, ℕ, Bool, true, false, not, Option, Some, None, List, [], ◌∷◌, length, refl, arith, if◌then◌else◌}
 use Rattle.std.proofs.lemmas.Grind.{common_steps}
 use Rattle.std.specs.List.{list_all}
 use Rattle.command_words.specs.Parsing.{name_in}
@@ -15,7 +15,7 @@ tested true word further (Some command) is = is
 tested false word further None is = refl
 tested false word further (Some command) is = refl
 
--- the words are so many, and the first is the name
+-- the number of words, and the first is the name
 pub command_with-positionals : (count : ℕ) (words : List (List ℕ)) → length words ≡ count + 1
     → command_with (name_in words) (positionals_of count words) ≡ command_in words
 command_with-positionals count [] long = absurd (omega (arith, long))

@@ -1,40 +1,23 @@
 -- The words that are commands.
-use Rattle.std.specs.Prelude.{◌≤◌, ℕ, nat_eq, Bool, true, false, not, Option, Some, None, List, [], ◌∷◌, codes, option_map, if◌then◌else◌}
+use Rattle.std.specs.Prelude.{ℕ, nat_eq, Bool, not, Option, Some, None, List, [], ◌∷◌, codes, option_map, if◌then◌else◌}
 use Rattle.std.specs.Cmp.Lexicographic.{pointwise}
 use Rattle.std.specs.List.{list_all}
 use Rattle.command_words.specs.Positionals.{is_option}
+use Rattle.fact_kinds.specs.declared.limits.TheConstants.{MOST_FACTS}
 use Rattle.ldar_days.specs.Texts.{day_of}
 use Rattle.ldar_law.specs.declared.request.Request.{Request}
 use Rattle.ldar_law.specs.declared.request.Request.TheVariants.{Due, Tags, Delays, Route, Percent, Report}
+use Rattle.drill_history.specs.declared.numbers.TheConstants.{GREATEST_SEED, LARGEST_DRILL}
 use Rattle.handheld_http.specs.Requests.{decimal_in}
-use Rattle.office_views.specs.Answers.{IsView}
 use Rattle.office_commands.specs.declared.command.Command.{Command}
-use Rattle.office_commands.specs.declared.command.Command.TheVariants.{Init, Amended, Office}
-use Rattle.office_commands.specs.declared.command.RevisionPair.{RevisionPair}
-use Rattle.office_commands.specs.declared.command.Task.{Task}
+use Rattle.office_commands.specs.declared.command.Command.TheVariants.{Init, Amended, Drill, Mirror, Office}
 use Rattle.office_commands.specs.declared.command.Task.TheVariants.{Dock, Drain, Import, Ask}
 use Rattle.office_commands.specs.declared.command.Question.{Question}
-use Rattle.office_commands.specs.declared.command.Question.TheVariants.{Show, File, Check}
+use Rattle.office_commands.specs.declared.command.Question.TheVariants.{Show, File, Check, Offer}
 use Rattle.office_commands.specs.declared.command.Sort.{Sort}
 use Rattle.office_commands.specs.declared.command.Sort.TheVariants.{Units, Components}
 use Rattle.register_import.specs.declared.limits.TheConstants.{LAST_NUMBER}
 use Rattle.report_filing.specs.declared.file.TheConstants.{LAST_REVISION}
-
--- a question that shows something shows a view
-abbrev pub IsQuestionInRange : Question → Type 0
-IsQuestionInRange (Show request) = IsView request
-IsQuestionInRange _ = Unit {0}
-
--- .. and the batches of an import can be numbered
-abbrev pub IsTaskInRange : Task → Type 0
-IsTaskInRange (Import number sort) = number ≤ LAST_NUMBER
-IsTaskInRange (Ask question) = IsQuestionInRange question
-IsTaskInRange _ = Unit {0}
-
-abbrev pub IsInRange : Command → Type 0
-IsInRange Init = Unit {0}
-IsInRange (Amended pair) = Unit {0}
-IsInRange (Office task) = IsTaskInRange task
 
 -- the command that is a question
 abbrev pub asking : Question → Command
@@ -51,6 +34,7 @@ alone word =
     else if is_word word (codes "dock") then Some (Office Dock)
     else if is_word word (codes "drain") then Some (Office Drain)
     else if is_word word (codes "check") then Some (asking Check)
+    else if is_word word (codes "mirror") then Some Mirror
     else None
 
 -- what a file of the register lists, from its word
@@ -59,6 +43,14 @@ sort_named word =
     if is_word word (codes "units") then Some Units
     else if is_word word (codes "components") then Some Components
     else None
+
+-- the command that offers the batches after the first FROM; no journal has more batches than facts
+unfoldable pub offer_of : List ℕ → Option Command
+offer_of from = elim (decimal_in MOST_FACTS from) [ None ↦ None | Some from ↦ Some (asking (Offer from)) ]
+
+-- .. if this is its word
+abbrev pub offering : List ℕ → List ℕ → Option Command
+offering word from = if is_word word (codes "offer") then offer_of from else None
 
 -- the command that imports a file of this kind, as batches from NUMBER on
 unfoldable pub import_of : List ℕ → List ℕ → Option Command
@@ -70,6 +62,25 @@ import_of number sort = elim (decimal_in LAST_NUMBER number) [
 -- the command that imports a file, if this is its word
 abbrev pub importing : List ℕ → List ℕ → List ℕ → Option Command
 importing word number sort = if is_word word (codes "import") then import_of number sort else None
+
+-- a number from 1 to this one
+unfoldable pub counting_in : ℕ → List ℕ → Option ℕ
+counting_in greatest text = elim (decimal_in greatest text) [
+  | None ↦ None
+  | Some number ↦ if nat_eq number 0 then None else Some number
+]
+
+-- the command that runs the drill N of this size
+unfoldable pub drill_of : List ℕ → List ℕ → Option Command
+drill_of seed size = elim (counting_in GREATEST_SEED seed) [
+  | None ↦ None
+  | Some seed ↦ elim (counting_in LARGEST_DRILL size) [ None ↦ None | Some size ↦ Some (Drill seed size) ]
+]
+
+-- the command with a word and two further words
+abbrev pub of_two_further : List ℕ → List ℕ → List ℕ → Option Command
+of_two_further word first second =
+    if is_word word (codes "drill") then drill_of first second else importing word first second
 
 -- a view of a process unit on a day, from its name
 abbrev pub view_named : List ℕ → ℕ → ℕ → Option Request
@@ -168,7 +179,8 @@ of_four_further word first second third fourth =
 -- the command that a word and the words after it are
 abbrev pub command_of : List ℕ → List (List ℕ) → Option Command
 command_of word [] = alone word
-command_of word (number ∷ sort ∷ []) = importing word number sort
+command_of word (from ∷ []) = offering word from
+command_of word (first ∷ second ∷ []) = of_two_further word first second
 command_of word (first ∷ second ∷ third ∷ []) = of_three_further word first second third
 command_of word (first ∷ second ∷ third ∷ fourth ∷ []) = of_four_further word first second third fourth
 command_of word _ = None
@@ -187,32 +199,3 @@ command_in (word ∷ further) = only_if (list_all (λ word. not (is_option word)
 abbrev pub command_with : List ℕ → Option (List (List ℕ)) → Option Command
 command_with word None = None
 command_with word (Some further) = command_of word further
-
--- what a command may touch beside the output and the notes: it reads the input, uses the disk of the journal, asks for reports on file, files one
-pub record Touched : Type 0 where
-  pub input : Bool
-  pub disk : Bool
-  pub filing : Bool
-  pub reports : Bool
-
-abbrev pub untouched : Touched
-untouched = record { input = false; disk = false; filing = false; reports = false }
-
--- a task in an office uses the disk of its journal
-abbrev pub office_only : Touched
-office_only = record untouched { disk = true }
-
-abbrev pub touched_in_office : Task → Touched
-touched_in_office Dock = record office_only { input = true }
-touched_in_office Drain = record office_only { input = true }
-touched_in_office (Import number sort) = record office_only { input = true }
-touched_in_office (Ask (Show request)) = office_only
-touched_in_office (Ask (File unit half day)) = record office_only { filing = true; reports = true }
-touched_in_office (Ask Check) = office_only
-
--- .. and words that are no command touch nothing
-abbrev pub touched_by : Option Command → Touched
-touched_by None = untouched
-touched_by (Some Init) = office_only
-touched_by (Some (Amended pair)) = record untouched { filing = true }
-touched_by (Some (Office task)) = record (touched_in_office task) { disk = true }

@@ -17,7 +17,7 @@ use Rattle.ldar_session.specs.Requests.{HasItsAnswer}
 use Rattle.office_commands.specs.Sending.{IsSent}
 use Rattle.ldar_session.specs.Session.{Ends as EndsRequests}
 use Rattle.ldar_session.specs.Served.{Served, Stamped, items_of, texts_of, turns_in, turns_of}
-use Rattle.ldar_session.specs.declared.ended.Ended.{Ended}
+use Rattle.ldar_ports.specs.declared.ended.Ended.{Ended}
 use Rattle.office_commands.specs.Scene.{SeenDisk, Streams, MayLeave}
 use Rattle.office_commands.specs.declared.command.Sort.{Sort}
 use Rattle.office_commands.specs.declared.status.Status.{Status}

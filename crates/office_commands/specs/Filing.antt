@@ -1,4 +1,4 @@
--- What the commands on filed reports do: which revision is put on file, which two are compared, and what is said.
+-- What the commands on filed reports do: which revision is put on file, which two are compared, and what is written.
 use Rattle.std.specs.Prelude.{◌≡◌, ℕ, Option, Some, None, List, [], ◌∷◌, ◌++◌, length, Result, Ok, Err, codes}
 use Rattle.std.specs.List.{flat_map}
 use Rattle.std.specs.Fmt.{decimal}
@@ -75,7 +75,7 @@ both_of pair all = elim (revision_of pair.unit pair.half pair.from all) [
   | Some earlier ↦ elim (revision_of pair.unit pair.half pair.to all) [ None ↦ Err pair.to | Some later ↦ Ok (earlier, later) ]
 ]
 
--- what differs between the two revisions is said: whole, or up to what a write that failed left unsaid
+-- what differs between the two revisions is written: whole, or up to where a write failed
 pub record IsAmended (pair : RevisionPair) (status : Status) (filed : Option (List Filed)) (pieces pieces' : Option (List Piece)) : Type 0 where
   pub earlier : Filed
   pub later : Filed

@@ -1,7 +1,10 @@
 pub mod Command
 pub mod Connection
+pub mod Drills
 pub mod Filing
 pub mod Imports
+pub mod Mirrors
+pub mod Offering
 pub mod Run
 pub mod Scene
 pub mod Sending

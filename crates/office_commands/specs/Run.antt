@@ -1,5 +1,5 @@
 -- What a run of the program does to its streams, the reports on file and its disk, for each command.
-use Rattle.std.specs.Prelude.{◌≡◌, ◌<◌, ◌≤◌, ◌⊎◌, ℕ, Option, Some, None, List, [], ◌++◌, length, codes, IsTrue}
+use Rattle.std.specs.Prelude.{◌≡◌, ◌<◌, ◌≤◌, ◌⊎◌, ℕ, Option, Some, None, List, [], ◌++◌, length, codes, IsTrue, Bool, true, false}
 use Rattle.std.specs.Fmt.{decimal}
 use Rattle.disk_model.specs.Told.{Told, BothTold}
 use Rattle.fact_kinds.specs.declared.batch.Batch.{Batch}
@@ -12,22 +12,27 @@ use Rattle.ldar_law.specs.declared.reply.Reply.{Reply}
 use Rattle.ldar_law.specs.declared.reply.Reply.TheVariants.{Receipt, Conflict, Denied, Full, Shown, NoSuch, Fault, Memory as WantsMemory}
 use Rattle.ldar_law.specs.Shown.{shown}
 use Rattle.ldar_law.specs.Verdicts.{is_ruly}
-use Rattle.office_views.specs.Answers.{report_asked}
+use Rattle.office_views.specs.Answers.{report_asked, IsView}
+use Rattle.register_import.specs.declared.limits.TheConstants.{LAST_NUMBER}
+use Rattle.drill_history.specs.declared.numbers.TheConstants.{GREATEST_SEED, LARGEST_DRILL}
 use Rattle.office_book.specs.declared.opening.BookWhy.{BookWhy}
 use Rattle.office_book.specs.Opened.{IsReason}
-use Rattle.ldar_session.specs.declared.ended.Ended.{Ended}
+use Rattle.ldar_ports.specs.declared.ended.Ended.{Ended}
 use Rattle.office_commands.specs.declared.command.Command.{Command}
-use Rattle.office_commands.specs.declared.command.Command.TheVariants.{Init, Amended, Office}
+use Rattle.office_commands.specs.declared.command.Command.TheVariants.{Init, Amended, Drill, Mirror, Office}
 use Rattle.office_commands.specs.declared.command.RevisionPair.{RevisionPair}
 use Rattle.office_commands.specs.declared.command.Task.{Task}
 use Rattle.office_commands.specs.declared.command.Task.TheVariants.{Dock, Drain, Import, Ask}
 use Rattle.office_commands.specs.declared.command.Question.{Question}
-use Rattle.office_commands.specs.declared.command.Question.TheVariants.{Show, File, Check}
+use Rattle.office_commands.specs.declared.command.Question.TheVariants.{Show, File, Check, Offer}
 use Rattle.office_commands.specs.declared.status.Status.{Status}
 use Rattle.office_commands.specs.declared.status.Status.TheVariants.{Done, Usage, DiskFault}
 use Rattle.office_commands.specs.declared.status.Status.TheVariants.{NotEmpty, NoSuch as HasNoSuch}
 use Rattle.office_commands.specs.Connection.{IsDocked, IsDrained, IsImported}
+use Rattle.office_commands.specs.Drills.{IsMadeOnly, IsDrilled}
 use Rattle.office_commands.specs.Filing.{AmendedEnds, AskedEnds}
+use Rattle.office_commands.specs.Mirrors.{IsMirrored}
+use Rattle.office_commands.specs.Offering.{OfferEnds}
 use Rattle.office_commands.specs.Scene.{Streams, SeenDisk, IsSilent, LeavesAlone, MayLeave}
 use Rattle.office_commands.specs.Statuses.{TextEnds, refusal_of, status_of}
 
@@ -87,23 +92,6 @@ ReplyEnds WantsMemory status old new = ⊥
 abbrev pub ShowsEnds : Option Reply → Status → Option (List Piece) → Option (List Piece) → Type 0
 ShowsEnds shown status old new = (reply : Reply) × (shown ≡ Some reply) × ReplyEnds reply status old new
 
--- ---- questions
-
--- how a question of the history ends: what is put on file, and what is said
-abbrev pub Answers : Question → List Batch → Status → (filed filed' : Option (List Filed)) (pieces pieces' : Option (List Piece)) → Type 0
-Answers (Show request) history status filed filed' pieces pieces' = ShowsEnds (shown history request) status pieces pieces'
-Answers (File unit half day) history status filed filed' pieces pieces' =
-    AskedEnds (report_asked unit half day (facts_to day history)) status filed filed' pieces pieces'
-Answers Check history status filed filed' pieces pieces' = TextEnds (check_text history) status pieces pieces'
-
--- a question was answered of the history of the journal; nothing was read, and the journal was left alone
-pub record IsAnswered (question : Question) (status : Status) (old new : Streams) (disk disk' : SeenDisk) : Type 0 where
-  pub history : List Batch
-  pub opened : IsOpened disk.content history
-  pub unread : new.unread ≡ old.unread
-  pub ends : Answers question history status old.filed new.filed old.pieces new.pieces
-  pub alone : LeavesAlone disk disk'
-
 -- ---- amended
 
 -- two revisions were compared; nothing was read, and the reports on file are as before
@@ -112,7 +100,70 @@ pub record IsCompared (pair : RevisionPair) (status : Status) (old new : Streams
   pub filed : new.filed ≡ old.filed
   pub ends : AmendedEnds pair status old.filed old.pieces new.pieces
 
--- ---- each command
+-- ---- drill
+
+-- The end of a drill: no journal was made; or one was made and not opened; or it was run. Unless it was run, nothing was printed.
+abbrev pub DrillEnds : ℕ → ℕ → Status → Option (List Piece) → Option (List Piece) → SeenDisk → SeenDisk → Type 0
+DrillEnds seed size status old new disk disk' =
+    ((new ≡ old) × IsMade status disk disk' × ¬ (status ≡ Done))
+    ⊎ (((new ≡ old) × IsMadeOnly status disk disk') ⊎ IsDrilled seed size status old new disk disk')
+
+-- ---- the table of commands: for each, what it may touch, the range of its words, and how it ends
+
+-- what a command may touch beside the output and the notes: it reads the input, uses the disk of the journal, asks for reports on file, files one
+pub record Touched : Type 0 where
+  pub input : Bool
+  pub disk : Bool
+  pub filing : Bool
+  pub reports : Bool
+
+abbrev pub untouched : Touched
+untouched = record { input = false; disk = false; filing = false; reports = false }
+
+-- a task in an office uses the disk of its journal
+abbrev pub office_only : Touched
+office_only = record untouched { disk = true }
+
+-- a question of the history: what is put on file, and what is written
+pub record QuestionRow : Type 1 where
+  pub touches : Touched
+  pub in_range : Type 0
+  pub answers : List Batch → Status → (filed filed' : Option (List Filed)) (pieces pieces' : Option (List Piece)) → Type 0
+
+abbrev pub question_row : Question → QuestionRow
+question_row (Show request) = record {
+  touches = office_only;
+  in_range = IsView request;
+  answers = λ history status filed filed' pieces pieces'. ShowsEnds (shown history request) status pieces pieces';
+}
+question_row (File unit half day) = record {
+  touches = record office_only { filing = true; reports = true };
+  in_range = Unit {0};
+  answers = λ history status filed filed' pieces pieces'.
+      AskedEnds (report_asked unit half day (facts_to day history)) status filed filed' pieces pieces';
+}
+question_row Check = record {
+  touches = office_only;
+  in_range = Unit {0};
+  answers = λ history status filed filed' pieces pieces'. TextEnds (check_text history) status pieces pieces';
+}
+question_row (Offer from) = record {
+  touches = office_only;
+  in_range = Unit {0};
+  answers = λ history status filed filed' pieces pieces'. OfferEnds history from status pieces pieces';
+}
+
+-- how a question of the history ends
+abbrev pub Answers : Question → List Batch → Status → (filed filed' : Option (List Filed)) (pieces pieces' : Option (List Piece)) → Type 0
+Answers question = (question_row question).answers
+
+-- a question was answered of the history of the journal; nothing was read, and the journal is unchanged
+pub record IsAnswered (question : Question) (status : Status) (old new : Streams) (disk disk' : SeenDisk) : Type 0 where
+  pub history : List Batch
+  pub opened : IsOpened disk.content history
+  pub unread : new.unread ≡ old.unread
+  pub ends : Answers question history status old.filed new.filed old.pieces new.pieces
+  pub alone : LeavesAlone disk disk'
 
 -- the journal was not opened, and nothing else was changed
 pub record IsRefused (status : Status) (old new : Streams) (disk disk' : SeenDisk) : Type 0 where
@@ -120,16 +171,77 @@ pub record IsRefused (status : Status) (old new : Streams) (disk disk' : SeenDis
   pub filed : new.filed ≡ old.filed
   pub shut : IsNotOpened status disk disk'
 
--- the end of a task in the office over an opened journal
-abbrev pub TaskEnds : Task → Status → Streams → Streams → SeenDisk → SeenDisk → Type 0
-TaskEnds Dock status old new disk disk' = (ended : Ended) × (status ≡ status_of ended) × IsDocked ended old new disk disk'
-TaskEnds Drain status old new disk disk' = (ended : Ended) × (status ≡ status_of ended) × IsDrained ended old new disk disk'
-TaskEnds (Import number sort) status old new disk disk' = IsImported sort number status old new disk disk'
-TaskEnds (Ask question) status old new disk disk' = IsAnswered question status old new disk disk'
+-- a task in the office over an opened journal
+pub record TaskRow : Type 1 where
+  pub touches : Touched
+  pub in_range : Type 0
+  pub ends : Status → Streams → Streams → SeenDisk → SeenDisk → Type 0
 
--- the end of a command: what it reads, writes and leaves; words that are no command change nothing
+abbrev pub task_row : Task → TaskRow
+task_row Dock = record {
+  touches = record office_only { input = true };
+  in_range = Unit {0};
+  ends = λ status old new disk disk'. (ended : Ended) × (status ≡ status_of ended) × IsDocked ended old new disk disk';
+}
+task_row Drain = record {
+  touches = record office_only { input = true };
+  in_range = Unit {0};
+  ends = λ status old new disk disk'. (ended : Ended) × (status ≡ status_of ended) × IsDrained ended old new disk disk';
+}
+task_row (Import number sort) = record {
+  touches = record office_only { input = true };
+  in_range = number ≤ LAST_NUMBER;
+  ends = IsImported sort number;
+}
+task_row (Ask question) = record {
+  touches = (question_row question).touches;
+  in_range = (question_row question).in_range;
+  ends = IsAnswered question;
+}
+
+-- a command: what it reads, writes and leaves
+pub record Row : Type 1 where
+  pub touches : Touched
+  pub in_range : Type 0
+  pub ends : Status → Streams → Streams → SeenDisk → SeenDisk → Type 0
+
+abbrev pub row_of : Command → Row
+row_of Init = record {
+  touches = office_only;
+  in_range = Unit {0};
+  ends = λ status old new disk disk'. IsSilent old new × IsMade status disk disk';
+}
+row_of (Amended pair) = record {
+  touches = record untouched { filing = true };
+  in_range = Unit {0};
+  ends = λ status old new disk disk'. IsCompared pair status old new;
+}
+row_of (Drill seed size) = record {
+  touches = office_only;
+  in_range = (seed ≤ GREATEST_SEED) × (size ≤ LARGEST_DRILL);
+  ends = λ status old new disk disk'.
+      (new.unread ≡ old.unread) × (new.filed ≡ old.filed) × DrillEnds seed size status old.pieces new.pieces disk disk';
+}
+row_of Mirror = record {
+  touches = record office_only { input = true };
+  in_range = Unit {0};
+  ends = λ status old new disk disk'. IsRefused status old new disk disk' ⊎ IsMirrored status old new disk disk';
+}
+row_of (Office task) = record {
+  touches = record ((task_row task).touches) { disk = true };
+  in_range = (task_row task).in_range;
+  ends = λ status old new disk disk'. IsRefused status old new disk disk' ⊎ (task_row task).ends status old new disk disk';
+}
+
+-- words that are no command touch nothing
+abbrev pub touched_by : Option Command → Touched
+touched_by None = untouched
+touched_by (Some command) = (row_of command).touches
+
+-- .. and end as usage errors
 abbrev pub Ends : Option Command → Status → Streams → Streams → SeenDisk → SeenDisk → Type 0
 Ends None status old new disk disk' = (status ≡ Usage) × IsSilent old new
-Ends (Some Init) status old new disk disk' = IsSilent old new × IsMade status disk disk'
-Ends (Some (Amended pair)) status old new disk disk' = IsCompared pair status old new
-Ends (Some (Office task)) status old new disk disk' = IsRefused status old new disk disk' ⊎ TaskEnds task status old new disk disk'
+Ends (Some command) status old new disk disk' = (row_of command).ends status old new disk disk'
+
+abbrev pub IsInRange : Command → Type 0
+IsInRange command = (row_of command).in_range

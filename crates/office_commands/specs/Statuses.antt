@@ -9,8 +9,8 @@ use Rattle.ldar_law.specs.Texts.{end_of_line}
 use Rattle.ldar_law.specs.Verdicts.{paragraph_of}
 use Rattle.office_book.specs.declared.opening.BookWhy.{BookWhy}
 use Rattle.office_book.specs.declared.opening.BookWhy.TheVariants as reasons
-use Rattle.ldar_session.specs.declared.ended.Ended.{Ended}
-use Rattle.ldar_session.specs.declared.ended.Ended.TheVariants as ends
+use Rattle.ldar_ports.specs.declared.ended.Ended.{Ended}
+use Rattle.ldar_ports.specs.declared.ended.Ended.TheVariants as ends
 use Rattle.office_commands.specs.declared.batches.Sent.{Sent}
 use Rattle.office_commands.specs.declared.batches.Sent.TheVariants as sends
 use Rattle.office_commands.specs.declared.batches.Unkept.{Unkept}

@@ -9,7 +9,7 @@ use Rattle.ldar_session.specs.Dock.{Ends as EndsBatches}
 use Rattle.ldar_session.specs.Requests.{HasItsAnswer}
 use Rattle.ldar_session.specs.Session.{Ends as EndsRequests}
 use Rattle.ldar_session.specs.Served.{Served, Talk, clock_beside, items_of}
-use Rattle.ldar_session.specs.declared.ended.Ended.{Ended}
+use Rattle.ldar_ports.specs.declared.ended.Ended.{Ended}
 use Rattle.office_commands.specs.declared.command.Task.{Task}
 use Rattle.office_commands.specs.declared.command.Task.TheVariants.{Dock, Drain, Import, Ask}
 use Rattle.office_commands.specs.declared.status.Status.{Status}

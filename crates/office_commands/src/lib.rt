@@ -7,10 +7,12 @@
 mod amendments;
 mod batches;
 mod command;
+mod drill;
 mod import;
 mod init;
+mod mirrors;
 mod notes;
-mod number;
+mod offers;
 mod program;
 mod reports;
 mod status;

@@ -73,7 +73,7 @@ fn put_text<E: Sink, D: Disk>(notes: &mut E, beside: &D, text: &str) -> Result<(
     put_all(notes, beside, text.as_bytes())
 }
 
-/// Puts two texts, one behind the other.
+/// Writes two texts, one after the other.
 fn put_both<E: Sink, D: Disk>(
     notes: &mut E,
     beside: &D,

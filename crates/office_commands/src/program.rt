@@ -4,14 +4,16 @@ ghost use Rattle.disk_model.specs.Faults.{Rose};
 ghost use Rattle.disk_model.specs.Keeps.{Keeps};
 ghost use Rattle.office_commands.specs.declared.command.Command.TheVariants as commands;
 ghost use Rattle.office_commands.specs.declared.status.Status.{Status};
-ghost use Rattle.office_commands.specs.Command.{command_in, touched_by, touched_in_office, IsInRange, IsTaskInRange};
-ghost use Rattle.office_commands.specs.Run.{Ends};
+ghost use Rattle.office_commands.specs.Command.{command_in};
+ghost use Rattle.office_commands.specs.Run.{Ends, IsInRange, task_row, touched_by};
 ghost use Rattle.office_commands.specs.Scene.{seen, streams};
 ghost use Rattle.office_commands.specs.Statuses.{HasCause, IsNoted};
 
 use crate::amendments::amended;
 use crate::command::{Command, Task, command_of};
+use crate::drill::drill;
 use crate::init::init;
+use crate::mirrors::mirror;
 use crate::notes::note;
 use crate::status::{Status, refusal};
 use crate::tasks::do_task;
@@ -34,7 +36,8 @@ pub fn run<S: Source, D: Disk, K: Sink, E: Sink, F: Filing>(
 ) -> u8
     // What the command reads, writes and leaves, by its status, which is noted; or memory ran out while the words were read. A
     // status that reports a fault is reached only where the count of that object rose. For `dock`, `drain` and `import` see
-    // `IsDocked`, `IsDrained` and `IsImported`; for `show`, `file` and `check` `Answers`; for `amended` `IsCompared`.
+    // `IsDocked`, `IsDrained` and `IsImported`; for `show`, `file`, `check` and `offer` `Answers`; for `amended` `IsCompared`; for
+    // `drill` `IsDrilled`; for `mirror` `IsMirrored`.
     ensures ends { (status : Status)
         × IsNoted status (E.pieces notes.old) (E.pieces notes.new) (E.faults notes.old) (E.faults notes.new) result
         × HasCause status (Rose (S.faults input.old) (S.faults input.new)) (Rose (K.faults output.old) (K.faults output.new))
@@ -139,6 +142,8 @@ fn run_command<S: Source, D: Disk, K: Sink, F: Filing>(
             let status = amended(alloc, output, filing, &disk, pair);
             (status, disk)
         }
+        Command::Drill { seed, size } => drill(alloc, output, disk, seed, size),
+        Command::Mirror => mirror(alloc, input, output, disk),
         Command::Office(task) => in_office(alloc, task, input, output, filing, disk),
     }
 }
@@ -152,12 +157,12 @@ fn in_office<S: Source, D: Disk, K: Sink, F: Filing>(
     filing: &mut F,
     disk: D,
 ) -> (Status, D)
-    requires in_range { IsTaskInRange task }
+    requires in_range { (task_row task).in_range }
     ensures ends { let see = seen D.content D.images D.left D.clock D.faults in let at = streams S.left K.pieces K.faults F.on_file in
         Ends (Some (commands.Office task)) result.0 (at input.old output.old filing.old) (at input.new output.new filing.new) (see disk) (see result.1) }
-    ensures unread { (touched_in_office task).input ≡ false → input.new ≡ input.old }
-    ensures filing_unchanged { (touched_in_office task).filing ≡ false → filing.new ≡ filing.old }
-    ensures reports_unchanged { (touched_in_office task).reports ≡ false → F.on_file filing.new ≡ F.on_file filing.old }
+    ensures unread { (task_row task).touches.input ≡ false → input.new ≡ input.old }
+    ensures filing_unchanged { (task_row task).touches.filing ≡ false → filing.new ≡ filing.old }
+    ensures reports_unchanged { (task_row task).touches.reports ≡ false → F.on_file filing.new ≡ F.on_file filing.old }
     ensures cause { HasCause result.0 (Rose (S.faults input.old) (S.faults input.new)) (Rose (K.faults output.old) (K.faults output.new))
         (Rose (D.faults disk) (D.faults result.1)) (Rose (F.faults filing.old) (F.faults filing.new)) }
     ensures read_count { S.faults input.old ≤ S.faults input.new }

@@ -43,7 +43,7 @@ pub fn file<D: Disk, K: Sink, F: Filing>(
     }
 }
 
-/// Files a report, and tells its revision.
+/// Files a report, and prints its revision.
 fn file_one<D: Disk, K: Sink, F: Filing>(
     alloc: Global,
     output: &mut K,
@@ -65,7 +65,7 @@ fn file_one<D: Disk, K: Sink, F: Filing>(
     }
 }
 
-/// Tells which revision was filed. It takes no memory, so that what is on file is not told as want of it.
+/// Prints which revision was filed. It takes no memory, so a report on file is never reported as out of memory.
 fn tell_filed<D: Disk, K: Sink>(
     output: &mut K,
     beside: &D,

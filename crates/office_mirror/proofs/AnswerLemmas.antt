@@ -1,20 +1,19 @@
 -- Batches one after another, and answers at the start of some bytes.
-use Rattle.std.proofs.Common.{◌≡◌, ℕ, zero, suc, ◌+◌, ◌-◌, ◌<◌, ◌≤◌, List, [], ◌∷◌, ◌++◌, length, take, drop, Ok, refl, sym, ap, subst, ◌∙◌, arith}
+use Rattle.std.proofs.Common.{◌≡◌, ℕ, zero, suc, ◌<◌, ◌≤◌, List, [], ◌∷◌, ◌++◌, length, refl, sym, ap, subst, ◌∙◌, arith}
 use Rattle.std.proofs.Common.{append_assoc}
-use Rattle.std.proofs.Common.{length-append}
-use Rattle.std.specs.List.{flat_map, AllByRecursion}
+use Rattle.std.specs.List.{AllByRecursion}
 use Rattle.std.proofs.lemmas.List.{append-nil}
 use Rattle.std.proofs.lemmas.List.Concat.{flat_map-append}
 use Rattle.fact_kinds.specs.declared.batch.Batch.{Batch}
-use Rattle.fact_kinds.specs.Fields.{Field, IsFilled}
+use Rattle.fact_kinds.specs.Fields.{IsFilled}
 use Rattle.ldar_facts.specs.Compose.{ok_pair}
 use Rattle.ldar_facts.specs.FactForms as forms
-use Rattle.ldar_facts.specs.Grammar.{spelled, batch_fields, Spells, Begins}
+use Rattle.ldar_facts.specs.Grammar.{spelled, batch_fields, Begins}
 use Rattle.ldar_facts.proofs.Batches.{read_again}
 use Rattle.ldar_facts.proofs.FactTies as tie
 use Rattle.ldar_facts.proofs.FactTies.{spelled-append, filled-append, filled-front}
 use Rattle.office_mirror.specs.declared.answer.Answer.{Answer}
-use Rattle.office_mirror.specs.AnswerGrammar.{head_fields, batches_fields, answer_fields, SpellsAnswer}
+use Rattle.office_mirror.specs.AnswerGrammar.{head_fields, batches_fields, answer_fields}
 use Rattle.office_mirror.proofs.HeadLemmas.{same_head}
 
 -- the bytes of batches, one after another
@@ -38,11 +37,11 @@ pub filled_both : (bs cs : List Batch) → AreFilled bs → AreFilled cs → Are
 filled_both bs cs first second =
     subst (AllByRecursion IsFilled) (sym (flat_map-append batch_fields bs cs)) (filled-append (batches_fields bs) (batches_fields cs) first second)
 
--- a batch that is in its ranges, alone
+-- a single batch that is in its ranges
 pub filled_one : (b : Batch) → AllByRecursion IsFilled (batch_fields b) → AreFilled (b ∷ [])
 filled_one b is = subst (AllByRecursion IsFilled) (sym (append-nil (batch_fields b))) is
 
--- so many copies of a batch
+-- this many copies of a batch
 abbrev pub copies : ℕ → Batch → List Batch
 copies zero b = []
 copies (suc n) b = b ∷ copies n b

@@ -1,14 +1,13 @@
 -- The six bytes before the batches of an answer.
-use Rattle.std.proofs.Common.{◌≡◌, ◌≢◌, ℕ, zero, suc, ◌+◌, ◌-◌, ◌*◌, ◌/◌, ◌%◌, ◌<◌, ◌≤◌, List, [], ◌∷◌, ◌++◌, length, get_or, take, drop, refl, sym, ap}
+use Rattle.std.proofs.Common.{◌≡◌, ◌≢◌, ℕ, ◌+◌, ◌*◌, ◌/◌, ◌%◌, ◌<◌, ◌≤◌, List, [], ◌∷◌, ◌++◌, length, get_or, drop, refl, sym, ap}
 use Rattle.std.proofs.Common.{subst, ◌∙◌, arith}
-use Rattle.std.specs.List.{AllByRecursion}
-use Rattle.fact_kinds.specs.Fields.{IsFilled, big_endian}
+use Rattle.fact_kinds.specs.Fields.{big_endian}
 use Rattle.ldar_facts.specs.Form.{IsBytes}
 use Rattle.ldar_facts.specs.Grammar.{spelled}
 use Rattle.office_mirror.specs.declared.head.AnswerHead.{AnswerHead}
-use Rattle.office_mirror.specs.declared.head.HeadRead.TheVariants.{Whole, Short, Bad}
+use Rattle.office_mirror.specs.declared.head.HeadRead.TheVariants.{Short, Bad}
 use Rattle.office_mirror.specs.AnswerGrammar.{head_fields}
-use Rattle.office_mirror.specs.Reader.{IsHead, BeginsHead, ReadsHead}
+use Rattle.office_mirror.specs.Reader.{IsHead, ReadsHead}
 
 -- four bytes are those of the number that they make
 four : (a b c d : ℕ) → a < 256 → b < 256 → c < 256 → d < 256

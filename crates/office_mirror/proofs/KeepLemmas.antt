@@ -1,16 +1,14 @@
 -- Asking a mirror for the batches of its first office keeps it a mirror.
-use Rattle.std.proofs.Common.{◌≡◌, ◌≢◌, ◌⊎◌, inl, inr, ℕ, zero, suc, ◌+◌, ◌<◌, ◌≤◌, List, [], ◌∷◌, ◌++◌, length, take, drop, slice_get, Option, Some, None}
+use Rattle.std.proofs.Common.{◌≡◌, ◌⊎◌, inl, inr, ℕ, zero, suc, ◌+◌, ◌<◌, ◌≤◌, List, [], ◌∷◌, ◌++◌, length, take, slice_get, Some, None}
 use Rattle.std.proofs.Common.{Bool, true, false, IsTrue, refl, sym, ap, subst, ◌∙◌, arith}
 use Rattle.fact_kinds.specs.declared.batch.Batch.{Batch}
 use Rattle.fact_kinds.specs.Identity.{identity_of, position_of}
 use Rattle.ldar_law.specs.declared.reply.Reply.{Reply}
 use Rattle.ldar_law.specs.declared.reply.Reply.TheVariants.{Receipt, Conflict, Denied, Full, Shown, NoSuch, Fault, Memory}
-use Rattle.ldar_law.specs.Machine.{State, Turn, Steps, AnswersBatch, StandsAt, IsNew, is_accepted, batch_at}
+use Rattle.ldar_law.specs.Machine.{State, Turn, Steps, AnswersBatch, StandsAt, is_accepted, batch_at}
 use Rattle.ldar_law.specs.Verdicts.{verdict_on, is_pass}
-use Rattle.ldar_law.specs.declared.verdict.Verdict.TheVariants.{Denied as DeniedBatch, Full as FullOffice}
-use Rattle.ldar_law.specs.declared.request.Request.{Request}
 use Rattle.ldar_law.specs.declared.request.Request.TheVariants.{Sync}
-use Rattle.ldar_law.specs.Machine.{Finding, not_asked, they_stand, they_are_gone, settled, Answers, IsAnswered, IsWanting, GoesOn, Step, BreaksOff}
+use Rattle.ldar_law.specs.Machine.{Finding, not_asked, they_stand, they_are_gone, settled, Answers, IsAnswered, IsWanting, Step, BreaksOff}
 use Rattle.ldar_law.specs.Machine.{batch_added, batches_added}
 use Rattle.std.proofs.lemmas.Bool.{and_parts}
 use Rattle.std.proofs.lemmas.List.{append-nil, length-append, length-take-le}
@@ -108,7 +106,7 @@ module _ (all : List Batch)
   below_or_at (suc p) zero h = absurd (omega arith)
   below_or_at (suc p) (suc k) h = elim (below_or_at p k (omega arith)) [ inl l ↦ inl (omega arith) | inr e ↦ inr (ap suc e) ]
 
-  -- a batch of the front, or the one behind it
+  -- a batch of the front, or the next one
   answered : (k p : ℕ) (b : Batch) (reply : Reply) (after : List Batch) → p ≤ k → k ≤ length all → slice_get all p ≡ Some b
       → AnswersBatch (take k all) b reply after
       → LeavesFront all k p reply after
@@ -191,7 +189,7 @@ module _ (all : List Batch)
       let grows = one.grows in
       subst (TurnKeeps all place turn.reply state) (sym same) (record { mirror = one.mirror; grows = omega (arith, more, grows); replied = one.replied })
 
-  -- a batch that is added is the one behind the front
+  -- a batch that is added is the next one after the front
   added_by : (test : Bool) (b batch : Batch) → (if test then Some b else None) ≡ Some batch → IsTrue test × (b ≡ batch)
   added_by true b batch is = (refl, cc)
   added_by false b batch is = absurd cc
@@ -255,7 +253,7 @@ module _ (all : List Batch)
 
   -- ---- an answer
 
-  -- a fault or want of memory is no receipt
+  -- neither a disk error nor lack of memory is a receipt
   fault_is_no_receipt : (reply : Reply) (place : ℕ) → IsReceiptAt reply place → ((reply ≡ Fault) ⊎ (reply ≡ Memory)) → ⊥
   fault_is_no_receipt reply place h (inl e) = absurd (let o = sym h.2 ∙ e in cc)
   fault_is_no_receipt reply place h (inr e) = absurd (let o = sym h.2 ∙ e in cc)

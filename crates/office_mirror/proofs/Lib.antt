@@ -7,3 +7,8 @@ pub mod OfficeLemmas
 pub mod WorldLemmas
 pub mod TakeLemmas
 pub mod TakenLemmas
+pub mod LengthLemmas
+pub mod OfferLemmas
+pub mod LineLemmas
+pub mod ReadingLemmas
+pub mod MirrorLemmas

@@ -1,16 +1,16 @@
 -- What a ruly history with identities that differ gives of its fronts.
-use Rattle.std.proofs.Common.{◌≡◌, ◌⊎◌, inl, inr, ℕ, zero, suc, ◌+◌, ◌-◌, ◌<◌, ◌≤◌, List, [], ◌∷◌, ◌++◌, length, take, slice_get, Option, Some, None, Bool}
-use Rattle.std.proofs.Common.{true, false, not, ◌&&◌, ◌||◌, cond, IsTrue, nat_eq, refl, sym, ap, subst, ◌∙◌, arith}
+use Rattle.std.proofs.Common.{◌≡◌, ℕ, zero, suc, ◌+◌, ◌-◌, ◌<◌, ◌≤◌, List, [], ◌∷◌, ◌++◌, length, take, slice_get, Some, None, Bool}
+use Rattle.std.proofs.Common.{true, false, not, ◌||◌, cond, IsTrue, refl, sym, ap, subst, ◌∙◌, arith}
 use Rattle.std.proofs.lemmas.Bool.{and_parts, and_from}
 use Rattle.std.proofs.lemmas.Bool.Decides.{nat_tests}
 use Rattle.std.proofs.lemmas.List.{append-nil}
 use Rattle.std.proofs.Common.{append_assoc}
 use Rattle.std.specs.List.{list_any, position_from}
 use Rattle.std.specs.Option.{is_none}
-use Rattle.list_words.specs.Words.{somewhere, somewhere_from}
+use Rattle.list_words.specs.Words.{somewhere_from}
 use Rattle.fact_kinds.specs.declared.batch.Batch.{Batch}
 use Rattle.fact_kinds.specs.Identity.{identity_of, position_of, is_of, is_same_identity, identities_differ}
-use Rattle.ldar_law.specs.Machine.{StandsAt, is_accepted, batch_at}
+use Rattle.ldar_law.specs.Machine.{StandsAt, is_accepted}
 use Rattle.ldar_law.specs.Verdicts.{verdict_on, is_pass, is_ruly}
 
 -- the front with one more
@@ -56,7 +56,7 @@ turned_false false h = refl
 
 -- ---- identities
 
--- a batch behind this one has another identity
+-- a batch after this one has another identity
 other_identity : (x b : Batch) (xs : List Batch) (k : ℕ) → list_any (is_same_identity x) xs ≡ false → slice_get xs k ≡ Some b → is_of (identity_of b) x ≡ false
 other_identity x b [] k none is = absurd cc
 other_identity x b (y ∷ xs) zero none is =

@@ -1,10 +1,10 @@
 -- What follows a part of an answer: its next batch, the beginning of one, or a wrong byte.
-use Rattle.std.proofs.Common.{◌≡◌, ◌⊎◌, inl, inr, ℕ, suc, ◌+◌, ◌-◌, ◌<◌, ◌≤◌, List, [], ◌∷◌, ◌++◌, length, take, drop, refl, sym, ap, subst, ◌∙◌, arith}
+use Rattle.std.proofs.Common.{◌≡◌, inl, inr, ℕ, suc, ◌+◌, ◌-◌, ◌<◌, ◌≤◌, List, [], ◌∷◌, ◌++◌, length, take, drop, refl, sym, ap, subst, ◌∙◌, arith}
 use Rattle.std.proofs.Common.{append_assoc}
 use Rattle.std.proofs.Common.{length-append}
 use Rattle.std.specs.List.{AllByRecursion}
 use Rattle.std.proofs.lemmas.Bool.{cases_lt}
-use Rattle.std.proofs.lemmas.List.{append-nil, take_at, take-take, take-append-drop, take-append-le, length-take, length-take-le}
+use Rattle.std.proofs.lemmas.List.{append-nil, take_at, take-append-drop, take-append-le, length-take, length-take-le}
 use Rattle.std.proofs.Math.Seq.{take-append-add}
 use Rattle.fact_kinds.specs.declared.batch.Batch.{Batch}
 use Rattle.fact_kinds.specs.Fields.{IsFilled}
@@ -12,9 +12,9 @@ use Rattle.ldar_facts.specs.Grammar.{spelled, batch_fields, Spells, Begins, HasN
 use Rattle.office_mirror.specs.declared.answer.Answer.{Answer}
 use Rattle.office_mirror.specs.declared.head.AnswerHead.{AnswerHead}
 use Rattle.office_mirror.specs.AnswerGrammar.{head_fields, answer_fields, SpellsAnswer, BeginsAnswer, HasNoAnswer, IsFirstWrongInAnswer}
-use Rattle.office_mirror.specs.Reader.{IsHead, BeginsHead}
-use Rattle.office_mirror.proofs.HeadLemmas.{same_head, length-head}
-use Rattle.office_mirror.proofs.AnswerLemmas.{payload, AreFilled, payload-cons, payload-append, filled_both, filled_one, copies, length-copies, filled_copies}
+use Rattle.office_mirror.specs.Reader.{BeginsHead}
+use Rattle.office_mirror.proofs.HeadLemmas.{same_head}
+use Rattle.office_mirror.proofs.AnswerLemmas.{payload, AreFilled, payload-cons, payload-append, filled_both, copies, length-copies, filled_copies}
 use Rattle.office_mirror.proofs.AnswerLemmas.{batch_follows, answer_text, HasRanges, ranges_of, from_ranges, nothing_begins}
 
 -- the first bytes of a longer text
@@ -25,7 +25,7 @@ begins_by front more text after same within =
     let is : front ≡ take (length front) text = sym one ∙ ap (take (length front)) same ∙ two in
     (drop (length front) text, ap (λ l. l ++ drop (length front) text) is ∙ take-append-drop (length front) text)
 
--- ---- behind a head and some batches
+-- ---- after a head and some batches
 
 module _ (head : AnswerHead) (bs : List Batch) (start : head.start ≤ 4_294_967_295) (few : head.count ≤ 16) (filled : AreFilled bs)
     (fewer : length bs < head.count) where
@@ -33,7 +33,7 @@ module _ (head : AnswerHead) (bs : List Batch) (start : head.start ≤ 4_294_967
   abbrev so_far : List ℕ
   so_far = spelled (head_fields head.start head.count) ++ payload bs
 
-  -- with a batch and others behind it
+  -- with a batch and others after it
   abbrev whole : ℕ → Batch → Answer
   whole n b = record { start = head.start; batches = bs ++ b ∷ copies n b }
 
@@ -64,7 +64,7 @@ module _ (head : AnswerHead) (bs : List Batch) (start : head.start ≤ 4_294_967
         spells = ap (λ l. so_far ++ l) (is.spells ∙ sym (append-nil (spelled (batch_fields b)))) ∙ sym (whole_text 0 b long);
       }
 
-  -- what begins a batch begins an answer behind these
+  -- what begins a batch begins an answer after these
   pub piece_begins : (bytes : List ℕ) → Begins bytes → BeginsAnswer (so_far ++ bytes)
   piece_begins bytes h =
       let b = h.0 in
@@ -125,7 +125,7 @@ module _ (head : AnswerHead) (bs : List Batch) (start : head.start ≤ 4_294_967
             no_batch (b, rest.0, record { filled = next.2; spells = rest.1 })
       ]
 
-  -- a first wrong place behind these is one of the answer
+  -- a first wrong place after these is one of the answer
   pub wrong_piece : (bytes : List ℕ) (at : ℕ) → IsFirstWrongPlace bytes at → HasNoBatch bytes → IsFirstWrongInAnswer (so_far ++ bytes) (length so_far + at)
   wrong_piece bytes at wrong none =
       let within = wrong.within in

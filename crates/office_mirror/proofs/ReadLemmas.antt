@@ -1,19 +1,18 @@
 -- An answer that was read in pieces, and that it is the only one.
-use Rattle.std.proofs.Common.{◌≡◌, ℕ, ◌+◌, ◌-◌, ◌≤◌, List, ◌++◌, length, take, drop, Result, Ok, Err, refl, sym, ap, subst, ◌∙◌, arith}
+use Rattle.std.proofs.Common.{◌≡◌, ℕ, ◌+◌, ◌≤◌, List, ◌++◌, length, take, drop, Result, Ok, Err, sym, ap, subst, ◌∙◌, arith}
 use Rattle.std.specs.Prelude.{IfOk}
-use Rattle.std.proofs.lemmas.List.{length-drop, length-take-le, take-append-drop, take_at}
+use Rattle.std.proofs.lemmas.List.{length-drop, length-take-le, take-append-drop}
 use Rattle.std.proofs.Math.Seq.{take-append-add}
-use Rattle.ldar_facts.specs.Grammar.{spelled}
 use Rattle.office_mirror.specs.declared.answer.Answer.{Answer}
 use Rattle.office_mirror.specs.declared.read.AnswerRead.{AnswerRead}
 use Rattle.office_mirror.specs.declared.read.AnswerRead.TheVariants.{Whole, Short, Bad}
 use Rattle.office_mirror.specs.declared.reader.AnswerPiece.{AnswerPiece}
 use Rattle.office_mirror.specs.declared.reader.AnswerPiece.TheVariants.{Last}
-use Rattle.office_mirror.specs.AnswerGrammar.{answer_fields, SpellsAnswer}
+use Rattle.office_mirror.specs.AnswerGrammar.{SpellsAnswer}
 use Rattle.office_mirror.specs.Reader.{ReadsPiece, ReadsAnswer}
 use Rattle.office_mirror.proofs.AnswerLemmas.{ranges_of, same_answer}
 
--- the first bytes, and so many of those behind them
+-- the first bytes, and some of those after them
 take_both : (bytes : List ℕ) (used more : ℕ) → used ≤ length bytes → take used bytes ++ take more (drop used bytes) ≡ take (used + more) bytes
 take_both bytes used more within =
     let front : length (take used bytes) ≡ used = length-take-le used bytes within in

@@ -1,33 +1,28 @@
 -- The calls for an answer, one after another: what they leave of the history, and of a mirror.
-use Rattle.std.proofs.Common.{◌≡◌, ◌≢◌, ◌⊎◌, inl, inr, ℕ, zero, suc, ◌+◌, ◌-◌, ◌<◌, ◌≤◌, ◌^◌, Option, Some, None, List, [], ◌∷◌, ◌++◌, length, take, drop, map}
+use Rattle.std.proofs.Common.{◌≡◌, ◌⊎◌, inl, inr, ℕ, suc, ◌+◌, ◌-◌, ◌≤◌, Some, List, [], ◌∷◌, ◌++◌, length, take, map}
 use Rattle.std.proofs.Common.{slice_get, refl, sym, ap, subst, ◌∙◌, arith, IsTrue}
 use Rattle.std.specs.List.{AllByRecursion}
 use Rattle.std.proofs.lemmas.Bool.{cases_lt}
-use Rattle.std.proofs.lemmas.List.{append-nil, length-append, length-take-le, take_all}
+use Rattle.std.proofs.lemmas.List.{append-nil, length-append, length-take-le}
 use Rattle.disk_model.specs.Faults.{Rose}
-use Rattle.disk_model.specs.Told.{Told}
 use Rattle.fact_kinds.specs.declared.batch.Batch.{Batch}
 use Rattle.fact_kinds.specs.Identity.{identities_differ}
-use Rattle.ldar_journal.specs.Crash.{LeavesOnly}
-use Rattle.ldar_journal.specs.Image.{Opens, batches_of}
-use Rattle.ldar_journal.specs.Shelf.{Shelf}
+use Rattle.ldar_journal.specs.Image.{Opens}
 use Rattle.ldar_law.specs.declared.reply.Reply.{Reply}
-use Rattle.ldar_law.specs.declared.reply.Reply.TheVariants.{Receipt, Conflict, Denied, Full, Shown, NoSuch, Fault, Memory}
+use Rattle.ldar_law.specs.declared.reply.Reply.TheVariants.{Receipt, Shown, NoSuch, Fault, Memory}
 use Rattle.ldar_law.specs.declared.request.Request.{Request}
 use Rattle.ldar_law.specs.declared.request.What.{What}
 use Rattle.ldar_law.specs.declared.request.Request.TheVariants.{Sync}
-use Rattle.ldar_law.specs.Machine.{State, Moment, Call, Turn, Finding, Answers, AnswersBatch, StandsAt, batch_at, settled, IsAnswered, IsWanting, HasFault}
+use Rattle.ldar_law.specs.Machine.{State, Moment, Call, Turn, Answers, AnswersBatch, batch_at, settled, IsAnswered, IsWanting, HasFault}
 use Rattle.ldar_law.specs.Machine.{BreaksOff, Step, Steps, IsOfCall, GroupStep, Runs}
 use Rattle.ldar_law.specs.Verdicts.{is_ruly}
-use Rattle.office_book.specs.Asking.{requests_of, replies_of}
-use Rattle.office_book.specs.Safe.{StandsIn, StandsInRun, IsSafe, Leads, state_of, moment_of}
+use Rattle.office_book.specs.Safe.{StandsIn, StandsInRun}
 use Rattle.office_book.proofs.ReceiptLemmas.{GoesFrom, steps_go, holds_later}
 use Rattle.office_mirror.specs.declared.answer.Answer.{Answer}
-use Rattle.office_mirror.specs.Fronts.{IsFrontOf, IsMirrorOf, HoldsFront, From, StandFrom, IsReceiptAt, Asked}
-use Rattle.office_mirror.specs.Taking.{IsAsked, IsReceiptedAt, AreReceipted, AreTaken, EndsAfter, IsStrange, IsTaken, KeepsMirror, MirrorsAs}
+use Rattle.office_mirror.specs.Fronts.{IsMirrorOf, HoldsFront, StandFrom, IsReceiptAt}
+use Rattle.office_mirror.specs.Taking.{IsAsked, IsReceiptedAt, AreReceipted, AreTaken}
 use Rattle.office_mirror.proofs.KeepLemmas.{TurnKeeps, turned}
 use Rattle.office_mirror.proofs.OfficeLemmas.{longer, next_accepted, kept_stands}
-use Rattle.office_mirror.proofs.WorldLemmas.{stand_behind}
 
 -- ---- the one turn of a call
 
@@ -76,7 +71,7 @@ last_at : (xs : List Batch) (x : Batch) → slice_get (xs ++ x ∷ []) (length x
 last_at [] x = refl
 last_at (y ∷ xs) x = last_at xs x
 
--- what a receipt says stands in the history after it
+-- the batch of a receipt is in the history after it
 receipt_holds : (history : List Batch) (batch : Batch) (handheld number position : ℕ) (after : List Batch)
     → AnswersBatch history batch (Receipt handheld number position) after → batch_at after position ≡ Some batch
 receipt_holds history batch handheld number position after answers = elim answers.2 [
@@ -133,7 +128,7 @@ names_nothing batch what start call asked step =
     let goes = subst (λ (r : Reply). GoesBy r (settled it.turn.found start.state) it.turn by.0) it.replies by.1.goes_on in
     (answers_of start.state it.turn batch (NoSuch what) by.0 call.end.state it.asks it.replies by.2 goes).1
 
--- a fault is told only where the count rose
+-- a disk error is returned only if the count rose
 pub fault_rose : (batch : Batch) (start end : Moment) (before : List Call) (last : Call) → IsAsked batch Fault last → Runs start (before ++ last ∷ []) end
     → Rose start.faults end.faults
 fault_rose batch start end [] last asked run =

@@ -1,7 +1,7 @@
--- What came of an answer: how its calls are told, and what a mirror keeps of them.
-use Rattle.std.proofs.Common.{◌≡◌, ◌≢◌, ◌⊎◌, inl, inr, ℕ, zero, suc, ◌+◌, ◌-◌, ◌<◌, ◌≤◌, Option, Some, None, List, [], ◌∷◌, ◌++◌, length, take, drop}
+-- The result of an answer: what its calls show, and what a mirror keeps of them.
+use Rattle.std.proofs.Common.{◌≡◌, ◌⊎◌, inl, inr, ℕ, zero, suc, ◌+◌, ◌-◌, ◌≤◌, Option, Some, None, List, [], ◌∷◌, ◌++◌, length, take, drop}
 use Rattle.std.proofs.Common.{slice_get, refl, sym, ap, subst, ◌∙◌, arith, IsTrue}
-use Rattle.std.proofs.lemmas.List.{append-nil, length-take-le, take_all, take-append-drop}
+use Rattle.std.proofs.lemmas.List.{append-nil, take_all, take-append-drop}
 use Rattle.disk_model.specs.Faults.{Rose}
 use Rattle.disk_model.specs.Told.{Told}
 use Rattle.fact_kinds.specs.declared.batch.Batch.{Batch}
@@ -19,7 +19,7 @@ use Rattle.office_book.specs.SafeLaws.{leads_joins}
 use Rattle.office_mirror.specs.declared.answer.Answer.{Answer}
 use Rattle.office_mirror.specs.declared.taken.Taken.{Taken}
 use Rattle.office_mirror.specs.declared.taken.Taken.TheVariants.{Gap, Held, Stranger, Fault, Memory}
-use Rattle.office_mirror.specs.Fronts.{IsMirrorOf, HoldsFront, From, StandFrom, IsReceiptAt, Asked}
+use Rattle.office_mirror.specs.Fronts.{IsMirrorOf, From, StandFrom, IsReceiptAt, Asked}
 use Rattle.office_mirror.specs.Taking.{IsAsked, AreReceipted, AreTaken, EndsAfter, AsksOnce, IsStrange, IsTaken, KeepsMirror, MirrorsAs, ended_by}
 use Rattle.office_mirror.proofs.OfficeLemmas.{longer}
 use Rattle.office_mirror.proofs.WorldLemmas.{stand_behind}
@@ -28,7 +28,7 @@ use Rattle.office_mirror.proofs.TakeLemmas.{CallsKeep, no_calls, receipted_keep,
 
 -- ---- an answer that ends at some batch
 
--- what is told of it, by the reply to that batch
+-- its result, by the reply to that batch
 ended_is : (answer : Answer) (held : ℕ) (history : List Batch) (calls : List Call) (reply : Reply) (count : ℕ) → answer.start ≤ held
     → EndsAfter answer count history calls reply → ¬ (IsReceiptAt reply (answer.start + count + 1)) → ((text : List ℕ) → reply ≡ Shown text → ⊥)
     → ((what : What) → reply ≡ NoSuch what → ⊥) → IsTaken answer held history calls (ended_by reply (count + 1))
@@ -165,7 +165,7 @@ module _ {D : Type 0} (content_of : D → Option (List ℕ)) (left_of : D → �
     stand_front place (suc n) [] h = tt
     stand_front place (suc n) (b ∷ batches) h = (h.0, stand_front (place + 1) n batches h.1)
 
-    -- so many batches were taken
+    -- this many batches were taken
     taken_keep : (count : ℕ) → answer.start ≤ length (batches_of old.frames) → AreTaken answer count (batches_of new.frames) calls
         → CallsKeep all (length (batches_of old.frames)) (answer.start + length (take count answer.batches)) start calls end
     taken_keep count near taken =
@@ -303,7 +303,7 @@ module _ {D : Type 0} (content_of : D → Option (List ℕ)) (left_of : D → �
     asks Fault is = ends_asked is.1 replies.Fault is.2
     asks Memory is = elim is.2 [ inl ends ↦ ends_asked is.1 replies.Memory ends | inr taken ↦ taken_asked is.1 taken ]
 
-    -- a fault is told only where the count rose
+    -- a disk error is returned only if the count rose
     pub fault_caused : (result : Taken) → result ≡ Fault → IsTaken answer (length (batches_of old.frames)) (batches_of new.frames) calls result
         → Rose (faults_of old.disk) (faults_of new.disk)
     fault_caused result told is =

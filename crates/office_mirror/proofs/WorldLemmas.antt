@@ -1,7 +1,7 @@
 -- Whatever happens, the second office holds a front of the first one's history.
-use Rattle.std.proofs.Common.{◌≡◌, ◌⊎◌, inl, inr, ℕ, zero, suc, ◌+◌, ◌<◌, ◌≤◌, List, [], ◌∷◌, ◌++◌, length, take, drop, slice_get, Some, IsTrue, refl, sym}
+use Rattle.std.proofs.Common.{◌≡◌, inl, inr, ℕ, zero, suc, ◌+◌, ◌≤◌, List, [], ◌∷◌, ◌++◌, length, take, drop, slice_get, Some, IsTrue, refl, sym}
 use Rattle.std.proofs.Common.{ap, subst, ◌∙◌, arith}
-use Rattle.std.proofs.lemmas.List.{append-nil, length-append, length-take-le}
+use Rattle.std.proofs.lemmas.List.{append-nil, length-append}
 use Rattle.std.specs.List.{AllByRecursion}
 use Rattle.fact_kinds.specs.declared.batch.Batch.{Batch}
 use Rattle.fact_kinds.specs.Identity.{identities_differ}
@@ -18,7 +18,7 @@ use Rattle.office_mirror.specs.Fronts.{IsFrontOf, IsMirrorOf, Asked, StandFrom}
 use Rattle.office_mirror.specs.declared.answer.Answer.{Answer}
 use Rattle.office_mirror.specs.declared.answer.TheConstants.{MOST_BATCHES}
 use Rattle.office_mirror.specs.Offers.{offered, offered_of}
-use Rattle.office_mirror.specs.MirrorWorld.{World, IsOffered, Accepts, Offers, Takes, Stops, Happens, Follow, IsMirrored, MirrorPrefix}
+use Rattle.office_mirror.specs.MirrorWorld.{World, IsOffered, Happens, IsMirrored, MirrorPrefix}
 use Rattle.office_mirror.proofs.KeepLemmas.{asked_keeps}
 use Rattle.office_mirror.proofs.OfficeLemmas.{longer, next_accepted, kept_stands}
 
@@ -54,7 +54,7 @@ offers_more : (xs : List Batch) (b : Batch) (offered : List Answer) → AllByRec
 offers_more xs b [] h = tt
 offers_more xs b (a ∷ offered) h = (stand_more xs b a.start a.batches h.0, offers_more xs b offered h.1)
 
--- ---- what is offered stands there
+-- ---- what is offered is in the history
 
 -- the batches after a place are there
 pub stand_behind : (xs : List Batch) (n start : ℕ) → StandFrom xs start (take n (drop start xs))

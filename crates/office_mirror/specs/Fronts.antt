@@ -19,7 +19,7 @@ pub record IsMirrorOf (all : List Batch) (state : State) : Type 0 where
   pub history : IsFrontOf all state.history
   pub doubt : IsFrontOf all (state.history ++ state.doubt)
 
--- the image opens to a front of at least so many batches
+-- the image opens to a front of at least this many batches
 pub record HoldsFront (all : List Batch) (least : ℕ) (image : List ℕ) : Type 0 where
   pub count : ℕ
   pub low : least ≤ count

@@ -1,6 +1,10 @@
 pub mod AnswerGrammar
 pub mod Fronts
+pub mod Line
+pub mod MirrorEnds
+pub mod MirrorRun
 pub mod MirrorWorld
 pub mod Offers
 pub mod Reader
+pub mod Reading
 pub mod Taking

@@ -1,11 +1,10 @@
 -- An answer that is read piece by piece: the bytes that were read so far, and what comes of the next ones.
-use Rattle.std.specs.Prelude.{◌≡◌, ℕ, ◌+◌, ◌<◌, ◌≤◌, Option, Some, None, List, [], ◌∷◌, ◌++◌, length, take, Vec}
+use Rattle.std.specs.Prelude.{◌≡◌, ℕ, ◌+◌, ◌<◌, ◌≤◌, Option, Some, None, List, [], ◌++◌, length, take, Vec}
 use Rattle.std.specs.Vec.{vec_capacity}
 use Rattle.std.specs.List.{AllByRecursion}
 use Rattle.fact_kinds.specs.declared.batch.Batch.{Batch}
 use Rattle.fact_kinds.specs.Fields.{IsFilled}
 use Rattle.ldar_facts.specs.Grammar.{spelled}
-use Rattle.office_mirror.specs.declared.answer.Answer.{Answer}
 use Rattle.office_mirror.specs.declared.head.AnswerHead.{AnswerHead}
 use Rattle.office_mirror.specs.declared.head.HeadRead.{HeadRead}
 use Rattle.office_mirror.specs.declared.head.HeadRead.TheVariants as heads

@@ -1,4 +1,4 @@
--- What taking an answer asks of an office, and what is told of it.
+-- What taking an answer asks of an office, and its result.
 use Rattle.std.specs.Prelude.{◌≡◌, ◌≢◌, ◌⊎◌, ℕ, ◌+◌, ◌-◌, ◌<◌, ◌≤◌, Option, Some, List, [], ◌∷◌, ◌++◌, length, take, slice_get}
 use Rattle.fact_kinds.specs.declared.batch.Batch.{Batch}
 use Rattle.disk_model.specs.Told.{Told}
@@ -10,7 +10,7 @@ use Rattle.ldar_law.specs.declared.reply.Reply.TheVariants as replies
 use Rattle.ldar_law.specs.declared.reply.Reply.TheVariants.{Receipt, Conflict, Denied, Full, Shown, NoSuch}
 use Rattle.ldar_law.specs.declared.request.Request.TheVariants.{Sync}
 use Rattle.ldar_law.specs.Machine.{Call}
-use Rattle.office_book.specs.Asking.{requests_of, replies_of}
+use Rattle.office_interface.specs.Asking.{requests_of, replies_of}
 use Rattle.office_book.specs.Safe.{state_of}
 use Rattle.office_mirror.specs.declared.answer.Answer.{Answer}
 use Rattle.office_mirror.specs.declared.taken.Taken.{Taken}
@@ -33,13 +33,13 @@ AreReceipted position [] (call ∷ calls) = ⊥
 AreReceipted position (batch ∷ batches) [] = ⊥
 AreReceipted position (batch ∷ batches) (call ∷ calls) = IsReceiptedAt position batch call × AreReceipted (position + 1) batches calls
 
--- the first so many batches of the answer were asked, receipted in their places, and are in the history from there on
+-- the first `count` batches of the answer were asked, receipted at their positions, and are in the history from there on
 pub record AreTaken (answer : Answer) (count : ℕ) (history : List Batch) (calls : List Call) : Type 0 where
   pub within : count ≤ length answer.batches
   pub receipted : AreReceipted (answer.start + 1) (take count answer.batches) calls
   pub kept : StandFrom history answer.start (take count answer.batches)
 
--- so many batches of the answer were taken, and the call of the next one was the last and had this reply
+-- this many batches of the answer were taken, and the call of the next one was the last and had this reply
 pub record EndsAfter (answer : Answer) (count : ℕ) (history : List Batch) (calls : List Call) (reply : Reply) : Type 0 where
   pub before : List Call
   pub last : Call
@@ -72,7 +72,7 @@ IsTaken answer held history calls Fault = (answer.start ≤ held) × (count : �
 IsTaken answer held history calls Memory =
     (answer.start ≤ held) × (count : ℕ) × (EndsAfter answer count history calls replies.Memory ⊎ AreTaken answer count history calls)
 
--- what is told of an answer that ends with this reply to its batch with this index
+-- the result of an answer that ends with this reply to its batch with this index
 abbrev pub ended_by : Reply → ℕ → Taken
 ended_by (Receipt handheld number position) index = Stranger index (Receipt handheld number position)
 ended_by (Conflict position) index = Stranger index (Conflict position)
@@ -87,7 +87,7 @@ ended_by replies.Memory index = Memory
 abbrev pub AsksOnce : Batch → Reply → List Call → Type 0
 AsksOnce batch reply calls = ((calls ≡ []) × (reply ≡ replies.Memory)) ⊎ ((call : Call) × (calls ≡ call ∷ []) × IsAsked batch reply call)
 
--- what a mirror is told when the batches are those of its first office
+-- the result if the batches are those of the first office
 abbrev pub MirrorsAs : Answer → Taken → Type 0
 MirrorsAs answer (Gap start held) = Unit {0}
 MirrorsAs answer (Held count) = answer.start + length answer.batches ≤ count

@@ -50,6 +50,13 @@ impl<D: Disk> Mirror<D> {
         self.book.counts().0
     }
 
+    /// The office of the mirror, to look at.
+    pub fn book(&self) -> &Book<D>
+        ensures value { result.now ≡ self.now }
+    {
+        &self.book
+    }
+
     /// The office of the mirror.
     pub fn into_book(self) -> Book<D>
         ensures value { result ≡ self }
@@ -59,7 +66,7 @@ impl<D: Disk> Mirror<D> {
 
     /// Takes an answer: asks for its batches in order, each in a call of its own, until one is not receipted in its place.
     pub fn take(&mut self, alloc: Global, answer: &Answer) -> Taken
-        // What was asked, and what is told of it.
+        // What was asked, and the result.
         ensures value { (calls : List Call) × Leads D.content D.left D.clock D.name D.faults self.old calls self.new
             × IsTaken answer.now (length (batches_of self.old.frames)) (batches_of self.new.frames) calls result }
 
@@ -142,7 +149,7 @@ fn is_receipt_at(reply: &Reply, position: u64) -> bool
     }
 }
 
-/// What is told of an answer that ends with this reply to the batch with this index, from 1.
+/// The result of an answer that ends with this reply to the batch with this index, from 1.
 fn ended(reply: Reply, index: u8) -> Taken
     ensures value { result ≡ ended_by reply index }
 {

@@ -1,6 +1,7 @@
 //! An answer that comes piece by piece: its head, and then one batch after another. What was read is not read again.
 
 ghost use Rattle.std.specs.Prelude.{◌≡◌, [], IfOk, OnErr};
+ghost use Rattle.office_mirror.specs.AnswerGrammar.{BeginsAnswer};
 ghost use Rattle.office_mirror.specs.Reader.{ReadsPiece};
 
 use crate::answer::{Answer, BatchList};
@@ -51,6 +52,13 @@ impl AnswerReader {
             head: None,
             batches: Vec::new(alloc),
         }
+    }
+
+    /// A law: the bytes that were read begin an answer.
+    pub fn begins(&self)
+        ensures law { BeginsAnswer self.now }
+    {
+        let _head = self.head;
     }
 
     /// Reads the next piece of an answer from the start of these bytes, which follow those that were read. After the last

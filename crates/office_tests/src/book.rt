@@ -1,5 +1,5 @@
 ghost use Rattle.std.specs.Prelude.{◌<◌, IfOk};
-ghost use Rattle.office_book.specs.Asking.{HasRule};
+ghost use Rattle.office_interface.specs.Asking.{HasRule};
 
 use crate::journal_bytes::EMPTY;
 use at_once::says_at_once;

@@ -1,5 +1,5 @@
 ghost use Rattle.std.specs.Prelude.{◌≡◌, ◌<◌, ◌≤◌};
-ghost use Rattle.office_book.specs.Asking.{HasRule};
+ghost use Rattle.office_interface.specs.Asking.{HasRule};
 
 use disk_model::NoDisk;
 use ldar_law::{Reply, Request, What};

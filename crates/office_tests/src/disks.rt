@@ -8,7 +8,7 @@ fn of_three(alloc: Global, failing: &[u64]) -> Result<MemoryDisk, Memory> {
     MemoryDisk::new(alloc, &[1, 2, 3], failing)
 }
 
-// A place, the number of bytes wanted, the number read, and the content of four bytes after the read.
+// A place, the number of bytes requested, the number read, and the content of four bytes after the read.
 type Read = (u64, usize, usize, [u8; 4]);
 
 fn read<D: Disk>(disk: &mut D, at: u64, into: &mut [u8]) -> Result<usize, DiskFault> {
@@ -23,7 +23,7 @@ fn sync<D: Disk>(disk: &mut D) -> Result<(), DiskFault> {
     disk.sync()
 }
 
-// Reads into the first of four bytes, each of which is 9.
+// Reads into the front of four bytes that are all 9.
 fn read_four(disk: &mut MemoryDisk, at: u64, room: usize) -> Result<(usize, [u8; 4]), Fail> {
     let mut into = [9; 4];
     if room > 4 {

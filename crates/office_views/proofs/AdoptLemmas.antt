@@ -1,17 +1,22 @@
 -- Views after one more batch was adopted.
-use Rattle.std.proofs.Common.{◌≡◌, ℕ, ◌+◌, ◌≤◌, Some, List, [], ◌∷◌, ◌++◌, length, take, drop, filter, slice_get, sym, ap, ◌∙◌, subst, arith, append_assoc}
+use Rattle.std.proofs.Common.{◌≡◌, ℕ, ◌+◌, ◌≤◌, IsTrue, Some, List, [], ◌∷◌, ◌++◌, length, take, drop, filter, slice_get, sym, ap, ◌∙◌}
+use Rattle.std.proofs.Common.{subst, arith, append_assoc}
 use Rattle.std.proofs.Common.{length-append, length-drop, take-add}
 use Rattle.std.proofs.Math.Seq.{drop-append_seam, take-append_seam}
 use Rattle.std.specs.List.{AllByRecursion, flat_map}
 use Rattle.std.proofs.lemmas.List.{drop-drop}
 use Rattle.std.proofs.lemmas.List.Elements.{filter-append}
+use Rattle.list_words.specs.Order.{in_order}
 use Rattle.list_words.proofs.Members.{all_append}
 use Rattle.fact_kinds.specs.declared.batch.Batch.{Batch}
-use Rattle.fact_kinds.specs.Facts.{entries_of}
+use Rattle.fact_kinds.specs.Facts.{entries_of, facts_of, goes_first}
+use Rattle.fact_kinds.specs.Identity.{identities_differ}
 use Rattle.fact_kinds.specs.Fields.{IsFact}
 use Rattle.fact_kinds.proofs.Identities.{history_apart}
 use Rattle.fact_kinds.specs.Stated.{Stated}
-use Rattle.fact_store.specs.Kept.{Kept}
+use Rattle.fact_store.specs.Coming.{Coming, stored}
+use Rattle.fact_store.specs.Kept.{Kept, facts_in}
+use Rattle.history_laws.specs.MoreLaws.{with_batch}
 use Rattle.ldar_law.specs.declared.verdict.Verdict.TheVariants.{Pass}
 use Rattle.ldar_law.specs.Machine.{IsNew}
 use Rattle.ldar_law.specs.Slices.{is_registered, register_facts}
@@ -19,12 +24,13 @@ use Rattle.ldar_law.specs.Verdicts.{verdict_on}
 use Rattle.ldar_law.proofs.VerdictLemmas.{passes_undenied}
 use Rattle.history_laws.proofs.OnceLemmas.{passing_batch_enters_first}
 use Rattle.history_laws.proofs.Passing.{one_more_passes}
+use Rattle.unit_summaries.specs.Sound.{Are, Sums}
 use Rattle.office_views.specs.declared.header.Header.{Header}
 use Rattle.office_views.specs.Inside.{AreOf, facts_stated}
 use Rattle.office_views.specs.Taking.{HasOwnKeys, CanEnter}
 use Rattle.office_views.proofs.HeaderLemmas.{length-entries_of}
 use Rattle.office_views.proofs.KeyLemmas.{none_held, entries_more, identities_more}
-use Rattle.office_views.proofs.SoundLemmas.{facts_count, held_by}
+use Rattle.office_views.proofs.SoundLemmas.{facts_count, viewed_by}
 
 -- a list that has a first element
 pub first_is : {X : Type 0} (xs : List X) (x : X) → slice_get xs 0 ≡ Some x → xs ≡ x ∷ drop 1 xs
@@ -39,11 +45,12 @@ module _ (batches : List Batch) (store register : Kept) (headers : List Header) 
   front_is : take (count + 1) batches ≡ take count batches ++ batch ∷ []
   front_is = take-add count 1 batches ∙ ap (λ bs. take count batches ++ take 1 bs) rest_is
 
-  -- what is held with the batch adopted
-  pub adopted_held : held_by batches (count + 1) ≡ record { adopted = take count batches ++ batch ∷ []; spare = drop 1 (drop count batches) }
-  adopted_held =
-      ap (λ bs. record { adopted = bs; spare = drop (count + 1) batches }) front_is
-      ∙ ap (λ bs. record { adopted = take count batches ++ batch ∷ []; spare = bs }) (sym (drop-drop 1 count batches))
+  -- what is viewed with the batch adopted
+  pub adopted_viewed : (answered : List ℕ) → viewed_by batches (count + 1) answered
+      ≡ record { adopted = take count batches ++ batch ∷ []; spare = drop 1 (drop count batches); answered = answered }
+  adopted_viewed answered =
+      ap (λ bs. record { adopted = bs; spare = drop (count + 1) batches; answered = answered }) front_is
+      ∙ ap (λ bs. record { adopted = take count batches ++ batch ∷ []; spare = bs; answered = answered }) (sym (drop-drop 1 count batches))
 
   room_is : store.spare ≡ batch.facts ++ (facts_stated (drop (count + 1) batches) ++ sound.more)
   room_is =
@@ -138,8 +145,26 @@ module _ (batches : List Batch) (store register : Kept) (headers : List Header) 
           in_range = rw front_is (all_append _ front (batch ∷ []) sound.in_range (in_range, tt));
         }
 
+    -- the summaries that the batch has touched are those of all facts
+    pub adopted_sound : (s : Coming) (listed : ℕ) (sums : Sums)
+        → stored s ≡ record { arrived = store.arrived ++ entries_of batch; spare = drop (length batch.facts) store.spare } → s.listed ≡ listed
+        → Are (facts_of (with_batch (take count batches) batch)) (store.arrived ++ entries_of batch) listed sums
+        → Are (facts_in (stored s)) s.arrived s.listed sums
+    adopted_sound s listed sums is listed_is are =
+        let came : s.arrived ≡ store.arrived ++ entries_of batch = ap (λ k. k.arrived) is in
+        let all : flat_map entries_of (with_batch (take count batches) batch) ≡ store.arrived ++ entries_of batch =
+        entries_more (take count batches) batch ∙ ap (λ es. es ++ entries_of batch) (sym sound.arrived) in
+        subst (λ n. Are (facts_in (stored s)) s.arrived n sums) (sym listed_is)
+        (subst (λ es. Are (in_order goes_first es) es listed sums) (sym came)
+        (subst (λ es. Are (in_order goes_first es) (store.arrived ++ entries_of batch) listed sums) all are))
+
+    -- the identities differ with it
+    pub all_differ : IsTrue (identities_differ (with_batch (take count batches) batch))
+    all_differ = identities_more (take count batches) batch sound.differ new
+
 -- how many facts came
-pub stored_count : (store s : Kept) (batch : Batch) → s ≡ record { arrived = store.arrived ++ entries_of batch; spare = drop (length batch.facts) store.spare }
+pub stored_count : (store s : Kept) (batch : Batch)
+    → s ≡ record { arrived = store.arrived ++ entries_of batch; spare = drop (length batch.facts) store.spare }
     → (facts : ℕ) → facts ≡ length store.arrived → (stated : List Stated) → stated ≡ batch.facts → facts + length stated ≡ length s.arrived
 stored_count store s batch is facts counted stated same =
     omega (arith, counted, ap length same, ap (λ k. length k.arrived) is, length-append store.arrived (entries_of batch), length-entries_of batch)

@@ -1,5 +1,5 @@
 -- What a view shows, by what it asks of a process unit.
-use Rattle.std.proofs.Common.{◌≡◌, ◌⊎◌, ℕ, ◌≤◌, Bool, true, false, ◌&&◌, cond, nat_eq, nat_le, Option, Some, None, Result, Ok, Err, List}
+use Rattle.std.proofs.Common.{◌≡◌, ◌⊎◌, ℕ, ◌≤◌, Bool, true, false, ◌&&◌, cond, nat_eq, nat_le, Option, Some, None, Result, Ok, Err, IfOk, List}
 use Rattle.std.proofs.Common.{refl, sym, ap, ◌∙◌, inl, inr, subst, arith}
 use Rattle.std.specs.declared.alloc.AllocError.{AllocError}
 use Rattle.std.proofs.lemmas.Bool.{and_parts}
@@ -19,7 +19,7 @@ use Rattle.ldar_law.specs.Shown.{of_unit, quarter_text, report_of_unit, view_of}
 use Rattle.ldar_law.specs.Texts.{delays_text, due_text, route_text, tags_text}
 use Rattle.ldar_law.specs.Units.{delays_of_unit, duties_of_unit, routes_of_unit, tags_of_unit}
 use Rattle.office_views.specs.declared.shown.Shown.{Shown}
-use Rattle.office_views.specs.Answers.{half_text_of, report_asked, IsShown, IsText, IsView, Shows}
+use Rattle.office_views.specs.Answers.{half_text_of, in_text, report_asked, IsShown, IsText, IsView, Shows}
 use Rattle.office_views.specs.Asked.{asked, lacked, unless_lacked, view_unit}
 use Rattle.office_views.proofs.AnswerLemmas.{asked_of_none, asked_of_unit, no_unit_shown, unit_shown}
 
@@ -114,7 +114,7 @@ text_second : (b : Bool) (none : Reply) (text : List ℕ) → b ≡ true → IsT
 text_second b none text is = subst (λ c. IsText (cond c (Told text) none)) (sym is) (text, refl)
 
 -- where nothing is lacked, a text is shown
-whole_shown : (request : Request) (facts : List Entry) (entry : UnitEntry) → IsView request → lacked request entry ≡ None
+pub whole_shown : (request : Request) (facts : List Entry) (entry : UnitEntry) → IsView request → lacked request entry ≡ None
     → IsText (unit_reply request facts entry)
 whole_shown (Sync batch) facts entry view is = absurd view
 whole_shown (Due unit day) facts entry view is = (due_text unit day (duties_of_unit entry day facts), refl)
@@ -158,6 +158,11 @@ module _ (request : Request) (facts : List Entry) (view : IsView request) where
     view_is request facts view ∙ ap (λ reply. Some reply) (unit_shown (view_unit request) facts (unit_reply request facts) entry entered),
     shows,
   )
+
+-- a text is what is shown
+pub text_shows : (text : Result (List ℕ) AllocError) (bytes : List ℕ) → IfOk text (λ t. t ≡ bytes) → Shows (in_text text) (Told bytes)
+text_shows (Ok text) bytes is = ap Told is
+text_shows (Err memory) bytes is = (bytes, refl)
 
 -- a text is shown where it is not lacked
 pub shows_first : (result : Result Shown AllocError) (b : Bool) (none : What) (told : Reply) → cond b (Some none) None ≡ None → Shows result told

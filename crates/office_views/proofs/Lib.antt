@@ -2,13 +2,14 @@ pub mod AdoptLemmas
 pub mod AnswerLemmas
 pub mod AskedLemmas
 pub mod HeaderLemmas
+pub mod HistoryLemmas
 pub mod KeptLemmas
 pub mod KeyLemmas
 pub mod ListLemmas
 pub mod MonthLemmas
+pub mod NameLemmas
 pub mod PlaceLemmas
-pub mod ReadLemmas
-pub mod ReadyLemmas
+pub mod ReadsLemmas
 pub mod SkipLemmas
 pub mod SoundLemmas
 pub mod TagLemmas

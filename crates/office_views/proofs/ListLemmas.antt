@@ -21,18 +21,6 @@ pub given_done : {X Y : Type 0} (f : X → Option Y) (done all : List Y) (xs : L
 given_done f done all xs i end is =
     sym (append-nil done) ∙ ap (λ ys. done ++ filter_map f ys) (sym (drop_all i xs end)) ∙ is
 
--- what the elements so far give, with the next
-pub given_more : {X Y : Type 0} (f : X → Option Y) (xs : List X) (i : ℕ) (d : X) → i < length xs
-    → filter_map f (take (i + 1) xs) ≡ filter_map f (take i xs) ++ option_to_list (f (get_or xs i d))
-given_more f xs i d within =
-    ap (filter_map f) (take_more xs i d within) ∙ filter_map-append f (take i xs) (get_or xs i d ∷ [])
-    ∙ ap (λ ys. filter_map f (take i xs) ++ ys) (cons_option_is (f (get_or xs i d)) [] ∙ append-nil (option_to_list (f (get_or xs i d))))
-
--- .. where it stands there
-pub given_next : {X Y : Type 0} (f : X → Option Y) (xs : List X) (i : ℕ) (x : X) → i < length xs → x ≡ get_or xs i x
-    → filter_map f (take (i + 1) xs) ≡ filter_map f (take i xs) ++ option_to_list (f x)
-given_next f xs i x within is = given_more f xs i x within ∙ ap (λ y. filter_map f (take i xs) ++ option_to_list (f y)) (sym is)
-
 -- a list of what each element gives, with one more
 pub mapped_more : {X Y : Type 0} (f : X → Y) (xs : List X) (i : ℕ) (x : X) → i < length xs → x ≡ get_or xs i x
     → map f (take (i + 1) xs) ≡ map f (take i xs) ++ f x ∷ []
@@ -134,3 +122,13 @@ all_given P f (n ∷ ns) holds =
 pub some_holds : {X : Type 0} (P : X → Type 0) (o : Option X) → ((x : X) → o ≡ Some x → P x) → IfSome o P
 some_holds P None holds = tt
 some_holds P (Some x) holds = holds x refl
+
+-- what holds of each element holds of the one at a place
+all_get : {X : Type 0} (P : X → Type 0) (xs : List X) (i : ℕ) (d : X) → AllByRecursion P xs → i < length xs → P (get_or xs i d)
+all_get P [] i d all within = absurd (omega (arith, within))
+all_get P (x ∷ xs) zero d all within = all.0
+all_get P (x ∷ xs) (suc i) d all within = all_get P xs i d all.1 (omega (arith, within))
+
+-- .. and of an element that is there
+pub all_item : {X : Type 0} (P : X → Type 0) (xs : List X) (i : ℕ) (x : X) → AllByRecursion P xs → i < length xs → x ≡ get_or xs i x → P x
+all_item P xs i x all within is = subst P (sym is) (all_get P xs i x all within)

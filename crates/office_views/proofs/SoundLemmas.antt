@@ -2,13 +2,14 @@
 use Rattle.std.proofs.Common.{◌≡◌, ℕ, ◌<◌, ◌≤◌, List, [], ◌∷◌, ◌++◌, length, take, drop, map, filter, sym, ap, ◌∙◌, subst, arith, append_assoc, length-append}
 use Rattle.std.proofs.Common.{length-take-le, zero-add}
 use Rattle.std.specs.List.{AllByRecursion, flat_map}
-use Rattle.std.proofs.Math.ListN.{drop_of_length-le, take-append-drop}
-use Rattle.std.proofs.lemmas.List.{length-map, take_all, take_at, drop_at, append-nil}
+use Rattle.std.proofs.Math.ListN.{take-append-drop}
+use Rattle.std.proofs.lemmas.List.{length-map, take_at, drop_at, append-nil}
 use Rattle.std.proofs.lemmas.List.Concat.{flat_map-append}
 use Rattle.std.proofs.lemmas.List.Sorted.{length_permutation}
 use Rattle.list_words.proofs.Ascending.{in_order_permutes}
 use Rattle.list_words.proofs.Members.{all_append}
 use Rattle.list_words.proofs.PutLemmas.{filter-in_order}
+use Rattle.fact_kinds.specs.declared.limits.TheConstants.{BATCH_FACTS}
 use Rattle.fact_kinds.specs.declared.batch.Batch.{Batch}
 use Rattle.fact_kinds.specs.Facts.{entries_of, facts_of, goes_first}
 use Rattle.fact_kinds.proofs.Identities.{history_apart}
@@ -17,7 +18,7 @@ use Rattle.fact_store.specs.Kept.{Kept, facts_in}
 use Rattle.ldar_law.specs.Slices.{is_registered, register_facts}
 use Rattle.office_views.specs.declared.header.Header.{Header}
 use Rattle.office_views.specs.Headers.{headers_of, batches_by, facts_kept}
-use Rattle.office_views.specs.Held.{Held}
+use Rattle.office_views.specs.Viewed.{Viewed}
 use Rattle.office_views.specs.Inside.{AreOf, facts_stated}
 use Rattle.office_views.proofs.HeaderLemmas.{headers_of-append, take-headers_of, batches_back, stated_of_entries}
 use Rattle.office_views.proofs.KeyLemmas.{all_before}
@@ -27,15 +28,15 @@ pub all_of_first : {X : Type 0} (P : X → Type 0) (n : ℕ) (xs : List X) → A
 all_of_first P n xs all = all_before P (take n xs) (drop n xs) (subst (AllByRecursion P) (sym (take-append-drop n xs)) all)
 
 -- of batches with facts there are no more than facts
-pub few_batches : (batches : List Batch) → AllByRecursion (λ batch. (0 < length batch.facts) × (length batch.facts ≤ 512)) batches
+pub few_batches : (batches : List Batch) → AllByRecursion (λ batch. (0 < length batch.facts) × (length batch.facts ≤ BATCH_FACTS)) batches
     → length batches ≤ length (facts_stated batches)
 few_batches [] filled = omega arith
 few_batches (batch ∷ batches) filled =
     omega (arith, few_batches batches filled.1, filled.0.0, length-append batch.facts (facts_stated batches))
 
--- what is held, by these batches
-abbrev pub held_by : List Batch → ℕ → Held
-held_by batches count = record { adopted = take count batches; spare = drop count batches }
+-- what is viewed, by these batches and what is noted
+abbrev pub viewed_by : List Batch → ℕ → List ℕ → Viewed
+viewed_by batches count answered = record { adopted = take count batches; spare = drop count batches; answered = answered }
 
 module _ (batches : List Batch) (store register : Kept) (headers : List Header) (count : ℕ) (sound : AreOf batches store register headers count) where
   -- the facts kept are those of the batches, and it may be more
@@ -54,16 +55,19 @@ module _ (batches : List Batch) (store register : Kept) (headers : List Header) 
       ap (λ hs. batches_by (facts_kept store) hs) sound.headed
       ∙ ap (λ facts. batches_by facts (headers_of 0 batches)) facts_are ∙ batches_back [] batches sound.more
 
-  pub viewed : held_by (batches_by (facts_kept store) headers) count ≡ held_by batches count
-  viewed = ap (λ bs. held_by bs count) found
+  pub viewed : (answered : List ℕ) → viewed_by (batches_by (facts_kept store) headers) count answered ≡ viewed_by batches count answered
+  viewed answered = ap (λ bs. viewed_by bs count answered) found
 
   -- .. and what is seen of them
-  module _ (held : Held) (is : held_by (batches_by (facts_kept store) headers) count ≡ held) where
-    pub adopted_is : held.adopted ≡ take count batches
-    adopted_is = ap (λ h. h.adopted) (sym is ∙ viewed)
+  module _ {answered : List ℕ} (views : Viewed) (is : viewed_by (batches_by (facts_kept store) headers) count answered ≡ views) where
+    pub adopted_is : views.adopted ≡ take count batches
+    adopted_is = ap (λ v. v.adopted) (sym is ∙ viewed answered)
 
-    pub spare_is : held.spare ≡ drop count batches
-    spare_is = ap (λ h. h.spare) (sym is ∙ viewed)
+    pub spare_is : views.spare ≡ drop count batches
+    spare_is = ap (λ v. v.spare) (sym is ∙ viewed answered)
+
+    pub noted_is : views.answered ≡ answered
+    noted_is = ap (λ v. v.answered) (sym is)
 
   pub count_is : length (take count batches) ≡ count
   count_is = length-take-le count batches sound.counted
@@ -101,15 +105,16 @@ module _ (batches : List Batch) (store register : Kept) (headers : List Header) 
     behind : drop count (take count batches ++ others) ≡ others
     behind = drop_at (take count batches) others count count_is
 
-    pub roomy_held : held_by (take count batches ++ others) count ≡ record { adopted = take count batches; spare = others }
-    roomy_held =
-        ap (λ bs. record { adopted = bs; spare = drop count (take count batches ++ others) }) in_front
-        ∙ ap (λ bs. record { adopted = take count batches; spare = bs }) behind
+    pub roomy_viewed : (answered : List ℕ) → viewed_by (take count batches ++ others) count answered
+        ≡ record { adopted = take count batches; spare = others; answered = answered }
+    roomy_viewed answered =
+        ap (λ bs. record { adopted = bs; spare = drop count (take count batches ++ others); answered = answered }) in_front
+        ∙ ap (λ bs. record { adopted = take count batches; spare = bs; answered = answered }) behind
 
     pub roomy : (s r : Kept) (hs : List Header) → s.arrived ≡ store.arrived → r.arrived ≡ register.arrived
         → s.spare ≡ facts_stated others → r.spare ≡ filter (λ fact. is_registered fact.body) (facts_stated others)
         → hs ≡ take count headers ++ headers_of (length store.arrived) others
-        → AllByRecursion (λ batch. (0 < length batch.facts) × (length batch.facts ≤ 512)) others → AreOf (take count batches ++ others) s r hs count
+        → AllByRecursion (λ batch. (0 < length batch.facts) × (length batch.facts ≤ BATCH_FACTS)) others → AreOf (take count batches ++ others) s r hs count
     roomy s r hs same same_entries room entry_room pushed filled =
         let front = take count batches in
         record {

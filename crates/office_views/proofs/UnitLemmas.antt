@@ -1,84 +1,61 @@
 -- What the register and the lists of a store say of a process unit on a day.
 use Rattle.std.proofs.Common.{◌≡◌, ℕ, Bool, Option, Some, None, false, cond, nat_le, nat_lt, inl, inr, arith, leb-false, option_map, option_and_then}
-use Rattle.std.proofs.Common.{List, [], ◌∷◌, ◌++◌, length, take, filter, map, get_or, ◌<◌, ◌≤◌, ◌+◌, Contains, sym, refl, ap, ◌∙◌, subst, length-take-le}
-use Rattle.std.specs.List.{AllByRecursion, filter_map}
+use Rattle.std.proofs.Common.{List, [], ◌∷◌, ◌++◌, length, take, filter, map, get_or, ◌<◌, ◌≤◌, ◌+◌, sym, refl, ap, ◌∙◌, subst, length-take-le}
+use Rattle.std.specs.List.{AllByRecursion, cons_option, filter_map}
 use Rattle.std.proofs.lemmas.Bool.{cases_Bool}
 use Rattle.ldar_law.proofs.Gifts.{cases_Option}
-use Rattle.std.specs.Option.{option_to_list}
-use Rattle.std.proofs.lemmas.List.{length-map, map-append}
+use Rattle.std.proofs.lemmas.List.{length-map}
 use Rattle.std.proofs.lemmas.List.Concat.{flat_map-append}
-use Rattle.std.proofs.lemmas.List.Elements.{Contains-get_or, filter-append, filter_map-append}
+use Rattle.std.proofs.lemmas.List.Elements.{filter-append, filter_map-append}
 use Rattle.list_words.specs.Order.{Ascends}
-use Rattle.fact_kinds.specs.Facts.{Entry, goes_first}
-use Rattle.history_laws.specs.DayLaws.{up_to, item_on, if_begun, if_started}
+use Rattle.list_words.proofs.PutLemmas.{ascends_filter}
+use Rattle.fact_kinds.proofs.KeyOrder.{strict_goes_first}
+use Rattle.list_words.proofs.Members.{Among, Contains-from_among, all_from_among}
+use Rattle.fact_kinds.specs.Facts.{Entry, goes_first, is_earlier}
+use Rattle.history_laws.specs.DayLaws.{up_to, if_started}
 use Rattle.history_laws.specs.RulyLaws.{IsEachOnce}
 use Rattle.history_laws.specs.RangeLaws.{IsInRange}
 use Rattle.history_laws.proofs.MemberLemmas.{components_are_members, members_ascend, members_stand_in_unit}
+use Rattle.history_laws.proofs.OnceLemmas.{part_has_each_once}
 use Rattle.history_laws.proofs.RangeLemmas.{components_stand_in_range, members_fit, part_is_in_range, startups_are_days}
-use Rattle.history_laws.proofs.RegisterUpTo.{classes_up_to, components_up_to_a_day, components_are_of_all_members, units_up_to_a_day}
+use Rattle.history_laws.proofs.RegisterUpTo.{components_are_of_all_members, units_up_to_a_day}
 use Rattle.history_laws.proofs.UpTo.{ascending_are_in_order}
 use Rattle.ldar_law.specs.declared.equipment.Equipment.{Equipment}
 use Rattle.ldar_law.specs.declared.numbers.TheConstants.{LAST_FACT_DAY, MOST_COMPONENTS}
-use Rattle.ldar_law.specs.declared.of_unit.OfUnit.{OfUnit}
+use Rattle.ldar_law.specs.declared.delay.Stop.{Stop}
 use Rattle.ldar_law.specs.declared.sheet.Sheet.{Sheet}
 use Rattle.ldar_law.specs.declared.tally.Tally.{Tally}
 use Rattle.ldar_law.specs.declared.unit_entry.UnitEntry.{UnitEntry}
 use Rattle.ldar_law.specs.Duties.{duties_of}
-use Rattle.ldar_law.specs.Equipment.{classes_of, equipment_of, members_of, unit_entry_of}
+use Rattle.ldar_law.specs.Equipment.{classes_of, equipment_of, members_of, of_unit, stops_of, unit_entry_of}
+use Rattle.ldar_law.specs.Force.{limit_on}
 use Rattle.ldar_law.specs.Shown.{sheet_of}
 use Rattle.ldar_law.specs.Slices.{register_facts}
 use Rattle.ldar_law.specs.Tags.{is_shown, line_on_open}
-use Rattle.ldar_law.specs.Units.{Known, known_of, components_of, all_tags, tag_list, delay_list, due_list}
+use Rattle.ldar_law.specs.Units.{Known, known_of, known_with, components_of, all_tags, tag_list, delay_list, due_list}
+use Rattle.ldar_law.proofs.EventLemmas.{events_ascend}
 use Rattle.ldar_law.proofs.SliceLemmas.{register_facts_suffice}
 use Rattle.semiannual_report.specs.Columns.{AreOfComponents}
-use Rattle.office_views.specs.declared.component.Component.{Component}
-use Rattle.office_views.specs.Components.{all_in_law, in_law, known_among}
-use Rattle.office_views.specs.Lists.{AreKept}
+use Rattle.unit_summaries.specs.declared.known.KnownOn.{KnownOn}
+use Rattle.unit_summaries.specs.Known.{known_by}
+use Rattle.unit_summaries.proofs.ReadLemmas.{classes_in_order}
+use Rattle.office_views.specs.Components.{AreInOrder, all_in_law, in_law, known_among}
+use Rattle.office_views.specs.Sources.{AreKept}
 use Rattle.office_views.specs.Tallied.{AreTallies, CountsMore, HaveRoom}
-use Rattle.office_views.proofs.ListLemmas.{all_given, all_map, ascends_map, few_given, given_ascend, given_more, mapped_more}
+use Rattle.office_views.proofs.ListLemmas.{all_given, all_map, ascends_map, few_given, given_ascend, mapped_more}
 use Rattle.office_views.proofs.TallyLemmas.{room_for, tallied_more}
 
--- a component as the register has it, on a day
-pub component_is : (day number : ℕ) (facts entries : List Entry) → Ascends goes_first facts → entries ≡ register_facts facts
-    → option_and_then (if_begun day) (equipment_of number entries) ≡ equipment_of number (up_to day facts)
-component_is day number facts entries up is =
-    ap (λ es. option_and_then (if_begun day) (equipment_of number es)) is
-    ∙ ap (option_and_then (if_begun day)) (register_facts_suffice number facts).0.equipment
-    ∙ sym (components_up_to_a_day day number facts (ascending_are_in_order facts up)).equipment
+-- the facts up to a day are in order
+pub front_ascends : (day : ℕ) (facts : List Entry) → Ascends goes_first facts → Ascends goes_first (up_to day facts)
+front_ascends day facts up = ascends_filter goes_first strict_goes_first (λ e. nat_le e.0.day day) facts up
 
--- its classes as the register has them, on a day
-pub classes_are : (day number : ℕ) (facts entries : List Entry) → entries ≡ register_facts facts
-    → filter (λ entered. nat_le entered.0.day day) (classes_of number entries) ≡ classes_of number (up_to day facts)
-classes_are day number facts entries is =
-    ap (λ es. filter (λ entered. nat_le entered.0.day day) (classes_of number es)) is
-    ∙ ap (filter (λ entered. nat_le entered.0.day day)) (register_facts_suffice number facts).0.classes
-    ∙ sym (classes_up_to day number facts)
+-- .. and enter nothing twice
+pub front_once : (day : ℕ) (facts : List Entry) → IsEachOnce facts → IsEachOnce (up_to day facts)
+front_once day facts once = part_has_each_once facts (λ e. nat_le e.0.day day) once
 
 -- the members as the register has them
 pub members_are : (unit : ℕ) (facts entries : List Entry) → entries ≡ register_facts facts → members_of unit entries ≡ members_of unit facts
 members_are unit facts entries is = ap (members_of unit) is ∙ (register_facts_suffice unit facts).1.members
-
--- a component that has begun stands in the process unit in which it was entered
-begun_unit : (day : ℕ) (entered item : Equipment) → if_begun day entered ≡ Some item → item.unit ≡ entered.unit
-begun_unit day entered item is =
-    elim (cases_Bool (nat_le entered.begin day)) [
-      | inl come ↦
-          let known : Some (item_on day entered) ≡ Some item = rw come at is in
-          let same : item_on day entered ≡ item = cc in
-          sym (ap (λ i. i.unit) same)
-      | inr not_come ↦
-          let none : None ≡ Some item = rw not_come at is in
-          absurd cc
-    ]
-
--- a member that has begun stands in its process unit
-pub unit_of_member : (day unit number : ℕ) (facts entries : List Entry) (item : Equipment) → AreKept facts entries
-    → Contains (members_of unit facts) number → Some item ≡ option_and_then (if_begun day) (equipment_of number entries) → item.unit ≡ unit
-unit_of_member day unit number facts entries item kept held is =
-    let stands = members_stand_in_unit facts unit number kept.once held in
-    let there : equipment_of number entries ≡ Some stands.0 =
-    ap (equipment_of number) kept.register ∙ (register_facts_suffice number facts).0.equipment ∙ stands.1 in
-    begun_unit day stands.0 item (sym (is ∙ ap (option_and_then (if_begun day)) there)) ∙ stands.3
 
 -- the components of a unit on a day are found among these
 pub components_are : (day unit : ℕ) (facts entries : List Entry) → Ascends goes_first facts → IsEachOnce facts → entries ≡ register_facts facts
@@ -99,17 +76,98 @@ components_fit day unit facts entries up kept =
     subst (λ (cs : List Known). length cs ≤ MOST_COMPONENTS) (sym (components_are day unit facts entries up kept.once kept.register))
     (omega (arith, most, given))
 
--- ---- with one more member
+-- ---- what is known of a unit's components, from their summaries
 
--- the number at a place is that of a member
-pub member_at : (unit : ℕ) (facts entries : List Entry) (numbers : List ℕ) (i : ℕ) → AreKept facts entries → numbers ≡ members_of unit entries
-    → i < length numbers → Contains (members_of unit facts) (get_or numbers i 0)
-member_at unit facts entries numbers i kept are within =
-    subst (λ ns. Contains ns (get_or numbers i 0)) (are ∙ members_are unit facts entries kept.register) (Contains-get_or numbers i 0 within)
+-- what holds of each element holds of what is given of those of which something holds
+all_given_of : {X : Type 0} (Q : ℕ → Type 0) (P : X → Type 0) (f : ℕ → Option X) (ns : List ℕ) → AllByRecursion Q ns
+    → ((n : ℕ) (x : X) → Q n → f n ≡ Some x → P x) → AllByRecursion P (filter_map f ns)
+all_given_of Q P f [] all holds = tt
+all_given_of Q P f (n ∷ ns) all holds =
+    elim (f n) as (λ o. f n ≡ o → AllByRecursion P (cons_option o (filter_map f ns))) [
+      | None ↦ λ is. all_given_of Q P f ns all.1 holds
+      | Some x ↦ λ is. (holds n x all.0 is, all_given_of Q P f ns all.1 holds)
+    ] refl
 
-mapped_option : {X Y : Type 0} (f : X → Y) (o : Option X) → map f (option_to_list o) ≡ option_to_list (option_map f o)
-mapped_option f None = refl
-mapped_option f (Some x) = refl
+-- what holds of what each element gives
+all_unmapped : {X Y : Type 0} (P : Y → Type 0) (f : X → Y) (xs : List X) → AllByRecursion P (map f xs) → AllByRecursion (λ x. P (f x)) xs
+all_unmapped P f [] all = tt
+all_unmapped P f (x ∷ xs) all = (all.0, all_unmapped P f xs all.1)
+
+-- what is known under a number is of the component of the number
+known_is_of : (facts : List Entry) (number : ℕ) (c : Known) → option_map (known_of facts) (equipment_of number facts) ≡ Some c
+    → (item : Equipment) × (equipment_of number facts ≡ Some item) × (known_of facts item ≡ c)
+known_is_of facts number c is =
+    elim (cases_Option (equipment_of number facts)) [
+      | inl none ↦ let never : None ≡ Some c = rw none at is in absurd cc
+      | inr some ↦
+          let known : Some (known_of facts some.0) ≡ Some c = rw some.1 at is in
+          (some.0, some.1, (let same : known_of facts some.0 ≡ c = cc in same))
+    ]
+
+module _ (unit : ℕ) (facts : List Entry) where
+  -- the components of a unit stand in it
+  stand_in_unit : IsEachOnce facts → AllByRecursion (λ (c : Known). c.item.unit ≡ unit) (components_of unit facts)
+  stand_in_unit once =
+      all_given_of (λ n. Among (members_of unit facts) n) (λ (c : Known). c.item.unit ≡ unit)
+      (λ number. option_map (known_of facts) (equipment_of number facts)) (members_of unit facts)
+      (all_from_among (λ n. Among (members_of unit facts) n) (members_of unit facts) (λ n among. among))
+      (λ n c among is.
+      let found = known_is_of facts n c is in
+      let stands = members_stand_in_unit facts unit n once (Contains-from_among (members_of unit facts) n among) in
+      let same : Some stands.0 ≡ Some found.0 = sym stands.1 ∙ found.1 in
+      let item : stands.0 ≡ found.0 = cc in
+      ap (λ (k : Known). k.item.unit) (sym found.2) ∙ ap (λ (i : Equipment). i.unit) (sym item) ∙ stands.3)
+
+  -- .. and their classes and events are in key order
+  known_ascend : Ascends goes_first facts
+      → AllByRecursion (λ (c : Known). Ascends (λ a b. is_earlier a.0 b.0) c.classes × Ascends (λ a b. is_earlier a.key b.key) c.events)
+      (components_of unit facts)
+  known_ascend up =
+      all_given (λ (c : Known). Ascends (λ a b. is_earlier a.0 b.0) c.classes × Ascends (λ a b. is_earlier a.key b.key) c.events)
+      (λ number. option_map (known_of facts) (equipment_of number facts)) (members_of unit facts)
+      (λ n c is.
+      let found = known_is_of facts n c is in
+      let item = found.0 in
+      let classes = classes_of item.component facts in
+      subst (λ (k : Known). Ascends (λ a b. is_earlier a.0 b.0) k.classes × Ascends (λ a b. is_earlier a.key b.key) k.events) found.2
+      (classes_in_order item.component facts up, events_ascend item classes (limit_on item classes) facts up))
+
+  -- by the shutdowns of the unit they are known as its own ones
+  all_by_stops : (known : List KnownOn) → AllByRecursion (λ k. (known_by facts k).item.unit ≡ unit) known
+      → all_in_law (stops_of unit facts) known ≡ map (known_by facts) known
+  all_by_stops [] all = refl
+  all_by_stops (k ∷ known) all =
+      ap (λ c. c ∷ all_in_law (stops_of unit facts) known)
+      (ap (λ u. known_with k.item k.classes.now k.events.now (of_unit u facts)) (sym all.0))
+      ∙ ap (λ cs. known_by facts k ∷ cs) (all_by_stops known all.1)
+
+  module _ (known : List KnownOn) (are : map (known_by facts) known ≡ components_of unit facts) where
+    -- what is known of the components of the unit
+    pub known_in_law : (stops : List Stop) → stops ≡ stops_of unit facts → IsEachOnce facts → all_in_law stops known ≡ components_of unit facts
+    known_in_law stops stops_are once =
+        ap (λ ss. all_in_law ss known) stops_are
+        ∙ all_by_stops known (all_unmapped (λ (c : Known). c.item.unit ≡ unit) (known_by facts) known
+        (subst (AllByRecursion (λ (c : Known). c.item.unit ≡ unit)) (sym are) (stand_in_unit once)))
+        ∙ are
+
+    -- .. is in key order
+    pub known_in_order : Ascends goes_first facts → AreInOrder known
+    known_in_order up =
+        in_order_of known (all_unmapped _ (known_by facts) known
+        (subst (AllByRecursion (λ (c : Known). Ascends (λ a b. is_earlier a.0 b.0) c.classes × Ascends (λ a b. is_earlier a.key b.key) c.events)) (sym are)
+        (known_ascend up)))
+      where
+        in_order_of : (ks : List KnownOn)
+            → AllByRecursion (λ (k : KnownOn). Ascends (λ a b. is_earlier a.0 b.0) k.classes.now × Ascends (λ a b. is_earlier a.key b.key) k.events.now) ks
+            → AreInOrder ks
+        in_order_of [] all = tt
+        in_order_of (k ∷ ks) all = (record { classes = all.0.0; events = all.0.1 }, in_order_of ks all.1)
+
+    -- .. and of few
+    pub known_few : length (components_of unit facts) ≤ MOST_COMPONENTS → length known ≤ MOST_COMPONENTS
+    known_few few = omega (arith, few, length-map known (known_by facts), ap length are)
+
+-- ---- the lists of a unit
 
 -- the lists of some components and of more
 pub tag_list-append : (day : ℕ) (xs ys : List Known) → tag_list day (xs ++ ys) ≡ tag_list day xs ++ tag_list day ys
@@ -124,20 +182,9 @@ pub due_list-append : (startup day : ℕ) (skipped : List Bool) (xs ys : List Kn
     → due_list startup day skipped (xs ++ ys) ≡ due_list startup day skipped xs ++ due_list startup day skipped ys
 due_list-append startup day skipped xs ys = flat_map-append (λ c. duties_of c.item c.classes startup c.events skipped day) xs ys
 
--- what is known of the members so far, with the next
-pub known_more : (facts : List Entry) (of : OfUnit) (numbers : List ℕ) (i : ℕ) (next : Option Component) (components : List Component)
-    → i < length numbers → option_map (in_law of) next ≡ option_map (known_of facts) (equipment_of (get_or numbers i 0) facts)
-    → all_in_law of components ≡ known_among facts (take i numbers)
-    → all_in_law of (components ++ option_to_list next) ≡ known_among facts (take (i + 1) numbers)
-known_more facts of numbers i next components within is were =
-    map-append (in_law of) components (option_to_list next)
-    ∙ ap (λ ks. ks ++ all_in_law of (option_to_list next)) were
-    ∙ ap (λ ks. known_among facts (take i numbers) ++ ks) (mapped_option (in_law of) next ∙ ap option_to_list is)
-    ∙ sym (given_more (λ number. option_map (known_of facts) (equipment_of number facts)) numbers i 0 within)
-
 -- ---- with one more component
 
-module _ (of : OfUnit) (cs : List Component) (i : ℕ) (c : Component) (within : i < length cs) (is : c ≡ get_or cs i c) where
+module _ (of : List Stop) (cs : List KnownOn) (i : ℕ) (c : KnownOn) (within : i < length cs) (is : c ≡ get_or cs i c) where
   -- a list of a unit, if the list of some components and of more is those of both
   pub list_more : {X : Type 0} (f : List Known → List X) → ((xs ys : List Known) → f (xs ++ ys) ≡ f xs ++ f ys) → (old new : List X)
       → old ≡ f (all_in_law of (take i cs)) → new ≡ old ++ f (in_law of c ∷ []) → new ≡ f (all_in_law of (take (i + 1) cs))
@@ -153,7 +200,7 @@ module _ (of : OfUnit) (cs : List Component) (i : ℕ) (c : Component) (within :
       (tallied_more startup day quarter (all_in_law of (take i cs)) (in_law of c ∷ []) old new are counts)
 
 -- there is room for one more of at most 60,000 components
-pub room_for_one : (of : OfUnit) (cs : List Component) (i startup day quarter : ℕ) (tallies : List Tally) → i < length cs
+pub room_for_one : (of : List Stop) (cs : List KnownOn) (i startup day quarter : ℕ) (tallies : List Tally) → i < length cs
     → length cs ≤ MOST_COMPONENTS → AreTallies startup day (all_in_law of (take i cs)) quarter tallies → HaveRoom tallies
 room_for_one of cs i startup day quarter tallies within few counted =
     room_for startup day quarter (all_in_law of (take i cs)) tallies counted

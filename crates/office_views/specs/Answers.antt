@@ -1,5 +1,5 @@
 -- What the views answer: a text or what there is none of, and a report.
-use Rattle.std.specs.Prelude.{◌≡◌, ℕ, if◌then◌else◌, Option, Some, None, Result, Ok, Err, List}
+use Rattle.std.specs.Prelude.{◌≡◌, ℕ, Bool, true, false, if◌then◌else◌, Option, Some, None, Result, Ok, Err, List}
 use Rattle.std.specs.declared.alloc.AllocError.{AllocError}
 use Rattle.fact_kinds.specs.Facts.{Entry}
 use Rattle.ldar_law.specs.declared.reply.Reply.{Reply}
@@ -50,6 +50,22 @@ abbrev pub Tells : Result Report AskError → Result Report What → Type 0
 Tells (Ok report) asked = asked ≡ Ok report
 Tells (Err (NoneOf what)) asked = asked ≡ Err what
 Tells (Err WantsMemory) asked = (report : Report) × (asked ≡ Ok report)
+
+-- a text is shown if there was memory for it
+abbrev pub in_text : Result (List ℕ) AllocError → Result Shown AllocError
+in_text (Ok text) = Ok (Text text)
+in_text (Err memory) = Err memory
+
+-- a text is shown
+abbrev pub is_text : Result Shown AllocError → Bool
+is_text (Ok (Text text)) = true
+is_text (Ok (NoSuch what)) = false
+is_text (Err memory) = false
+
+-- there is a report
+abbrev pub is_report : Result Report AskError → Bool
+is_report (Ok report) = true
+is_report (Err error) = false
 
 -- the reply shows a text
 abbrev pub IsText : Reply → Type 0

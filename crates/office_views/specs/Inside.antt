@@ -2,7 +2,7 @@
 use Rattle.std.specs.Prelude.{◌≡◌, ℕ, ◌<◌, ◌≤◌, IsTrue, List, ◌++◌, length, take, drop, filter}
 use Rattle.std.specs.List.{AllByRecursion, flat_map}
 use Rattle.fact_kinds.specs.declared.batch.Batch.{Batch}
-use Rattle.fact_kinds.specs.declared.limits.TheConstants.{MOST_FACTS}
+use Rattle.fact_kinds.specs.declared.limits.TheConstants.{BATCH_FACTS, MOST_FACTS}
 use Rattle.fact_kinds.specs.Facts.{entries_of}
 use Rattle.fact_kinds.specs.Fields.{IsFact}
 use Rattle.fact_kinds.specs.Identity.{identities_differ}
@@ -21,7 +21,7 @@ facts_stated batches = flat_map (λ batch. batch.facts) batches
 pub record AreOf (batches : List Batch) (store register : Kept) (headers : List Header) (count : ℕ) : Type 0 where
   pub headed : headers ≡ headers_of 0 batches
   pub counted : count ≤ length batches
-  pub filled : AllByRecursion (λ batch. (0 < length batch.facts) × (length batch.facts ≤ 512)) batches
+  pub filled : AllByRecursion (λ batch. (0 < length batch.facts) × (length batch.facts ≤ BATCH_FACTS)) batches
   -- the facts of the adopted batches came to the store, and the entries among them to the register
   pub arrived : store.arrived ≡ flat_map entries_of (take count batches)
   pub few : length store.arrived ≤ MOST_FACTS

@@ -4,6 +4,8 @@ pub mod Components
 pub mod Headers
 pub mod Held
 pub mod Inside
-pub mod Lists
+pub mod Sources
 pub mod Taking
 pub mod Tallied
+pub mod Totals
+pub mod Viewed

@@ -7,9 +7,9 @@ ghost use Rattle.ldar_law.specs.Shown as law;
 ghost use Rattle.office_views.specs.Answers.{IsView};
 ghost use Rattle.office_views.specs.Asked as says;
 
-use crate::register_on::unit_on;
 use crate::reports::has_begun;
 use crate::shares::has_quarter_begun;
+use crate::unit_on::unit_on;
 use component_register::Register;
 use ldar_days::Day;
 use ldar_law::{Request, UnitEntry, What};

@@ -1,63 +1,85 @@
-ghost use Rattle.std.specs.Prelude.{◌≡◌, ◌≤◌, Some};
-ghost use Rattle.list_words.specs.Order.{Ascends};
-ghost use Rattle.fact_kinds.specs.Facts.{goes_first};
+ghost use Rattle.std.specs.Prelude.{◌≡◌, ◌+◌, ◌≤◌, Some, true, length};
+ghost use Rattle.std.specs.Result.{is_ok};
 ghost use Rattle.fact_store.specs.Kept.{facts_in};
 ghost use Rattle.history_laws.specs.DayLaws.{up_to};
 ghost use Rattle.ldar_law.specs.declared.numbers.TheConstants.{LAST_FACT_DAY};
 ghost use Rattle.ldar_law.specs.Equipment.{unit_entry_of};
 ghost use Rattle.ldar_law.specs.Shown as law;
-ghost use Rattle.office_views.specs.Answers.{IsShown, IsView};
+ghost use Rattle.ldar_law.specs.Stirred.{stirred};
+ghost use Rattle.office_views.specs.Answers.{IsShown, IsView, in_text};
 ghost use Rattle.office_views.specs.Asked.{view_unit, IsWhole};
-ghost use Rattle.office_views.specs.Lists.{AreKept};
+ghost use Rattle.office_views.specs.Sources.{AreReady, IsReady, facts_from};
+ghost use Rattle.office_views.specs.Viewed.{Notes};
+ghost use Rattle.unit_summaries.specs.Sound.{Are, is_known, news_of};
 
-use crate::answers::{delays_on, due_on, shown, tags_on};
+use crate::answers::{delays_on, due_on, tags_on};
 use crate::asked::view_day;
-use crate::lists::Lists;
 use crate::reports::half_text;
 use crate::routes::route_on;
 use crate::shares::quarter_text;
-use crate::shown::Shown;
+use crate::source::Source;
 use component_register::Register;
 use fact_kinds::Memory;
 use fact_store::{FactStore, Steps};
-use ldar_law::{Request, UnitEntry};
+use ldar_law::{Request, Text, UnitEntry};
 use std::alloc::Global;
 use std::sync::ledger::Ledger;
+use unit_summaries::Summaries;
 
-/// What a view shows of the facts of a store, with the register of its entries. It asks of a process unit in which there is
-/// all that it asks.
-pub fn answer<L: Ledger>(
+/// The text of a view of a process unit that has all that the view asks.
+fn answer(source: &Source<'_>, entry: &UnitEntry, request: &Request) -> Result<Text, Memory>
+    requires view { IsView request.now }
+    requires day { source.now.day ≡ law.view_day request.now }
+    requires ready { IsReady source.now entry.now.unit }
+    requires entered { unit_entry_of (view_unit request.now) (up_to (law.view_day request.now) (facts_from source.now)) ≡ Some entry.now }
+    requires startup { entry.now.startup ≤ LAST_FACT_DAY }
+    requires whole { IsWhole request.now entry.now }
+    ensures value { IsShown (in_text result) (law.view_of request.now (up_to (law.view_day request.now) (facts_from source.now))) }
+{
+    match request {
+        Request::Due { unit, .. } => due_on(source, *unit, entry),
+        Request::Tags { unit, .. } => tags_on(source, *unit, entry),
+        Request::Delays { unit, .. } => delays_on(source, *unit, entry),
+        Request::Route { unit, stops, .. } => route_on(source, *unit, entry, *stops),
+        Request::Percent { quarter, .. } => quarter_text(source, entry, *quarter),
+        Request::Report { half, .. } => half_text(source, entry, *half),
+        Request::Sync(_) => unreachable!(),
+    }
+}
+
+/// The text of a view, after the summaries of its process unit are made up to date. If there is a text, the number of facts is noted
+/// for the unit.
+pub fn text_anew<L: Ledger>(
     alloc: Global,
     store: &FactStore,
     register: &Register,
+    summaries: &mut Summaries,
     entry: &UnitEntry,
     request: &Request,
+    facts: usize,
     steps: &mut Steps<L>,
-) -> Result<Shown, Memory>
+) -> Result<Text, Memory>
     requires view { IsView request.now }
-    requires ordered { Ascends goes_first (facts_in store.now) }
-    requires kept { AreKept (facts_in store.now) (facts_in register.now) }
+    requires ready { AreReady store.now register.now summaries.old }
+    requires known { is_known store.now.arrived entry.now.unit ≡ true }
+    requires facts { facts ≡ length store.now.arrived }
     requires entered { unit_entry_of (view_unit request.now) (up_to (law.view_day request.now) (facts_in store.now)) ≡ Some entry.now }
     requires startup { entry.now.startup ≤ LAST_FACT_DAY }
     requires whole { IsWhole request.now entry.now }
-    ensures value { IsShown result (law.view_of request.now (up_to (law.view_day request.now) (facts_in store.now))) }
+    ensures value { IsShown (in_text result) (law.view_of request.now (up_to (law.view_day request.now) (facts_in store.now))) }
+    ensures sound { Are (facts_in store.now) store.now.arrived (length store.now.arrived) summaries.new }
+    ensures answered { Notes (is_ok result) entry.now.unit facts summaries.old.answered summaries.new.answered }
+    ensures counted { steps.new ≤ steps.old + stirred (facts_in store.now) (news_of store.now.arrived summaries.old entry.now.unit) entry.now.unit }
 {
-    let lists = Lists {
+    summaries.renew(store, register, entry.unit, steps)?;
+    let source = Source {
         alloc,
         store,
+        register,
+        summaries,
         day: view_day(request),
     };
-    match request {
-        Request::Due { unit, .. } => shown(due_on(&lists, register, *unit, entry, steps)),
-        Request::Tags { unit, .. } => shown(tags_on(&lists, register, *unit, entry, steps)),
-        Request::Delays { unit, .. } => shown(delays_on(&lists, register, *unit, entry, steps)),
-        Request::Route { unit, stops, .. } => {
-            shown(route_on(&lists, register, *unit, entry, *stops, steps))
-        }
-        Request::Percent { quarter, .. } => {
-            shown(quarter_text(&lists, register, entry, *quarter, steps))
-        }
-        Request::Report { half, .. } => shown(half_text(&lists, register, entry, *half, steps)),
-        Request::Sync(_) => unreachable!(),
-    }
+    let text = answer(&source, entry, request)?;
+    summaries.answer(entry.unit, facts);
+    Ok(text)
 }

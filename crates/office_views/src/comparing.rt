@@ -1,5 +1,6 @@
 ghost use Rattle.std.specs.Prelude.{◌≡◌, ◌+◌, ◌≤◌, ◌↔◌, IsTrue, length, take, drop, map};
 ghost use Rattle.fact_kinds.specs.declared.limits.TheConstants.{MOST_FACTS};
+ghost use Rattle.fact_store.specs.Coming.{stored};
 ghost use Rattle.office_views.specs.Headers.{batch_by, facts_kept};
 
 use crate::header::Header;
@@ -45,7 +46,7 @@ pub fn is_batch_of<L: Ledger>(
 ) -> bool
     requires held { header.now.first + header.now.count ≤ length store.now.arrived }
     requires few { length store.now.arrived ≤ MOST_FACTS }
-    ensures value { IsTrue result ↔ (batch_by (facts_kept store.now) header.now ≡ batch.now) }
+    ensures value { IsTrue result ↔ (batch_by (facts_kept (stored store.now)) header.now ≡ batch.now) }
 {
     let facts = batch.facts.as_slice();
     header.handheld == batch.handheld

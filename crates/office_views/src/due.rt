@@ -1,27 +1,23 @@
-ghost use Rattle.std.specs.Prelude.{◌≡◌, ◌-◌, ◌++◌, ◌≤◌, IfOk, OnOk, length};
-ghost use Rattle.fact_store.specs.Kept.{facts_in};
+ghost use Rattle.std.specs.Prelude.{◌≡◌, ◌-◌, ◌++◌, ◌≤◌, List, IfOk, OnOk, length};
 ghost use Rattle.ldar_law.specs.declared.numbers.TheConstants.{LAST_FACT_DAY, MOST_COMPONENTS};
-ghost use Rattle.ldar_law.specs.declared.of_unit.OfUnit.{OfUnit as SomeUnit};
+ghost use Rattle.ldar_law.specs.declared.delay.Stop.{Stop as SomeStop};
 ghost use Rattle.ldar_law.specs.Duties as duties;
 ghost use Rattle.ldar_law.specs.Skips.{skipped_to};
 ghost use Rattle.ldar_law.specs.Units as law;
-ghost use Rattle.office_views.specs.Components.{all_in_law};
-ghost use Rattle.office_views.specs.Lists.{AreKept, facts_by};
+ghost use Rattle.office_views.specs.Components.{AreInOrder, IsInOrder, all_in_law};
+ghost use Rattle.office_views.specs.Sources.{IsReady, facts_by};
 
-use crate::component::Component;
-use crate::lists::Lists;
 use crate::members::unit_of;
+use crate::source::Source;
 use crate::tallies::tallies_to;
 use crate::unit::Unit;
-use component_register::Register;
 use fact_kinds::Memory;
-use fact_store::Steps;
 use ldar_days::{Day, quarter_of};
 use ldar_law::{Duty, Tally, UnitEntry};
 use monitor_calendar::duties_of;
 use skip_periods::all_skipped;
 use std::alloc::Global;
-use std::sync::ledger::Ledger;
+use unit_summaries::KnownOn;
 
 /// The number of the quarter in which a day lies; 0 before the first.
 fn quarter_at(startup: Day, day: Day) -> u16
@@ -44,11 +40,12 @@ fn tallies_asked(
 ) -> Result<Vec<Tally>, Memory>
     requires startup { startup ≤ LAST_FACT_DAY }
     requires few { length known.now.components.items ≤ MOST_COMPONENTS }
-    ensures value { IfOk result (λ tallies. skipped_to tallies.items known.now.elections startup quarter
-        ≡ skipped_to (law.tallies_to startup day (all_in_law known.now.of_unit known.now.components.items) (quarter - 1))
-        known.now.elections startup quarter) }
+    requires ordered { AreInOrder known.now.components.items }
+    ensures value { IfOk result (λ tallies. skipped_to tallies.items known.now.elections.now startup quarter
+        ≡ skipped_to (law.tallies_to startup day (all_in_law known.now.stops.now known.now.components.items) (quarter - 1))
+        known.now.elections.now startup quarter) }
 {
-    if known.elections.as_slice().is_empty() {
+    if known.elections.is_empty() {
         return Ok(Vec::new(alloc));
     }
     tallies_to(
@@ -57,7 +54,7 @@ fn tallies_asked(
         quarter.saturating_sub(1),
         day,
         &known.components,
-        &known.of_unit,
+        known.stops,
     )
 }
 
@@ -65,18 +62,13 @@ fn tallies_asked(
 fn skipped_on(alloc: Global, startup: Day, day: Day, known: &Unit<'_>) -> Result<Vec<bool>, Memory>
     requires startup { startup ≤ LAST_FACT_DAY }
     requires few { length known.now.components.items ≤ MOST_COMPONENTS }
+    requires ordered { AreInOrder known.now.components.items }
     ensures value { IfOk result (λ skipped. skipped.items
-        ≡ law.skipped_on startup day (all_in_law known.now.of_unit known.now.components.items) known.now.elections) }
+        ≡ law.skipped_on startup day (all_in_law known.now.stops.now known.now.components.items) known.now.elections.now) }
 {
     let quarter = quarter_at(startup, day);
     let tallies = tallies_asked(alloc, startup, quarter, day, known)?;
-    all_skipped(
-        alloc,
-        &tallies,
-        known.elections.as_slice(),
-        startup,
-        quarter,
-    )
+    all_skipped(alloc, &tallies, known.elections, startup, quarter)
 }
 
 /// Adds the duties at a component.
@@ -86,18 +78,19 @@ fn add_duties(
     startup: Day,
     skipped: &[bool],
     day: Day,
-    component: &Component<'_>,
+    component: &KnownOn<'_>,
 ) -> Result<(), Memory>
     requires startup { startup ≤ LAST_FACT_DAY }
+    requires ordered { IsInOrder component.now }
     ensures put { OnOk result (all.new.items ≡ all.old.items
-        ++ duties.duties_of component.now.item component.now.classes.now startup component.now.events skipped.now day) }
+        ++ duties.duties_of component.now.item component.now.classes.now startup component.now.events.now skipped.now day) }
 {
     let own = duties_of(
         alloc,
         &component.item,
         component.classes,
         startup,
-        component.events.as_slice(),
+        component.events,
         skipped,
         day,
     )?;
@@ -110,11 +103,12 @@ fn duties_at(
     startup: Day,
     skipped: &[bool],
     day: Day,
-    components: &[Component<'_>],
+    components: &[KnownOn<'_>],
 ) -> Result<Vec<Duty>, Memory>
     requires startup { startup ≤ LAST_FACT_DAY }
-    ensures value { (of_unit : SomeUnit) → IfOk result (λ all. all.items
-        ≡ law.due_list startup day skipped.now (all_in_law of_unit components.now)) }
+    requires ordered { AreInOrder components.now }
+    ensures value { (stops : List SomeStop) → IfOk result (λ all. all.items
+        ≡ law.due_list startup day skipped.now (all_in_law stops components.now)) }
 {
     let mut all = Vec::new(alloc);
     for component in components {
@@ -124,23 +118,18 @@ fn duties_at(
 }
 
 /// What has to be done at the components of a process unit, by component, cause, due day and event (40 CFR 60.482-1a to 60.482-11a).
-pub fn duties_of_unit<L: Ledger>(
-    lists: &Lists<'_>,
-    register: &Register,
-    unit: &UnitEntry,
-    steps: &mut Steps<L>,
-) -> Result<Vec<Duty>, Memory>
-    requires kept { AreKept (facts_in lists.now.store.now) (facts_in register.now) }
+pub fn duties_of_unit(source: &Source<'_>, unit: &UnitEntry) -> Result<Vec<Duty>, Memory>
+    requires ready { IsReady source.now unit.now.unit }
     requires startup { unit.now.startup ≤ LAST_FACT_DAY }
-    ensures value { IfOk result (λ all. all.items ≡ law.duties_of_unit unit.now lists.now.day (facts_by lists.now)) }
+    ensures value { IfOk result (λ all. all.items ≡ law.duties_of_unit unit.now source.now.day (facts_by source.now)) }
 {
-    let known = unit_of(lists, register, unit.unit, steps)?;
-    let skipped = skipped_on(lists.alloc, unit.startup, lists.day, &known)?;
+    let known = unit_of(source, unit.unit)?;
+    let skipped = skipped_on(source.alloc, unit.startup, source.day, &known)?;
     duties_at(
-        lists.alloc,
+        source.alloc,
         unit.startup,
         &skipped,
-        lists.day,
+        source.day,
         &known.components,
     )
 }

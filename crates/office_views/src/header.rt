@@ -1,5 +1,6 @@
 ghost use Rattle.std.specs.Prelude.{◌≡◌, ℕ, ◌+◌, ◌<◌, ◌≤◌, ◌^◌, ◌++◌, IfOk, OnOk, OnErr, length, vec_len, vec_capacity};
 ghost use Rattle.std.specs.List.{AllByRecursion};
+ghost use Rattle.fact_kinds.specs.declared.limits.TheConstants.{BATCH_FACTS};
 ghost use Rattle.office_views.specs.Headers.{headers_of};
 ghost use Rattle.office_views.specs.Inside.{facts_stated};
 
@@ -31,7 +32,7 @@ pub fn push_headers(headers: &mut Vec<Header>, first: usize, batches: &[Batch])
     requires roomy { vec_len headers.old + length batches.now ≤ vec_capacity headers.old }
     requires fits { first + length (facts_stated batches.now) < 2 ^ 64 }
     ensures value { headers.new.items ≡ headers.old.items ++ headers_of first batches.now }
-    ensures filled { AllByRecursion (λ batch. (0 < length batch.facts) × (length batch.facts ≤ 512)) batches.now }
+    ensures filled { AllByRecursion (λ batch. (0 < length batch.facts) × (length batch.facts ≤ BATCH_FACTS)) batches.now }
 {
     let mut next = first;
     for batch in batches {

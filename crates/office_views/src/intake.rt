@@ -1,7 +1,9 @@
 ghost use Rattle.std.specs.Prelude.{◌≡◌, ◌<◌, ◌++◌, length, take, drop, filter, OnErr, OnOk};
 ghost use Rattle.std.specs.List.{AllByRecursion};
+ghost use Rattle.fact_kinds.specs.declared.limits.TheConstants.{BATCH_FACTS};
 ghost use Rattle.fact_kinds.specs.Facts.{entries_of, key_of};
 ghost use Rattle.fact_kinds.specs.Fields.{IsFact};
+ghost use Rattle.fact_store.specs.Coming.{stored};
 ghost use Rattle.ldar_law.specs.Slices.{is_registered as says_registered, register_facts};
 ghost use Rattle.office_views.specs.Taking.{CanEnter, HasOwnKeys};
 
@@ -12,7 +14,7 @@ use ldar_law::is_registered;
 
 /// The key of the fact at a place of a batch.
 fn key_at(batch: &Batch, index: usize, fact: &Fact) -> Key
-    requires { index < 512 }
+    requires { index < BATCH_FACTS }
     ensures value { result ≡ key_of batch.now index fact.now }
     ensures in_range { IsFact fact.now }
 {
@@ -47,7 +49,11 @@ pub fn make_room(store: &mut Facts, register: &mut Register, facts: &[Fact]) -> 
 pub fn put_facts(store: &mut Facts, batch: &Batch)
     requires roomy { take (length batch.now.facts) store.old.spare ≡ batch.now.facts }
     requires own_keys { HasOwnKeys store.old.arrived batch.now }
-    ensures value { store.new ≡ record { arrived = store.old.arrived ++ entries_of batch.now; spare = drop (length batch.now.facts) store.old.spare } }
+    ensures value { stored store.new ≡ record {
+      arrived = store.old.arrived ++ entries_of batch.now;
+      spare = drop (length batch.now.facts) store.old.spare;
+    } }
+    ensures listed { store.new.listed ≡ store.old.listed }
     ensures in_range { AllByRecursion IsFact batch.now.facts }
 {
     let facts = batch.facts.as_slice();

@@ -1,120 +1,61 @@
-ghost use Rattle.std.specs.Prelude.{◌≡◌, ◌++◌, Contains, IfOk, OnOk};
-ghost use Rattle.std.specs.Option.{option_map, option_to_list};
-ghost use Rattle.fact_store.specs.Kept.{facts_in};
+ghost use Rattle.std.specs.Prelude.{◌≡◌, IfOk};
+ghost use Rattle.list_words.specs.Order.{Ascends};
+ghost use Rattle.fact_kinds.specs.Facts.{is_earlier};
 ghost use Rattle.ldar_law.specs.Equipment as equipment;
-ghost use Rattle.ldar_law.specs.Units as law;
-ghost use Rattle.office_views.specs.Components.{IsUnitOf, all_in_law, in_law};
-ghost use Rattle.office_views.specs.Lists.{AreKept, AreReady, facts_by};
+ghost use Rattle.office_views.specs.Components.{IsUnitOf};
+ghost use Rattle.office_views.specs.Sources.{IsReady, facts_by, facts_from};
+ghost use Rattle.unit_summaries.specs.Says.{SaysUnit};
 
-use crate::component::Component;
-use crate::events::events_of_component;
-use crate::instruments::{Instruments, none_ready};
-use crate::lists::Lists;
-use crate::register_on::component_on;
+use crate::source::Source;
 use crate::unit::Unit;
-use crate::unit_entries::{elections_of, entered_for};
-use component_register::Register;
 use fact_kinds::Memory;
-use fact_store::Steps;
-use ldar_law::{Equipment, Items};
-use std::sync::ledger::Ledger;
+use ldar_law::{ElectionEntry, Stop};
+use unit_summaries::{UnitSummary, known_members};
 
-/// What is known on the day of a component, as the register has it on that day.
-fn component_of<'r, L: Ledger>(
-    ready: &mut Instruments,
-    lists: &Lists<'_>,
-    register: &'r Register,
-    item: &Equipment,
-    steps: &mut Steps<L>,
-) -> Result<Component<'r>, Memory>
-    requires kept { AreKept (facts_in lists.now.store.now) (facts_in register.now) }
-    requires ready { AreReady ready.old.items (facts_by lists.now) }
-    ensures value { IfOk result (λ component. in_law (equipment.of_unit item.now.unit (facts_by lists.now)) component
-        ≡ law.known_of (facts_by lists.now) item.now) }
-    ensures ready { OnOk result (AreReady ready.new.items (facts_by lists.now)) }
+/// The summary of a process unit that is up to date.
+fn summary_of<'a>(source: &Source<'a>, unit: u8) -> &'a UnitSummary
+    requires ready { IsReady source.now unit }
+    ensures value { SaysUnit (facts_from source.now) unit result.now }
 {
-    let own = lists.of_component(item.component, steps)?;
-    let classes = register.classes_to(item.component, lists.day);
-    let events = events_of_component(ready, lists, item, classes, &own, steps)?;
-    Ok(Component {
-        item: *item,
-        classes,
-        events: Items::new(events),
-    })
-}
-
-/// What is known on the day of a member of a process unit, if it has begun.
-fn member<'r, L: Ledger>(
-    ready: &mut Instruments,
-    lists: &Lists<'_>,
-    register: &'r Register,
-    unit: u8,
-    number: u16,
-    steps: &mut Steps<L>,
-) -> Result<Option<Component<'r>>, Memory>
-    requires kept { AreKept (facts_in lists.now.store.now) (facts_in register.now) }
-    requires member { Contains (equipment.members_of unit (facts_in lists.now.store.now)) number }
-    requires ready { AreReady ready.old.items (facts_by lists.now) }
-    ensures value { IfOk result (λ component. option_map (in_law (equipment.of_unit unit (facts_by lists.now))) component
-        ≡ option_map (law.known_of (facts_by lists.now)) (equipment.equipment_of number (facts_by lists.now))) }
-    ensures ready { OnOk result (AreReady ready.new.items (facts_by lists.now)) }
-{
-    match component_on(register, number, lists.day) {
-        Some(item) => Ok(Some(component_of(ready, lists, register, &item, steps)?)),
-        None => Ok(None),
+    match source.summaries.unit(unit) {
+        Some(summary) => summary,
+        None => unreachable!(),
     }
 }
 
-/// The components of a process unit that have begun by the day, by number. Each list of the store is read once, and each
-/// instrument is made ready once.
-fn components_of<'r, L: Ledger>(
-    lists: &Lists<'_>,
-    register: &'r Register,
-    unit: u8,
-    steps: &mut Steps<L>,
-) -> Result<Vec<Component<'r>>, Memory>
-    requires kept { AreKept (facts_in lists.now.store.now) (facts_in register.now) }
-    ensures value { IfOk result (λ components. all_in_law (equipment.of_unit unit (facts_by lists.now)) components.items
-        ≡ law.components_of unit (facts_by lists.now)) }
+/// The shutdowns of a process unit that begin by the day.
+fn stops_on<'a>(source: &Source<'a>, unit: u8) -> &'a [Stop]
+    requires ready { IsReady source.now unit }
+    ensures value { result.now ≡ equipment.stops_of unit (facts_by source.now) }
 {
-    let mut ready = none_ready(lists.alloc);
-    let mut components = Vec::new(lists.alloc);
-    for number in register.members(unit) {
-        let component = member(&mut ready, lists, register, unit, *number, steps)?;
-        add_known(&mut components, component)?;
-    }
-    Ok(components)
+    summary_of(source, unit).stops_on(source.day)
 }
 
-/// Adds a component, if there is one.
-fn add_known<'r>(
-    components: &mut Vec<Component<'r>>,
-    component: Option<Component<'r>>,
-) -> Result<(), Memory>
-    ensures put { OnOk result (components.new.items ≡ components.old.items ++ option_to_list component.entry) }
+/// The elections of a process unit up to the day, in key order.
+fn elections_on<'a>(source: &Source<'a>, unit: u8) -> &'a [ElectionEntry]
+    requires ready { IsReady source.now unit }
+    ensures value { result.now ≡ equipment.elections_of unit (facts_by source.now) }
+    ensures ordered { Ascends (λ a b. is_earlier a.key b.key) result.now }
 {
-    if let Some(component) = component {
-        components.push(component)?;
-    }
-    Ok(())
+    summary_of(source, unit).elections_on(source.day)
 }
 
-/// What is known of a process unit on the day. Each list of the store is read once.
-pub fn unit_of<'r, L: Ledger>(
-    lists: &Lists<'_>,
-    register: &'r Register,
-    unit: u8,
-    steps: &mut Steps<L>,
-) -> Result<Unit<'r>, Memory>
-    requires kept { AreKept (facts_in lists.now.store.now) (facts_in register.now) }
-    ensures value { IfOk result (IsUnitOf unit (facts_by lists.now)) }
+/// What is known of a process unit on the day, from its summaries.
+pub fn unit_of<'a>(source: &Source<'a>, unit: u8) -> Result<Unit<'a>, Memory>
+    requires ready { IsReady source.now unit }
+    ensures value { IfOk result (IsUnitOf unit (facts_by source.now)) }
 {
-    let own = lists.of_unit(unit, steps)?;
-    let of_unit = entered_for(lists.alloc, unit, &own)?;
-    let elections = elections_of(lists.alloc, unit, &own)?;
+    let components = known_members(
+        source.alloc,
+        source.summaries,
+        source.store,
+        source.register,
+        unit,
+        source.day,
+    )?;
     Ok(Unit {
-        of_unit,
-        elections: Items::new(elections),
-        components: components_of(lists, register, unit, steps)?,
+        stops: stops_on(source, unit),
+        elections: elections_on(source, unit),
+        components,
     })
 }

@@ -1,22 +1,18 @@
 ghost use Rattle.std.specs.Prelude.{◌≡◌, ◌+◌, ◌-◌, ◌*◌, ◌≤◌, nat_le, IfOk, IsTrue};
 ghost use Rattle.ldar_days.specs.Calendar.{first_day};
 ghost use Rattle.ldar_days.specs.Quarters.{first_quarter as first_quarter_of};
-ghost use Rattle.fact_store.specs.Kept.{facts_in};
 ghost use Rattle.ldar_law.specs.declared.numbers.TheConstants.{LAST_FACT_DAY};
 ghost use Rattle.ldar_law.specs.Reports as reports;
 ghost use Rattle.ldar_law.specs.Shown as law;
-ghost use Rattle.office_views.specs.Lists.{AreKept, facts_by};
+ghost use Rattle.office_views.specs.Sources.{IsReady, facts_by};
 
-use crate::lists::Lists;
 use crate::members::unit_of;
+use crate::source::Source;
 use crate::tallies::tallies_to;
-use component_register::Register;
 use fact_kinds::Memory;
-use fact_store::Steps;
 use ldar_days::{Day, first_quarter};
 use ldar_law::{Text, UnitEntry};
 use skip_periods::skipped;
-use std::sync::ledger::Ledger;
 use view_texts::percent_text;
 
 /// The first month of a quarter, which may be past the calendar's end.
@@ -48,33 +44,26 @@ pub fn has_quarter_begun(startup: Day, quarter: u16, day: Day) -> bool
 }
 
 /// The text of a quarter that has begun: its counts, whether they are good, and whether it is skipped.
-pub fn quarter_text<L: Ledger>(
-    lists: &Lists<'_>,
-    register: &Register,
-    unit: &UnitEntry,
-    quarter: u16,
-    steps: &mut Steps<L>,
-) -> Result<Text, Memory>
-    requires kept { AreKept (facts_in lists.now.store.now) (facts_in register.now) }
+pub fn quarter_text(source: &Source<'_>, unit: &UnitEntry, quarter: u16) -> Result<Text, Memory>
+    requires ready { IsReady source.now unit.now.unit }
     requires startup { unit.now.startup ≤ LAST_FACT_DAY }
     requires quarter { 1 ≤ quarter }
-    ensures value { IfOk result (λ text. text ≡ law.quarter_text unit.now quarter lists.now.day (facts_by lists.now)) }
+    ensures value { IfOk result (λ text. text ≡ law.quarter_text unit.now quarter source.now.day (facts_by source.now)) }
 {
-    let known = unit_of(lists, register, unit.unit, steps)?;
+    let known = unit_of(source, unit.unit)?;
     let tallies = tallies_to(
-        lists.alloc,
+        source.alloc,
         unit.startup,
         quarter,
-        lists.day,
+        source.day,
         &known.components,
-        &known.of_unit,
+        known.stops,
     )?;
-    let elections = known.elections.as_slice();
     let past = usize::from(quarter - 1);
     let tally = tallies[past];
-    let is_skipped = skipped(&tallies[..past], elections, unit.startup, quarter);
+    let is_skipped = skipped(&tallies[..past], known.elections, unit.startup, quarter);
     percent_text(
-        lists.alloc,
+        source.alloc,
         u16::from(unit.unit),
         quarter,
         tally,

@@ -4,12 +4,12 @@ ghost use Rattle.ldar_law.specs.Happenings as happenings;
 ghost use Rattle.ldar_law.specs.Shown as shown;
 ghost use Rattle.office_views.specs.Components.{all_in_law, in_law};
 
-use crate::component::Component;
 use crate::tags::tags_of;
 use fact_kinds::Memory;
 use ldar_days::Month;
-use ldar_law::{Event, Items, OfUnit, Sheet};
+use ldar_law::{Event, Items, Sheet, Stop};
 use std::alloc::Global;
+use unit_summaries::KnownOn;
 
 /// The months of the leaks among some events.
 fn leak_months(alloc: Global, events: &[Event]) -> Result<Vec<Month>, Memory>
@@ -25,12 +25,12 @@ fn leak_months(alloc: Global, events: &[Event]) -> Result<Vec<Month>, Memory>
     Ok(months)
 }
 
-/// The sheet of a component, with what is entered for its process unit.
-fn sheet_of(alloc: Global, component: &Component<'_>, unit: &OfUnit) -> Result<Sheet, Memory>
-    ensures value { IfOk result (λ sheet. sheet ≡ shown.sheet_of (in_law unit.now component.now)) }
+/// The sheet of a component, by the shutdowns of its process unit.
+fn sheet_of(alloc: Global, component: &KnownOn<'_>, stops: &[Stop]) -> Result<Sheet, Memory>
+    ensures value { IfOk result (λ sheet. sheet ≡ shown.sheet_of (in_law stops.now component.now)) }
 {
-    let leaks = leak_months(alloc, component.events.as_slice())?;
-    let tags = tags_of(alloc, component, unit)?;
+    let leaks = leak_months(alloc, component.events)?;
+    let tags = tags_of(alloc, component, stops)?;
     Ok(Sheet {
         component: component.item.component,
         kind: component.item.kind,
@@ -39,17 +39,17 @@ fn sheet_of(alloc: Global, component: &Component<'_>, unit: &OfUnit) -> Result<S
     })
 }
 
-/// The sheets of some components, with what is entered for their process unit.
+/// The sheets of some components, by the shutdowns of their process unit.
 pub fn sheets_of(
     alloc: Global,
-    components: &[Component<'_>],
-    unit: &OfUnit,
+    components: &[KnownOn<'_>],
+    stops: &[Stop],
 ) -> Result<Vec<Sheet>, Memory>
-    ensures value { IfOk result (λ sheets. sheets.items ≡ map shown.sheet_of (all_in_law unit.now components.now)) }
+    ensures value { IfOk result (λ sheets. sheets.items ≡ map shown.sheet_of (all_in_law stops.now components.now)) }
 {
     let mut sheets = Vec::with_capacity(alloc, components.len())?;
     for component in components {
-        sheets.push(sheet_of(alloc, component, unit)?)?;
+        sheets.push(sheet_of(alloc, component, stops)?)?;
     }
     Ok(sheets)
 }

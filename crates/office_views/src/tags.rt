@@ -1,16 +1,26 @@
 ghost use Rattle.std.specs.Prelude.{◌≡◌, List, [], ◌∷◌, ◌++◌, IfOk, OnOk, filter, filter_map, option_and_then, option_map, slice_get};
+ghost use Rattle.std.specs.Option.{option_to_list};
 ghost use Rattle.ldar_law.specs.declared.event.Event.{Event as SomeEvent};
 ghost use Rattle.ldar_law.specs.Tags as law;
 ghost use Rattle.office_views.specs.Components.{in_law};
 
-use crate::component::Component;
-use crate::unit_entries::add;
 use delay_of_repair::repair_of;
 use fact_kinds::{Kind, Memory};
 use ldar_days::Day;
-use ldar_law::{DelayEntry, Event, OfUnit, Span, Stop, Tag, attempt_by};
+use ldar_law::{DelayEntry, Event, Span, Stop, Tag, attempt_by};
 use leak_tags::spans_of;
 use std::alloc::Global;
+use unit_summaries::KnownOn;
+
+/// Adds an element, if there is one.
+pub fn add<T: Copy + Drop>(items: &mut Vec<T>, item: &Option<T>) -> Result<(), Memory>
+    ensures put { OnOk result (items.new.items ≡ items.old.items ++ option_to_list item.now) }
+{
+    if let Some(item) = item {
+        items.push(*item)?;
+    }
+    Ok(())
+}
 
 /// The delays among some events, in order.
 #[tactic(auto, using(crate::proofs::ListLemmas::given_pushed))]
@@ -101,19 +111,13 @@ fn add_tag(
     Ok(())
 }
 
-/// The tags of a component, in the order of their detection, with what is entered for its process unit (40 CFR 60.486a(b),
+/// The tags of a component, in the order of their detection, by the shutdowns of its process unit (40 CFR 60.486a(b),
 /// (c), 60.482-9a).
-pub fn tags_of(alloc: Global, component: &Component<'_>, unit: &OfUnit) -> Result<Vec<Tag>, Memory>
-    ensures value { IfOk result (λ tags. tags.items ≡ (in_law unit.now component.now).tags) }
+pub fn tags_of(alloc: Global, component: &KnownOn<'_>, stops: &[Stop]) -> Result<Vec<Tag>, Memory>
+    ensures value { IfOk result (λ tags. tags.items ≡ (in_law stops.now component.now).tags) }
 {
     let item = &component.item;
-    tags_by(
-        alloc,
-        item.component,
-        item.kind,
-        component.events.as_slice(),
-        unit.stops.as_slice(),
-    )
+    tags_by(alloc, item.component, item.kind, component.events, stops)
 }
 
 /// The tags of a component with these events, in the order of their detection.

@@ -6,16 +6,16 @@ ghost use Rattle.ldar_law.specs.Percent as percent;
 ghost use Rattle.ldar_law.specs.Tags.{is_delayed};
 ghost use Rattle.ldar_law.specs.Tallies as counts;
 ghost use Rattle.ldar_law.specs.Units as law;
-ghost use Rattle.office_views.specs.Components.{all_in_law, in_law};
+ghost use Rattle.office_views.specs.Components.{AreInOrder, IsInOrder, all_in_law, in_law};
 ghost use Rattle.office_views.specs.Tallied.{AreTallies, Counts, CountsMore, HasRoom, HaveRoom, TellDelays};
 
-use crate::component::Component;
 use crate::tags::tags_of;
 use fact_kinds::Memory;
 use ldar_days::Day;
-use ldar_law::{Mark, OfUnit, Tag, Tally, judging_day};
+use ldar_law::{Mark, Stop, Tag, Tally, judging_day};
 use skip_periods::marks_to;
 use std::alloc::Global;
+use unit_summaries::KnownOn;
 
 /// Whether the repair of some leak that is open on a day is delayed.
 fn has_delay_on(day: Day, tags: &[Tag]) -> bool
@@ -69,26 +69,27 @@ fn told_delays(
     delayed_to(alloc, startup, quarter, day, tags)
 }
 
-/// What a component adds to the counts of each quarter up to one, with what is entered for its process unit.
+/// What a component adds to the counts of each quarter up to one, by the shutdowns of its process unit.
 fn marks_of(
     alloc: Global,
     startup: Day,
     quarter: u16,
     day: Day,
-    component: &Component<'_>,
-    unit: &OfUnit,
+    component: &KnownOn<'_>,
+    stops: &[Stop],
 ) -> Result<Vec<Mark>, Memory>
     requires startup { startup ≤ LAST_FACT_DAY }
-    ensures value { IfOk result (λ marks. marks.items ≡ map (λ q. law.mark_in startup day q (in_law unit.now component.now)) (from_to 1 quarter)) }
+    requires ordered { IsInOrder component.now }
+    ensures value { IfOk result (λ marks. marks.items ≡ map (λ q. law.mark_in startup day q (in_law stops.now component.now)) (from_to 1 quarter)) }
 {
-    let tags = tags_of(alloc, component, unit)?;
+    let tags = tags_of(alloc, component, stops)?;
     let delayed = told_delays(alloc, startup, quarter, day, &tags)?;
     marks_to(
         alloc,
         &component.item,
         component.classes,
         startup,
-        component.events.as_slice(),
+        component.events,
         &delayed,
         quarter,
         day,
@@ -116,22 +117,23 @@ fn add_marks(tallies: &mut Vec<Tally>, marks: &[Mark])
     }
 }
 
-/// Counts a component in the quarters from the first to one, with what is entered for its process unit.
+/// Counts a component in the quarters from the first to one, by the shutdowns of its process unit.
 fn add_component(
     alloc: Global,
     tallies: &mut Vec<Tally>,
     startup: Day,
     quarter: u16,
     day: Day,
-    component: &Component<'_>,
-    unit: &OfUnit,
+    component: &KnownOn<'_>,
+    stops: &[Stop],
 ) -> Result<(), Memory>
     requires startup { startup ≤ LAST_FACT_DAY }
     requires count { vec_len tallies.old ≡ quarter }
     requires room { HaveRoom tallies.old.items }
-    ensures put { OnOk result (CountsMore startup day (in_law unit.now component.now ∷ []) tallies.old.items tallies.new.items) }
+    requires ordered { IsInOrder component.now }
+    ensures put { OnOk result (CountsMore startup day (in_law stops.now component.now ∷ []) tallies.old.items tallies.new.items) }
 {
-    let marks = marks_of(alloc, startup, quarter, day, component, unit)?;
+    let marks = marks_of(alloc, startup, quarter, day, component, stops)?;
     add_marks(tallies, &marks);
     Ok(())
 }
@@ -154,16 +156,17 @@ pub fn tallies_to(
     startup: Day,
     quarter: u16,
     day: Day,
-    components: &[Component<'_>],
-    unit: &OfUnit,
+    components: &[KnownOn<'_>],
+    stops: &[Stop],
 ) -> Result<Vec<Tally>, Memory>
     requires startup { startup ≤ LAST_FACT_DAY }
     requires few { length components.now ≤ MOST_COMPONENTS }
-    ensures value { IfOk result (λ tallies. tallies.items ≡ law.tallies_to startup day (all_in_law unit.now components.now) quarter) }
+    requires ordered { AreInOrder components.now }
+    ensures value { IfOk result (λ tallies. tallies.items ≡ law.tallies_to startup day (all_in_law stops.now components.now) quarter) }
 {
     let mut tallies = none_counted(alloc, quarter)?;
     for component in components {
-        add_component(alloc, &mut tallies, startup, quarter, day, component, unit)?;
+        add_component(alloc, &mut tallies, startup, quarter, day, component, stops)?;
     }
     Ok(tallies)
 }

@@ -1,4 +1,4 @@
--- The order of moments, and of the events, marks and rows that have them.
+-- The order of moments, and of events, marks and rows by their moments.
 use Rattle.std.proofs.Common.{◌≡◌, ℕ, ◌+◌, ◌<◌, ◌≤◌, Bool, true, false, not, ◌&&◌, ◌||◌, cond, Option, Some, None, List, [], ◌∷◌, Ordering, refl, sym, ap, ◌∙◌, inl, inr, subst, arith}
 use Rattle.std.specs.Prelude.{nat_lt, nat_le, nat_eq}
 use Rattle.std.specs.List.{AllByRecursion, cons_option, filter_map}
@@ -38,7 +38,7 @@ same_minutes a b i j e f = grind (arith, nat_tests)
 moment : ℕ → ℕ → Moment
 moment d m = record { day = d; minute = m }
 
--- moments of the same day and minute are the same
+-- moments with the same day and minute are equal
 same_moment : (a b : Moment) → a.day ≡ b.day → a.minute ≡ b.minute → a ≡ b
 unfolding moment
 same_moment a b days minutes = ap (λ d. moment d a.minute) days ∙ ap (λ m. moment b.day m) minutes
@@ -59,7 +59,7 @@ day_rises a b i j day e f = grind (arith, nat_tests)
 day_rises_below : (a b i j day : ℕ) → (nat_lt b a || (nat_eq b a && nat_lt j i)) ≡ false → nat_lt b day ≡ true → nat_lt a day ≡ true
 day_rises_below a b i j day e f = grind (arith, nat_tests)
 
--- the later of two moments has no earlier day
+-- the later of two moments does not have an earlier day
 pub days_rise : (a b : Moment) (day : ℕ) → is_before b a ≡ false → nat_le b.day day ≡ true → nat_le a.day day ≡ true
 unfolding is_before
 days_rise a b day e f = day_rises a.day b.day a.minute b.minute day e f
@@ -70,7 +70,7 @@ days_rise_below a b day e f = day_rises_below a.day b.day a.minute b.minute day 
 
 -- ---- events in key order
 
--- two orderings one after the other, by what they compare
+-- two orderings in sequence, in terms of what they compare
 by_parts : (o p rest : Ordering) (a b i j : ℕ) → MatchOrdering o (a < b) (a ≡ b) (b < a) → MatchOrdering p (i < j) (i ≡ j) (j < i)
     → is_lt (ordering_then o (ordering_then p rest)) ≡ true → (nat_lt b a || (nat_eq b a && nat_lt j i)) ≡ false
 by_parts Less p rest a b i j days minutes e = grind (arith, nat_tests)
@@ -79,7 +79,7 @@ by_parts Equal Equal rest a b i j days minutes e = grind (arith, nat_tests)
 by_parts Equal Greater rest a b i j days minutes e = absurd cc
 by_parts Greater p rest a b i j days minutes e = absurd cc
 
--- the later of two events is of no earlier moment
+-- the later of two events does not have an earlier moment
 not_before : (a b : Event) → is_earlier a.key b.key ≡ true → is_before (moment_of b) (moment_of a) ≡ false
 unfolding is_before
 not_before a b e =
@@ -95,12 +95,12 @@ events_rise : (events : List Event) → Ascends (λ a b. is_earlier a.key b.key)
 events_rise [] ascend = tt
 events_rise (e ∷ events) ascend = (all_not_before e events ascend.0, events_rise events ascend.1)
 
--- a choice between something and nothing gives that thing
+-- a choice between a value and None, if it is a value
 given_is : {M : Type 0} (b : Bool) (m n : M) → cond b (Some m) None ≡ Some n → n ≡ m
 given_is true m n e = cc
 given_is false m n e = absurd cc
 
--- the moments of events that are looked for are in order
+-- the moments of the events of a kind are in order
 pub moments_rise : (sign : Sign) (events : List Event) → Ascends (λ a b. is_earlier a.key b.key) events → MomentsRise is_before (moments_of sign events)
 moments_rise sign events ascend =
     rise_given is_before moment_of (moment_if sign) (λ e m is. given_is (is_sign sign e.what) (moment_of e) m is) events (events_rise events ascend)
@@ -118,12 +118,12 @@ ends_rise marks rise = rise_given is_before (λ m. m.at) gone_if (λ m n is. giv
 
 -- ---- rows
 
--- of two rows of a component the later one is of no earlier moment
+-- of two rows of a component, the later one does not have an earlier moment
 of_component : (a b c : ℕ) (earlier : Bool) → (nat_lt b a || (nat_eq b a && earlier)) ≡ false → nat_eq a c ≡ true → nat_eq b c ≡ true → earlier ≡ false
 of_component a b c true e f g = grind (arith, nat_tests)
 of_component a b c false e f g = refl
 
--- the parts of a row that gives a mark
+-- the conditions under which a row has a mark
 mark_parts : (b c : Bool) (m n : Mark) → cond (b && c) (Some m) None ≡ Some n → (b ≡ true) × (n ≡ m)
 mark_parts true true m n e = (refl, cc)
 mark_parts true false m n e = absurd cc
@@ -175,14 +175,14 @@ component_rises : (a b component : ℕ) (earlier : Bool) → (nat_lt b a || (nat
 component_rises a b component true e f = grind (arith, nat_tests)
 component_rises a b component false e f = grind (arith, nat_tests)
 
--- a row of a lower component gives nothing for this one, and neither does one of a higher
+-- a row of a lower component has no mark for this one, and neither has a row of a higher one
 pub none_below : (component day : ℕ) (row : SealRow) → nat_lt row.component component ≡ true → mark_if component day row ≡ None
 none_below component day row e = none_given (nat_eq row.component component) (nat_le row.day day) (mark_of row) (below row.component component e)
 
 pub none_above : (component day : ℕ) (row : SealRow) → nat_lt row.component (component + 1) ≡ false → mark_if component day row ≡ None
 none_above component day row e = none_given (nat_eq row.component component) (nat_le row.day day) (mark_of row) (above row.component component e)
 
--- components do not fall from row to row
+-- the components do not decrease from row to row
 pub components_rise : (component : ℕ) (a b : SealRow) → row_before b a ≡ false → nat_lt b.component component ≡ true → nat_lt a.component component ≡ true
 unfolding row_before
 components_rise component a b e f = component_rises a.component b.component component _ e f

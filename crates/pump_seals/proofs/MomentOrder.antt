@@ -4,12 +4,12 @@ use Rattle.std.specs.List.{AllByRecursion, list_any}
 use Rattle.std.proofs.lemmas.Bool.{cases_Bool, false≢true}
 use Rattle.list_words.specs.Order.{IsStrictOrder}
 
--- a strict order in which moments that do not precede each other are equal
+-- a strict order in which two moments are equal if neither is before the other
 pub record IsLinear {M : Type 0} (before : M → M → Bool) : Type 0 where
   pub strict : IsStrictOrder before
   pub apart : (x y : M) → before x y ≡ false → before y x ≡ false → x ≡ y
 
--- a truth value is not true and false
+-- no truth value is both true and false
 pub clash : {A : Type 0} (b : Bool) → b ≡ true → b ≡ false → A
 clash b holds fails = absurd (false≢true (sym fails ∙ holds))
 
@@ -18,7 +18,7 @@ pub not_true : (b : Bool) → not b ≡ true → b ≡ false
 not_true true e = absurd (false≢true e)
 not_true false e = refl
 
--- a test of two parts fails if the second part does, and so does the rest
+-- a conjunction or a third test fails if the second part and the third test do
 pub both_fail : (a b r : Bool) → b ≡ false → r ≡ false → ((a && b) || r) ≡ false
 both_fail true b r e f = rw (e, f) refl
 both_fail false b r e f = f
@@ -31,28 +31,28 @@ module _ {M : Type 0} (before : M → M → Bool) (linear : IsLinear before) whe
     | inr f ↦ f
   ]
 
-  -- what is not after an earlier moment is earlier
+  -- if x is not after y, and y is before z, x is before z
   pub up_to : (x y z : M) → before y x ≡ false → before y z ≡ true → before x z ≡ true
   up_to x y z e f = elim (cases_Bool (before x y)) [
     | inl g ↦ linear.strict.transitive x y z g f
     | inr g ↦ subst (λ m. before m z ≡ true) (linear.apart y x e g) f
   ]
 
-  -- what is before a moment is before all that are not before that
+  -- if x is before y, and z is not before y, x is before z
   pub on_from : (x y z : M) → before x y ≡ true → before z y ≡ false → before x z ≡ true
   on_from x y z e f = elim (cases_Bool (before y z)) [
     | inl g ↦ linear.strict.transitive x y z e g
     | inr g ↦ subst (λ m. before x m ≡ true) (linear.apart y z g f) e
   ]
 
-  -- of three moments that do not fall, the last is not before the first
+  -- if y is not before x, and z is not before y, z is not before x
   pub all_the_way : (x y z : M) → before y x ≡ false → before z y ≡ false → before z x ≡ false
   all_the_way x y z e f = elim (cases_Bool (before z x)) [
     | inl g ↦ clash (before z y) (on_from z x y g e) f
     | inr g ↦ g
   ]
 
-  -- a test that passes each moment that is not after one that passes
+  -- the test passes each moment that is not after one that passes
   abbrev pub IsFront : (M → Bool) → Type 0
   IsFront c = (v w : M) → before v w ≡ false → c v ≡ true → c w ≡ true
 
@@ -60,11 +60,11 @@ module _ {M : Type 0} (before : M → M → Bool) (linear : IsLinear before) whe
   pub before_front : (m : M) → IsFront (λ x. before x m)
   before_front m v w e f = up_to w v m e f
 
-  -- and so is being not after it
+  -- not being after a moment is such a test
   pub up_to_front : (m : M) → IsFront (λ x. not (before m x))
   up_to_front m v w e f = ap not (all_the_way w v m e (not_true (before m v) f))
 
-  -- a moment fails such a test if one that is not after it does
+  -- a moment fails such a test if an earlier or equal one does
   pub fails_on : (c : M → Bool) → IsFront c → (v w : M) → before v w ≡ false → c w ≡ false → c v ≡ false
   fails_on c front v w e f = elim (cases_Bool (c v)) [
     | inl g ↦ clash (c w) (front v w e g) f

@@ -11,18 +11,18 @@ use Rattle.pump_seals.specs.Runs.{first_mend, is_settled_before, runs_on_from, r
 use Rattle.pump_seals.proofs.MomentOrder.{IsLinear, not_true}
 use Rattle.pump_seals.proofs.RunLemmas.{closes_last, closes_here, goes_on, run_begins, run_goes_on, run_first}
 
--- two values that are there are the same
+-- equal options have equal values
 some_same : {M : Type 0} (x y : M) → Some x ≡ Some y → x ≡ y
 some_same x y e = cc
 
--- a list is cut at a place, and what follows the place comes next
+-- a list is cut at a place, and the element after it is the first of the rest
 cut_at : {M : Type 0} (xs : List M) (i : ℕ) (x : M) → slice_get xs i ≡ Some x
     → (front : List M) × (rest : List M) × (xs ≡ front ++ x ∷ rest) × (slice_get xs (i + 1) ≡ slice_get rest 0)
 cut_at [] i x e = absurd cc
 cut_at (y ∷ xs) zero x e = ([], xs, ap (λ z. z ∷ xs) (some_same y x e), refl)
 cut_at (y ∷ xs) (suc i) x e = let (front, rest, is, next) = cut_at xs i x e in (y ∷ front, rest, ap (λ zs. y ∷ zs) is, simp unary_clauses (simp unary_clauses at next))
 
--- a list without a first element is empty, and one with it begins with it
+-- a list without a first element is empty
 no_first : {M : Type 0} (xs : List M) → slice_get xs 0 ≡ None → xs ≡ []
 no_first [] e = refl
 no_first (x ∷ xs) e = absurd cc
@@ -31,7 +31,7 @@ some_first : {M : Type 0} (xs : List M) (x : M) → slice_get xs 0 ≡ Some x �
 some_first [] x e = absurd cc
 some_first (y ∷ xs) x e = (xs, ap (λ z. z ∷ xs) (some_same y x e))
 
--- a list is cut at two places in a row
+-- a list is cut at two consecutive places
 pub cut_twice : {M : Type 0} (xs : List M) (i : ℕ) (x y : M) → slice_get xs i ≡ Some x → slice_get xs (i + 1) ≡ Some y
     → (front : List M) × (back : List M) × (xs ≡ front ++ x ∷ y ∷ back)
 cut_twice xs i x y e f =
@@ -39,7 +39,7 @@ cut_twice xs i x y e f =
     let (back, begins) = some_first rest y (sym next ∙ f) in
     (front, back, is ∙ ap (λ zs. front ++ x ∷ zs) begins)
 
--- .. or at the last
+-- a list is cut at its last place
 pub cut_last : {M : Type 0} (xs : List M) (i : ℕ) (x : M) → slice_get xs i ≡ Some x → slice_get xs (i + 1) ≡ None
     → (front : List M) × (xs ≡ front ++ x ∷ [])
 cut_last xs i x e f =
@@ -48,7 +48,7 @@ cut_last xs i x e f =
 
 module _ {M : Type 0} (before : M → M → Bool) (linear : IsLinear before) (by_attempt : Bool) (leaks attempts mends : List M)
     (rise : MomentsRise before leaks) (rise_a : MomentsRise before attempts) (rise_m : MomentsRise before mends) where
-  -- a leak that is not settled before the next one closes with it
+  -- the tag at a leak that is not settled before the next one closes with the tag at the next one
   pub closing_goes_on : (i : ℕ) (x y : M) → slice_get leaks i ≡ Some x → slice_get leaks (i + 1) ≡ Some y
       → is_settled_before before by_attempt leaks attempts mends x y ≡ false
       → closing_of before by_attempt leaks attempts mends x ≡ closing_of before by_attempt leaks attempts mends y
@@ -58,7 +58,7 @@ module _ {M : Type 0} (before : M → M → Bool) (linear : IsLinear before) (by
       → closing_of before by_attempt ls attempts mends x ≡ closing_of before by_attempt ls attempts mends y)
       (sym is) (λ r l. goes_on before linear by_attempt front x y back attempts mends r rise_a rise_m l) rise late
 
-  -- a leak that is settled before the next one closes then
+  -- the tag at a leak that is settled before the next one closes at the first mend of the leak
   pub closing_stops : (i : ℕ) (x y : M) → slice_get leaks i ≡ Some x → slice_get leaks (i + 1) ≡ Some y
       → is_settled_before before by_attempt leaks attempts mends x y ≡ true
       → closing_of before by_attempt leaks attempts mends x ≡ first_mend before by_attempt leaks attempts mends x
@@ -68,7 +68,7 @@ module _ {M : Type 0} (before : M → M → Bool) (linear : IsLinear before) (by
       → closing_of before by_attempt ls attempts mends x ≡ first_mend before by_attempt ls attempts mends x)
       (sym is) (λ r l. closes_here before linear by_attempt front x y back attempts mends r rise_a rise_m l) rise settled
 
-  -- and so does the last leak
+  -- the tag at the last leak closes at the first mend of the leak
   pub closing_ends : (i : ℕ) (x : M) → slice_get leaks i ≡ Some x → slice_get leaks (i + 1) ≡ None
       → closing_of before by_attempt leaks attempts mends x ≡ first_mend before by_attempt leaks attempts mends x
   closing_ends i x e f =

@@ -16,28 +16,28 @@ use Rattle.pump_seals.specs.Signs.{moments_of, switches_of, present_if, gone_if}
 use Rattle.pump_seals.proofs.MomentLemmas.{moments_rise, switches_rise, failures_rise, ends_rise}
 use Rattle.pump_seals.proofs.RisingLists.{rise_filter}
 
--- the moments of events
+-- the moments of events of a kind are in order
 pub signs_rise : (pump : Pump) → IsReady pump → (sign : Sign) (moments : List Moment) → moments ≡ moments_of sign pump.events.now → MomentsRise is_before moments
 signs_rise pump ready sign moments is = subst (MomentsRise is_before) (sym is) (moments_rise sign pump.events.now ready.events)
 
--- .. on days on duty
+-- the moments on days on which the pump is sealed and in service are in order
 pub duty_rise : (item : Equipment) (switches : List Mark) (signs leaks : List Moment) → leaks ≡ on_duty item switches signs → MomentsRise is_before signs
     → MomentsRise is_before leaks
 duty_rise item switches signs leaks is rise =
     subst (MomentsRise is_before) (sym is) (rise_filter is_before (λ m. is_on_duty item switches m.day) signs rise)
 
--- the marks that seal the pump or take the seal off
+-- the marks that seal or unseal the pump are in order
 pub switched_rise : (pump : Pump) → IsReady pump → MomentsRise mark_before pump.switches.now
 switched_rise pump ready = subst (MomentsRise mark_before) (sym ready.switches) (switches_rise pump.marks.now ready.marks)
 
--- the sensor's failures, and their ends
+-- the moments of the sensor's failures are in order, and so are those of their ends
 pub failing_rise : (pump : Pump) → IsReady pump → (moments : List Moment) → moments ≡ filter_map present_if pump.marks.now → MomentsRise is_before moments
 failing_rise pump ready moments is = subst (MomentsRise is_before) (sym is) (failures_rise pump.marks.now ready.marks)
 
 pub ending_rise : (pump : Pump) → IsReady pump → (moments : List Moment) → moments ≡ filter_map gone_if pump.marks.now → MomentsRise is_before moments
 ending_rise pump ready moments is = subst (MomentsRise is_before) (sym is) (ends_rise pump.marks.now ready.marks)
 
--- the leaks, by the switches of the marks
+-- the leaks, by the marks that seal or unseal the pump
 pub leaks_are : (pump : Pump) → IsReady pump → (signs leaks found : List Moment) → leaks ≡ on_duty pump.item.now pump.switches.now signs → signs ≡ found
     → leaks ≡ on_duty pump.item.now (switches_of pump.marks.now) found
 leaks_are pump ready signs leaks found is of =

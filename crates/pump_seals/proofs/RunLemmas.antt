@@ -1,4 +1,4 @@
--- The walk over the leaks of a sort, from one leak to the next.
+-- A walk over the leaks of one kind, from one leak to the next.
 use Rattle.std.proofs.Common.{◌≡◌, Bool, true, false, not, ◌&&◌, ◌||◌, Option, Some, None, option_and_then, List, [], ◌∷◌, ◌++◌, find, cond}
 use Rattle.std.proofs.Common.{refl, sym, ap, ◌∙◌, inl, inr, subst}
 use Rattle.std.specs.List.{AllByRecursion, list_any}
@@ -11,7 +11,7 @@ use Rattle.pump_seals.specs.Runs.{source, first_mend, is_settled_before, IsInRun
 use Rattle.pump_seals.proofs.MomentOrder.{IsLinear, not_back, up_to, on_from, all_the_way, before_front, up_to_front}
 use Rattle.pump_seals.proofs.SettlingLemmas.{none_pass, some_pass, both_hold, and_false, IsLast, unsettled_is}
 
--- what is found first, where the head passes and where it fails
+-- the first element found, if the head passes and if it fails
 found_head : {M : Type 0} (b : Bool) (v w : M) (o : Option M) → b ≡ true → cond b (Some v) o ≡ Some w → v ≡ w
 found_head true v w o e f = cc
 found_head false v w o e f = absurd (false≢true e)
@@ -20,17 +20,17 @@ found_later : {M : Type 0} (b : Bool) (v w : M) (o : Option M) → b ≡ false �
 found_later true v w o e f = absurd (false≢true (sym e))
 found_later false v w o e f = f
 
--- what holds of each element, by what holds of each element
+-- a weaker property of each element
 each : {M : Type 0} (P Q : M → Type 0) → ((z : M) → P z → Q z) → (xs : List M) → AllByRecursion P xs → AllByRecursion Q xs
 each P Q so [] all = tt
 each P Q so (x ∷ xs) all = (so x all.0, each P Q so xs all.1)
 
--- what holds of each element holds of one
+-- a property of each element holds of one of them
 at_place : {M : Type 0} (P : M → Type 0) (front : List M) (x : M) (rest : List M) → AllByRecursion P (front ++ x ∷ rest) → P x
 at_place P [] x rest all = all.0
 at_place P (y ∷ front) x rest all = at_place P front x rest all.1
 
--- an element after another passes
+-- some element passes if the second of two adjacent ones does
 some_pass_next : {M : Type 0} (p : M → Bool) (front : List M) (x y : M) (back : List M) → p y ≡ true → list_any p (front ++ x ∷ y ∷ back) ≡ true
 some_pass_next p [] x y back e = elim (cases_Bool (p x)) [
   | inl f ↦ rw f refl
@@ -41,33 +41,33 @@ some_pass_next p (z ∷ front) x y back e = elim (cases_Bool (p z)) [
   | inr f ↦ rw f (some_pass_next p front x y back e)
 ]
 
--- a test with a part and its opposite
+-- a conjunction that includes a test and its negation fails
 and_not : (a b : Bool) → ((a && b) && not a) ≡ false
 and_not true b = and_false b
 and_not false b = refl
 
--- two values that are there are the same
+-- equal options have equal values
 some_is : {M : Type 0} (x s : M) → Some x ≡ Some s → x ≡ s
 some_is x s e = cc
 
--- a value that is there and passes
+-- an optional value that passes exists
 pub settled_by : {M : Type 0} (c : M → Bool) (o : Option M) → option_map_or c o false ≡ true → (w : M) × (o ≡ Some w) × (c w ≡ true)
 settled_by c None e = absurd (false≢true e)
 settled_by c (Some w) e = (w, refl, e)
 
 -- ---- the first element that passes
 
--- none is found if nothing passes
+-- nothing is found if nothing passes
 find_none : {M : Type 0} (q : M → Bool) → ((v : M) → q v ≡ false) → (vs : List M) → find q vs ≡ None
 find_none q none [] = refl
 find_none q none (v ∷ vs) = rw (none v) (find_none q none vs)
 
--- two tests that agree find the same
+-- tests that agree find the same element
 find_same : {M : Type 0} (p q : M → Bool) → ((v : M) → p v ≡ q v) → (vs : List M) → find p vs ≡ find q vs
 find_same p q same [] = refl
 find_same p q same (v ∷ vs) = rw (same v, find_same p q same vs) refl
 
--- what is found passes
+-- the element that is found passes
 find_passes : {M : Type 0} (p : M → Bool) (w : M) (vs : List M) → find p vs ≡ Some w → p w ≡ true
 find_passes p w [] e = absurd cc
 find_passes p w (v ∷ vs) e = elim (cases_Bool (p v)) [
@@ -76,7 +76,7 @@ find_passes p w (v ∷ vs) e = elim (cases_Bool (p v)) [
 ]
 
 module _ {M : Type 0} (before : M → M → Bool) (linear : IsLinear before) where
-  -- the first moment after another is the first that passes a test, if it passes and no earlier one does
+  -- the first moment after s is the first that passes a test, if it passes and no earlier one does
   find_first : (s w : M) (q : M → Bool) → before s w ≡ true → ((v : M) → before v w ≡ true → q v ≡ false) → q w ≡ true → (vs : List M)
       → find (before s) vs ≡ Some w → find q vs ≡ Some w
   find_first s w q after fails passes [] e = absurd cc
@@ -90,7 +90,7 @@ module _ {M : Type 0} (before : M → M → Bool) (linear : IsLinear before) whe
         rw no_pass (find_first s w q after fails passes us (found_later (before s u) u w (find (before s) us) f e))
   ]
 
-  -- what settles a leak first, by where it can be settled from
+  -- the moment from which a leak can be settled is not before the leak
   source_later : (by_attempt : Bool) (leaks attempts mends : List M) (x s : M) → source before by_attempt leaks attempts mends by_attempt x ≡ Some s
       → before s x ≡ false
   source_later true leaks attempts mends x s e = not_back before linear x s (find_passes (before x) s attempts e)
@@ -108,17 +108,18 @@ module _ {M : Type 0} (before : M → M → Bool) (linear : IsLinear before) whe
       let (s, from, found) = mend_of (source before by_attempt leaks attempts mends by_attempt x) mends w e in
       (s, find_passes (before s) w mends found, source_later by_attempt leaks attempts mends x s from, found)
 
-  -- what settles a leak late: not before another moment, and so not by an earlier one
+  -- a mend that is not before y is after each moment that is before y
   late_mend : (y v : M) → before v y ≡ true → (o : Option M) → option_map_or (λ w. before w y) o false ≡ false
       → option_map_or (λ z. not (before v z)) o false ≡ false
   late_mend y v e None late = refl
   late_mend y v e (Some w) late = ap not (on_from before linear v y w e late)
 
-  -- a tag opens at the first leak
+  -- if no element is before x, no element before x passes
   none_earlier : (x : M) (g : M → Bool) (leaks : List M) → AllByRecursion (λ z. before z x ≡ false) leaks → list_any (λ z. before z x && g z) leaks ≡ false
   none_earlier x g [] all = refl
   none_earlier x g (z ∷ leaks) all = rw all.0 (none_earlier x g leaks all.1)
 
+  -- a tag opens at the first leak
   opens_first : (by_attempt : Bool) (x : M) (rest attempts mends : List M) → MomentsRise before (x ∷ rest)
       → opens_tag before by_attempt (x ∷ rest) attempts mends x ≡ true
   unfolding opens_tag
@@ -126,7 +127,7 @@ module _ {M : Type 0} (before : M → M → Bool) (linear : IsLinear before) whe
       ap not (none_earlier x (λ z. not (list_any (λ v. settles before by_attempt (x ∷ rest) attempts mends z v && before v x) mends)) (x ∷ rest)
       (linear.strict.irreflexive x, rise.0))
 
-  -- the parts of a rising list
+  -- the elements before and after a place of a list in which no element is before an earlier one
   rise_front : (front : List M) (x : M) (rest : List M) → MomentsRise before (front ++ x ∷ rest) → AllByRecursion (λ z. before x z ≡ false) front
   rise_front [] x rest rise = tt
   rise_front (y ∷ front) x rest rise = (at_place (λ z. before z y ≡ false) front x rest rise.0, rise_front front x rest rise.1)
@@ -135,7 +136,7 @@ module _ {M : Type 0} (before : M → M → Bool) (linear : IsLinear before) whe
   rise_rest [] x rest rise = rise
   rise_rest (y ∷ front) x rest rise = rise_rest front x rest rise.1
 
-  -- a leak is the last that passes if all that follow it fail
+  -- a leak is the last that passes if all leaks after it fail
   last_passing : (c : M → Bool) (front : List M) (x : M) (rest : List M) → MomentsRise before (front ++ x ∷ rest) → AllByRecursion (λ z. c z ≡ false) rest
       → IsLast before linear c x (front ++ x ∷ rest)
   last_passing c front x rest rise fail =
@@ -147,7 +148,7 @@ module _ {M : Type 0} (before : M → M → Bool) (linear : IsLinear before) whe
 
   module _ (by_attempt : Bool) (front : List M) (x : M) (rest attempts mends : List M) (rise : MomentsRise before (front ++ x ∷ rest))
       (rise_a : MomentsRise before attempts) (rise_m : MomentsRise before mends) where
-    -- by a moment after a leak and before all that follow, nothing is unsettled exactly if what first settles the leak has come
+    -- at a moment after a leak and before all later ones, nothing is unsettled exactly if the first mend of the leak has come
     settled_at : (v : M) → before x v ≡ true → AllByRecursion (λ z. before v z ≡ true) rest
         → not (is_unsettled before by_attempt (front ++ x ∷ rest) attempts mends (λ z. not (before v z)))
         ≡ option_map_or (λ z. not (before v z)) (first_mend before by_attempt (front ++ x ∷ rest) attempts mends x) false
@@ -157,7 +158,7 @@ module _ {M : Type 0} (before : M → M → Bool) (linear : IsLinear before) whe
         (last_passing (λ z. not (before v z)) front x rest rise (each (λ z. before v z ≡ true) (λ z. not (before v z) ≡ false) (λ z e. ap not e) rest others))
         rise_a rise_m
 
-    -- a tag that is open at a leak closes at what first settles the leak, if that is before all leaks that follow
+    -- the tag at a leak closes at the first mend of the leak, if that is before all later leaks
     closes_at : (w : M) → first_mend before by_attempt (front ++ x ∷ rest) attempts mends x ≡ Some w → AllByRecursion (λ z. before w z ≡ true) rest
         → closing_of before by_attempt (front ++ x ∷ rest) attempts mends x ≡ Some w
     unfolding closing_of
@@ -182,7 +183,7 @@ module _ {M : Type 0} (before : M → M → Bool) (linear : IsLinear before) whe
 
   module _ (by_attempt : Bool) (front : List M) (x : M) (attempts mends : List M) (rise : MomentsRise before (front ++ x ∷ []))
       (rise_a : MomentsRise before attempts) (rise_m : MomentsRise before mends) where
-    -- .. of the last leak
+    -- the tag at the last leak closes at the first mend of the leak
     closes_last_of : (o : Option M) → first_mend before by_attempt (front ++ x ∷ []) attempts mends x ≡ o
         → closing_of before by_attempt (front ++ x ∷ []) attempts mends x ≡ o
     unfolding closing_of
@@ -203,22 +204,22 @@ module _ {M : Type 0} (before : M → M → Bool) (linear : IsLinear before) whe
     pub closes_last : closing_of before by_attempt (front ++ x ∷ []) attempts mends x ≡ first_mend before by_attempt (front ++ x ∷ []) attempts mends x
     closes_last = closes_last_of (first_mend before by_attempt (front ++ x ∷ []) attempts mends x) refl
 
-  -- a leak, and the one that follows it
+  -- a leak and the next one
   module _ (by_attempt : Bool) (front : List M) (x y : M) (back attempts mends : List M) (rise : MomentsRise before (front ++ x ∷ y ∷ back))
       (rise_a : MomentsRise before attempts) (rise_m : MomentsRise before mends) where
-    -- the leaks that follow the second are not before it
+    -- the leaks after the second one are not before it
     later_ones : AllByRecursion (λ z. before z y ≡ false) back
     later_ones = (rise_rest front x (y ∷ back) rise).1.0
 
-    -- nor is the second before the first
+    -- the second leak is not before the first
     not_before : before y x ≡ false
     not_before = (rise_rest front x (y ∷ back) rise).0.0
 
-    -- what is before the second is before all that follow
+    -- a moment before the second leak is before all later ones
     before_all : (v : M) → before v y ≡ true → AllByRecursion (λ z. before v z ≡ true) (y ∷ back)
     before_all v e = (e, each (λ z. before z y ≡ false) (λ z. before v z ≡ true) (λ z f. on_from before linear v y z e f) back later_ones)
 
-    -- the first closes where it is settled before the second
+    -- the tag at the first leak closes at its first mend, if the leak is settled before the second
     pub closes_here : is_settled_before before by_attempt (front ++ x ∷ y ∷ back) attempts mends x y ≡ true
         → closing_of before by_attempt (front ++ x ∷ y ∷ back) attempts mends x ≡ first_mend before by_attempt (front ++ x ∷ y ∷ back) attempts mends x
     closes_here settled =
@@ -226,7 +227,7 @@ module _ {M : Type 0} (before : M → M → Bool) (linear : IsLinear before) whe
         let (w, is, earlier) = settled_by (λ m. before m y) (first_mend before by_attempt leaks attempts mends x) settled in
         closes_at by_attempt front x (y ∷ back) attempts mends rise rise_a rise_m w is (before_all w earlier) ∙ sym is
 
-    -- at a moment of a leak that leak is unsettled
+    -- at the moment of a leak, that leak is unsettled
     unsettled_at_leak : is_unsettled before by_attempt (front ++ x ∷ y ∷ back) attempts mends (λ z. not (before y z)) ≡ true
     unsettled_at_leak =
         let leaks = front ++ x ∷ y ∷ back in
@@ -236,7 +237,7 @@ module _ {M : Type 0} (before : M → M → Bool) (linear : IsLinear before) whe
         (ap not (none_pass (λ v. settles before by_attempt leaks attempts mends y v && not (before y v))
         (λ v. and_not (before y v) (not by_attempt || is_attempted before by_attempt leaks attempts mends y v)) mends)))
 
-    -- where the first is not settled before the second, both close at once
+    -- if the first leak is not settled before the second, the tags at both close at the same moment
     closing_same : is_settled_before before by_attempt (front ++ x ∷ y ∷ back) attempts mends x y ≡ false → (v : M)
         → (before x v && not (is_unsettled before by_attempt (front ++ x ∷ y ∷ back) attempts mends (λ z. not (before v z))))
         ≡ (before y v && not (is_unsettled before by_attempt (front ++ x ∷ y ∷ back) attempts mends (λ z. not (before v z))))
@@ -285,7 +286,7 @@ module _ {M : Type 0} (before : M → M → Bool) (linear : IsLinear before) whe
         let (s, after, not_after, found) = mend_source by_attempt leaks attempts mends x w is in
         linear.strict.transitive x w y (up_to before linear x s w not_after after) earlier
 
-    -- then a run begins at the next leak
+    -- if a leak is settled before the next one, a run begins at the next one
     pub run_begins : is_settled_before before by_attempt (front ++ x ∷ y ∷ back) attempts mends x y ≡ true → (closed : Option M)
         → closing_of before by_attempt (front ++ x ∷ y ∷ back) attempts mends y ≡ closed
         → IsInRun before by_attempt (front ++ x ∷ y ∷ back) attempts mends y closed y
@@ -295,7 +296,7 @@ module _ {M : Type 0} (before : M → M → Bool) (linear : IsLinear before) whe
       from_first = linear.strict.irreflexive y;
     }
 
-    -- and otherwise it goes on
+    -- if a leak is not settled before the next one, its run continues
     pub run_goes_on : is_settled_before before by_attempt (front ++ x ∷ y ∷ back) attempts mends x y ≡ false → (first : M) (closed : Option M)
         → IsInRun before by_attempt (front ++ x ∷ y ∷ back) attempts mends first closed x
         → IsInRun before by_attempt (front ++ x ∷ y ∷ back) attempts mends first closed y

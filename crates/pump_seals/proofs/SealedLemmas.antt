@@ -1,4 +1,4 @@
--- Whether a pump is sealed, by the marks found by halving.
+-- Whether a pump is sealed, from the mark that a binary search finds.
 use Rattle.std.proofs.Common.{◌≡◌, ℕ, ◌-◌, ◌<◌, ◌≤◌, Bool, true, false, List, length, get_or, sym, ap, subst}
 use Rattle.std.specs.Prelude.{nat_le, nat_lt}
 use Rattle.std.specs.List.Sorted.{IsPartitionPoint}
@@ -25,7 +25,7 @@ unfolding is_sealed
 sealed_by switches day n d some within parts =
     sym (ap (λ o. option_map_or (λ m. is_on m.what) o false) (last_such_at (λ m. nat_le m.at.day day) switches n d some within parts))
 
--- a day is before another, or not
+-- whether one day is before another, by the other comparison
 pub not_from : (a b : ℕ) → nat_lt a b ≡ true → nat_le b a ≡ false
 not_from a b e = grind (arith, nat_tests)
 

@@ -1,4 +1,4 @@
--- What settles the last of the leaks that pass a test, and so all of them.
+-- The first mend of the last leak that passes a test settles all leaks that pass it.
 use Rattle.std.proofs.Common.{◌≡◌, Bool, true, false, not, ◌&&◌, ◌||◌, Option, Some, None, option_and_then, List, [], ◌∷◌, ◌++◌, find}
 use Rattle.std.proofs.Common.{refl, sym, ap, ◌∙◌, inl, inr}
 use Rattle.std.specs.List.{AllByRecursion, list_any}
@@ -21,31 +21,31 @@ pub same_any : {M : Type 0} (p q : M → Bool) → ((v : M) → p v ≡ q v) →
 same_any p q same [] = refl
 same_any p q same (v ∷ vs) = rw (same v) (ap (λ r. q v || r) (same_any p q same vs))
 
--- one of two tests holds, and not the first
+-- a disjunction whose first test fails
 pub or_rest : (a b : Bool) → a ≡ false → (a || b) ≡ true → b ≡ true
 or_rest true b e f = clash true refl e
 or_rest false b e f = f
 
--- both of two tests hold
+-- a conjunction of two tests that hold
 pub both_hold : (a b : Bool) → a ≡ true → b ≡ true → (a && b) ≡ true
 both_hold a b e f = rw (e, f) refl
 
--- of two tests the first fails, if both do not hold and the second does
+-- a conjunction that fails although its second test holds
 pub first_fails : (a b : Bool) → b ≡ true → (a && b) ≡ false → a ≡ false
 first_fails true b e f = clash b e f
 first_fails false b e f = refl
 
--- a test beside one that holds
+-- a conjunction with a test that holds
 pub and_true : (a : Bool) → (a && true) ≡ a
 and_true true = refl
 and_true false = refl
 
--- a test beside one that fails
+-- a conjunction with a test that fails
 pub and_false : (a : Bool) → (a && false) ≡ false
 and_false true = refl
 and_false false = refl
 
--- a test that passes more
+-- a weaker test
 pub more_pass : {M : Type 0} (p q : M → Bool) → ((v : M) → p v ≡ true → q v ≡ true) → (vs : List M) → list_any p vs ≡ true → list_any q vs ≡ true
 more_pass p q more [] e = e
 more_pass p q more (v ∷ vs) e = elim (cases_Bool (q v)) [
@@ -65,7 +65,7 @@ some_pass p (y ∷ front) x rest e = elim (cases_Bool (p y)) [
 ]
 
 module _ {M : Type 0} (before : M → M → Bool) (linear : IsLinear before) where
-  -- past a moment at which such a test fails, nothing passes
+  -- after a moment at which such a test fails, nothing passes
   none_later : (c : M → Bool) → IsFront before linear c → (s u : M) (vs : List M) → c u ≡ false → AllByRecursion (λ y. before y u ≡ false) vs
       → list_any (λ v. before s v && c v) vs ≡ false
   none_later c front s u [] f all = refl
@@ -73,7 +73,7 @@ module _ {M : Type 0} (before : M → M → Bool) (linear : IsLinear before) whe
       both_fail (before s v) (c v) (list_any (λ v. before s v && c v) vs) (fails_on before linear c front v u all.0 f)
       (none_later c front s u vs f all.1)
 
-  -- some moment after another passes such a test exactly if the first one after it does
+  -- some moment after another one passes such a test exactly if the first one after it does
   pub first_decides : (c : M → Bool) → IsFront before linear c → (s : M) (vs : List M) → MomentsRise before vs
       → list_any (λ v. before s v && c v) vs ≡ option_map_or c (find (before s) vs) false
   first_decides c front s [] rise = refl
@@ -85,13 +85,13 @@ module _ {M : Type 0} (before : M → M → Bool) (linear : IsLinear before) whe
     | inr e ↦ rw e (first_decides c front s us rise.1)
   ]
 
-  -- ---- one leak and what may settle it, with no leak in between
+  -- ---- one leak and a mend, with no leak between them
 
-  -- no leak lies strictly between two moments
+  -- no leak is strictly between two moments
   abbrev pub NoneBetween : List M → M → M → Type 0
   NoneBetween leaks x v = AllByRecursion (λ y. (before x y && before y v) ≡ false) leaks
 
-  -- then none lies between a moment after the first and the second
+  -- no leak is between a moment after the first one and the second one
   none_after : (x a v : M) → before x a ≡ true → (leaks : List M) → NoneBetween leaks x v → list_any (λ y. before a y && before y v) leaks ≡ false
   none_after x a v e [] none = refl
   none_after x a v e (y ∷ leaks) none = elim (cases_Bool (before a y)) [
@@ -102,7 +102,7 @@ module _ {M : Type 0} (before : M → M → Bool) (linear : IsLinear before) whe
     | inr f ↦ rw f (none_after x a v e leaks none.1)
   ]
 
-  -- being attempted is then having an attempt in between
+  -- if no leak is between a leak and a mend, the leak is attempted exactly if some attempt is between them
   attempted_between : (leaks attempts mends : List M) (x v : M) → NoneBetween leaks x v → (some : List M)
       → list_any (λ a. before x a && (before a v && not (list_any (λ y. before a y && before y v) leaks))) some
       ≡ list_any (λ a. before x a && before a v) some
@@ -115,21 +115,21 @@ module _ {M : Type 0} (before : M → M → Bool) (linear : IsLinear before) whe
     | inr e ↦ rw e (attempted_between leaks attempts mends x v none some)
   ]
 
-  -- nothing lies between two moments of which the first is not before the second
+  -- nothing is between two moments if the first is not before the second
   nothing_between : (x v a : M) → before x v ≡ false → (before x a && before a v) ≡ false
   nothing_between x v a e = elim (cases_Bool (before x a && before a v)) [
     | inl f ↦ let parts = and_parts (before x a) (before a v) f in clash (before x v) (linear.strict.transitive x a v parts.0 parts.1) e
     | inr f ↦ f
   ]
 
-  -- where something lies in between, the first moment is before the second
+  -- if something is between two moments, the first is before the second
   between_guards : (x v : M) (some : List M) → (before x v && list_any (λ a. before x a && before a v) some) ≡ list_any (λ a. before x a && before a v) some
   between_guards x v some = elim (cases_Bool (before x v)) [
     | inl e ↦ rw e refl
     | inr e ↦ rw e (sym (none_pass (λ a. before x a && before a v) (λ a. nothing_between x v a e) some))
   ]
 
-  -- from a leak on, a moment settles it exactly if its source is before that moment
+  -- if no leak is between, a mend settles the leak exactly if it is after the moment from which the leak can be settled
   settles_is : (by_attempt : Bool) (leaks attempts mends : List M) → MomentsRise before attempts → (x v : M) → NoneBetween leaks x v
       → settles before by_attempt leaks attempts mends x v
       ≡ option_map_or (λ s. before s v) (source before by_attempt leaks attempts mends by_attempt x) false
@@ -139,7 +139,7 @@ module _ {M : Type 0} (before : M → M → Bool) (linear : IsLinear before) whe
       ∙ between_guards x v attempts
       ∙ first_decides (λ a. before a v) (before_front before linear v) x attempts rise
 
-  -- what settles a leak settles each leak that is not after it
+  -- a mend that settles a leak settles each leak that is not after it
   settles_earlier : (by_attempt : Bool) (leaks attempts mends : List M) (x y v : M) → before x y ≡ false
       → settles before by_attempt leaks attempts mends x v ≡ true → settles before by_attempt leaks attempts mends y v ≡ true
   settles_earlier false leaks attempts mends x y v e holds =
@@ -163,7 +163,7 @@ module _ {M : Type 0} (before : M → M → Bool) (linear : IsLinear before) whe
   abbrev pub IsLast : (M → Bool) → M → List M → Type 0
   IsLast c x leaks = AllByRecursion (λ y. (before x y && c y) ≡ false) leaks
 
-  -- a moment between would pass
+  -- a leak between this one and a moment that passes would pass
   none_here : (c : M → Bool) → IsFront before linear c → (x v y : M) → c v ≡ true → (before x y && c y) ≡ false → (before x y && before y v) ≡ false
   none_here c front x v y e last = elim (cases_Bool (before x y && before y v)) [
     | inl f ↦
@@ -172,12 +172,12 @@ module _ {M : Type 0} (before : M → M → Bool) (linear : IsLinear before) whe
     | inr f ↦ f
   ]
 
-  -- then none that passes lies between it and a moment that passes
+  -- no leak is between the last one that passes and a moment that passes
   none_between : (c : M → Bool) → IsFront before linear c → (x v : M) → c v ≡ true → (leaks : List M) → IsLast c x leaks → NoneBetween leaks x v
   none_between c front x v e [] last = tt
   none_between c front x v e (y ∷ leaks) last = (none_here c front x v y e last.0, none_between c front x v e leaks last.1)
 
-  -- each leak that passes is settled where the last one is
+  -- each leak that passes is settled if the last one is
   all_settled : (by_attempt : Bool) (all attempts mends : List M) (c : M → Bool) (x : M)
       → list_any (λ v. settles before by_attempt all attempts mends x v && c v) mends ≡ true → (leaks : List M) → IsLast c x leaks
       → list_any (λ y. c y && not (list_any (λ v. settles before by_attempt all attempts mends y v && c v) mends)) leaks ≡ false
@@ -194,7 +194,7 @@ module _ {M : Type 0} (before : M → M → Bool) (linear : IsLinear before) whe
     | inr e ↦ rw e (all_settled by all attempts mends c x holds leaks last.1)
   ]
 
-  -- what passes settles the last leak exactly if its source is earlier
+  -- a passing moment settles the last leak exactly if it is after the moment from which the leak can be settled
   by_source : (by_attempt : Bool) (leaks attempts mends : List M) (c : M → Bool) → IsFront before linear c → (x v : M) → IsLast c x leaks
       → MomentsRise before attempts
       → (settles before by_attempt leaks attempts mends x v && c v)
@@ -205,14 +205,14 @@ module _ {M : Type 0} (before : M → M → Bool) (linear : IsLinear before) whe
         ∙ sym (and_false (option_map_or (λ s. before s v) (source before by leaks attempts mends by x) false)))
   ]
 
-  -- something that passes comes after a source exactly if the first moment after it passes
+  -- some passing mend is after a moment exactly if the first mend after it passes
   from_source : (c : M → Bool) → IsFront before linear c → (o : Option M) (mends : List M) → MomentsRise before mends
       → list_any (λ v. option_map_or (λ s. before s v) o false && c v) mends
       ≡ option_map_or c (option_and_then (λ s. find (before s) mends) o) false
   from_source c front None mends rise = none_pass (λ v. false && c v) (λ v. refl) mends
   from_source c front (Some s) mends rise = first_decides c front s mends rise
 
-  -- what settles the last leak that passes, among what passes
+  -- some passing mend settles the last leak that passes exactly if its first mend passes
   settled_last : (by_attempt : Bool) (leaks attempts mends : List M) (c : M → Bool) → IsFront before linear c → (x : M) → IsLast c x leaks
       → MomentsRise before attempts → MomentsRise before mends
       → list_any (λ v. settles before by_attempt leaks attempts mends x v && c v) mends
@@ -224,7 +224,7 @@ module _ {M : Type 0} (before : M → M → Bool) (linear : IsLinear before) whe
       (λ v. by_source by leaks attempts mends c front x v last rise_a) mends
       ∙ from_source c front (source before by leaks attempts mends by x) mends rise_m
 
-  -- of the leaks that pass some is unsettled, unless what first settles the last one passes
+  -- all leaks that pass are settled exactly if the first mend of the last one passes
   pub unsettled_is : (by_attempt : Bool) (front : List M) (x : M) (rest attempts mends : List M) (c : M → Bool) → IsFront before linear c → c x ≡ true
       → IsLast c x (front ++ x ∷ rest) → MomentsRise before attempts → MomentsRise before mends
       → not (is_unsettled before by_attempt (front ++ x ∷ rest) attempts mends c)

@@ -1,4 +1,4 @@
--- The steps of the walk over the leaks of a sort.
+-- The steps of a walk over the leaks of one kind.
 use Rattle.std.proofs.Common.{◌≡◌, ℕ, ◌+◌, ◌<◌, ◌≤◌, Bool, true, false, not, Option, Some, None, List, length, get_or, option_and_then, refl, sym, ap, ◌∙◌, subst, arith}
 use Rattle.std.specs.List.{slice_get}
 use Rattle.std.specs.Option.{option_map_or}
@@ -18,7 +18,7 @@ use Rattle.pump_seals.proofs.RunLemmas.{settled_by}
 abbrev closing : LeaksOfSort → Moment → Option Moment
 closing p leak = closing_of is_before p.by_attempt p.leaks.now p.attempts.now p.mends.now leak
 
--- a leak with a next one before which it is not settled
+-- a leak that is not settled before the next one, and the next one
 two_in_a_row : (p : LeaksOfSort) (i : ℕ) → runs_on p i ≡ true
     → (x : Moment) × (y : Moment) × (slice_get p.leaks.now i ≡ Some x) × (slice_get p.leaks.now (i + 1) ≡ Some y) × (is_settled_before p x y ≡ false)
 unfolding runs_on
@@ -30,7 +30,7 @@ two_in_a_row p i on =
 same : (x y : Moment) → Some x ≡ Some y → x ≡ y
 same x y e = cc
 
--- otherwise it is the last, or settled before the next one
+-- a leak that does not run on is settled before the next one, if there is one
 alone_by : (p : LeaksOfSort) (x : Moment) (o : Option Moment) → option_map_or (λ y. not (is_settled_before p x y)) o false ≡ false → (y : Moment) → o ≡ Some y
     → is_settled_before p x y ≡ true
 alone_by p x None e y is = absurd cc
@@ -43,7 +43,7 @@ stops_before p i x y here next off =
     alone_by p x (slice_get p.leaks.now (i + 1))
     (sym (ap (λ o. option_map_or (λ z. option_map_or (λ w. not (is_settled_before p z w)) (slice_get p.leaks.now (i + 1)) false) o false) here) ∙ off) y next
 
--- a tag that is open at a leak is open at the next one, where the leak is not settled before that
+-- a tag that is open at a leak closes with the one at the next leak, if the leak is not settled before the next one
 pub closing_next : (p : LeaksOfSort) → AreInOrder p → (i : ℕ) → runs_on p i ≡ true → closing_at p i ≡ closing_at p (i + 1)
 unfolding closing_at
 closing_next p ordered i on =
@@ -52,7 +52,7 @@ closing_next p ordered i on =
     ∙ closing_goes_on is_before linear p.by_attempt p.leaks.now p.attempts.now p.mends.now ordered.leaks ordered.attempts ordered.mends i x y here next late
     ∙ sym (ap (option_and_then (closing p)) next)
 
--- and otherwise it closes when the leak is settled
+-- the tag at a leak that does not run on closes at the first mend of the leak
 closing_by : (p : LeaksOfSort) → AreInOrder p → (i : ℕ) (x : Moment) → slice_get p.leaks.now i ≡ Some x → runs_on p i ≡ false → (o : Option Moment)
     → slice_get p.leaks.now (i + 1) ≡ o → closing p x ≡ first_mend p x
 closing_by p ordered i x here off None none =
@@ -80,11 +80,11 @@ run_at_first p ordered run d first closed leak here =
     (first_run_begins is_before linear p.by_attempt p.leaks.now p.attempts.now p.mends.now ordered.leaks ordered.attempts ordered.mends leak here run.closed
     (sym (closed ∙ ap (option_and_then (closing p)) here)))
 
--- past the last leak there is none
+-- there is no leak after the last one
 pub run_past : (p : LeaksOfSort) (run : Run) (i : ℕ) → length p.leaks.now ≤ i → IsRunAt p run i
 run_past p run i past leak here = absurd (let none = slice_get_past p.leaks.now i past in cc)
 
--- a run goes on
+-- a run continues
 pub run_stays : (p : LeaksOfSort) → AreInOrder p → (run : Run) (i : ℕ) → runs_on p i ≡ true → IsRunAt p run i → IsRunAt p run (i + 1)
 run_stays p ordered run i on now leak there =
     let (x, y, here, next, late) = two_in_a_row p i on in
@@ -93,7 +93,7 @@ run_stays p ordered run i on now leak there =
     (next_run_goes_on is_before linear p.by_attempt p.leaks.now p.attempts.now p.mends.now ordered.leaks ordered.attempts ordered.mends i x y here next late
     run.first run.closed (now x here))
 
--- and otherwise the next one begins
+-- a new run begins at the next leak
 pub run_new : (p : LeaksOfSort) → AreInOrder p → (run : Run) (i : ℕ) (d : Moment) → i < length p.leaks.now → runs_on p i ≡ false
     → (e : Moment) → run.first ≡ get_or p.leaks.now (i + 1) e → run.closed ≡ closing_at p (i + 1) → IsRunAt p run (i + 1)
 unfolding closing_at

@@ -9,16 +9,16 @@ use Rattle.pump_seals.specs.declared.row.SealRow.{SealRow}
 unfoldable pub is_before : Moment → Moment → Bool
 is_before a b = nat_lt a.day b.day || (nat_eq a.day b.day && nat_lt a.minute b.minute)
 
--- no moment of the list is before one that precedes it in the list
+-- no element of the list is before an earlier one
 abbrev pub MomentsRise : {M : Type 0} → (M → M → Bool) → List M → Type 0
 MomentsRise before [] = Unit {0}
 MomentsRise before (x ∷ xs) = AllByRecursion (λ y. before y x ≡ false) xs × MomentsRise before xs
 
--- the first mark is of an earlier moment
+-- the first mark has the earlier moment
 abbrev pub mark_before : Mark → Mark → Bool
 mark_before a b = is_before a.at b.at
 
--- the first row precedes the second: it is of a lower component, or of the same one at an earlier moment
+-- the first row is before the second: it has a lower component, or the same one and an earlier moment
 unfoldable pub row_before : SealRow → SealRow → Bool
 row_before a b =
     nat_lt a.component b.component

@@ -1,4 +1,4 @@
--- Values for the worked examples: a pump, events of it, and what rows say of it.
+-- Values for the worked examples: a pump, its events, and the contents of rows.
 use Rattle.std.specs.Prelude.{ℕ, Bool, true, false, Option, Some, None, List, [], ◌∷◌}
 use Rattle.fact_kinds.specs.declared.class.Designation.TheVariants.{Plain}
 use Rattle.fact_kinds.specs.declared.class.Kind.TheVariants.{Pump as PumpKind}
@@ -14,7 +14,7 @@ use Rattle.pump_seals.specs.declared.row.SealWhat.TheVariants.{On, Off, Present,
 use Rattle.pump_seals.specs.declared.seals.SealDuty.{SealDuty}
 use Rattle.pump_seals.specs.declared.seals.SealTag.{SealTag}
 
--- pump 5 in light liquid service from 2020-01-15 on, retired on a day or not
+-- pump 5 in light liquid service from 2020-01-15 on; it may be retired on a day
 abbrev pub pump_until : Option ℕ → Equipment
 pump_until retired = record {
   component = 5;
@@ -30,11 +30,11 @@ pump_until retired = record {
 abbrev pub pump : Equipment
 pump = pump_until None
 
--- what happened at a minute of a day
+-- an event at a minute of a day
 abbrev pub happened : ℕ → ℕ → Happening → Event
 happened day minute what = record { key = record { day = day; minute = minute; handheld = 1; index = 0; number = 1 }; what = what }
 
--- a counting reading; a visual inspection that is a leak, found drips that are none, or was dry; an attempt
+-- events: a counting reading; visual inspections that designate drips as a leak, find other drips, or are dry; an attempt
 abbrev pub read_at : ℕ → ℕ → ℕ → Event
 read_at day minute ppm = happened day minute (Read ppm 0 true true false false)
 
@@ -50,15 +50,15 @@ dry_at day minute = happened day minute (Look false false false)
 abbrev pub attempt_at : ℕ → ℕ → Event
 attempt_at day minute = happened day minute (Attempt false)
 
--- what a row says
+-- the content of a row at a minute of a day
 abbrev pub mark : SealWhat → ℕ → ℕ → Mark
 mark what day minute = record { what = what; at = record { day = day; minute = minute } }
 
--- sealed from 2024-02-01 on
+-- the pump is sealed from 2024-02-01 on
 abbrev pub sealed : Mark
 sealed = mark On 19_754 0
 
--- a tag of a sort
+-- a tag of a kind of leak
 abbrev pub tag : ℕ → ℕ → Option ℕ → Option ℕ → SealTag
 tag sort detected attempted closed = record { sort = sort; detected = detected; attempted = attempted; closed = closed }
 

@@ -1,4 +1,4 @@
--- What is looked for among the events and rows of a pump.
+-- Signs: the kinds of events that decide on a pump's seal leaks and duties, and the marks that the rows of a file make.
 use Rattle.std.specs.Prelude.{ℕ, Bool, true, false, not, ◌&&◌, ◌||◌, nat_lt, nat_le, nat_eq, if◌then◌else◌, Option, Some, None, List, filter_map}
 use Rattle.ldar_law.specs.declared.event.Event.{Event}
 use Rattle.ldar_law.specs.declared.event.Happening.{Happening}
@@ -29,7 +29,7 @@ is_low _ = false
 abbrev pub is_drip_leak : Happening → Bool
 is_drip_leak what = is_look what && is_leak what
 
--- what is looked for happened
+-- the event is of this kind
 abbrev pub is_sign : Sign → Happening → Bool
 is_sign HighReading what = is_high what
 is_sign LowReading what = is_low what
@@ -44,17 +44,17 @@ is_sign Answer what = is_counting what || is_drip_leak what
 abbrev pub moment_of : Event → Moment
 moment_of e = record { day = e.key.day; minute = e.key.minute }
 
--- .. if what is looked for happened
+-- the moment of an event, if the event is of this kind
 abbrev pub moment_if : Sign → Event → Option Moment
 moment_if sign e = if is_sign sign e.what then Some (moment_of e) else None
 
--- the moments of the events that are looked for, in order
+-- the moments of the events of this kind, in order
 abbrev pub moments_of : Sign → List Event → List Moment
 moments_of sign events = filter_map (moment_if sign) events
 
 -- ---- rows
 
--- the row seals a pump or takes the seal off
+-- the row seals a pump or unseals it
 abbrev pub is_seal : SealWhat → Bool
 is_seal On = true
 is_seal Off = true
@@ -67,7 +67,7 @@ is_on Off = false
 is_on Present = false
 is_on Gone = false
 
--- the sensor indicates a failure, or that it is gone
+-- the sensor indicates a failure, or the end of one
 abbrev pub is_present : SealWhat → Bool
 is_present On = false
 is_present Off = false
@@ -80,27 +80,27 @@ is_gone Off = false
 is_gone Present = false
 is_gone Gone = true
 
--- what a row says of its component, and when; not which record of the file it is
+-- the mark of a row: what it reports and when, without the component and the number of its record
 abbrev pub mark_of : SealRow → Mark
 mark_of row = record { what = row.what; at = record { day = row.day; minute = row.minute } }
 
--- .. if it is of the component, and of a day up to one
+-- the mark of a row, if the row is of the component and of a day up to `day`
 abbrev pub mark_if : ℕ → ℕ → SealRow → Option Mark
 mark_if component day row = if nat_eq row.component component && nat_le row.day day then Some (mark_of row) else None
 
--- what the rows of a file say of a component up to a day
+-- the marks of a component up to a day, from the rows of a file
 unfoldable pub marks_of : ℕ → ℕ → List SealRow → List Mark
 marks_of component day rows = filter_map (mark_if component day) rows
 
--- the mark, if it seals a pump or takes the seal off
+-- the mark, if it seals the pump or unseals it
 abbrev pub switch_if : Mark → Option Mark
 switch_if m = if is_seal m.what then Some m else None
 
--- the marks that do
+-- the marks that seal the pump or unseal it
 abbrev pub switches_of : List Mark → List Mark
 switches_of marks = filter_map switch_if marks
 
--- the moments at which a sensor indicated a failure, or that it is gone
+-- the moment at which a sensor indicates a failure, or the end of one
 abbrev pub present_if : Mark → Option Moment
 present_if m = if is_present m.what then Some m.at else None
 

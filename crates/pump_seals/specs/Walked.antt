@@ -1,4 +1,4 @@
--- The words of the walk, for the leaks of a sort as the code has them.
+-- The definitions of a walk, for the leaks of one kind as the code has them.
 use Rattle.std.specs.Prelude.{◌≡◌, ℕ, Bool, Option, Some, option_and_then, List, slice_get}
 use Rattle.pump_seals.specs.declared.leaks_of_sort.LeaksOfSort.{LeaksOfSort}
 use Rattle.pump_seals.specs.declared.leaks_of_sort.Run.{Run}
@@ -9,7 +9,7 @@ use Rattle.pump_seals.specs.Repairs.{closing_of}
 use Rattle.pump_seals.specs.Runs as runs
 use Rattle.pump_seals.specs.Seals.{tag_at, tags_of_sort}
 
--- the leaks, the attempts and what may settle leaks are in order
+-- the leaks, the attempts and the mends are in order
 pub record AreInOrder (sort : LeaksOfSort) : Type 0 where
   pub leaks : MomentsRise is_before sort.leaks.now
   pub attempts : MomentsRise is_before sort.attempts.now
@@ -24,7 +24,7 @@ is_settled_before sort leak next = runs.is_settled_before is_before sort.by_atte
 unfoldable pub runs_on : LeaksOfSort → ℕ → Bool
 runs_on sort place = runs.runs_on is_before sort.by_attempt sort.leaks.now sort.attempts.now sort.mends.now place
 
--- the closing of a tag that is open at the leak at a place
+-- the closing of the tag that is open at the leak at a place
 unfoldable pub closing_at : LeaksOfSort → ℕ → Option Moment
 closing_at sort place =
     option_and_then (closing_of is_before sort.by_attempt sort.leaks.now sort.attempts.now sort.mends.now) (slice_get sort.leaks.now place)
@@ -37,7 +37,7 @@ IsIn sort run leak = runs.IsInRun is_before sort.by_attempt sort.leaks.now sort.
 abbrev pub IsRunAt : LeaksOfSort → Run → ℕ → Type 0
 IsRunAt sort run place = (leak : Moment) → slice_get sort.leaks.now place ≡ Some leak → IsIn sort run leak
 
--- the tag that opens at a leak, and all tags of the sort
+-- the tag that opens at a leak, and all tags of the kind
 abbrev pub tag_of : LeaksOfSort → ℕ → ℕ → Moment → Option SealTag
 tag_of sort number day leak = tag_at number sort.by_attempt sort.leaks.now sort.attempts.now sort.mends.now day leak
 

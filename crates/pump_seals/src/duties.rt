@@ -16,7 +16,7 @@ use ldar_days::Day;
 use ldar_law::{EVENT_DAYS, Equipment, LISTED_DAYS};
 use std::alloc::AllocError;
 
-/// A moment's day, if it is at most another.
+/// The day of a moment, if it is at most `last`.
 fn by_day(last: Day, found: Option<Moment>) -> Option<Day>
     ensures value { result ≡ spec.by_day last found }
 {
@@ -32,14 +32,14 @@ fn by_day(last: Day, found: Option<Moment>) -> Option<Day>
     }
 }
 
-/// Whether a duty from a first day, by its number, to a due day belongs on the list of a day (our own rule).
+/// Whether a duty from a first day, given by its number, to a due day is on the list of a day (our own rule).
 fn is_listed(day: Day, first: u32, due: Day, unmet: bool) -> bool
     ensures value { result ≡ says_listed day first due unmet }
 {
     first <= day.number() && (day <= due || (unmet && day.number() <= due.number() + LISTED_DAYS))
 }
 
-/// A duty that is owed, if it is on the list.
+/// An owed duty, if it is on the list.
 fn duty(day: Day, cause: u8, first: u32, due: Day, met: Option<Day>) -> Option<SealDuty>
     ensures value { result ≡ spec.duty day cause first due true met }
 {
@@ -50,7 +50,7 @@ fn duty(day: Day, cause: u8, first: u32, due: Day, met: Option<Day>) -> Option<S
     }
 }
 
-/// How many moments are before a day, by its number.
+/// The number of moments before a day, which is given by its number.
 fn count_before(moments: &[Moment], first: u32) -> usize
     requires ordered { MomentsRise is_before moments.now }
     ensures within { result ≤ length moments.now }
@@ -59,7 +59,7 @@ fn count_before(moments: &[Moment], first: u32) -> usize
     moments.partition_point(|moment| moment.day.number() < first)
 }
 
-/// The first moment from a day on, by its number.
+/// The first moment on a day or later. The day is given by its number.
 fn first_from(moments: &[Moment], first: u32) -> Option<Moment>
     requires ordered { MomentsRise is_before moments.now }
     ensures value { result ≡ find (λ m. nat_le first m.day) moments.now }
@@ -83,7 +83,7 @@ fn last_of(week: u32) -> Day
     Day::at(7 * week - 2).plus_days(5)
 }
 
-/// The visual inspection of a week.
+/// The duty of a week: a visual inspection.
 fn weekly(
     item: &Equipment,
     switches: &[Mark],
@@ -105,7 +105,7 @@ fn weekly(
     duty(day, CAUSE_SEAL_WEEK, first, due, met)
 }
 
-/// Adds the weekly visual inspections.
+/// Adds the duties of the weeks up to a day. The only error is out of memory.
 pub fn put_weekly(
     duties: &mut Vec<SealDuty>,
     item: &Equipment,
@@ -124,7 +124,7 @@ pub fn put_weekly(
     Ok(())
 }
 
-/// What is owed after drips that are no leak.
+/// The duty after drips that are no leak.
 fn after_drips(answers: &[Moment], day: Day, drips: &Moment) -> Option<SealDuty>
     requires answers { MomentsRise is_before answers.now }
     ensures value { result ≡ spec.after_drips answers.now day drips.now }
@@ -134,7 +134,7 @@ fn after_drips(answers: &[Moment], day: Day, drips: &Moment) -> Option<SealDuty>
     duty(day, CAUSE_SEAL_DRIP, drips.day.number(), due, met)
 }
 
-/// Adds what is owed after drips that are no leak.
+/// Adds the duties after drips that are no leak. The only error is out of memory.
 pub fn put_after_drips(
     duties: &mut Vec<SealDuty>,
     answers: &[Moment],

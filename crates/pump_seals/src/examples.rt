@@ -1,4 +1,4 @@
-//! Worked examples of the definitions, as contracts of empty functions: each clause computes.
+//! Worked examples of the definitions: the contracts of empty functions, each clause proved by computing.
 #![tactic(auto, unfolding(list_words::specs::Ranges::until, crate::specs::Moments::is_before, crate::specs::Repairs::opens_tag, crate::specs::Repairs::closing_of, crate::specs::Seals::is_sealed, crate::specs::Seals::tags_of_sort, crate::specs::Seals::seal_tags, crate::specs::Seals::seal_duties))]
 
 ghost use Rattle.std.specs.Prelude.{◌≡◌, ◌∷◌, [], Some, None};
@@ -6,7 +6,7 @@ ghost use Rattle.pump_seals.specs.declared.row.SealWhat.TheVariants.{On, Off, Pr
 ghost use Rattle.pump_seals.specs.Samples.{pump, pump_until, read_at, leak_at, drips_at, dry_at, attempt_at, mark, sealed, tag, duty_of};
 ghost use Rattle.pump_seals.specs.Seals.{seal_tags, seal_duties};
 
-/// Of the rows that seal a pump or take the seal off, the latest of a day or before decides, for the whole day.
+/// The last row of a day or before that seals or unseals the pump decides for the whole day.
 pub fn sealed_days()
     ensures on { seal_tags pump [] (sealed ∷ mark Present 19_773 600 ∷ []) 19_774 ≡ tag 3 19_773 None None ∷ [] }
     ensures never { seal_tags pump [] (mark Present 19_773 600 ∷ []) 19_774 ≡ [] }
@@ -34,7 +34,7 @@ pub fn sensors()
         ≡ tag 3 19_772 None (Some 19_773) ∷ tag 3 19_773 None None ∷ [] }
 {}
 
-/// A counting reading of 2,000 ppm is a leak. One below settles it after an attempt, with no leak between the attempt and it.
+/// A counting reading of 2,000 ppm is a leak. A lower one settles it after an attempt, if no leak is between the attempt and it.
 pub fn readings()
     ensures below { seal_tags pump (read_at 19_760 0 1_999 ∷ []) (sealed ∷ []) 19_774 ≡ [] }
     ensures high { seal_tags pump (read_at 19_760 0 2_000 ∷ []) (sealed ∷ []) 19_774 ≡ tag 1 19_760 None None ∷ [] }
@@ -49,7 +49,7 @@ pub fn readings()
         ≡ tag 2 19_760 (Some 19_762) (Some 19_761) ∷ [] }
 {}
 
-/// Drips that are a leak are settled by a dry visual inspection, without an attempt. Two leaks of one minute open two tags.
+/// Drips that are a leak are settled by a dry visual inspection, without an attempt. Two leaks at the same minute open two tags.
 pub fn drip_leaks()
     ensures dry { seal_tags pump (leak_at 19_760 0 ∷ dry_at 19_760 1 ∷ []) (sealed ∷ []) 19_774 ≡ tag 2 19_760 None (Some 19_760) ∷ [] }
     ensures dry_at_once { seal_tags pump (leak_at 19_760 0 ∷ dry_at 19_760 0 ∷ []) (sealed ∷ []) 19_774 ≡ tag 2 19_760 None None ∷ [] }
@@ -79,7 +79,7 @@ pub fn drips()
     ensures unsealed { seal_duties pump (drips_at 19_753 0 ∷ []) (sealed ∷ mark Off 19_755 0 ∷ []) 19_755 ≡ [] }
 {}
 
-/// A visual inspection is due each week in which the pump is sealed and in service on Sunday, or on the day of the list.
+/// A visual inspection is due in each week in which the pump is sealed and in service on the Sunday, or on the day of the list.
 pub fn weeks()
     ensures weeks { seal_duties pump [] (sealed ∷ []) 19_774
         ≡ duty_of 1 19_757 None ∷ duty_of 1 19_764 None ∷ duty_of 1 19_771 None ∷ duty_of 1 19_778 None ∷ [] }

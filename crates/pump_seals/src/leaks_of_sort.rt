@@ -1,7 +1,7 @@
-//! The tags of one sort, by one walk from each leak to the next.
+//! The tags of one kind of leak, by one walk from each leak to the next.
 //!
-//! The leaks that are not settled in between are a run: a tag opens at the first leak of a run, and again at each other leak of
-//! the same moment, and all of them close when the last leak of the run is settled.
+//! Leaks that are not settled in between are a run. A tag opens at the first leak of a run, and at each other leak of the run
+//! at the same moment. All of them close when the last leak of the run is settled.
 
 ghost use Rattle.std.specs.Prelude.{◌≡◌, ◌<◌, ◌≤◌, ◌+◌, ◌++◌, false, true, not, OnOk, find, length, option_map, slice_get, Some};
 ghost use Rattle.std.specs.Option.{option_to_list};
@@ -15,10 +15,10 @@ use ldar_days::Day;
 use ldar_law::LISTED_DAYS;
 use std::alloc::AllocError;
 
-/// The leaks of one sort, the attempts, and what may settle leaks of the sort.
+/// The leaks of one kind, the attempts, and the mends: the moments that may settle such leaks. Each list is in order.
 #[derive(Clone, Copy)]
 pub struct LeaksOfSort<'a> {
-    /// A leak is settled only after an attempt.
+    /// Whether a leak is settled only after an attempt.
     pub by_attempt: bool,
     pub leaks: &'a [Moment],
     pub attempts: &'a [Moment],
@@ -29,11 +29,11 @@ pub struct LeaksOfSort<'a> {
 #[derive(Clone, Copy)]
 pub struct Run {
     pub first: Moment,
-    /// When its tag closes.
+    /// The moment at which its tags close.
     pub closed: Option<Moment>,
 }
 
-/// Adds what is given, if it is.
+/// Adds an item, if there is one. The only error is out of memory.
 pub fn put<T: Drop>(items: &mut Vec<T>, given: Option<T>) -> Result<(), AllocError>
     ensures pushed { OnOk result (items.new.items ≡ items.old.items ++ option_to_list given) }
 {
@@ -43,7 +43,7 @@ pub fn put<T: Drop>(items: &mut Vec<T>, given: Option<T>) -> Result<(), AllocErr
     Ok(())
 }
 
-/// How many moments are not after another one, found by halving.
+/// The number of moments that are not after `at`; by binary search.
 fn count_to(moments: &[Moment], at: &Moment) -> usize
     requires ordered { MomentsRise is_before moments.now }
     ensures within { result ≤ length moments.now }
@@ -52,7 +52,7 @@ fn count_to(moments: &[Moment], at: &Moment) -> usize
     moments.partition_point(|moment| !at.is_before(moment))
 }
 
-/// The first of some moments in order that is after another one.
+/// The first moment after another one. The moments are in order.
 pub fn first_after(moments: &[Moment], at: &Moment) -> Option<Moment>
     requires ordered { MomentsRise is_before moments.now }
     ensures value { result ≡ find (is_before at.now) moments.now }
@@ -60,7 +60,7 @@ pub fn first_after(moments: &[Moment], at: &Moment) -> Option<Moment>
     moments.get(count_to(moments, at)).copied()
 }
 
-/// The day of a moment.
+/// The day of a moment, if there is one.
 pub fn day_of(moment: &Option<Moment>) -> Option<Day>
     ensures value { result ≡ option_map (λ m. m.day) moment.now }
 {
@@ -70,7 +70,7 @@ pub fn day_of(moment: &Option<Moment>) -> Option<Day>
     }
 }
 
-/// Whether a tag that is closed or not is on the list of a day (our own rule).
+/// Whether a tag with this closing, if any, is on the list of a day (our own rule).
 fn is_shown(closed: &Option<Moment>, day: Day) -> bool
     ensures value { result ≡ law.is_shown day closed.now }
 {
@@ -81,7 +81,7 @@ fn is_shown(closed: &Option<Moment>, day: Day) -> bool
 }
 
 impl LeaksOfSort<'_> {
-    /// What settles a leak first, if no later leak prevents it.
+    /// The first mend that settles a leak, if no later leak prevents it.
     #[tactic(auto, unfolding(crate::specs::Runs::first_mend))]
     fn first_mend(&self, leak: &Moment) -> Option<Moment>
         requires ordered { spec.AreInOrder self.now }
@@ -105,7 +105,7 @@ impl LeaksOfSort<'_> {
         }
     }
 
-    /// Whether the leak at a place is followed by one before which it is not settled.
+    /// Whether there is a leak after the one at a place, and the one at the place is not settled before it.
     #[tactic(auto, unfolding(crate::specs::Walked::runs_on))]
     fn runs_on(&self, place: usize) -> bool
         requires ordered { spec.AreInOrder self.now }
@@ -119,7 +119,7 @@ impl LeaksOfSort<'_> {
         !self.is_settled_before(&self.leaks[place], &self.leaks[place + 1])
     }
 
-    /// When a tag closes that is open at the leak at a place: when the last leak of its run is settled.
+    /// The moment at which a tag that is open at the leak at a place closes: when the last leak of its run is settled.
     fn closing_from(&self, place: usize) -> Option<Moment>
         requires ordered { spec.AreInOrder self.now }
         requires in_range { place < length self.now.leaks.now }
@@ -144,7 +144,7 @@ impl LeaksOfSort<'_> {
         }
     }
 
-    /// The run of the leak after a place, by the run of the one at the place.
+    /// The run of the leak after a place, from the run of the leak at the place.
     fn run_after(&self, run: &Run, place: usize) -> Run
         requires ordered { spec.AreInOrder self.now }
         requires in_range { place < length self.now.leaks.now }
@@ -163,7 +163,7 @@ impl LeaksOfSort<'_> {
         }
     }
 
-    /// The tag that opens at a leak of a run, if one does and it is on the list of a day.
+    /// The tag that opens at a leak of a run, if there is one and it is on the list of a day.
     fn tag_of(&self, sort: u8, run: &Run, leak: &Moment, day: Day) -> Option<SealTag>
         requires ordered { spec.AreInOrder self.now }
         requires run { spec.IsIn self.now run.now leak.now }
@@ -180,7 +180,7 @@ impl LeaksOfSort<'_> {
         })
     }
 
-    /// Adds the tags of the sort that are on the list of a day.
+    /// Adds the tags of this kind of leak that are on the list of a day. The only error is out of memory.
     #[tactic(auto, unfolding(crate::specs::Seals::tags_of_sort))]
     pub fn put_tags(&self, tags: &mut Vec<SealTag>, sort: u8, day: Day) -> Result<(), AllocError>
         requires ordered { spec.AreInOrder self.now }

@@ -1,5 +1,5 @@
-//! What the rows of a file say of one component. Its rows are found by halving, so that those of other components are not
-//! gone over.
+//! The marks of one component, from the rows of a file. Its rows are found by binary search, so the rows of other components are
+//! not looked at.
 
 ghost use Rattle.std.specs.Prelude.{◌≡◌, ◌≤◌, ℕ, true, false, nat_lt, IfOk, filter, filter_map, length};
 ghost use Rattle.std.specs.List.Sorted.{IsPartitionPoint};
@@ -11,7 +11,7 @@ use crate::row::{Mark, SealRow};
 use ldar_days::Day;
 use std::alloc::{AllocError, Global};
 
-/// How many rows are of components below a number.
+/// The number of rows with a component below this number.
 fn count_below(rows: &[SealRow], component: u32) -> usize
     requires ordered { MomentsRise row_before rows.now }
     ensures within { result ≤ length rows.now }
@@ -20,7 +20,7 @@ fn count_below(rows: &[SealRow], component: u32) -> usize
     rows.partition_point(|row| u32::from(row.component) < component)
 }
 
-/// The rows from those of a component on.
+/// The rows without those of lower components.
 fn rows_from(rows: &[SealRow], component: u16) -> &[SealRow]
     requires ordered { MomentsRise row_before rows.now }
     ensures value { (day : ℕ) → filter_map (spec.mark_if component day) result.now ≡ filter_map (spec.mark_if component day) rows.now }
@@ -29,7 +29,7 @@ fn rows_from(rows: &[SealRow], component: u16) -> &[SealRow]
     &rows[count_below(rows, u32::from(component))..]
 }
 
-/// The rows up to those of a component.
+/// The rows without those of higher components.
 fn rows_to(rows: &[SealRow], component: u16) -> &[SealRow]
     requires ordered { MomentsRise row_before rows.now }
     ensures value { (day : ℕ) → filter_map (spec.mark_if component day) result.now ≡ filter_map (spec.mark_if component day) rows.now }
@@ -37,7 +37,7 @@ fn rows_to(rows: &[SealRow], component: u16) -> &[SealRow]
     &rows[..count_below(rows, u32::from(component) + 1)]
 }
 
-/// What a row says, if it is of the component, and of a day up to one.
+/// The mark of a row, if the row is of the component and of a day up to `day`.
 fn mark_if(row: &SealRow, component: u16, day: Day) -> Option<Mark>
     ensures value { result ≡ spec.mark_if component day row.now }
 {
@@ -53,7 +53,7 @@ fn mark_if(row: &SealRow, component: u16, day: Day) -> Option<Mark>
     })
 }
 
-/// What rows say of a component up to a day.
+/// The marks of a component up to a day, from some rows. The only error is out of memory.
 fn marks_among(
     alloc: Global,
     rows: &[SealRow],
@@ -67,7 +67,7 @@ fn marks_among(
         .collect(alloc)
 }
 
-/// What the rows of a file, in order, say of a component up to a day. The only error is out of memory.
+/// The marks of a component up to a day, from the rows of a file in order. The only error is out of memory.
 #[tactic(auto, unfolding(crate::specs::Signs::marks_of))]
 pub fn marks_of(
     alloc: Global,
@@ -83,7 +83,7 @@ pub fn marks_of(
     marks_among(alloc, rows, component, day)
 }
 
-/// The mark, if it seals the pump or takes the seal off.
+/// The mark, if it seals the pump or unseals it.
 fn switch_if(mark: &Mark) -> Option<Mark>
     ensures value { result ≡ spec.switch_if mark.now }
 {
@@ -94,7 +94,7 @@ fn switch_if(mark: &Mark) -> Option<Mark>
     }
 }
 
-/// The moment of a mark, if its sensor indicates a failure.
+/// The moment of a mark, if the sensor indicates a failure.
 fn present_if(mark: &Mark) -> Option<Moment>
     ensures value { result ≡ spec.present_if mark.now }
 {
@@ -105,7 +105,7 @@ fn present_if(mark: &Mark) -> Option<Moment>
     }
 }
 
-/// The moment of a mark, if its sensor's failure is gone.
+/// The moment of a mark, if the sensor indicates the end of a failure.
 fn gone_if(mark: &Mark) -> Option<Moment>
     ensures value { result ≡ spec.gone_if mark.now }
 {
@@ -116,7 +116,7 @@ fn gone_if(mark: &Mark) -> Option<Moment>
     }
 }
 
-/// The marks that seal the pump or take the seal off.
+/// The marks that seal the pump or unseal it. The only error is out of memory.
 pub fn switches_of(alloc: Global, marks: &[Mark]) -> Result<Vec<Mark>, AllocError>
     ensures value { IfOk result (λ switches. switches.items ≡ spec.switches_of marks.now) }
 {
@@ -126,7 +126,7 @@ pub fn switches_of(alloc: Global, marks: &[Mark]) -> Result<Vec<Mark>, AllocErro
         .collect(alloc)
 }
 
-/// The moments at which the sensor indicates a failure.
+/// The moments at which the sensor indicates a failure. The only error is out of memory.
 pub fn failures_of(alloc: Global, marks: &[Mark]) -> Result<Vec<Moment>, AllocError>
     ensures value { IfOk result (λ moments. moments.items ≡ filter_map spec.present_if marks.now) }
 {
@@ -136,7 +136,7 @@ pub fn failures_of(alloc: Global, marks: &[Mark]) -> Result<Vec<Moment>, AllocEr
         .collect(alloc)
 }
 
-/// The moments at which its failure is gone.
+/// The moments at which the sensor indicates the end of a failure. The only error is out of memory.
 pub fn ends_of(alloc: Global, marks: &[Mark]) -> Result<Vec<Moment>, AllocError>
     ensures value { IfOk result (λ moments. moments.items ≡ filter_map spec.gone_if marks.now) }
 {

@@ -3,7 +3,7 @@ ghost use Rattle.pump_seals.specs.Moments as spec;
 
 use ldar_days::Day;
 
-/// A day and a minute of it, by which the rows and events of a pump are compared.
+/// A day and a minute of the day, by which the rows and events of a pump are compared.
 #[derive(Clone, Copy, Debug, PartialEq, Eq)]
 pub struct Moment {
     pub day: Day,
@@ -11,7 +11,7 @@ pub struct Moment {
 }
 
 impl Moment {
-    /// Whether it is before another: on an earlier day, or at an earlier minute of the same day.
+    /// Whether it is before another one: on an earlier day, or at an earlier minute of the same day.
     #[tactic(auto, unfolding(crate::specs::Moments::is_before))]
     pub fn is_before(&self, other: &Moment) -> bool
         ensures value { result ≡ spec.is_before self.now other.now }

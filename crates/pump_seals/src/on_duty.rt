@@ -11,7 +11,7 @@ use ldar_days::Day;
 use ldar_law::Equipment;
 use std::alloc::{AllocError, Global};
 
-/// How many marks are of days up to one, found by halving.
+/// The number of marks with this day or an earlier one; by binary search.
 fn count_to(switches: &[Mark], day: Day) -> usize
     requires ordered { MomentsRise mark_before switches.now }
     ensures within { result ≤ length switches.now }
@@ -20,7 +20,7 @@ fn count_to(switches: &[Mark], day: Day) -> usize
     switches.partition_point(|mark| mark.at.day <= day)
 }
 
-/// Whether the latest mark of a day or before seals the pump, by the marks that seal it or take the seal off.
+/// Whether the last mark of a day or before seals the pump, from the marks that seal or unseal it.
 #[tactic(auto, unfolding(crate::specs::Seals::is_sealed))]
 fn is_sealed(switches: &[Mark], day: Day) -> bool
     requires ordered { MomentsRise mark_before switches.now }
@@ -41,7 +41,7 @@ pub fn is_on_duty(item: &Equipment, switches: &[Mark], day: Day) -> bool
     item.is_in_service(day) && is_sealed(switches, day)
 }
 
-/// The moments on whose day the pump is sealed and in service.
+/// The moments on days on which the pump is sealed and in service. The only error is out of memory.
 pub fn on_duty(
     alloc: Global,
     item: &Equipment,

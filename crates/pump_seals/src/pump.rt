@@ -1,4 +1,4 @@
-//! The lists of one pump.
+//! The duties and tags of one pump.
 
 ghost use Rattle.std.specs.Prelude.{◌≡◌, ◌++◌, IfOk, OnOk};
 ghost use Rattle.pump_seals.specs.Pumps.{IsReady};
@@ -16,20 +16,20 @@ use ldar_days::Day;
 use ldar_law::{Equipment, Event};
 use std::alloc::{AllocError, Global};
 
-/// A pump, its events, and what the rows of a file say of it.
+/// A pump, its events, and its marks from the rows of a file.
 #[derive(Clone, Copy)]
 pub struct Pump<'a> {
     pub item: &'a Equipment,
     pub events: &'a [Event],
     pub marks: &'a [Mark],
-    /// The marks that seal the pump or take the seal off.
+    /// The marks that seal the pump or unseal it.
     pub switches: &'a [Mark],
     /// The day of the lists.
     pub day: Day,
 }
 
 impl Pump<'_> {
-    /// Adds the tags of a sort whose leaks, and what settles them, are events.
+    /// Adds the tags of a kind of leak whose leaks and mends are events. The only error is out of memory.
     fn put_event_tags(
         &self,
         alloc: Global,
@@ -55,7 +55,7 @@ impl Pump<'_> {
         sorted.put_tags(tags, sort, self.day)
     }
 
-    /// Adds the tags of the barrier sensor.
+    /// Adds the tags of the barrier sensor. The only error is out of memory.
     fn put_sensor_tags(&self, alloc: Global, tags: &mut Vec<SealTag>) -> Result<(), AllocError>
         requires ready { IsReady self.now }
         ensures put { OnOk result (tags.new.items ≡ tags.old.items ++ law.sensor_tags self.now.item.now self.now.events.now self.now.marks.now self.now.day) }
@@ -73,7 +73,7 @@ impl Pump<'_> {
         sorted.put_tags(tags, SORT_SENSOR, self.day)
     }
 
-    /// All tags, by sort and detection.
+    /// All tags, by kind and detection. The only error is out of memory.
     #[tactic(auto, unfolding(crate::specs::Seals::seal_tags))]
     pub fn tags(&self, alloc: Global) -> Result<Vec<SealTag>, AllocError>
         requires ready { IsReady self.now }
@@ -100,7 +100,7 @@ impl Pump<'_> {
         Ok(tags)
     }
 
-    /// Adds the weekly visual inspections.
+    /// Adds the weekly visual inspections. The only error is out of memory.
     fn put_week_duties(&self, alloc: Global, duties: &mut Vec<SealDuty>) -> Result<(), AllocError>
         requires ready { IsReady self.now }
         ensures put { OnOk result (duties.new.items ≡ duties.old.items ++ law.week_duties self.now.item.now self.now.events.now self.now.marks.now self.now.day) }
@@ -109,7 +109,7 @@ impl Pump<'_> {
         put_weekly(duties, self.item, self.switches, &looks, self.day)
     }
 
-    /// Adds what is owed after drips that are no leak.
+    /// Adds the duties after drips that are no leak. The only error is out of memory.
     fn put_drip_duties(&self, alloc: Global, duties: &mut Vec<SealDuty>) -> Result<(), AllocError>
         requires ready { IsReady self.now }
         ensures put { OnOk result (duties.new.items ≡ duties.old.items ++ law.drip_duties self.now.item.now self.now.events.now self.now.marks.now self.now.day) }
@@ -120,7 +120,7 @@ impl Pump<'_> {
         put_after_drips(duties, &answers, self.day, &drips)
     }
 
-    /// All duties, by cause, due day and moment.
+    /// All duties, by cause, due day and moment. The only error is out of memory.
     #[tactic(auto, unfolding(crate::specs::Seals::seal_duties))]
     pub fn duties(&self, alloc: Global) -> Result<Vec<SealDuty>, AllocError>
         requires ready { IsReady self.now }

@@ -6,16 +6,16 @@ ghost use Rattle.pump_seals.specs.Signs as spec;
 use crate::moment::Moment;
 use ldar_days::Day;
 
-/// What a row of a seal file says of a pump.
+/// What a row of a seal file reports about a pump.
 #[derive(Clone, Copy, Debug, PartialEq, Eq)]
 pub enum SealWhat {
     /// The pump is sealed from this day on.
     On,
-    /// It is sealed no longer.
+    /// The pump is no longer sealed.
     Off,
     /// The barrier sensor indicates a failure.
     Present,
-    /// The failure is gone.
+    /// The failure has ended.
     Gone,
 }
 
@@ -30,7 +30,7 @@ pub struct SealRow {
     pub minute: u16,
 }
 
-/// What a row says of its component, and when.
+/// What a row reports about its component, and when.
 #[derive(Clone, Copy, Debug, PartialEq, Eq)]
 pub struct Mark {
     pub what: SealWhat,
@@ -38,7 +38,7 @@ pub struct Mark {
 }
 
 impl SealWhat {
-    /// Whether the row seals a pump or takes the seal off.
+    /// Whether the row seals a pump or unseals it.
     pub fn is_seal(self) -> bool
         ensures value { result ≡ spec.is_seal self }
     {
@@ -74,7 +74,7 @@ impl SealWhat {
         }
     }
 
-    /// Whether a sensor's failure is gone.
+    /// Whether a sensor indicates the end of a failure.
     pub fn is_gone(self) -> bool
         ensures value { result ≡ spec.is_gone self }
     {

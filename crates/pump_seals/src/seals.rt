@@ -11,13 +11,13 @@ use ldar_days::Day;
 use ldar_law::{Equipment, Event, Items};
 use std::alloc::{AllocError, Global};
 
-/// Something that has to be done at a pump with dual mechanical seals.
+/// Something that must be done at a pump with dual mechanical seals.
 #[derive(Clone, Copy, Debug, PartialEq, Eq)]
 pub struct SealDuty {
     /// `CAUSE_SEAL_WEEK` or `CAUSE_SEAL_DRIP`.
     pub cause: u8,
     pub due: Day,
-    /// The day of what met it.
+    /// The day on which it was met.
     pub met: Option<Day>,
 }
 
@@ -32,16 +32,16 @@ pub struct SealTag {
     pub closed: Option<Day>,
 }
 
-/// The duties and tags of a pump with dual mechanical seals, as the lists of a day have them.
+/// The duties and tags of a pump with dual mechanical seals that are on the lists of a day.
 #[derive(Drop)]
 pub struct Seals {
     pub duties: Items<SealDuty>,
     pub tags: Items<SealTag>,
 }
 
-/// The duties and tags of a pump with dual mechanical seals on a day, by its events in key order and the rows of a file in
-/// order. Events are of days up to that day; rows of other components and of later days count for nothing. The only error is out
-/// of memory.
+/// The duties and tags of a pump with dual mechanical seals on a day (40 CFR 60.482-2a(d)). The events are in key order and of
+/// days up to that day; the rows of the file are in order. Rows of other components and of later days have no effect. The only
+/// error is out of memory.
 pub fn seals_of(
     alloc: Global,
     equipment: &Equipment,

@@ -1,4 +1,4 @@
-//! What is looked for among the events of a pump.
+//! Signs: the kinds of events that decide on a pump's seal leaks and duties.
 
 ghost use Rattle.std.specs.Prelude.{◌≡◌, IfOk};
 ghost use Rattle.pump_seals.specs.Signs as spec;
@@ -8,12 +8,12 @@ use crate::numbers::SEAL_LIMIT;
 use ldar_law::{Event, Happening};
 use std::alloc::{AllocError, Global};
 
-/// What is looked for among events.
+/// A kind of event.
 #[derive(Clone, Copy, Debug, PartialEq, Eq)]
 pub enum Sign {
     /// A counting reading that is a seal leak.
     HighReading,
-    /// A counting reading that is none.
+    /// A counting reading that is no seal leak.
     LowReading,
     /// A visual inspection that is a leak.
     DripLeak,
@@ -54,7 +54,7 @@ fn is_drip_leak(what: &Happening) -> bool
 }
 
 impl Sign {
-    /// Whether what is looked for happened.
+    /// Whether the event is of this kind.
     fn is_in(self, what: &Happening) -> bool
         ensures value { result ≡ spec.is_sign self what.now }
     {
@@ -70,7 +70,7 @@ impl Sign {
         }
     }
 
-    /// The moment of an event, if it is what is looked for.
+    /// The moment of an event, if the event is of this kind.
     fn moment_if(self, event: &Event) -> Option<Moment>
         ensures value { result ≡ spec.moment_if self event.now }
     {
@@ -83,7 +83,7 @@ impl Sign {
         })
     }
 
-    /// The moments of the events that are looked for, in order. The only error is out of memory.
+    /// The moments of the events of this kind, in order. The only error is out of memory.
     pub fn moments_of(self, alloc: Global, events: &[Event]) -> Result<Vec<Moment>, AllocError>
         ensures value { IfOk result (λ moments. moments.items ≡ spec.moments_of self events.now) }
     {

@@ -1,4 +1,4 @@
--- The keys of a table and the elements of an array, as the code holds them.
+-- The keys of a table and the elements of an array, as the code stores them.
 use Rattle.std.proofs.Common.{◌≡◌, ℕ, Bool, ◌&&◌, ◌||◌, ◌==◌, not, is_some, List, [], ◌∷◌, length, map, refl, sym, ap, arith, suc, String, string_bytes}
 use Rattle.std.proofs.lemmas.Bool.{ne_eqb}
 use Rattle.std.specs.List.{list_all, list_any}
@@ -14,7 +14,7 @@ pub keys_of-members_view : (es : List (String Global × Value)) → keys_of (mem
 keys_of-members_view [] = refl
 keys_of-members_view (e ∷ es) = ap (λ (l : List (List ℕ)). string_bytes e.0 ∷ l) (keys_of-members_view es)
 
--- whether an element of a mapped list passes
+-- whether some element of a mapped list passes
 pub list_any-map : {X Y : Type 0} (f : X → Y) (p : Y → Bool) (xs : List X) → list_any p (map f xs) ≡ list_any (λ x. p (f x)) xs
 list_any-map f p [] = refl
 list_any-map f p (x ∷ xs) = ap (λ b. p (f x) || b) (list_any-map f p xs)
@@ -24,7 +24,7 @@ pub are_tables-items_view : (vs : List Value) → are_tables (items_view vs) ≡
 are_tables-items_view [] = refl
 are_tables-items_view (v ∷ vs) = ap (λ (b : Bool). is_some (as_table (view v)) && b) (are_tables-items_view vs)
 
--- whether there is an element
+-- whether there is at least one element
 pub has_element-items_view : (vs : List Value) → has_element (items_view vs) ≡ not (length vs == 0)
 has_element-items_view [] = refl
 has_element-items_view (v ∷ vs) = sym (ap not (ne_eqb (suc (length vs)) 0 (λ is. omega arith)))

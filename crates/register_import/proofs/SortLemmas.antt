@@ -1,4 +1,4 @@
--- Rows in turn: difficult-to-monitor components after all others.
+-- Rows in order of import: difficult-to-monitor components after all others.
 use Rattle.std.proofs.Common.{◌≡◌, ℕ, ◌+◌, Bool, true, false, not, cond, List, [], ◌∷◌, ◌++◌}
 use Rattle.std.proofs.Common.{length, filter, Some, None, refl, sym, ap, ap₂, ◌∙◌, append_assoc, arith, Ok, Err}
 use Rattle.std.proofs.lemmas.List.{append-nil, length-append}
@@ -8,11 +8,11 @@ use Rattle.register_import.specs.ComponentRows.{component_of, is_difficult}
 use Rattle.register_import.specs.Components.{in_turn, rows_from}
 use Rattle.register_import.specs.Rows.{Rows, behind}
 
--- not difficult to monitor
+-- the fact does not enter a difficult-to-monitor component
 abbrev pub is_other : Stated → Bool
 is_other fact = not (is_difficult fact)
 
--- rows after other and difficult facts that were read before
+-- the facts of rows, sorted, after other and difficult facts that were read before
 abbrev pub sorted_behind : List Stated → List Stated → Rows → Rows
 sorted_behind others difficult (Ok facts) = Ok ((others ++ filter is_other facts) ++ (difficult ++ filter is_difficult facts))
 sorted_behind others difficult (Err at) = Err at
@@ -22,7 +22,7 @@ pub sorted_behind-none : (rows : Rows) → sorted_behind [] [] rows ≡ in_turn 
 sorted_behind-none (Ok facts) = refl
 sorted_behind-none (Err at) = refl
 
--- a fact that passes is appended to those before it
+-- one more fact, appended to those before it if it passes
 filter-behind : (p : Stated → Bool) (front : List Stated) (fact : Stated) (facts : List Stated)
     → front ++ filter p (fact ∷ facts) ≡ (front ++ filter p (fact ∷ [])) ++ filter p facts
 filter-behind p front fact facts =
@@ -38,7 +38,7 @@ sorted_behind-push others difficult more_others more_difficult fact (Ok facts) t
     rw (to_others, to_difficult)
     (ap₂ (λ (a b : List Stated). Ok (a ++ b)) (filter-behind is_other others fact facts) (filter-behind is_difficult difficult fact facts))
 
--- nothing was read before the rows after the header
+-- before the rows after the header, nothing was read
 pub first_rows : (at : ℕ) (rows all : List (List (List ℕ))) → at ≡ 2 → rows ≡ all → sorted_behind [] [] (rows_from at rows) ≡ in_turn (rows_from 2 all)
 first_rows at rows all second same = rw (second, same) (sorted_behind-none (rows_from 2 all))
 
@@ -67,7 +67,7 @@ is_one_more : (difficult : Bool) (fact : Stated) (others later : List Stated)
 is_one_more true fact others later = omega (arith, length-append others [], length-append later (fact ∷ []))
 is_one_more false fact others later = omega (arith, length-append others (fact ∷ []), length-append later [])
 
--- .. so that both together have one more
+-- both lists together have one more fact
 pub one_more : (others difficult more_others more_difficult : List Stated) (fact : Stated)
     → more_others ≡ others ++ filter is_other (fact ∷ []) → more_difficult ≡ difficult ++ filter is_difficult (fact ∷ [])
     → length more_others + length more_difficult ≡ length others + length difficult + 1

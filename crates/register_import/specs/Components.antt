@@ -12,7 +12,7 @@ abbrev pub rows_from : ℕ → List (List (List ℕ)) → Rows
 rows_from at [] = Ok []
 rows_from at (row ∷ rows) = row_then at (component_of row) (rows_from (at + 1) rows)
 
--- the rows after the header, of which there is at least one
+-- the rows after the header; there must be at least one
 abbrev pub some_rows : List (List (List ℕ)) → Rows
 some_rows [] = Err 2
 some_rows (row ∷ rows) = rows_from 2 (row ∷ rows)

@@ -22,7 +22,7 @@ is_among keys key = list_any (λ k. pointwise nat_eq k key) keys
 abbrev pub has_only : List (List ℕ) → Members → Bool
 has_only keys members = list_all (is_among keys) (keys_of members)
 
--- ---- values, each of which may be absent
+-- ---- values, which may be absent
 
 -- the number, if it is that of a process unit
 abbrev pub in_range : ℤ → Option ℕ
@@ -35,7 +35,7 @@ unit_number d = do
   n ← d >>= as_integer
   in_range n
 
--- a truth value
+-- a Boolean
 unfoldable pub flag : Option Data → Option Bool
 flag d = d >>= as_bool
 

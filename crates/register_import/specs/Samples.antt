@@ -18,11 +18,11 @@ abbrev pub valve_row : List (List ℕ)
 valve_row =
     codes "1" ∷ codes "1" ∷ codes "valve" ∷ codes "gas" ∷ codes "none" ∷ codes "0" ∷ codes "1" ∷ codes "0" ∷ codes "0" ∷ codes "2020-01-15" ∷ []
 
--- .. with another field at a place (from 0)
+-- the record with another field at a place (from 0)
 abbrev pub with_field : ℕ → List ℕ → List (List ℕ)
 with_field place field = take place valve_row ++ field ∷ drop (place + 1) valve_row
 
--- .. with this designation and plan
+-- the record with this designation and plan
 abbrev pub designated : List ℕ → List ℕ → List (List ℕ)
 designated designation plan = take 4 valve_row ++ designation ∷ plan ∷ drop 6 valve_row
 
@@ -46,10 +46,10 @@ table_of name number older startup =
 abbrev pub crude_members : Members
 crude_members = table_of (string (codes "CRUDE")) (integer (pos 1)) (boolean false) (string (codes "2020-01-15"))
 
--- .. as an element
+-- process unit 1 as an element
 abbrev pub crude_row : Data
 crude_row = table crude_members
 
--- .. and its fact
+-- the fact of process unit 1
 abbrev pub crude : Stated
 crude = record { day = january_15; minute = 0; body = UnitFact 1 false (codes "CRUDE") }

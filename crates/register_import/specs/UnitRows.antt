@@ -6,7 +6,7 @@ use Rattle.fact_kinds.specs.Stated.{Stated}
 use Rattle.csv_rows.specs.Fields.{◌>>=◌}
 use Rattle.register_import.specs.Members.{has_only, unit_number, name, day, flag}
 
--- the keys of an element, all of which must be present
+-- the keys of an element; all of them must be present
 abbrev pub unit_keys : List (List ℕ)
 unit_keys = codes "number" ∷ codes "name" ∷ codes "startup" ∷ codes "older" ∷ []
 

@@ -15,8 +15,8 @@ use std::alloc::Global;
 
 /// The batches of a file of components: CSV, with a header that names the ten columns. The batches are of handheld 0,
 /// numbered from `number` on, with at most 512 facts each. Difficult-to-monitor components come after all others, so
-/// that their share of a unit's valves (40 CFR 60.482-7a(h)(2)(ii)) is judged when the others are known. A bad row is
-/// reported by its number among the records, from 1 for the header; only the first one is reported.
+/// that their share of a unit's valves (40 CFR 60.482-7a(h)(2)(ii)) is judged when the others are known. The errors are the
+/// first bad row, by its number among the records from 1 for the header, and out of memory.
 pub fn components_of(alloc: Global, text: &[u8], number: u32) -> Result<Vec<Batch>, ImportError>
     requires in_range { number ≤ LAST_NUMBER }
     requires fits { length text.now ≤ LONGEST_TEXT }
@@ -98,7 +98,7 @@ fn rows_of(
     Ok(rows)
 }
 
-// The facts of rows, in the order of the file.
+// The facts of rows: difficult-to-monitor components and all others, each list in the order of the file.
 #[derive(Drop)]
 struct Sorted {
     others: Vec<Fact>,

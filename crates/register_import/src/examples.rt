@@ -1,4 +1,4 @@
-//! Worked examples of the definitions, as contracts of empty functions: each clause computes.
+//! Worked examples of the definitions: the contracts of empty functions, each clause proved by computing.
 #![tactic(auto, unfolding(csv::specs::Records::field_at, ldar_days::specs::Calendar::first_day, ldar_days::specs::Calendar::month_of, ldar_days::specs::Calendar::month_length, ldar_days::specs::Texts::day_of, csv_rows::specs::Fields::number, crate::specs::Fields::flag, crate::specs::Fields::kind, crate::specs::Fields::service, crate::specs::Fields::designation, crate::specs::Fields::class, csv_rows::specs::Fields::day, crate::specs::ComponentRows::component_of, crate::specs::Members::unit_number, crate::specs::Members::flag, crate::specs::Members::day, crate::specs::Members::name, crate::specs::UnitRows::unit_of, crate::specs::Units::elements_of))]
 
 ghost use Rattle.std.specs.Prelude.{◌≡◌, ◌++◌, ◌∷◌, [], Err, None, Ok, Some, codes, false, length, map, negsuc, pos, replicate, take, true};
@@ -33,7 +33,7 @@ pub fn numbers()
     ensures month_4 { component_of (with_field 6 (codes "4")) ≡ None }
 {}
 
-/// Words are in small letters, with nothing before or after them.
+/// Words are in lower case, with nothing before or after them.
 pub fn words()
     ensures kind { component_of (with_field 2 (codes "tank")) ≡ None }
     ensures letters { component_of (with_field 2 (codes "Valve")) ≡ None }

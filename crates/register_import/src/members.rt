@@ -16,7 +16,7 @@ pub(crate) fn has_only(table: &Table, keys: &[&str]) -> bool
     are_among(table, keys)
 }
 
-// The same, over the table's entries.
+// The same test, over the table's entries.
 fn are_among(table: &Table, keys: &[&str]) -> bool
     ensures { result ≡ list_all (λ e. list_any (λ k. pointwise nat_eq k.now (string_bytes e.0)) keys.now) table.now.entries }
 {
@@ -43,7 +43,7 @@ pub(crate) fn unit_number(value: Option<&Value>) -> Option<u8>
     }
 }
 
-/// A truth value.
+/// A Boolean.
 #[tactic(auto, unfolding(crate::specs::Members::flag))]
 pub(crate) fn flag(value: Option<&Value>) -> Option<bool>
     ensures value { result ≡ spec.flag (option_map (λ v. view v.now) value.entry) }

@@ -15,8 +15,8 @@ use std::alloc::Global;
 use toml::{Table, Value};
 
 /// The batches of a file of process units: TOML, with an array of tables `unit`. The batches are of handheld 0, numbered
-/// from `number` on, with at most 512 facts each, in the order of the file. A bad row is reported by the number of its
-/// element, from 1, or as 0 if the text is not such an array; only the first one is reported.
+/// from `number` on, with at most 512 facts each, in the order of the file. The errors are the first bad row, by the number of
+/// its element from 1 or as 0 if the text is not such an array, and out of memory.
 pub fn units_of(alloc: Global, text: &[u8], number: u32) -> Result<Vec<Batch>, ImportError>
     requires in_range { number ≤ LAST_NUMBER }
     requires fits { length text.now ≤ LONGEST_TEXT }

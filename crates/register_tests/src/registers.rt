@@ -18,7 +18,7 @@ fn register_of(alloc: Global, entries: &[(Key, Fact)]) -> Result<Register, Memor
     Ok(register)
 }
 
-/// A register with room for three entries, of which the first two are added; `None` if they are not separate entries.
+/// A register with room for three entries, with the first two added; `None` if they are not separate entries.
 fn two_of_three(alloc: Global, entries: &[(Key, Fact); 3]) -> Result<Option<Register>, Memory> {
     let [first, second, third] = *entries;
     let mut register = Register::new(alloc);

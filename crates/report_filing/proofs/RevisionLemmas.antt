@@ -45,7 +45,7 @@ numbered_put all next numbered is unit half = elim (cases_Bool (is_filed_for uni
 
 -- ---- the last revision
 
--- the number after that of the last report, or another one if there is none
+-- the number after that of the last report, or another one without a last report
 abbrev pub after : ℕ → Option Filed → ℕ
 after number None = number
 after number (Some last) = last.revision + 1
@@ -81,7 +81,7 @@ follows_after : (report : Report) (revision : ℕ) (last : Option Filed) → Fol
 follows_after report revision None follows = follows
 follows_after report revision (Some last) follows = follows.1
 
--- it is the next revision of its unit and half
+-- the revision that follows the last one is the next of its unit and half
 pub told_next : (report : Report) (revision : ℕ) (last : Option Filed) → Follows report revision last
     → (told : Option (List Filed)) → Told told (λ old. last ≡ latest_of report.unit report.half old) → Told told AreNumbered
     → Told told (IsNext (filed_as revision report))

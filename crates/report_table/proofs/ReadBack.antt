@@ -1,4 +1,4 @@
--- Bytes at a place in others, taken apart into the pieces of which they consist.
+-- Bytes at a place in others, split into the pieces that they consist of.
 use Rattle.std.proofs.Common.{◌≡◌, ℕ, ◌+◌, ◌*◌, ◌/◌, ◌%◌, ◌^◌, ◌<◌, ◌≤◌, List, [], ◌∷◌, ◌++◌, zero, suc, take, drop, length, get_or, Option}
 use Rattle.std.proofs.Common.{Some, None, IfSome, is_none, true, false, refl, sym, ap, ◌∙◌, take-take, take_at, drop_at, drop-drop, arith}
 use Rattle.std.proofs.lemmas.List.{drop_more, drop-take, length-append}
@@ -205,7 +205,7 @@ months_long given bytes are is = ap length is ∙ pieces_long (big_endian 4) 4 (
 
 -- ---- what is read back is equal
 
--- the item, or another one if there is none
+-- the item of an option, or another one for None
 abbrev item_or : {X : Type 0} → X → Option X → X
 item_or other None = other
 item_or other (Some item) = item

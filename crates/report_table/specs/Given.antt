@@ -18,12 +18,12 @@ pub record ReadsAs (kept : Row) (found : FiledRow) : Type 0 where
   pub delays : column kept 3 ≡ Blob found.delays.items
   pub stops : column kept 4 ≡ Blob found.stops.items
 
--- the row that was found is the last of these, or there is none
+-- the row that was found is the last of these; if none was found, there are no rows
 abbrev pub IsFoundLast : List KeptRow → Option FiledRow → Type 0
 IsFoundLast rows None = rows ≡ []
 IsFoundLast rows (Some row) = IsLast rows (kept_as row)
 
--- the row that was found is one of these, or there is none
+-- the row that was found is one of these; if none was found, there are no rows
 abbrev pub IsFoundOne : List KeptRow → Option FiledRow → Type 0
 IsFoundOne rows None = rows ≡ []
 IsFoundOne rows (Some row) = IsAmong (kept_as row) rows

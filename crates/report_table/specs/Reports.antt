@@ -58,7 +58,7 @@ pub record CanBeKept (filed : Filed) : Type 0 where
   pub day : IsDay filed.day
   pub cells : AreCells filed.cells
 
--- it is read back, unless it ran out of memory
+-- the given value is read back, unless it ran out of memory
 abbrev pub IsReadBack : {X : Type 0} → Result X FilingFault → X → Type 0
 IsReadBack result given = (result ≡ Ok given) ⊎ (result ≡ Err Memory)
 

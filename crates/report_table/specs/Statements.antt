@@ -59,13 +59,13 @@ pub record IsLast (rows : List KeptRow) (row : KeptRow) : Type 0 where
   pub among : IsAmong row rows
   pub last : AllByRecursion (λ other. other.revision ≤ row.revision) rows
 
--- the result of a select of the last of these rows; empty if there is none
+-- the result of a select of the last of these rows; empty if there are no rows
 abbrev pub ShowsLast : List KeptRow → List Row → Type 0
 ShowsLast rows [] = rows ≡ []
 ShowsLast rows (shown ∷ []) = (row : KeptRow) × IsLast rows row × (shown ≡ shown_of row)
 ShowsLast rows (shown ∷ more ∷ others) = ⊥
 
--- the result of a select of a row by its place, if no two rows have the same place; empty if there is none
+-- the result of a select of a row by its place, if no two rows have the same place; empty if there are no rows
 abbrev pub ShowsOne : List KeptRow → List Row → Type 0
 ShowsOne rows [] = rows ≡ []
 ShowsOne rows (shown ∷ others) = (row : KeptRow) × IsAmong row rows × (shown ≡ shown_of row)

@@ -6,8 +6,8 @@ use sqlite::{Connection, File, FileStore};
 use std::alloc::Global;
 use std::fs;
 
-/// The table in the file at a path. The first call that needs the file opens it. `insert` makes the file if there is none; a
-/// question makes none, and finds no row there. The table tells no row: opening a file says nothing of the rows that it held.
+/// The table in the file at a path. The first call that needs the file opens it. `insert` creates a missing file; a
+/// select creates none, and finds no row. The table does not expose its rows, since opening a file does not show which rows it has.
 #[derive(Drop)]
 pub struct AtPath {
     rt: HostRuntime,

@@ -43,7 +43,7 @@ goes_first_is a b = elim (cases_Bool (nat_lt a.due b.due)) [
   ]
 ]
 
--- two numbers neither of which is less are equal
+-- two numbers are equal if neither is less
 not_less : (a b : ℕ) → nat_lt a b ≡ false → nat_lt b a ≡ false → a ≡ b
 not_less a b one two = elim (cases_lt a b) [
   | inl less ↦ absurd (false≢true (sym one ∙ lt-ltb a b less))
@@ -58,7 +58,7 @@ either_false : (x y : Bool) → (x || y) ≡ false → (x ≡ false) × (y ≡ f
 either_false true y e = absurd (false≢true (sym e))
 either_false false y e = (refl, e)
 
--- two pairs neither of which is less are equal
+-- two pairs are equal if neither is less
 pair_same : (a b c d : ℕ) → pair_less a b c d ≡ false → pair_less b a d c ≡ false → (a ≡ b) × (c ≡ d)
 pair_same a b c d one two =
     let first = either_false (nat_lt a b) (nat_eq a b && nat_lt c d) one in
@@ -72,7 +72,7 @@ pair_same a b c d one two =
 abbrev pub visit_on : ℕ → ℕ → Visit
 visit_on due component = record { due = due; component = component }
 
--- two visits neither of which goes first are equal
+-- two visits are equal if neither goes first
 pub visit_same : (a b : Visit) → goes_first a b ≡ false → goes_first b a ≡ false → a ≡ b
 visit_same a b one two =
     let fields = pair_same a.due b.due a.component b.component (sym (goes_first_is a b) ∙ one) (sym (goes_first_is b a) ∙ two) in
@@ -109,12 +109,12 @@ stops_are duties =
     let undone = filter (λ d. is_none d.met) duties in
     ap (fold with_visit []) (sym (visits_in_order undone)) ∙ sym (stops_of_visits (in_order is_more_urgent undone) [])
 
--- a visit to a component that is a stop already
+-- a visit to a component that is already a stop changes nothing
 pub known_stop : (stops : List ℕ) (visit : Visit) (visits : List Visit) → list_any (λ stop. nat_eq stop visit.component) stops ≡ true →
     fold with_visit stops (visit ∷ visits) ≡ fold with_visit stops visits
 known_stop stops visit visits known = rw known refl
 
--- .. and to one that isn't
+-- a visit to a component that is not yet a stop adds it
 pub new_stop : (stops : List ℕ) (visit : Visit) (visits : List Visit) → list_any (λ stop. nat_eq stop visit.component) stops ≡ false →
     fold with_visit stops (visit ∷ visits) ≡ fold with_visit (stops ++ visit.component ∷ []) visits
 new_stop stops visit visits new = rw new refl

@@ -89,8 +89,8 @@ fn gives(alloc: Global, leak: Leak, due: &str, place: Option<usize>) -> Result<(
     same(leak.case, &found, &both)
 }
 
-/// Checks the due day set by one delay, with three shutdowns of the component's unit, the first of which begins on the
-/// day of detection.
+/// Checks the due day set by one delay. The component's unit has three shutdowns, and the first one begins on the day of
+/// detection.
 fn ground_gives(alloc: Global, case: &str, delay: Delay, due: &str) -> Result<(), Fail> {
     let delayed = delayed(delay)?;
     let leak = Leak {

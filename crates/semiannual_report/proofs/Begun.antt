@@ -32,7 +32,7 @@ begun_is month day low is_day =
 pub first_day-cut : (month : ℕ) → 25_199 < month → end_by (first_day month) ≡ 47_481
 first_day-cut month past = omega (arith, first_day-past month (omega arith))
 
--- so is its last day
+-- the last day of a month past the calendar is cut to 2099-12-31
 pub last_day-cut : (month : ℕ) → 25_199 < month → end_by (last_day month) ≡ 47_481
 last_day-cut month past = omega (arith, first_day-past month (omega arith), month_length_bounds month)
 

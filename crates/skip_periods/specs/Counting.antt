@@ -9,8 +9,8 @@ use Rattle.ldar_law.specs.Percent.{judging_day}
 use Rattle.skip_periods.specs.Seen.{counts_class}
 use Rattle.skip_periods.specs.declared.counting.Counting.{Counting}
 
--- it is counted by the last class entered so far; `end` is the first quarter by whose judging day one more class is entered, on the list of
--- the day
+-- the component is counted by the last class entered so far; `end` is the first quarter by whose judging day one more class is entered, on
+-- the list of the day
 pub record CountsAfter (item : Equipment) (classes : List (Key × Class)) (startup day : ℕ) (counting : Counting) : Type 0 where
   pub within : counting.entered ≤ length classes
   pub counts : (judged : ℕ) → judged < 65_536 → HasEntered judged classes counting.entered →
@@ -20,7 +20,7 @@ pub record CountsAfter (item : Equipment) (classes : List (Key × Class)) (start
   pub next : (quarter : ℕ) → quarter < 65_536 → counting.end ≤ quarter → (counting.entered < length classes)
       × ((e : Key × Class) → (slice_index_or classes counting.entered e).0.day ≤ judging_day startup quarter day)
 
--- moreover, the classes entered so far were entered by the judging day of the quarter
+-- the classes entered so far were entered by the judging day of the quarter, and the component is counted by the last of them
 pub record CountsFrom (item : Equipment) (classes : List (Key × Class)) (startup day quarter : ℕ) (counting : Counting) : Type 0 where
   pub after : CountsAfter item classes startup day counting
   pub front : (k : ℕ) (e : Key × Class) → k < counting.entered → (slice_index_or classes k e).0.day ≤ judging_day startup quarter day

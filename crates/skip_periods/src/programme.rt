@@ -26,7 +26,7 @@ fn mode_by(elections: &[ElectionEntry], day: Day) -> Option<u8>
         .map(|e| e.mode)
 }
 
-/// The mode elected on a day; 0 if there is none.
+/// The mode elected on a day; 0 for no election.
 #[tactic(auto, using(crate::proofs::StreakLemmas::mapped_or, crate::proofs::StreakLemmas::none_mapped))]
 fn mode_on(elections: &[ElectionEntry], day: Day) -> u8
     ensures value { result ≡ law.mode_on elections.now day }

@@ -38,6 +38,7 @@ fits_more start log drawn v u call has named differ fits =
       own = fits.own;
       apart = fits.apart;
       below = fits.below;
+      counted = fits.counted;
       ticket = λ t its.
           let within = fits.ticket t its in
           let differs : t ≢ length log = λ same. not_served (subst (HasTicket u.stage) same its) in
@@ -54,6 +55,7 @@ fits_advance start log drawn v call of_room whole fits = record {
   own = fits.own;
   apart = λ name among nowhere. named_nowhere name nowhere;
   below = λ name among. fits.below name (Contains-append_left v.names v.joined_names name (subst (λ ns. Contains ns name) (append-nil v.names) among));
+  counted = fits.counted;
   ticket = λ t has. absurd has;
   stage = of_room;
 }

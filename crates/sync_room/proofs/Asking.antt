@@ -1,4 +1,4 @@
--- One call more of a pass, as an office of its own tells it.
+-- One more call of a pass, as an office of its own shows it.
 use Rattle.std.proofs.Common.{◌≡◌, ◌≤◌, ◌⊎◌, ℕ, ◌==◌, true, Option, Some, None, List, [], ◌∷◌, ◌++◌, map, refl, ap, sym, ◌∙◌, subst, inl, inr, arith}
 use Rattle.std.proofs.Common.{append_assoc}
 use Rattle.std.proofs.lemmas.List.{append-nil, map-append}
@@ -9,10 +9,10 @@ use Rattle.list_words.proofs.Members.{all_append}
 use Rattle.ldar_law.specs.declared.reply.Reply.{Reply}
 use Rattle.ldar_law.specs.declared.request.Request.{Request}
 use Rattle.ldar_law.specs.Machine.{Call, Turn}
-use Rattle.office_book.specs.Asking.{requests_of, replies_of, HasRule}
+use Rattle.office_interface.specs.Asking.{requests_of, replies_of, HasRule}
 use Rattle.sync_room.specs.Calls.{RoomCall, calls_by}
 use Rattle.sync_room.specs.OwnCalls.{AskedAll, Grew, calls_of, own_calls, session_turn, timeless}
-use Rattle.sync_room.specs.OwnCallsLaws.{grew_stays, grew_joins}
+use Rattle.sync_room.specs.OwnCallsLaws.{grew_joins}
 use Rattle.sync_room.specs.Passes.{PassState, Asked}
 
 -- the calls by a call's caller, in the list of this call

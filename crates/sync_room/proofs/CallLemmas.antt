@@ -1,13 +1,13 @@
 -- What a call that was kept and a look come to: the call of the turn, and the end of a room.
-use Rattle.std.proofs.Common.{◌≡◌, ℕ, Bool, true, false, MatchBool, List, [], refl, ap, ◌∙◌, subst}
+use Rattle.std.proofs.Common.{◌≡◌, ℕ, [], refl, ap, ◌∙◌, subst}
 use Rattle.atomic_table.specs.Seated.{TableId}
 use Rattle.atomic_table.specs.Table.{Me}
 use Rattle.ldar_law.specs.declared.reply.Reply.{Reply}
 use Rattle.ldar_law.specs.declared.request.Request.{Request}
 use Rattle.ldar_law.specs.Machine.{Moment}
-use Rattle.sync_room.specs.Calls.{RoomCall, moment_after}
+use Rattle.sync_room.specs.Calls.{RoomCall, IsLegal, moment_after}
 use Rattle.sync_room.specs.Passes.{PassState, EndsAtMoment, pass_at}
-use Rattle.sync_room.specs.Rule.{SeatView, keeps, IsCall, KeepsCall, Looks, MayFollow, after_draw, after_keep, after_advance}
+use Rattle.sync_room.specs.Rule.{SeatView, keeps, IsCall, KeepsCall, DrawsLast, MayFollow, after_keep, after_advance}
 
 -- the call that was kept after the book was taken is the last of the history after the advance
 pub call_made : {B : Type 0} (request : Request) (reply : Reply) (after : Moment) (ticket : ℕ) (old taken kept back new : Me B SeatView)
@@ -25,20 +25,15 @@ call_made request reply after ticket old taken kept back new same made put advan
       subst (λ (v : SeatView). new ≡ (after_advance v call, [])) same from_taken,
     )
 
--- a draw leaves what was seen, whether it drew or not
-pub drawn_sees : {B : Type 0} (b : Bool) (me new : Me B SeatView) (found : ℕ) → MatchBool b (new ≡ (after_draw me.0 found, me.1)) (new ≡ me)
-    → (new.0.start ≡ me.0.start) × (new.0.seen ≡ me.0.seen)
-drawn_sees true me new found is = (ap (λ m. m.0.start) is, ap (λ m. m.0.seen) is)
-drawn_sees false me new found is = (ap (λ m. m.0.start) is, ap (λ m. m.0.seen) is)
-
--- the moment after what was seen in a look ends a legal history that begins with what the pass has seen
-pub ends_looked : (pass : PassState) (table : TableId) (v u p : SeatView) (found : ℕ) (end : Moment) → pass_at table v ≡ pass → Looks v found u
-    → p.start ≡ u.start → p.seen ≡ u.seen → end ≡ moment_after p.start p.seen → EndsAtMoment pass end
-ends_looked pass table v u p found end is_pass looks start seen is =
-    let looked : EndsAtMoment (pass_at table v) end = record {
-      log = u.seen;
-      begins = looks.knows.begins;
-      legal = looks.legal;
-      is = is ∙ (ap (λ (s : Moment). moment_after s p.seen) (start ∙ looks.start) ∙ ap (moment_after v.start) seen);
+-- the moment after what was seen at last ends a legal history that begins with what the pass has seen
+pub ends_last : (pass : PassState) (table : TableId) (v p : SeatView) (end : Moment) → pass_at table v ≡ pass → DrawsLast v p
+    → end ≡ moment_after p.start p.seen → EndsAtMoment pass end
+ends_last pass table v p end is_pass last is =
+    let ended : EndsAtMoment (pass_at table v) end = record {
+      log = p.seen;
+      begins = last.begins;
+      legal = subst (λ from. IsLegal from p.seen) last.start last.legal;
+      served = last.served;
+      is = is ∙ ap (λ (s : Moment). moment_after s p.seen) last.start;
     } in
-    subst (λ (o : PassState). EndsAtMoment o end) is_pass looked
+    subst (λ (o : PassState). EndsAtMoment o end) is_pass ended

@@ -11,7 +11,7 @@ use prog.Atomic.{either}
 use Rattle.atomic_table.specs.Table.{State, Me, Act, step, Valid, Allows, homes_after, carried_after, keeps as stays}
 use Rattle.ldar_law.specs.Machine.{Moment}
 use Rattle.sync_room.specs.Calls.{RoomCall, calls_by}
-use Rattle.sync_room.specs.Rule.{SeatView, KnowsCallers, idle, IsRoom, FitsRoom, SeatsDiffer, HasBook, tickets_of, IsStage, names_at, caller_at, after_draw}
+use Rattle.sync_room.specs.Rule.{SeatView, KnowsCallers, idle, IsRoom, FitsRoom, SeatsDiffer, HasBook, tickets_of, IsStage, names_at, caller_at, after_draw, after_count}
 use Rattle.sync_room.specs.Rule.{Draws}
 use Rattle.sync_room.proofs.Histories.{none_before, knows_named, knows_none, contains_more}
 use Rattle.sync_room.proofs.Views.{each_set, differ_set, home_set, fits_drawn, room_set, waiting_set, named_nowhere}
@@ -49,9 +49,28 @@ fits_draw start log drawn v is served fresh fits = record {
       (λ (old : Contains v.names name). let below = fits.below name (Contains-append_left v.names v.joined_names name old) in omega arith)
       (λ (new : drawn ≡ name). omega arith)
       (named_before v.names v.own drawn name among);
+  counted = omega arith;
   ticket = λ t has. (omega (arith, served, has), omega (arith, has));
   stage = subst (IsStage start log v) is fits.stage;
 }
+
+-- the view of a seat that found how many tickets were drawn fits
+fits_count : (start : Moment) (log : List RoomCall) (drawn : ℕ) (v : SeatView) → v.stage ≡ idle → FitsRoom start log drawn v
+    → FitsRoom start log drawn (after_count v drawn)
+fits_count start log drawn v is fits = record {
+  knows = fits.knows;
+  of_joined = fits.of_joined;
+  own = fits.own;
+  apart = fits.apart;
+  below = fits.below;
+  counted = omega arith;
+  ticket = fits.ticket;
+  stage = subst (IsStage start log (after_count v drawn)) (sym is) (subst (IsStage start log v) is fits.stage);
+}
+
+-- it differs from the others
+differ_count : (drawn : ℕ) (v u : SeatView) → SeatsDiffer v u → SeatsDiffer (after_count v drawn) u
+differ_count drawn v u differ = record { tickets = differ.tickets; names = differ.names }
 
 -- at most as many calls were seen as tickets were drawn
 seen_drawn : (start : Moment) (log : List RoomCall) (drawn : ℕ) (v : SeatView) → length log ≤ drawn → FitsRoom start log drawn v → length v.seen ≤ drawn
@@ -106,16 +125,28 @@ module _ {B : Type 0} (moment_at : B → Moment) (is_durable : B → Type 0) (st
               (λ j u there apart. differ_draw start room.log room.drawn me.0 u (room.fits j u there) (room.differ id j me.0 u at there (λ e. apart (sym e))));
           home = home_set moment_at is_durable start room.log s.homes s.views id me.0 w at (λ has. absurd (subst HasBook is has)) room.home;
         },
-        (rw test refl, seen_drawn start room.log room.drawn me.0 room.served (room.fits id me.0 at), none_before room.log me.0.seen room.drawn (room.fits id me.0 at).knows.begins (room.fresh room.drawn (omega arith))),
+        (
+          rw test refl,
+          seen_drawn start room.log room.drawn me.0 room.served (room.fits id me.0 at),
+          none_before room.log me.0.seen room.drawn (room.fits id me.0 at).knows.begins (room.fresh room.drawn (omega arith)),
+          (room.fits id me.0 at).counted,
+        ),
       )
   drew slots id old me is bounded s room at false test =
-      let next : either (room.drawn == old) (old + 1) room.drawn ≡ room.drawn = rw test refl in (
-        me.0,
+      let next : either (room.drawn == old) (old + 1) room.drawn ≡ room.drawn = rw test refl in
+      let w : SeatView = after_count me.0 room.drawn in (
+        w,
         stays,
         tt,
-        subst (λ ws. IsRoom moment_at is_durable start (record { words = ws; homes = s.homes; views = slice_set s.views id me.0 })) (room.words ∙ ap (λ n. n ∷ length room.log ∷ []) (sym next))
-            (room_set moment_at is_durable start s room id me.0 me.0 at (room.fits id me.0 at) (λ j u there apart. room.differ id j me.0 u at there (λ e. apart (sym e))) (λ has. has) refl),
-        (rw test refl, seen_drawn start room.log room.drawn me.0 room.served (room.fits id me.0 at), none_before room.log me.0.seen room.drawn (room.fits id me.0 at).knows.begins (room.fresh room.drawn (omega arith))),
+        subst (λ ws. IsRoom moment_at is_durable start (record { words = ws; homes = s.homes; views = slice_set s.views id w })) (room.words ∙ ap (λ n. n ∷ length room.log ∷ []) (sym next))
+            (room_set moment_at is_durable start s room id me.0 w at (fits_count start room.log room.drawn me.0 is (room.fits id me.0 at))
+            (λ j u there apart. differ_count room.drawn me.0 u (room.differ id j me.0 u at there (λ e. apart (sym e)))) (λ has. has) refl),
+        (
+          rw test refl,
+          seen_drawn start room.log room.drawn me.0 room.served (room.fits id me.0 at),
+          none_before room.log me.0.seen room.drawn (room.fits id me.0 at).knows.begins (room.fresh room.drawn (omega arith)),
+          (room.fits id me.0 at).counted,
+        ),
       )
 
   -- a draw keeps the rule

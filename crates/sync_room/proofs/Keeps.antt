@@ -29,6 +29,7 @@ fits_keep start log drawn ticket v call is next fits =
       own = fits.own;
       apart = λ name among nowhere. named_nowhere name nowhere;
       below = λ name among. fits.below name (Contains-append_left v.names v.joined_names name (subst (λ ns. Contains ns name) (append-nil v.names) among));
+      counted = fits.counted;
       ticket = λ t has. fits.ticket t (subst (λ g. HasTicket g t) (sym is) has);
       stage = (record { of_room = served.of_room; next = served.next; whole = served.whole }, record { own = next.own; legal = legal });
     }

@@ -5,6 +5,7 @@ pub mod Closes
 pub mod Draws
 pub mod Histories
 pub mod Keeps
+pub mod Lasts
 pub mod Looks
 pub mod Meets
 pub mod Opens

@@ -1,5 +1,5 @@
 -- A seat looks at the history so far, and takes the book if it is served.
-use Rattle.std.proofs.Common.{◌≡◌, ℕ, ◌==◌, ◌≢◌, Bool, true, false, List, [], ◌∷◌, length, refl, ap, sym, ◌∙◌, subst, arith, ⊎_elim, inr, Option, Some}
+use Rattle.std.proofs.Common.{◌≡◌, ◌<◌, ◌^◌, ℕ, ◌==◌, ◌≢◌, Bool, true, false, List, [], ◌∷◌, length, refl, ap, sym, ◌∙◌, subst, arith, ⊎_elim, inr, Option, Some}
 use Rattle.std.proofs.Common.{slice_index, slice_set}
 use Rattle.std.proofs.lemmas.List.{append-nil}
 use Rattle.std.proofs.lemmas.List.Elements.{Contains-append_left}
@@ -19,13 +19,14 @@ use Rattle.sync_room.proofs.Views.{each_set, differ_set, out_here, room_set, wai
 
 -- what a look shows
 looks_at : (start : Moment) (log : List RoomCall) (drawn : ℕ) (v : SeatView) (stage : Stage) → v.start ≡ start → IsLegal start log
-    → FitsRoom start log drawn v → Looks v (length log) (after_look v log stage)
-looks_at start log drawn v stage of_room legal fits = record {
+    → FitsRoom start log drawn v → drawn < 2 ^ 64 → Looks v (length log) (after_look v log stage)
+looks_at start log drawn v stage of_room legal fits bounded = record {
   start = refl;
   legal = subst (λ from. IsLegal from log) (sym of_room) legal;
   length_is = refl;
   names = refl;
   own = refl;
+  drawn = (refl, omega (arith, fits.counted, bounded));
   none_joined = (refl, refl);
   knows = fits.knows;
   of_joined = fits.of_joined;
@@ -43,6 +44,7 @@ fits_look start log drawn v stage same fits is = record {
   own = λ name own. Contains-append_left v.names v.joined_names name (fits.own name own);
   apart = λ name among nowhere. named_nowhere name nowhere;
   below = λ name among. fits.below name (subst (λ ns. Contains ns name) (append-nil (all_names v)) among);
+  counted = fits.counted;
   ticket = λ t has. fits.ticket t (same t has);
   stage = is;
 }
@@ -65,7 +67,7 @@ holder_served start log u (keeps t call) is has = is.0.next
 holder_served start log u spent is has = absurd has
 
 module _ {B : Type 0} (moment_at : B → Moment) (is_durable : B → Type 0) (start : Moment) where
-  -- a load of word 1 that changes a view alone
+  -- a load of word 1 that changes only a view
   pub allowed : (s : State (Option B) SeatView) (room : IsRoom moment_at is_durable start s) (id : ℕ) (me : Me (Option B) SeatView) (w : SeatView) (then : ℕ → Me (Option B) SeatView → Type 0)
       → get_elem? s.views id ≡ some me.0 → FitsRoom start room.log room.drawn w
       → ((j : ℕ) (u : SeatView) → get_elem? s.views j ≡ some u → j ≢ id → SeatsDiffer w u) → (HasBook me.0.stage → HasBook w.stage)
@@ -90,7 +92,7 @@ module _ {B : Type 0} (moment_at : B → Moment) (is_durable : B → Type 0) (st
       let ticketless : (t : ℕ) → HasTicket idle t → HasTicket me.0.stage t = λ t has. absurd has in
       allowed s room id me (after_look me.0 room.log idle) (LooksIdle me) at (fits_look start room.log room.drawn me.0 idle ticketless fits of_room)
       (λ j u there apart. differ_look room.log me.0 u idle ticketless (room.differ id j me.0 u at there (λ e. apart (sym e)))) (λ has. absurd (subst HasBook is has)) (ap tickets_of (sym is))
-      (record { looks = looks_at start room.log room.drawn me.0 idle of_room room.legal fits; idle = refl; slots = refl })
+      (record { looks = looks_at start room.log room.drawn me.0 idle of_room room.legal fits room.bounded; idle = refl; slots = refl })
 
   -- no seat has the book while another waits with the ticket that is served next
   pub nobody_has : (s : State (Option B) SeatView) (room : IsRoom moment_at is_durable start s) (id ticket : ℕ) (v : SeatView) → get_elem? s.views id ≡ some v
@@ -146,7 +148,7 @@ module _ {B : Type 0} (moment_at : B → Moment) (is_durable : B → Type 0) (st
           home = inr (out_here (slice_set s.homes 0 none) s.views id me.0 w at out tt);
         },
         (
-          looks_at start room.log room.drawn me.0 (works ticket) of_room room.legal fits,
+          looks_at start room.log room.drawn me.0 (works ticket) of_room room.legal fits room.bounded,
           rw test (record { stage = refl; book = here.book; slots = ap (λ c. (0, Some here.book) ∷ c) empty; moment = subst (λ from. moment_at here.book ≡ moment_after from room.log) (sym of_room) here.moment }),
         ),
       )
@@ -175,7 +177,7 @@ module _ {B : Type 0} (moment_at : B → Moment) (is_durable : B → Type 0) (st
         subst (λ ws. IsRoom moment_at is_durable start (record { words = ws; homes = s.homes; views = slice_set s.views id w })) room.words
             (room_set moment_at is_durable start s room id me.0 w at (fits_look start room.log room.drawn me.0 (waits ticket) same fits of_room)
             (λ j u there apart. differ_look room.log me.0 u (waits ticket) same (room.differ id j me.0 u at there (λ e. apart (sym e)))) (λ has. absurd (subst HasBook is has)) (ap tickets_of (sym is))),
-        (looks_at start room.log room.drawn me.0 (waits ticket) of_room room.legal fits, rw test (refl, refl)),
+        (looks_at start room.log room.drawn me.0 (waits ticket) of_room room.legal fits room.bounded, rw test (refl, refl)),
       )
 
   -- a look of a seat that waits with a ticket: if the ticket is served, the book is taken

@@ -24,6 +24,7 @@ fits_split start log drawn v of_room fits = record {
   own = λ name own. absurd (cc own);
   apart = λ name among nowhere. named_nowhere name nowhere;
   below = λ name nowhere. absurd (named_nowhere name nowhere);
+  counted = fits.counted;
   ticket = λ t has. absurd has;
   stage = of_room;
 }
@@ -89,6 +90,7 @@ fits_nobody start log drawn = record {
   own = λ name own. absurd (cc own);
   apart = λ name among nowhere. named_nowhere name nowhere;
   below = λ name nowhere. absurd (named_nowhere name nowhere);
+  counted = omega arith;
   ticket = λ t has. absurd has;
   stage = tt;
 }
@@ -110,6 +112,7 @@ fits_joined start log drawn v w is differ mine theirs = record {
       (λ (a : Contains v.names name). mine.below name (Contains-append_left v.names v.joined_names name a))
       (λ (b : Contains w.names name). theirs.below name (Contains-append_left w.names w.joined_names name b))
       (Contains-append_cases v.names w.names name among);
+  counted = mine.counted;
   ticket = mine.ticket;
   stage = subst (IsStage start log (joined_view v w)) (sym is) (subst (IsStage start log v) is mine.stage);
 }

@@ -27,6 +27,7 @@ fits_newcomer start = record {
   own = λ name own. absurd (cc own);
   apart = λ name among nowhere. named_nowhere name nowhere;
   below = λ name nowhere. absurd (named_nowhere name nowhere);
+  counted = omega arith;
   ticket = λ t has. absurd has;
   stage = refl;
 }

@@ -4,7 +4,7 @@ use Rattle.ldar_law.specs.declared.reply.Reply.{Reply}
 use Rattle.ldar_law.specs.declared.request.Request.{Request}
 use Rattle.ldar_law.specs.Machine.{Call, GroupStep, Moment, Runs, Turn}
 use Rattle.office_book.proofs.Restamped.{restamps}
-use Rattle.office_book.specs.Asking.{requests_of, replies_of}
+use Rattle.office_interface.specs.Asking.{requests_of, replies_of}
 use Rattle.office_book.specs.Restamps.{restamped}
 use Rattle.sync_room.specs.Turns.{Replies}
 

@@ -86,6 +86,7 @@ fits_drawn start log drawn more v up fits = record {
   own = fits.own;
   apart = fits.apart;
   below = λ name among. let below = fits.below name among in omega arith;
+  counted = let counted = fits.counted in omega arith;
   ticket = λ t has. let within = fits.ticket t has in (within.0, omega arith);
   stage = fits.stage;
 }

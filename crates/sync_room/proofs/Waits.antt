@@ -13,7 +13,7 @@ use Rattle.ldar_law.specs.Machine.{Moment}
 use Rattle.sync_room.specs.Calls.{RoomCall, IsLegal, BeginsWith, calls_by}
 use Rattle.sync_room.specs.Rule.{SeatView, waits, Looks, LooksFor, TakesBook, HasTurn, SeesMore, IsCall, all_names, names_at, caller_at, after_draw}
 use Rattle.sync_room.specs.Rule.{after_advance, joined_view}
-use Rattle.sync_room.specs.Passes.{PassState, pass_at, IsFree, Asked, Met, SawMore}
+use Rattle.sync_room.specs.Passes.{PassState, pass_at, Asked, Met, SawMore}
 use Rattle.sync_room.proofs.Histories.{knows_all}
 
 -- beginnings of beginnings
@@ -22,7 +22,7 @@ starts_trans a b c later earlier = (earlier.0 ++ later.0, later.1 ∙ (ap (λ l.
 
 -- a view has seen what it has seen
 pub follows_self : (v : SeatView) → v.joined_seen ≡ [] → v.joined_names ≡ [] → SeesMore v v
-follows_self v told names = record { start = refl; names = refl; own = refl; none_joined = (told, names); knows = knows_all v.seen v.names }
+follows_self v told names = record { start = refl; names = refl; own = refl; drawn = omega arith; none_joined = (told, names); knows = knows_all v.seen v.names }
 
 -- a seat sees more after one look more
 pub follows_look : (v w u : SeatView) (found : ℕ) → SeesMore v w → Looks w found u → SeesMore v u
@@ -32,6 +32,7 @@ follows_look v w u found follows looks =
       start = looks.start ∙ follows.start;
       names = looks.names ∙ all;
       own = looks.own ∙ follows.own;
+      drawn = omega (arith, follows.drawn, looks.drawn.0);
       none_joined = looks.none_joined;
       knows = record {
         begins = starts_trans v.seen w.seen u.seen looks.knows.begins follows.knows.begins;
@@ -144,26 +145,25 @@ asked_pass old new table table' v w x ticket request reply call is_old same none
     let from_old : Asked old request reply (pass_at table (after_advance w call)) = subst (λ o. Asked o request reply (pass_at table (after_advance w call))) is_old whole in
     subst (Asked old request reply) (sym (is_new ∙ (ap (λ t. pass_at t x) same ∙ ap (pass_at table) is_after))) from_old
 
--- ---- a pass that looked
+-- ---- a pass that has seen more
 
--- what a look does to a pass, by views
-saw_whole : (table : TableId) (v u : SeatView) (found : ℕ) → IsFree v → Looks v found u → SawMore (pass_at table v) (pass_at table u)
-saw_whole table v u found free looks =
-    let names : u.names ≡ v.names = looks.names ∙ (ap (λ ns. v.names ++ ns) free.none_joined.1 ∙ append-nil v.names) in
-    record {
-      room = ap (λ start. record { table = table; start = start }) looks.start;
-      begins = looks.knows.begins;
-      names = names;
-      own = looks.own;
-      whole = λ name named. looks.knows.whole name (subst (λ ns. Contains ns name) names named);
-    }
+-- a pass whose view has seen more
+saw_whole : (table : TableId) (v u : SeatView) → SeesMore v u → SawMore (pass_at table v) (pass_at table u)
+saw_whole table v u follows = record {
+  room = ap (λ start. record { table = table; start = start }) follows.start;
+  begins = follows.knows.begins;
+  names = follows.names;
+  own = follows.own;
+  drawn = follows.drawn;
+  whole = λ name named. follows.knows.whole name (subst (λ ns. Contains ns name) follows.names named);
+}
 
--- what a look does to a pass
-pub saw_pass : (old new : PassState) (table table' : TableId) (v u x : SeatView) (found : ℕ) → pass_at table v ≡ old → IsFree v → table' ≡ table
-    → Looks v found u → x ≡ u → new ≡ pass_at table' x → SawMore old new
-saw_pass old new table table' v u x found is_old free same looks still is_new =
-    let from_old : SawMore old (pass_at table u) = subst (λ o. SawMore o (pass_at table u)) is_old (saw_whole table v u found free looks) in
-    subst (SawMore old) (sym (is_new ∙ (ap (λ t. pass_at t x) same ∙ ap (pass_at table) still))) from_old
+-- the same of a pass that is that of a view
+pub saw_pass : (old new : PassState) (table table' : TableId) (v u : SeatView) → pass_at table v ≡ old → table' ≡ table → SeesMore v u
+    → new ≡ pass_at table' u → SawMore old new
+saw_pass old new table table' v u is_old same follows is_new =
+    let from_old : SawMore old (pass_at table u) = subst (λ o. SawMore o (pass_at table u)) is_old (saw_whole table v u follows) in
+    subst (SawMore old) (sym (is_new ∙ ap (λ t. pass_at t u) same)) from_old
 
 -- the case of another number
 pub missed : (hit miss : Type 0) (found next : ℕ) → MatchBool (found == next) hit miss → found ≢ next → miss

@@ -4,7 +4,7 @@ use Rattle.std.specs.List.{flat_map, AllByRecursion}
 use Rattle.ldar_law.specs.declared.reply.Reply.{Reply}
 use Rattle.ldar_law.specs.declared.request.Request.{Request}
 use Rattle.ldar_law.specs.Machine.{Call, Turn}
-use Rattle.office_book.specs.Asking.{HasRule}
+use Rattle.office_interface.specs.Asking.{HasRule}
 use Rattle.sync_room.specs.Calls.{RoomCall, BeginsWith, calls_by}
 use Rattle.sync_room.specs.Passes.{PassState, RoomId}
 
@@ -17,7 +17,7 @@ calls_of (Some name) log = calls_by name log
 abbrev pub own_calls : PassState → List RoomCall
 own_calls pass = calls_of pass.own pass.seen
 
--- the turn of a call as a session over the room tells it: beside a room there is no disk, so the clock is 0
+-- the turn of a call as a session over the room shows it: beside a room there is no disk, so the clock is 0
 abbrev pub session_turn : RoomCall → Turn
 session_turn call = record {
   request = call.turn.request;

@@ -1,5 +1,5 @@
 -- What a pass of a room means, and what the calls of a room do to passes.
-use Rattle.std.specs.Prelude.{◌≡◌, ℕ, Option, Some, None, List, [], ◌∷◌, ◌++◌, Contains}
+use Rattle.std.specs.Prelude.{◌≡◌, ◌≤◌, ℕ, Option, Some, None, List, [], ◌∷◌, ◌++◌, length, Contains}
 use Rattle.atomic_table.specs.Seated.{TableId}
 use Rattle.ldar_law.specs.declared.reply.Reply.{Reply}
 use Rattle.ldar_law.specs.declared.request.Request.{Request}
@@ -12,15 +12,17 @@ pub record RoomId : Type 0 where
   pub table : TableId
   pub start : Moment
 
--- a pass: its room; the calls that were seen; the callers for which it answers; and its own caller, which is none before its first call
+-- A pass: its room; the calls that were seen, each by a ticket that was served; the callers for which it answers; its own caller, which is none before
+-- its first call; and how many tickets it knows to be drawn.
 pub record PassState : Type 0 where
   pub room : RoomId
   pub seen : List RoomCall
   pub names : List ℕ
   pub own : Option ℕ
+  pub drawn : ℕ
 
 abbrev pub pass_at : TableId → SeatView → PassState
-pass_at table v = record { room = record { table = table; start = v.start }; seen = v.seen; names = v.names; own = v.own }
+pass_at table v = record { room = record { table = table; start = v.start }; seen = v.seen; names = v.names; own = v.own; drawn = v.drawn }
 
 -- the pass of a list of views, which has one
 abbrev pub pass_of : TableId → List SeatView → PassState
@@ -70,17 +72,18 @@ pub record Met (first second new : PassState) : Type 0 where
 
 -- a pass that has seen as much, and answers for no caller
 abbrev pub split_pass : PassState → PassState
-split_pass old = record { room = old.room; seen = old.seen; names = []; own = None }
+split_pass old = record { room = old.room; seen = old.seen; names = []; own = None; drawn = old.drawn }
 
 -- a pass that has seen no call
 abbrev pub new_pass : RoomId → PassState
-new_pass room = record { room = room; seen = []; names = []; own = None }
+new_pass room = record { room = room; seen = []; names = []; own = None; drawn = 0 }
 
--- the moment after a legal history that begins with what was seen
+-- The moment after a legal history that begins with what was seen. Each ticket that the pass knew to be drawn was served.
 pub record EndsAtMoment (old : PassState) (end : Moment) : Type 0 where
   pub log : List RoomCall
   pub begins : BeginsWith log old.seen
   pub legal : IsLegal old.room.start log
+  pub served : old.drawn ≤ length log
   pub is : end ≡ moment_after old.room.start log
 
 -- more was seen, with no other calls of the pass's callers
@@ -89,4 +92,5 @@ pub record SawMore (old new : PassState) : Type 0 where
   pub begins : BeginsWith new.seen old.seen
   pub names : new.names ≡ old.names
   pub own : new.own ≡ old.own
+  pub drawn : old.drawn ≤ new.drawn
   pub whole : (name : ℕ) → Contains new.names name → calls_by name new.seen ≡ calls_by name old.seen

@@ -19,27 +19,29 @@ pub data Stage : Type 0 where
   keeps : ℕ → RoomCall → Stage
   spent : Stage
 
--- Where the history of the room begins; the calls that were seen; the callers for which the seat answers; its own caller; what it is doing. The last
--- two are what a seat had seen that was joined to this one, and its callers, until this one looks again.
+-- Where the history of the room begins; the calls that were seen; the callers for which the seat answers; its own caller; how many tickets it knows to
+-- be drawn; what it is doing. The last two are what a seat had seen that was joined to this one, and its callers, until this one looks again.
 pub record SeatView : Type 0 where
   pub start : Moment
   pub seen : List RoomCall
   pub names : List ℕ
   pub own : Option ℕ
+  pub drawn : ℕ
   pub stage : Stage
   pub joined_seen : List RoomCall
   pub joined_names : List ℕ
 
-abbrev pub seat_view : Moment → List RoomCall → List ℕ → Option ℕ → Stage → SeatView
-seat_view start seen names own stage = record { start = start; seen = seen; names = names; own = own; stage = stage; joined_seen = []; joined_names = [] }
+abbrev pub seat_view : Moment → List RoomCall → List ℕ → Option ℕ → ℕ → Stage → SeatView
+seat_view start seen names own drawn stage =
+    record { start = start; seen = seen; names = names; own = own; drawn = drawn; stage = stage; joined_seen = []; joined_names = [] }
 
 -- the first seat of a room
 abbrev pub newcomer : Moment → SeatView
-newcomer start = seat_view start [] [] None idle
+newcomer start = seat_view start [] [] None 0 idle
 
 -- a seat that was joined to another
 abbrev pub nobody : SeatView
-nobody = seat_view (record { state = record { history = []; doubt = [] }; faults = 0; clock = 0 }) [] [] None spent
+nobody = seat_view (record { state = record { history = []; doubt = [] }; faults = 0; clock = 0 }) [] [] None 0 spent
 
 abbrev pub all_names : SeatView → List ℕ
 all_names v = v.names ++ v.joined_names
@@ -105,6 +107,7 @@ pub record FitsRoom (start : Moment) (log : List RoomCall) (drawn : ℕ) (v : Se
   pub own : (name : ℕ) → v.own ≡ Some name → Contains v.names name
   pub apart : (name : ℕ) → Contains v.names name → Contains v.joined_names name → ⊥
   pub below : (name : ℕ) → Contains (all_names v) name → name < drawn
+  pub counted : v.drawn ≤ drawn
   pub ticket : (t : ℕ) → HasTicket v.stage t → (length log ≤ t) × (t < drawn)
   pub stage : IsStage start log v v.stage
 
@@ -159,11 +162,29 @@ names_at names (Some name) ticket = names
 
 -- the view of a seat that drew this ticket
 abbrev pub after_draw : SeatView → ℕ → SeatView
-after_draw v ticket = seat_view v.start v.seen (names_at v.names v.own ticket) (Some (caller_at v.own ticket)) (waits ticket)
+after_draw v ticket = seat_view v.start v.seen (names_at v.names v.own ticket) (Some (caller_at v.own ticket)) (ticket + 1) (waits ticket)
 
--- The number was drawn, or another was found and nothing was drawn. What was found is not below the number of calls seen, and no caller of them.
+-- the view of a seat that found that this many tickets were drawn
+abbrev pub after_count : SeatView → ℕ → SeatView
+after_count v drawn = record {
+  start = v.start;
+  seen = v.seen;
+  names = v.names;
+  own = v.own;
+  drawn = drawn;
+  stage = v.stage;
+  joined_seen = v.joined_seen;
+  joined_names = v.joined_names;
+}
+
+-- The number was drawn, or another was found, which is that of the tickets drawn. What was found is not below the number of calls seen, nor below the
+-- number of tickets that were known to be drawn, and no caller of the calls seen.
 abbrev pub Draws : {S : Type 0} → Step S → Me S SeatView → ℕ → Me S SeatView → Type 0
-Draws step me found new = MatchBool (found == step.first) (new ≡ (after_draw me.0 found, me.1)) (new ≡ me) × (length me.0.seen ≤ found) × (calls_by found me.0.seen ≡ [])
+Draws step me found new =
+    MatchBool (found == step.first) (new ≡ (after_draw me.0 found, me.1)) (new ≡ (after_count me.0 found, me.1))
+    × (length me.0.seen ≤ found)
+    × (calls_by found me.0.seen ≡ [])
+    × (me.0.drawn ≤ found)
 
 -- the history so far was seen, which has this length
 pub record Looks (v : SeatView) (found : ℕ) (w : SeatView) : Type 0 where
@@ -172,6 +193,7 @@ pub record Looks (v : SeatView) (found : ℕ) (w : SeatView) : Type 0 where
   pub length_is : length w.seen ≡ found
   pub names : w.names ≡ all_names v
   pub own : w.own ≡ v.own
+  pub drawn : (w.drawn ≡ v.drawn) × (v.drawn < 2 ^ 64)
   pub none_joined : (w.joined_seen ≡ []) × (w.joined_names ≡ [])
   pub knows : KnowsCallers w.seen v.names v.seen
   pub of_joined : KnowsCallers w.seen v.joined_names v.joined_seen
@@ -202,11 +224,11 @@ LooksServed moment_at me found new = (ticket : ℕ) → me.0.stage ≡ waits tic
 
 -- the view after a look at this history
 abbrev pub after_look : SeatView → List RoomCall → Stage → SeatView
-after_look v log stage = seat_view v.start log (all_names v) v.own stage
+after_look v log stage = seat_view v.start log (all_names v) v.own v.drawn stage
 
 -- the view that keeps this call
 abbrev pub after_keep : SeatView → ℕ → RoomCall → SeatView
-after_keep v ticket call = seat_view v.start v.seen v.names v.own (keeps ticket call)
+after_keep v ticket call = seat_view v.start v.seen v.names v.own v.drawn (keeps ticket call)
 
 -- a call with this request, this reply and this moment after it, which may come next in the history that was seen
 pub record IsCall (request : Request) (reply : Reply) (after : Moment) (v : SeatView) (call : RoomCall) : Type 0 where
@@ -227,26 +249,36 @@ KeepsCallServed request reply after me found new = (ticket : ℕ) → me.0.stage
 
 -- the view once the call that it kept is the last of the history
 abbrev pub after_advance : SeatView → RoomCall → SeatView
-after_advance v call = seat_view v.start (v.seen ++ call ∷ []) v.names v.own idle
+after_advance v call = seat_view v.start (v.seen ++ call ∷ []) v.names v.own v.drawn idle
 
 abbrev pub Advances : {S : Type 0} → Me S SeatView → ℕ → Me S SeatView → Type 0
 Advances me found new = (ticket : ℕ) (call : RoomCall) → me.0.stage ≡ keeps ticket call → new ≡ (after_advance me.0 call, [])
 
 -- a new seat, which has seen as much and answers for no caller
 abbrev pub split_view : SeatView → SeatView
-split_view v = seat_view v.start v.seen [] None idle
+split_view v = seat_view v.start v.seen [] None v.drawn idle
 
 -- a seat that takes over what another has seen, and its callers
 abbrev pub joined_view : SeatView → SeatView → SeatView
-joined_view v w = record { start = v.start; seen = v.seen; names = v.names; own = v.own; stage = v.stage; joined_seen = w.seen; joined_names = w.names }
+joined_view v w = record {
+  start = v.start;
+  seen = v.seen;
+  names = v.names;
+  own = v.own;
+  drawn = v.drawn;
+  stage = v.stage;
+  joined_seen = w.seen;
+  joined_names = w.names;
+}
 
 -- ---- how a view goes on while its seat waits
 
--- a later view of a seat that waited: it has seen more, with no other calls of its callers
+-- a later view of a seat: it has seen more, with no other calls of its callers
 pub record SeesMore (v w : SeatView) : Type 0 where
   pub start : w.start ≡ v.start
   pub names : w.names ≡ v.names
   pub own : w.own ≡ v.own
+  pub drawn : v.drawn ≤ w.drawn
   pub none_joined : (w.joined_seen ≡ []) × (w.joined_names ≡ [])
   pub knows : KnowsCallers w.seen v.names v.seen
 
@@ -260,3 +292,11 @@ pub record HasTurn {B : Type 0} (moment_at : B → Moment) (ticket : ℕ) (v : S
 -- no call can come after those that were seen: the ticket that is served next is this seat's, or no ticket is left
 abbrev pub SeesLast : SeatView → Type 0
 SeesLast v = (v.stage ≡ waits (length v.seen)) ⊎ ((v.stage ≡ idle) × (2 ^ 64 ≤ length v.seen + 1))
+
+-- A later view of a seat, after which no call can come. Each ticket that was known to be drawn is served.
+pub record DrawsLast (v w : SeatView) : Type 0 where
+  pub start : w.start ≡ v.start
+  pub begins : BeginsWith w.seen v.seen
+  pub legal : IsLegal w.start w.seen
+  pub served : v.drawn ≤ length w.seen
+  pub last : SeesLast w

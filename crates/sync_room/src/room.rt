@@ -1,6 +1,6 @@
 //! The room.
 ghost use Rattle.std.specs.Prelude.{◌≡◌, ◌<◌, Some, ◌∷◌, [], IfOk, IfErr};
-ghost use Rattle.office_book.specs.Asking.{HasRule};
+ghost use Rattle.office_interface.specs.Asking.{HasRule};
 ghost use Rattle.office_book.specs.Safe.{moment_of};
 ghost use Rattle.sync_room.specs.Calls.{moment_after};
 ghost use Rattle.sync_room.specs.Passes.{Asked, Met, EndsAtMoment, SawMore, split_pass, new_pass};
@@ -11,8 +11,8 @@ ghost use Rattle.sync_room.specs.Why.{CountsOut};
 use crate::Memory;
 use crate::pass::Pass;
 use crate::rule::{Known, OneHistory};
-use crate::steps::{Place, draw, join, look, tell};
-use crate::turns::{await_turn, next_ticket, work};
+use crate::steps::{Place, join, look, tell};
+use crate::turns::{await_turn, draw_last, next_ticket, work};
 use atomic_table::{Refused, Table};
 use disk_model::Disk;
 use ldar_law::{Reply, Request};
@@ -59,7 +59,7 @@ pub struct Kept<D: Disk> {
 pub enum KeptWhy {
     /// Memory ran out. It is never returned: closing takes no memory.
     Memory,
-    /// Not all tickets that were drawn were served.
+    /// Of the `drawn` tickets only the first `served` were served.
     Out { drawn: u64, served: u64 },
 }
 
@@ -126,27 +126,23 @@ impl<D: Disk> Room<D> {
         Pass::of(place)
     }
 
-    /// Gives the book back. If a ticket was drawn and not served, it gives the room and the pass back.
+    /// Gives the book back if every ticket that was drawn is served. Otherwise it gives the room and the pass back.
     pub fn close(self, _alloc: Global, pass: Pass) -> Result<Book<D>, Kept<D>>
         requires of_room { pass.room ≡ self }
         ensures closed { IfOk result (λ book. EndsAtMoment pass (moment_of D.clock D.faults book)) }
         ensures durable { IfOk result (IsDurable D.content D.images) }
         ensures unchanged { IfErr result (λ kept. (kept.room ≡ self) × SawMore pass kept.pass) }
-        ensures cause { IfErr result (λ kept. CountsOut kept.why) }
+        ensures cause { IfErr result (λ kept. CountsOut kept.pass kept.why) }
     {
         let mut place = pass.into_place();
-        let served = look(&self.table.shared, &mut place);
-        if served < u64::MAX {
-            let drawn = draw(&self.table.shared, &mut place, served);
-            if drawn != served {
-                return Err(Kept {
-                    room: self,
-                    pass: Pass::of(place),
-                    why: KeptWhy::Out { drawn, served },
-                });
-            }
+        match draw_last(&self.table.shared, &mut place) {
+            Ok(()) => Ok(end(self, place)),
+            Err(why) => Err(Kept {
+                room: self,
+                pass: Pass::of(place),
+                why,
+            }),
         }
-        Ok(end(self, place))
     }
 }
 

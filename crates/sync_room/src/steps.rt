@@ -3,7 +3,7 @@ ghost use Rattle.std.specs.Prelude.{◌≡◌, ◌+◌, ◌<◌, ◌≤◌, ◌^
 ghost use Rattle.ldar_journal.specs.Shelf.{Shelf};
 ghost use Rattle.office_book.specs.Safe.{moment_of};
 ghost use Rattle.sync_room.specs.Calls.{RoomCall, IsLegal, moment_after, calls_by};
-ghost use Rattle.sync_room.specs.Rule.{idle, waits, works, keeps, after_draw, after_advance, split_view, joined_view, LooksIdle, LooksFor, KeepsCall};
+ghost use Rattle.sync_room.specs.Rule.{idle, waits, works, keeps, after_draw, after_count, after_advance, split_view, joined_view, LooksIdle, LooksFor, KeepsCall};
 ghost use Rattle.sync_room.specs.Turns.{IsDurable, Replies};
 
 use crate::plays::{Advancing, Drawing, Joining, Keeping, Looking, Made, Serving, Telling};
@@ -21,16 +21,19 @@ pub type Board<D> = Shared<Option<Book<D>>, Known, Snapshot<Book<D>>, OneHistory
 /// A seat at the table of a room.
 pub type Place<D> = Seat<Option<Book<D>>, Known>;
 
-/// Draws the ticket with this number if it is the next one. Returns the number that was the next one.
+/// Draws the ticket with this number if it is the next one. Returns the number that was the next one: that of the tickets drawn
+/// before.
 pub fn draw<D: Disk>(board: &Board<D>, seat: &mut Place<D>, next: u64) -> u64
     requires own { seat.old.table_id ≡ board.now.table_id }
     requires words { board.now.table_id.words ≡ 2 }
     requires idle { (seat.old.me.0.stage ≡ idle) × (seat.old.me.1 ≡ []) }
     requires bounded { next + 1 < 2 ^ 64 }
     ensures own { (seat.new.table_id ≡ seat.old.table_id) × (seat.new.id ≡ seat.old.id) }
-    ensures draws { MatchBool (result == next) (seat.new.me ≡ (after_draw seat.old.me.0 result, seat.old.me.1)) (seat.new.me ≡ seat.old.me) }
+    ensures draws { MatchBool (result == next) (seat.new.me ≡ (after_draw seat.old.me.0 result, seat.old.me.1))
+        (seat.new.me ≡ (after_count seat.old.me.0 result, seat.old.me.1)) }
     ensures seen { length seat.old.me.0.seen ≤ result }
     ensures fresh { calls_by result seat.old.me.0.seen ≡ [] }
+    ensures counted { seat.old.me.0.drawn ≤ result }
 {
     board.compare_exchange::<Drawing>(seat, 0, next, next + 1)
 }

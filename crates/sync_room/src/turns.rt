@@ -1,13 +1,16 @@
 //! A turn at the table: a ticket is drawn and waited for, the book is asked, and the call becomes the last of the history.
-ghost use Rattle.std.specs.Prelude.{◌≡◌, ℕ, Some, [], ◌∷◌};
+ghost use Rattle.std.specs.Prelude.{◌≡◌, ℕ, Some, [], ◌∷◌, IfOk, IfErr};
 ghost use Rattle.ldar_journal.specs.Shelf.{Shelf};
-ghost use Rattle.office_book.specs.Asking.{HasRule};
+ghost use Rattle.office_interface.specs.Asking.{HasRule};
 ghost use Rattle.office_book.specs.Safe.{moment_of};
 ghost use Rattle.sync_room.specs.Calls.{RoomCall, IsLegal, moment_after, calls_by};
-ghost use Rattle.sync_room.specs.Rule.{idle, waits, works, after_draw, after_advance, HasTurn, IsCall};
+ghost use Rattle.sync_room.specs.Passes.{IsFree};
+ghost use Rattle.sync_room.specs.Rule.{idle, waits, works, after_draw, after_advance, DrawsLast, HasTurn, IsCall};
 ghost use Rattle.sync_room.specs.Turns.{Replies};
+ghost use Rattle.sync_room.specs.Why.{IsOut};
 
-use crate::steps::{Board, Place, advance, draw, keep, look_served};
+use crate::room::KeptWhy;
+use crate::steps::{Board, Place, advance, draw, keep, look, look_served};
 use disk_model::Disk;
 use ldar_law::{Reply, Request};
 use office_book::{Book, Office};
@@ -51,6 +54,32 @@ pub fn await_turn<R: Wait, D: Disk>(rt: &R, board: &Board<D>, seat: &mut Place<D
         board.park(rt, 1, (served & 0xffff_ffff) as u32);
     }
     unreachable!()
+}
+
+/// Draws the ticket that is served next, or sees that none is left: no call can come any more. If a drawn ticket is not served,
+/// returns how many were drawn and how many served.
+pub fn draw_last<D: Disk>(board: &Board<D>, seat: &mut Place<D>) -> Result<(), KeptWhy>
+    requires own { seat.old.table_id ≡ board.now.table_id }
+    requires words { board.now.table_id.words ≡ 2 }
+    requires free { IsFree seat.old.me.0 }
+    requires none { seat.old.me.1 ≡ [] }
+    ensures own { seat.new.table_id ≡ seat.old.table_id }
+    ensures last { IfOk result (λ _. DrawsLast seat.old.me.0 seat.new.me.0) }
+    ensures out { IfErr result (λ why. IsOut seat.old.me.0 seat.new.me.0 why) }
+    ensures none { IfErr result (λ _. seat.new.me.1 ≡ []) }
+{
+    let mut served = look(board, seat);
+    while served < u64::MAX {
+        let drawn = draw(board, seat, served);
+        if drawn == served {
+            return Ok(());
+        }
+        served = look(board, seat);
+        if served < drawn {
+            return Err(KeptWhy::Out { drawn, served });
+        }
+    }
+    Ok(())
 }
 
 /// Asks the book, which was taken, and puts it back. The call becomes the last of the history when the book is back.

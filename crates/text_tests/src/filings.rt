@@ -6,7 +6,7 @@ use report_filing::{FileError, Filing, FilingFault, MapFiling, amended_cells, fi
 use std::alloc::Global;
 use std::test::Fail;
 
-/// The numbers of a report, of which this one is in month 6, column 2.
+/// The numbers of a report with this number in month 6, column 2.
 fn numbers(late_in_march: u32) -> MonthCells {
     let mut months = [0; 36];
     months[24] = 1;
@@ -29,7 +29,7 @@ fn report(alloc: Global, half: u16, late_in_march: u32) -> Result<Report, Fail> 
     })
 }
 
-/// Reports on file in memory, of which one call fails; the calls are numbered from 0.
+/// A filing in memory in which one call fails. Calls are numbered from 0.
 #[derive(Drop)]
 struct FailingFiling {
     kept: MapFiling,
@@ -93,7 +93,7 @@ impl Filing for FailingFiling {
     }
 }
 
-/// A filing that tells nothing, and whose last revision has the greatest number.
+/// A filing that exposes no reports. Its last revision has the greatest number.
 #[derive(Drop)]
 struct FullFiling {
     day: Day,
@@ -139,7 +139,7 @@ impl Filing for FullFiling {
 fn a_filing_that_fails_keeps_what_it_had(rt: HostRuntime) -> Result<(), Fail> {
     let first = report(rt.alloc(), 8, 1)?;
     let second = report(rt.alloc(), 8, 0)?;
-    // The call that fails, and what is answered to the first report, to the second, and to the second again.
+    // The call that fails, and the results of filing the first report, the second one, and the second one again.
     let cases = [
         (
             0,
@@ -190,7 +190,7 @@ fn no_revision_follows_the_greatest_number(rt: HostRuntime) -> Result<(), Fail> 
 #[test]
 fn a_report_with_other_cells_is_the_next_revision(rt: HostRuntime) -> Result<(), Fail> {
     let mut filing = MapFiling::new(rt.alloc());
-    // The half, the number in March, and what is answered.
+    // The half, the number in March, and the result.
     let cases = [
         (8, 1, Ok(1)),
         (8, 1, Err(FileError::Same { revision: 1 })),

@@ -5,7 +5,7 @@ use register_import::{ImportError, LONGEST_TEXT, components_of, units_of};
 use std::alloc::Global;
 use std::test::Fail;
 
-/// What an import gave: the facts of its batches one after the other, or the bad row.
+/// The result of an import: the facts of its batches in order, or the bad row.
 fn said(
     alloc: Global,
     import: Result<Vec<Batch>, ImportError>,
@@ -23,7 +23,7 @@ fn said(
     }
 }
 
-/// What a file of process units says.
+/// The result of importing a file of process units.
 fn units_in(alloc: Global, text: &[u8]) -> Result<Result<Vec<Fact>, u32>, Fail> {
     if text.len() > LONGEST_TEXT {
         return Err("too long".into());
@@ -31,7 +31,7 @@ fn units_in(alloc: Global, text: &[u8]) -> Result<Result<Vec<Fact>, u32>, Fail> 
     said(alloc, units_of(alloc, text, 1))
 }
 
-/// What a file of components says.
+/// The result of importing a file of components.
 fn components_in(alloc: Global, text: &[u8]) -> Result<Result<Vec<Fact>, u32>, Fail> {
     if text.len() > LONGEST_TEXT {
         return Err("too long".into());
@@ -171,7 +171,7 @@ fn difficult_components_come_last(rt: HostRuntime) -> Result<(), Fail> {
     Ok(())
 }
 
-/// The ways in which spreadsheets write a file, all of one valve.
+/// The formats in which spreadsheets write a file with one valve.
 #[test]
 fn spreadsheets_write_it_in_their_ways(rt: HostRuntime) -> Result<(), Fail> {
     let alloc = rt.alloc();
@@ -179,13 +179,13 @@ fn spreadsheets_write_it_in_their_ways(rt: HostRuntime) -> Result<(), Fail> {
     let texts = [
         // A byte order mark and lines that end with CRLF.
         format!(in alloc; "\u{feff}{HEADER}\r\n1,1,valve,gas,none,0,1,0,0,2020-01-15\r\n")?,
-        // Lines that end with CR, the last of them with nothing.
+        // Lines that end with CR, except the last one.
         format!(in alloc; "{HEADER}\r1,1,valve,gas,none,0,1,0,0,2020-01-15")?,
         // Each text in quotes.
         format!(in alloc;
             "\"component\",\"unit\",\"kind\",\"service\",\"designation\",\"plan\",\"month\",\"monomer\",\"replaces\",\"begin\"\n1,1,\"valve\",\"gas\",\"none\",0,1,0,0,\"2020-01-15\"\n"
         )?,
-        // A mark, each field in quotes, and lines with nothing in them.
+        // A byte order mark, each field in quotes, and empty lines.
         format!(in alloc;
             "\u{feff}\"component\",unit,kind,service,designation,plan,month,monomer,replaces,begin\r\n\r\n\"1\",\"1\",\"valve\",\"gas\",\"none\",\"0\",\"1\",\"0\",\"0\",\"2020-01-15\"\r\n\r\n\r\n"
         )?,
@@ -199,7 +199,7 @@ fn spreadsheets_write_it_in_their_ways(rt: HostRuntime) -> Result<(), Fail> {
     Ok(())
 }
 
-/// What comes before the first row, or in its place, and the bad row that is reported.
+/// Text before the first row or in its place, and the bad row that is reported.
 const HEADS: [(&str, u32); 10] = [
     ("", 1),
     ("\n\n", 1),
@@ -255,7 +255,7 @@ fn a_file_without_its_header_or_rows_is_told(rt: HostRuntime) -> Result<(), Fail
     Ok(())
 }
 
-/// Rows of which each is bad.
+/// Rows that are all bad.
 const BAD_ROWS: [&str; 31] = [
     "01,1,valve,gas,none,0,1,0,0,2020-01-15",
     "0,1,valve,gas,none,0,1,0,0,2020-01-15",
@@ -358,7 +358,7 @@ fn the_templates_are_read_as_they_are(rt: HostRuntime) -> Result<(), Fail> {
 #[test]
 fn batches_have_512_facts(rt: HostRuntime) -> Result<(), Fail> {
     let alloc = rt.alloc();
-    // How many rows there are; how many batches, and how many facts and which number the last one has.
+    // The number of rows and of batches, and the last batch's number of facts and its number.
     let cases = [
         (1, 1, 1, 4_000_000_000),
         (512, 1, 512, 4_000_000_000),

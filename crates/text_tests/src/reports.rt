@@ -22,7 +22,7 @@ fn unit() -> Result<UnitEntry, Fail>
     })
 }
 
-/// A day by its text, where there is one.
+/// The day with this text, if there is a text.
 fn day_if(text: Option<&str>) -> Result<Option<Day>, Fail> {
     match text {
         Some(text) => Ok(Some(day(text)?)),
@@ -30,7 +30,7 @@ fn day_if(text: Option<&str>) -> Result<Option<Day>, Fail> {
     }
 }
 
-/// When a tag was detected, and when it was closed.
+/// The days of a tag's detection and of its closing.
 type Days<'a> = (&'a str, Option<&'a str>);
 
 /// A tag without a delay, closed on a day or open.
@@ -49,7 +49,7 @@ fn tag(component: u16, days: Days) -> Result<Tag, Fail> {
     })
 }
 
-/// A tag with a delay until a shutdown that is not known.
+/// A tag with a delay until a shutdown that is not entered.
 fn delayed(component: u16, days: Days) -> Result<Tag, Fail> {
     let tag = tag(component, days)?;
     let key = Key {
@@ -72,7 +72,7 @@ fn delayed(component: u16, days: Days) -> Result<Tag, Fail> {
     })
 }
 
-/// A component's leaks, by their months, and its tags.
+/// The sheet of a component with these leaks, by a day in the month of each, and these tags.
 fn sheet(
     alloc: Global,
     component: u16,
@@ -93,7 +93,7 @@ fn sheet(
     })
 }
 
-/// The report of a half as known on a day.
+/// The report of a half as of a day.
 fn report(
     alloc: Global,
     half: u16,
@@ -109,7 +109,7 @@ fn report(
     }
 }
 
-/// A component by its number and kind, its leaks by their days, and the days of its one tag.
+/// A component: its number and kind, the days of its leaks, and the days of its one tag.
 type Leaking<'a> = (u16, Kind, &'a [&'a str], Days<'a>);
 
 /// The sheet of a component with one tag.
@@ -118,7 +118,7 @@ fn one_tag(alloc: Global, (component, kind, leaks, days): Leaking) -> Result<She
     sheet(alloc, component, kind, leaks, &[tag])
 }
 
-/// Two leaks in February and a tag closed a day late.
+/// A valve with two leaks in February and a tag that was closed one day late.
 const VALVE: Leaking<'static> = (
     1,
     Kind::Valve,
@@ -126,7 +126,7 @@ const VALVE: Leaking<'static> = (
     ("2024-02-20", Some("2024-03-07")),
 );
 
-/// A tag closed on its last day.
+/// A valve with a tag that was closed on its due day.
 const OTHER_VALVE: Leaking<'static> = (
     2,
     Kind::Valve,
@@ -134,13 +134,13 @@ const OTHER_VALVE: Leaking<'static> = (
     ("2024-02-01", Some("2024-02-16")),
 );
 
-/// A leak in October and an open tag.
+/// A pump with a leak in October and an open tag.
 const PUMP: Leaking<'static> = (5, Kind::Pump, &["2023-10-01"], ("2023-10-01", None));
 
-/// Of a kind that has no column.
+/// A relief device, which has no column.
 const RELIEF: Leaking<'static> = (8, Kind::Relief, &["2024-01-10"], ("2024-01-10", None));
 
-/// A leak before the half and one after it.
+/// A compressor with leaks before the half, after it, and on its last day.
 const COMPRESSOR: Leaking<'static> = (
     9,
     Kind::Compressor,
@@ -180,7 +180,7 @@ fn components_are_counted_by_month_and_kind(rt: HostRuntime) -> Result<(), Fail>
     same("day", &known.day, &day)
 }
 
-/// Whether a half has begun on a day, and why it has no report on that day, where it has none.
+/// Whether a half has begun by a day, and the error if it has no report on that day.
 fn begun_on(alloc: Global, half: u16, text: &str) -> Result<(bool, Option<ReportError>), Fail> {
     let unit = unit()?;
     let day = day(text)?;
@@ -189,7 +189,7 @@ fn begun_on(alloc: Global, half: u16, text: &str) -> Result<(bool, Option<Report
     Ok((begun, refusal))
 }
 
-/// Sees that a half has not begun on a day, and which first day is returned.
+/// Checks that a half has not begun by a day, and the first day that is reported.
 fn is_to_come(
     rt: &impl Abort,
     alloc: Global,
@@ -204,14 +204,14 @@ fn is_to_come(
     Ok(())
 }
 
-/// Sees that a half has begun on a day.
+/// Checks that a half has begun by a day.
 fn has_begun(rt: &impl Abort, alloc: Global, half: u16, text: &str) -> Result<(), Fail> {
     let found = begun_on(alloc, half, text)?;
     begins(rt, half, found, (true, None));
     Ok(())
 }
 
-/// Sees that this was found of a half.
+/// Checks that the expected result was found for a half.
 fn begins(
     rt: &impl Abort,
     half: u16,
@@ -237,7 +237,7 @@ fn a_half_has_begun_on_its_first_day(rt: HostRuntime) -> Result<(), Fail> {
     has_begun(&rt, alloc, 160, "2099-12-31")
 }
 
-/// Sees whether a delayed tag has a line in the half from 2023-10-01 to 2024-03-31, beside a tag without a delay.
+/// Checks whether a delayed tag has a line in the half from 2023-10-01 to 2024-03-31, next to a tag without a delay.
 fn has_line(alloc: Global, days: Days, stands: bool) -> Result<(), Fail> {
     let late = delayed(1, days)?;
     let plain = tag(1, days)?;
@@ -257,7 +257,7 @@ fn lines_are_of_tags_of_the_half(rt: HostRuntime) -> Result<(), Fail> {
     has_line(alloc, ("2024-04-01", None), false)
 }
 
-/// Sees whether a shutdown has a line in that half.
+/// Checks whether a shutdown has a line in that half.
 fn has_stop(alloc: Global, first: &str, last: &str, stands: bool) -> Result<(), Fail> {
     let begin = day(first)?;
     let end = day(last)?;

@@ -10,7 +10,7 @@ use view_texts::{
     put_tags, report_text, routes_text, tags_text,
 };
 
-/// The day with this text, and none for a hyphen.
+/// The day with this text, or `None` for a hyphen.
 fn day_or_none(text: &str) -> Result<Option<Day>, Fail> {
     if text == "-" {
         return Ok(None);
@@ -29,7 +29,7 @@ fn key(text: &str) -> Result<Key, Fail> {
     })
 }
 
-/// A duty that was met on a day, or not.
+/// A duty that was met on a day, or is not met.
 fn duty(component: u16, cause: u8, due: &str, met: &str) -> Result<Duty, Fail> {
     let met = if met == "-" { None } else { Some(key(met)?) };
     Ok(Duty {
@@ -54,7 +54,7 @@ fn tag(component: u16, attempted: &str, repair_due: Until, closed: &str) -> Resu
     })
 }
 
-/// A delay of the repair of such a leak.
+/// A delay of the repair of this leak.
 fn delay(
     component: u16,
     ground: u8,

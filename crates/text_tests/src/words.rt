@@ -25,7 +25,7 @@ fn so_many_words_are_found_in_their_order(rt: HostRuntime) -> Result<(), Fail> {
     Ok(())
 }
 
-// Words that clap would take as options, pass over or answer with help are no positionals here; nor is one word more or less.
+// Words that clap would take as options, skip, or answer with help are not positionals here, and neither are fewer or more words.
 #[test]
 fn other_words_are_no_positionals(rt: HostRuntime) -> Result<(), Fail> {
     let alloc = rt.alloc();
@@ -48,7 +48,7 @@ fn other_words_are_no_positionals(rt: HostRuntime) -> Result<(), Fail> {
     Ok(())
 }
 
-// An empty word is a word, a hyphen within a word makes no option, and a name of a command may be any word.
+// An empty word is a word, a hyphen inside a word makes no option, and the name of a command may be any word.
 #[test]
 fn odd_words_are_positionals(rt: HostRuntime) -> Result<(), Fail> {
     let alloc = rt.alloc();

@@ -1,4 +1,4 @@
-//! Views as a test asks for them: the name of the view, the process unit, and what else it takes, in the order of its text.
+//! Views as tests write them: the name of the view, the process unit, and its other arguments in the order of its text.
 
 ghost use Rattle.std.specs.Prelude.{◌≡◌, IfOk, IfSome};
 ghost use Rattle.office_views.specs.Answers.{IsView};
@@ -13,15 +13,15 @@ use std::fmt::Debug;
 use std::process::Abort;
 use std::test::Fail;
 
-/// The view that a text asks for.
-fn request(alloc: Global, text: &str) -> Result<Request, Fail>
+/// The view that a text names.
+pub fn request(alloc: Global, text: &str) -> Result<Request, Fail>
     ensures view { IfOk result IsView }
 {
     let words: Vec<&str> = text.split_whitespace().collect(alloc)?;
     Ok(view_of(&words).ok_or("view")?)
 }
 
-/// The view, if these words ask for one.
+/// The view that these words name, if they do.
 fn view_of(words: &[&str]) -> Option<Request>
     ensures view { IfSome result IsView }
 {
@@ -87,24 +87,30 @@ fn of_time(view: &str, unit: u16, words: &[&str]) -> Option<Request>
     })
 }
 
-/// What an office shows, or what it has none of.
+/// What an office shows, or `no such` and what does not exist.
 pub fn shown(alloc: Global, office: &mut Office, view: &str) -> Result<String, Fail>
     ensures unchanged { office.new ≡ office.old }
 {
     let request = request(alloc, view)?;
-    match office.ask(&request)? {
+    let shown = office.ask(&request)?;
+    Ok(text_of(alloc, &shown)?)
+}
+
+/// The text of what is shown, or `no such` and what does not exist.
+pub fn text_of(alloc: Global, shown: &Shown) -> Result<String, AllocError> {
+    match shown {
         Shown::Text(text) => Ok(String::from_utf8_lossy(alloc, text.as_bytes())?),
         Shown::NoSuch(what) => Ok(joined(alloc, &["no such ", what.word()])?),
     }
 }
 
-/// What the office that adopted a history shows.
-fn answer(alloc: Global, history: &str, view: &str) -> Result<String, Fail> {
+/// What an office shows after it adopts a history.
+pub fn answer(alloc: Global, history: &str, view: &str) -> Result<String, Fail> {
     let mut office = office(alloc, history)?;
     shown(alloc, &mut office, view)
 }
 
-/// The lines of a text that have this part.
+/// The lines of a text that contain this part.
 fn lines_with(alloc: Global, text: &str, part: &str) -> Result<String, AllocError> {
     let mut found = String::new(alloc);
     for line in text.lines() {
@@ -116,19 +122,24 @@ fn lines_with(alloc: Global, text: &str, part: &str) -> Result<String, AllocErro
     Ok(found)
 }
 
-/// What it shows, or those of its lines that have a part, where one is given.
-fn told(alloc: Global, history: &str, view: &str, part: &str) -> Result<String, Fail> {
-    let text = answer(alloc, history, view)?;
+/// All of a text, or only the lines that contain a part, if a part is given.
+pub fn part_of(alloc: Global, text: String, part: &str) -> Result<String, AllocError> {
     if part.is_empty() {
         return Ok(text);
     }
-    Ok(lines_with(alloc, text.as_str(), part)?)
+    lines_with(alloc, text.as_str(), part)
 }
 
-/// The last of a history, a view, a part of lines, or none, and the text that is to be shown then.
+/// What an office shows after it adopts a history: all of it, or only the lines that contain a part, if a part is given.
+fn told(alloc: Global, history: &str, view: &str, part: &str) -> Result<String, Fail> {
+    let text = answer(alloc, history, view)?;
+    Ok(part_of(alloc, text, part)?)
+}
+
+/// The last part of a history, a view, a part of lines or an empty text, and the expected text.
 pub type Row<'a> = (&'a str, &'a str, &'a str, &'a str);
 
-/// Sees what is shown by each row, where all histories begin alike.
+/// Checks what each row shows, after histories that begin in the same way.
 pub fn shows(rt: &impl Abort, alloc: Global, front: &[&str], rows: &[Row]) -> Result<(), Fail> {
     for row in rows {
         shows_row(rt, alloc, front, row)?;
@@ -136,7 +147,7 @@ pub fn shows(rt: &impl Abort, alloc: Global, front: &[&str], rows: &[Row]) -> Re
     Ok(())
 }
 
-/// Sees what is shown by a row.
+/// Checks what a row shows.
 pub fn shows_row(
     rt: &impl Abort,
     alloc: Global,

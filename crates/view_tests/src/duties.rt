@@ -2,12 +2,12 @@ use crate::asked::{Row, shows};
 use crate::histories::{CRUDE, PASSES};
 use std::test::Fail;
 
-/// The monthly readings of three valves on 2024-02-20, up to the drift that was found after them.
+/// The monthly readings of three valves on 2024-02-20, and the beginning of the drift assessment after them.
 const DRIFTED: &str = "7: 2024-02-20 300 calibration 500\
     ; 2024-02-20 600 reading 1 440 0; 2024-02-20 600 reading 2 441 0\
     ; 2024-02-20 600 reading 3 499 0; 2024-02-20 700 drift 500 ";
 
-/// What is owed in February 2024 after each drift.
+/// The duties of February 2024 after each drift.
 const DRIFTS: [Row<'static>; 2] = [
     (
         "440 440 440",
@@ -34,7 +34,7 @@ fn readings_that_a_drift_voids_meet_no_duty(rt: HostRuntime) -> Result<(), Fail>
     shows(&rt, rt.alloc(), &[CRUDE, PASSES, DRIFTED], &DRIFTS)
 }
 
-/// Valve 1 is read in March and April 2024: each time with this ppm.
+/// Valve 1 is read in March and April 2024, each time with this ppm.
 const BOTH_20: &str = "7: 2024-03-10 300 calibration 500; 2024-03-10 600 reading 1 20 0\n\
     7: 2024-04-10 200 precision 500 500 500 500; 2024-04-10 300 calibration 500; 2024-04-10 600 reading 1 20 0\n";
 
@@ -44,7 +44,7 @@ const BOTH_499: &str = "7: 2024-03-10 300 calibration 500; 2024-03-10 600 readin
 const BOTH_500: &str = "7: 2024-03-10 300 calibration 500; 2024-03-10 600 reading 1 500 0\n\
     7: 2024-04-10 200 precision 500 500 500 500; 2024-04-10 300 calibration 500; 2024-04-10 600 reading 1 500 0\n";
 
-/// What is owed in July after the two readings.
+/// The duties of July after the two readings.
 const MONTHS: [Row<'static>; 4] = [
     (
         BOTH_499,
@@ -67,7 +67,7 @@ fn a_month_is_clean_below_the_limit(rt: HostRuntime) -> Result<(), Fail> {
     shows(&rt, rt.alloc(), &[CRUDE, PASSES], &MONTHS)
 }
 
-/// What is owed on a day after two clean readings.
+/// The duties of a day after two clean readings.
 const QUARTERS: [Row<'static>; 6] = [
     (
         "",
@@ -104,11 +104,11 @@ fn a_valve_is_quarterly_from_the_quarter_after_two_clean_months(
     shows(&rt, rt.alloc(), &[CRUDE, PASSES, BOTH_20], &QUARTERS)
 }
 
-/// A relief device that was released on 2024-02-20, up to the reading of it four days later.
+/// A relief device with a release on 2024-02-20, and the beginning of its reading four days later.
 const RELEASED: &str = "7: 2024-02-20 500 release 8\n\
     7: 2024-02-24 300 calibration 500; 2024-02-24 600 reading 8 ";
 
-/// What is owed of the release after each reading.
+/// The duty after the release, with each reading.
 const RELEASES: [Row<'static>; 4] = [
     (
         "599 100",
@@ -141,7 +141,7 @@ const DRIPPING: &str = "7: 2024-02-19 600 visual 5 drips\n\
     7: 2024-02-22 300 calibration 500; 2024-02-22 600 reading 5 1999 0\n\
     7: 2024-02-26 600 visual 5 drips\n";
 
-/// What is owed of the drips on a day.
+/// The duties after the drips, on a day.
 const DRIPS: [Row<'static>; 5] = [
     ("", "due 1 2024-02-18", "drip", ""),
     ("", "due 1 2024-02-19", "drip", "5 drip 2024-02-24 open\n"),
@@ -160,12 +160,12 @@ fn drips_that_come_again_are_no_new_duty(rt: HostRuntime) -> Result<(), Fail> {
     shows(&rt, rt.alloc(), &[CRUDE, PASSES, DRIPPING], &DRIPS)
 }
 
-/// A relief device that is released, and two valves.
+/// A relief device with a release, and two valves.
 const FLARE: &str = "0: 2024-01-15 0 unit 3 FLARE; 2024-01-15 0 relief 1 3 gas\
     ; 2024-01-15 0 valve 2 3 gas; 2024-01-15 0 valve 3 3 gas\n\
     7: 2024-02-20 500 release 1";
 
-/// The routes by how many stops they have at most.
+/// The routes, by the maximum number of stops.
 const ROUTES: [Row<'static>; 3] = [
     (
         "",

@@ -1,39 +1,61 @@
-//! Facts as a test writes them: `DAY MINUTE` and then what is entered, with its numbers.
+//! Facts as tests write them: `DAY MINUTE`, the kind of the fact, and its numbers. A test or reading of an instrument other than 1
+//! ends with `by INSTRUMENT`.
 
-ghost use Rattle.std.specs.Prelude.{◌≤◌, IfSome};
+ghost use Rattle.std.specs.Prelude.{◌≡◌, ◌≤◌, ◌⊎◌, IfSome};
+ghost use Rattle.fact_kinds.specs.declared.class.Designation.TheVariants.{Plain, Nde};
 ghost use Rattle.fact_kinds.specs.Fields.{IsFact};
 
 use crate::words::{component, day, has, number, ppm, short, unit};
-use fact_kinds::{Class, Designation, Fact, FactBody, Kind, Name, Purpose, Service, VisualState};
+use fact_kinds::{
+    Class, Designation, Fact, FactBody, Kind, Name, Purpose, Service, Sort, VisualState,
+};
 use ldar_days::Day;
 use std::alloc::Global;
 use std::test::Fail;
 
-/// When something is entered. All tests and readings are of instrument 1.
+/// The day and the minute of a fact, and the instrument of a test or reading.
 #[derive(Drop)]
 struct Moment {
     day: Day,
     minute: u16,
+    instrument: u16,
     ghost in_range: { minute ≤ 1_439 },
+    ghost numbered: { 1 ≤ instrument },
 }
 
-/// The fact that a text writes.
+/// The fact that a text spells.
 pub fn fact(alloc: Global, text: &str) -> Result<Fact, Fail> {
     let words: Vec<&str> = text.split_whitespace().collect(alloc)?;
     Ok(fact_of(&words).ok_or("fact")?)
 }
 
-/// The fact, if these words write one.
+/// The fact that these words spell, if they do.
 fn fact_of(words: &[&str]) -> Option<Fact> {
     let [date, minute, what, numbers @ ..] = words else {
         return None;
     };
+    let (instrument, rest) = instrument_of(numbers)?;
     let day = day(date)?;
     let minute = number(minute, 0, 1_439)? as u16;
-    entry(Moment { day, minute }, what, numbers)
+    let at = Moment {
+        day,
+        minute,
+        instrument,
+    };
+    entry(at, what, rest)
 }
 
-/// A fact of the register, or what follows.
+/// The instrument of a fact, and the words before it.
+fn instrument_of<'a>(words: &'a [&'a str]) -> Option<(u16, &'a [&'a str])>
+    ensures numbered { IfSome result (λ r. 1 ≤ r.0) }
+{
+    match words {
+        [rest @ .., "by", own] => Some((number(own, 1, 65_535)? as u16, rest)),
+        _ => Some((1, words)),
+    }
+}
+
+/// A fact of the register, or another one.
 fn entry(at: Moment, what: &str, numbers: &[&str]) -> Option<Fact> {
     match what {
         "unit" => process_unit(at, numbers),
@@ -47,7 +69,7 @@ fn entry(at: Moment, what: &str, numbers: &[&str]) -> Option<Fact> {
     }
 }
 
-/// What instrument 1 was tested by, or what follows.
+/// A test of an instrument, or another fact.
 fn test_of_instrument(at: Moment, what: &str, numbers: &[&str]) -> Option<Fact> {
     match what {
         "calibration" => calibration(at, numbers),
@@ -57,7 +79,7 @@ fn test_of_instrument(at: Moment, what: &str, numbers: &[&str]) -> Option<Fact> 
     }
 }
 
-/// What happens at a component.
+/// An event at a component.
 fn event(at: Moment, what: &str, numbers: &[&str]) -> Option<Fact> {
     match what {
         "reading" => reading(at, numbers),
@@ -65,11 +87,21 @@ fn event(at: Moment, what: &str, numbers: &[&str]) -> Option<Fact> {
         "attempt" => attempt(at, numbers),
         "delay" => delay(at, numbers),
         "release" => release(at, numbers),
+        "indication" => indication(at, numbers),
+        _ => change(at, what, numbers),
+    }
+}
+
+/// A change of a component's class, or its retirement.
+fn change(at: Moment, what: &str, numbers: &[&str]) -> Option<Fact> {
+    match what {
+        "class" => class(at, numbers),
+        "retire" => retire(at, numbers),
         _ => None,
     }
 }
 
-/// The fact that something is entered then.
+/// The fact with this body at this moment.
 fn on(at: Moment, body: FactBody) -> Fact
     requires in_range { IsFact (record { day = at.day; minute = at.minute; body = body }) }
 {
@@ -104,7 +136,7 @@ fn service(word: &str) -> Option<Service> {
     }
 }
 
-/// `KIND COMPONENT UNIT SERVICE`, after which `monomer` may follow.
+/// `KIND COMPONENT UNIT SERVICE`, optionally followed by `monomer`
 fn equipment(at: Moment, kind: Kind, numbers: &[&str]) -> Option<Fact> {
     let [number, own, fluid, flags @ ..] = numbers else {
         return None;
@@ -174,7 +206,10 @@ fn calibration(at: Moment, numbers: &[&str]) -> Option<Fact> {
         return None;
     };
     let gas = known_value(gas)?;
-    let body = FactBody::Calibration { instrument: 1, gas };
+    let body = FactBody::Calibration {
+        instrument: at.instrument,
+        gas,
+    };
     Some(on(at, body))
 }
 
@@ -199,7 +234,7 @@ fn precision(at: Moment, numbers: &[&str]) -> Option<Fact> {
     let value = known_value(value)?;
     let readings = readings_of(read)?;
     let body = FactBody::Precision {
-        instrument: 1,
+        instrument: at.instrument,
         value,
         readings,
     };
@@ -214,16 +249,17 @@ fn drift(at: Moment, numbers: &[&str]) -> Option<Fact> {
     let value = known_value(value)?;
     let readings = readings_of(read)?;
     let body = FactBody::Drift {
-        instrument: 1,
+        instrument: at.instrument,
         value,
         readings,
     };
     Some(on(at, body))
 }
 
-/// `reading COMPONENT PPM BACKGROUND`, a routine one by operator 1
+/// `reading COMPONENT PPM BACKGROUND`, optionally followed by `follow-up`: a reading by operator 1, and a routine one if it is no
+/// follow-up
 fn reading(at: Moment, numbers: &[&str]) -> Option<Fact> {
-    let [number, parts, around] = numbers else {
+    let [number, parts, around, flags @ ..] = numbers else {
         return None;
     };
     let component = component(number)?;
@@ -231,13 +267,21 @@ fn reading(at: Moment, numbers: &[&str]) -> Option<Fact> {
     let background = ppm(around)?;
     let body = FactBody::Reading {
         component,
-        instrument: 1,
+        instrument: at.instrument,
         operator: 1,
-        purpose: Purpose::Routine,
+        purpose: purpose(flags),
         ppm: found,
         background,
     };
     Some(on(at, body))
+}
+
+fn purpose(flags: &[&str]) -> Purpose {
+    if has(flags, "follow-up") {
+        Purpose::FollowUp
+    } else {
+        Purpose::Routine
+    }
 }
 
 fn visual_state(word: &str) -> Option<VisualState> {
@@ -259,20 +303,20 @@ fn visual(at: Moment, numbers: &[&str]) -> Option<Fact> {
     Some(on(at, FactBody::Visual { component, state }))
 }
 
-/// `attempt COMPONENT`
+/// `attempt COMPONENT`, optionally followed by `complete`
 fn attempt(at: Moment, numbers: &[&str]) -> Option<Fact> {
-    let [number] = numbers else {
+    let [number, flags @ ..] = numbers else {
         return None;
     };
     let component = component(number)?;
     let body = FactBody::Attempt {
         component,
-        complete: false,
+        complete: has(flags, "complete"),
     };
     Some(on(at, body))
 }
 
-/// The letter of a ground as a number, 0 for a delay that is withdrawn.
+/// The letter of a ground as a number; 0 for a delay that is withdrawn.
 fn ground(word: &str) -> Option<u8>
     ensures in_range { IfSome result (λ number. number ≤ 5) }
 {
@@ -312,4 +356,63 @@ fn release(at: Moment, numbers: &[&str]) -> Option<Fact> {
     };
     let component = component(number)?;
     Some(on(at, FactBody::Release { component }))
+}
+
+fn sort(word: &str) -> Option<Sort> {
+    match word {
+        "sensor" => Some(Sort::Sensor),
+        "evidence" => Some(Sort::Evidence),
+        _ => None,
+    }
+}
+
+/// `indication COMPONENT` and `sensor` or `evidence`, optionally followed by `gone`
+fn indication(at: Moment, numbers: &[&str]) -> Option<Fact> {
+    let [number, found, flags @ ..] = numbers else {
+        return None;
+    };
+    let component = component(number)?;
+    let sort = sort(found)?;
+    let body = FactBody::Indication {
+        component,
+        sort,
+        present: !has(flags, "gone"),
+    };
+    Some(on(at, body))
+}
+
+/// No detectable emissions, if a flag says so, and else no designation.
+fn designation(flags: &[&str]) -> Designation
+    ensures no_plan { (result ≡ Plain) ⊎ (result ≡ Nde) }
+{
+    if has(flags, "nde") {
+        Designation::Nde
+    } else {
+        Designation::Plain
+    }
+}
+
+/// `class COMPONENT SERVICE`, optionally followed by `nde`
+fn class(at: Moment, numbers: &[&str]) -> Option<Fact> {
+    let [number, fluid, flags @ ..] = numbers else {
+        return None;
+    };
+    let component = component(number)?;
+    let service = service(fluid)?;
+    let class = Class {
+        service,
+        designation: designation(flags),
+        plan: 0,
+        month: 1,
+    };
+    Some(on(at, FactBody::Class { component, class }))
+}
+
+/// `retire COMPONENT`
+fn retire(at: Moment, numbers: &[&str]) -> Option<Fact> {
+    let [number] = numbers else {
+        return None;
+    };
+    let component = component(number)?;
+    Some(on(at, FactBody::Retire { component }))
 }

@@ -1,5 +1,5 @@
-//! Histories as a test writes them: a batch a line, which begins with its handheld and has its place, from 1, for a number; its
-//! facts follow a colon, separated by semicolons.
+//! Histories as tests write them: one batch on each line. A line has the handheld, a colon, and the facts, separated by semicolons. The
+//! number of a batch is its place, from 1.
 
 ghost use Rattle.std.specs.Prelude.{◌≤◌};
 
@@ -21,7 +21,7 @@ pub const CRUDE: &str = "0: 2020-01-15 0 unit 1 CRUDE\
 /// Instrument 1 passes its precision test on 2024-01-02.
 pub const PASSES: &str = "1: 2024-01-02 0 precision 500 500 500 500\n";
 
-/// The facts that a text has.
+/// The facts of a text.
 fn facts_of(alloc: Global, told: &str) -> Result<Vec<Fact>, Fail> {
     let mut facts = Vec::new(alloc);
     for text in told.split("; ") {
@@ -31,15 +31,15 @@ fn facts_of(alloc: Global, told: &str) -> Result<Vec<Fact>, Fail> {
     Ok(facts)
 }
 
-/// The batch that a line writes.
-fn batch(alloc: Global, number: u32, line: &str) -> Result<Batch, Fail> {
+/// The batch of a line.
+pub fn batch(alloc: Global, number: u32, line: &str) -> Result<Batch, Fail> {
     let (from, told) = line.split_once(": ").ok_or("batch")?;
     let handheld = short(from).ok_or("handheld")?;
     let facts = facts_of(alloc, told)?;
     Ok(Batch::new(handheld, number, facts).ok_or("facts")?)
 }
 
-/// The batches that a history has.
+/// The batches of a history.
 pub fn batches(alloc: Global, history: &str) -> Result<Vec<Batch>, Fail> {
     let mut batches = Vec::new(alloc);
     let mut number = 0u32;
@@ -51,7 +51,7 @@ pub fn batches(alloc: Global, history: &str) -> Result<Vec<Batch>, Fail> {
     Ok(batches)
 }
 
-/// Adopts a batch, which has to pass.
+/// Adopts a batch, which must pass.
 pub fn adopt(office: &mut Office, batch: &Batch) -> Result<(), Fail> {
     office.reserve(batch)?;
     if !office.adopt(batch)? {
@@ -60,7 +60,7 @@ pub fn adopt(office: &mut Office, batch: &Batch) -> Result<(), Fail> {
     Ok(())
 }
 
-/// The office that adopted a history.
+/// The office after it adopts a history.
 pub fn office(alloc: Global, history: &str) -> Result<Office, Fail> {
     let mut office = Office::new(alloc);
     for batch in &batches(alloc, history)? {

@@ -21,18 +21,18 @@ const CLEAN: &str = "7: 2024-02-10 200 precision 500 500 500 500; 2024-02-10 300
     7: 2024-07-10 200 precision 500 500 500 500; 2024-07-10 300 calibration 500\
     ; 2024-07-10 600 reading 30 10 0\n";
 
-/// A leak on 2024-04-20 that comes late.
+/// A leak on 2024-04-20 that arrives late.
 const LEAK: &str = "7: 2024-04-20 200 precision 500 500 500 500; 2024-04-20 300 calibration 500\
     ; 2024-04-20 600 reading 30 700 0\n";
 
-/// What is due once the leak has come.
+/// The due list after the leak arrives.
 const MISSED: &str = "due 2 2024-09-10\n\
     30 monthly 2024-05-31 missed\n\
     30 monthly 2024-06-30 missed\n\
     30 monthly 2024-08-31 missed\n\
     30 monthly 2024-09-30 open\nend 4\n";
 
-/// What is due before the readings, and once the clean ones have come.
+/// The due list before the readings, and after the clean ones arrive.
 const SOUND: [Row<'static>; 2] = [
     (
         "",
@@ -43,7 +43,7 @@ const SOUND: [Row<'static>; 2] = [
     (CLEAN, "due 2 2024-09-10", "", "due 2 2024-09-10\nend 0\n"),
 ];
 
-/// What is shown once the leak has come.
+/// What is shown after the leak arrives.
 const LEAKING: [Row<'static>; 2] = [
     (LEAK, "due 2 2024-09-10", "", MISSED),
     (
@@ -61,13 +61,13 @@ fn a_late_leak_undoes_quarterly_months(rt: HostRuntime) -> Result<(), Fail> {
     shows(&rt, rt.alloc(), &[COKER, CLEAN], &LEAKING)
 }
 
-/// The batches of the unit, of the clean readings and of the leak.
+/// The batches with the unit, the clean readings and the leak.
 fn leaking(alloc: Global) -> Result<Vec<Batch>, Fail> {
     let history = joined(alloc, &[COKER, CLEAN, LEAK])?;
     batches(alloc, history.as_str())
 }
 
-/// The nth of the orders in which five batches after the first can come, by their places.
+/// The nth order in which the five batches after the first can arrive, as a list of their places.
 fn nth_order(alloc: Global, n: usize) -> Result<Vec<usize>, AllocError> {
     let mut left = vec![in alloc; 1, 2, 3, 4, 5]?;
     let mut order = vec![in alloc; 0]?;
@@ -106,7 +106,7 @@ const VIEWS: [&str; 6] = [
     "report 2 1 2024-09-10",
 ];
 
-/// What all of them show.
+/// The texts of all these views.
 fn all_shown(alloc: Global, office: &mut Office) -> Result<String, Fail> {
     let mut all = String::new(alloc);
     for view in &VIEWS {
@@ -116,14 +116,14 @@ fn all_shown(alloc: Global, office: &mut Office) -> Result<String, Fail> {
     Ok(all)
 }
 
-/// What they show of batches that came in an order.
+/// The texts of all views after the batches arrive in this order.
 fn shown_of(alloc: Global, batches: &[Batch], order: &[usize]) -> Result<String, Fail> {
     let mut office = Office::new(alloc);
     adopt_all(&mut office, batches, order)?;
     all_shown(alloc, &mut office)
 }
 
-/// Sees that all views show this of batches that came in the nth order.
+/// Checks that all views show this after the batches arrive in the nth order.
 fn shows_alike(
     rt: &impl Abort,
     alloc: Global,
@@ -151,13 +151,13 @@ fn batches_in_any_order_show_the_same(rt: HostRuntime) -> Result<(), Fail> {
     Ok(())
 }
 
-/// Whether a batch is adopted once more.
+/// Whether a batch is adopted again.
 fn is_adopted_again(office: &mut Office, batch: &Batch) -> Result<bool, Fail> {
     office.reserve(batch)?;
     Ok(office.adopt(batch)?)
 }
 
-/// What is due on 2024-09-10 while a batch has room, and once it is adopted.
+/// The due list of 2024-09-10 after room is made for a batch, and after the batch is adopted.
 fn due_around(alloc: Global, office: &mut Office, batch: &Batch) -> Result<(String, String), Fail> {
     office.reserve(batch)?;
     let before = shown(alloc, office, "due 2 2024-09-10")?;
@@ -168,7 +168,7 @@ fn due_around(alloc: Global, office: &mut Office, batch: &Batch) -> Result<(Stri
     Ok((before, after))
 }
 
-/// What is due on 2024-09-10 once a batch is adopted. It fails if its room alone shows something, or if it is adopted once more.
+/// The due list of 2024-09-10 after a batch is adopted. It fails if making room changes the list, or if the batch is adopted again.
 fn due_behind(
     alloc: Global,
     office: &mut Office,
@@ -182,7 +182,7 @@ fn due_behind(
     Ok(after)
 }
 
-/// What is due on 2024-09-10 once batches are adopted, one after the other.
+/// The due list of 2024-09-10 after batches are adopted one after the other.
 fn due_behind_all(alloc: Global, office: &mut Office, batches: &[Batch]) -> Result<String, Fail> {
     let mut last = String::from_str(alloc, "no such unit")?;
     for batch in batches {

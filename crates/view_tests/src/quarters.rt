@@ -3,12 +3,12 @@ use crate::histories::{CRUDE, PASSES};
 use std::alloc::{AllocError, Global};
 use std::test::Fail;
 
-/// What a unit without components shows of its first quarter.
+/// The percent view of the first quarter of a unit without components.
 const FIRST: &str = "percent 3 1 leaking 0 monitored 0 not good not skipped\n";
 
 const NONE: &str = "no such quarter";
 
-/// What there is of the first quarter after a startup, on the last day without it and on the day after.
+/// The percent view of the first quarter after a startup, on the day before the quarter begins and on its first day.
 const STARTUPS: [Row<'static>; 6] = [
     (
         "0: 2020-01-15 0 unit 3 TANKS",
@@ -55,7 +55,7 @@ fn the_first_quarter_ends_with_the_last_whole_month_of_180_days(
     shows(&rt, rt.alloc(), &[], &STARTUPS)
 }
 
-/// The quarter of a reading after a precision test of 500 ppm.
+/// The percent view of a quarter with a reading, after a precision test of 500 ppm.
 const TESTS: [Row<'static>; 2] = [
     (
         "450 450 450\n7: 2024-02-20 300 calibration 500; 2024-02-20 600 reading 1 20 0",
@@ -77,7 +77,7 @@ fn a_precision_test_within_a_tenth_passes(rt: HostRuntime) -> Result<(), Fail> {
     shows(&rt, rt.alloc(), &[CRUDE, tested], &TESTS)
 }
 
-/// Adds the numbers from one to another, the first left out, each with a text before it and one after it.
+/// Adds the numbers after `from` up to `to`, each with a text before it and one after it.
 fn add_numbers(
     alloc: Global,
     text: &mut String,
@@ -94,8 +94,8 @@ fn add_numbers(
     Ok(())
 }
 
-/// This many valves of unit 3 that begin with it, one after another, and a reading of each of them on 2024-04-10, the first of
-/// which are leaks.
+/// This many valves of unit 3, which begin with the unit, and a reading of each on 2024-04-10. The first `leaking` readings are
+/// leaks.
 fn valves_read(alloc: Global, leaking: u32, count: u32) -> Result<String, AllocError> {
     let valve = "; 2024-01-15 0 valve ";
     let reading = "; 2024-04-10 600 reading ";
@@ -107,7 +107,7 @@ fn valves_read(alloc: Global, leaking: u32, count: u32) -> Result<String, AllocE
     Ok(text)
 }
 
-/// How many valves leak, how many there are, and what is shown of the first quarter.
+/// The number of leaking valves, the number of valves, and the view of the first quarter.
 const SHARES: [(u32, u32, &str); 4] = [
     (
         3,
@@ -154,7 +154,7 @@ const MAY: &str = "7: 2024-05-20 200 precision 500 500 500 500; 2024-05-20 300 c
 const NOVEMBER: &str = "7: 2024-11-20 200 precision 500 500 500 500; 2024-11-20 300 calibration 500\
     ; 2024-11-20 600 reading 1 20 0\n";
 
-/// A quarter after one of them, after two and after three.
+/// The view of a quarter after one clean reading, after two and after three.
 const ONCE: [Row<'static>; 1] = [(
     FEBRUARY,
     "percent 1 18 2024-09-30",
@@ -193,7 +193,7 @@ fn a_quarter_after_two_good_ones_is_skipped(rt: HostRuntime) -> Result<(), Fail>
     shows(&rt, alloc, twice, &THRICE)
 }
 
-/// What is asked for that there is none of, and a quarter that there is.
+/// Requests for what does not exist, and for a quarter that exists.
 const ABSENT: [Row<'static>; 13] = [
     ("", "tags 9 2024-02-20", "", "no such unit"),
     ("", "route 1 2024-02-20 0", "", "no such stops"),

@@ -15,12 +15,12 @@ const LEAK: &str = "7: 2024-02-20 300 calibration 500; 2024-02-20 615 reading 1 
 /// An attempt two days later.
 const ATTEMPT: &str = "7: 2024-02-22 600 attempt 1\n";
 
-/// A clean reading on the last day for the repair, and one on the day after.
+/// A clean reading on the last day for the repair, and one on the next day.
 const IN_TIME: &str = "7: 2024-03-06 300 calibration 500; 2024-03-06 600 reading 1 20 0\n";
 
 const LATE: &str = "7: 2024-03-07 300 calibration 500; 2024-03-07 600 reading 1 20 0\n";
 
-/// The report of the half from October 2023 on, with a leak in February, up to the month of March.
+/// The first lines of the report of the half from October 2023 on, with a leak in February; March is missing.
 const WINTER: &str = "report CRUDE unit 1 half 8 as of 2024-03-31\n\
     2023-10 valves 0 0 pumps 0 0 compressors 0 0\n\
     2023-11 valves 0 0 pumps 0 0 compressors 0 0\n\
@@ -50,13 +50,13 @@ fn a_report_counts_a_late_repair_in_the_month_of_its_due_day(rt: HostRuntime) ->
     Ok(())
 }
 
-/// What an office reports of a half on 2024-03-31.
+/// The report of a half as of 2024-03-31.
 fn asked(office: &mut Office, unit: u16, half: u16) -> Result<Result<Report, AskError>, Fail> {
     let day = Day::read(b"2024-03-31").ok_or("day")?;
     Ok(office.report(unit, half, day))
 }
 
-/// How many valves leaked in the fifth month of a report, if that is all it has besides the numbers of its months.
+/// The number of leaking valves in the fifth month of a report, if it has no delays and no shutdowns.
 fn only_counted(report: &Report) -> Option<u32> {
     let cells = &report.cells;
     if cells.delays.as_slice().is_empty() && cells.stops.as_slice().is_empty() {
@@ -65,13 +65,13 @@ fn only_counted(report: &Report) -> Option<u32> {
     None
 }
 
-/// The report of unit 1 and its eighth half.
+/// The report of half 8 of unit 1.
 fn report_of(office: &mut Office) -> Result<Report, Fail> {
     let report = asked(office, 1, 8)?;
     Ok(report.ok().ok_or("report")?)
 }
 
-/// The office that adopted a history, in parts one after the other.
+/// The office after it adopts a history, which is given in parts.
 fn office_of(alloc: Global, parts: &[&str]) -> Result<Office, Fail> {
     let history = joined(alloc, parts)?;
     office(alloc, history.as_str())
@@ -87,13 +87,13 @@ fn components_are_counted_and_not_leaks(rt: HostRuntime) -> Result<(), Fail> {
     same("valves", &only_counted(&report), &Some(1))
 }
 
-/// Sees that there is no report of a half of a unit, and what there is none of.
+/// Checks that a half of a unit has no report, and what does not exist.
 fn has_none(office: &mut Office, unit: u16, half: u16, what: What) -> Result<(), Fail> {
     let none = asked(office, unit, half)?.err().ok_or("none")?;
     same(what.word(), &none, &AskError::NoSuch(what))
 }
 
-/// Sees that there is no ninth half yet, never one with the number 0, and no unit 9.
+/// Checks that half 9 does not exist yet, half 0 never, and neither does unit 9.
 fn has_no_others(office: &mut Office) -> Result<(), Fail> {
     has_none(office, 1, 9, What::Half)?;
     has_none(office, 1, 0, What::Half)?;

@@ -2,10 +2,10 @@ use crate::asked::{Row, shows};
 use crate::histories::{CRUDE, PASSES};
 use std::test::Fail;
 
-/// A reading of a component on 2024-02-20 by an instrument that was calibrated on the day, up to its numbers.
+/// The beginning of a reading on 2024-02-20 with an instrument that was calibrated on that day.
 const READ: &str = "7: 2024-02-20 300 calibration 500; 2024-02-20 600 reading ";
 
-/// The tag after a reading at the limit.
+/// The tag after a reading at the leak definition.
 const LIMITS: [Row<'static>; 4] = [
     (
         "1 500 0",
@@ -40,7 +40,7 @@ fn a_reading_at_the_limit_opens_a_tag(rt: HostRuntime) -> Result<(), Fail> {
 
 const NO_TAG: &str = "tags 1 2024-02-28\nend 0\n";
 
-/// No tag after a reading below the limit.
+/// No tag after a reading below the leak definition.
 const BELOW: [Row<'static>; 5] = [
     ("1 499 0", "tags 1 2024-02-28", "", NO_TAG),
     ("5 1999 0", "tags 1 2024-02-28", "", NO_TAG),
@@ -54,7 +54,7 @@ fn a_reading_below_the_limit_opens_none(rt: HostRuntime) -> Result<(), Fail> {
     shows(&rt, rt.alloc(), &[CRUDE, PASSES, READ], &BELOW)
 }
 
-/// The tag of a reading before its calibration comes, and once it has come.
+/// The tag of a reading before its calibration arrives, and after it arrives.
 const LATE: [Row<'static>; 2] = [
     ("", "tags 1 2024-02-28", "", NO_TAG),
     (
@@ -75,7 +75,7 @@ fn a_calibration_that_comes_late_counts(rt: HostRuntime) -> Result<(), Fail> {
 /// A leak of valve 1 on 2024-02-20.
 const LEAK: &str = "7: 2024-02-20 300 calibration 500; 2024-02-20 600 reading 1 620 0\n";
 
-/// The tag of the leak after an attempt, a clean reading and another one.
+/// The tag of the leak after an attempt, after a clean reading, and after another one.
 const CLOSINGS: [Row<'static>; 3] = [
     (
         "7: 2024-02-22 600 attempt 1\n",
@@ -105,7 +105,7 @@ fn a_tag_tells_its_attempt_its_repair_and_its_closing(rt: HostRuntime) -> Result
     shows(&rt, rt.alloc(), &[CRUDE, PASSES, LEAK], &CLOSINGS)
 }
 
-/// How many tags there are a year after the closing, and a day later.
+/// The number of tags 366 days after the closing, and on the next day.
 const YEARS: [Row<'static>; 2] = [
     (
         "7: 2024-02-22 600 attempt 1\n\
@@ -128,7 +128,7 @@ fn a_tag_is_shown_for_a_year_and_a_day(rt: HostRuntime) -> Result<(), Fail> {
     shows(&rt, rt.alloc(), &[CRUDE, PASSES, LEAK], &YEARS)
 }
 
-/// The tag of a leak whose repair is delayed: alone, after a shutdown, after an attempt in it, and entered too late.
+/// The tag of a leak with a delay: without a shutdown, after one, after an attempt in one, and with a delay that was entered too late.
 const DELAYS: [Row<'static>; 4] = [
     (
         "7: 2024-03-01 600 delay 1 a 9 2024-06-10\n",
@@ -184,7 +184,7 @@ fn a_delayed_repair_is_listed_while_its_tag_is_open(rt: HostRuntime) -> Result<(
     shows(&rt, rt.alloc(), &[CRUDE, PASSES, LEAK], &LISTED)
 }
 
-/// The tag of drips of pump 5 that were designated, after others, and that were dry after an attempt.
+/// The tag of designated drips of pump 5 after other drips, closed by a dry inspection after an attempt.
 const DRIPS: [Row<'static>; 1] = [(
     "7: 2024-02-19 600 visual 5 drips\n7: 2024-02-22 300 calibration 500\
      ; 2024-02-22 600 reading 5 1999 0\n7: 2024-02-26 600 visual 5 drips\n\

@@ -1,11 +1,11 @@
-//! Words of a test's tables.
+//! The words in the tables of tests.
 
 ghost use Rattle.std.specs.Prelude.{◌≤◌, IfSome};
 
 use ldar_days::Day;
 use std::alloc::{AllocError, Global};
 
-/// The number that a word says, in a range.
+/// The number that a word spells, if it is in a range.
 pub fn number(word: &str, least: u32, most: u32) -> Option<u32>
     ensures in_range { IfSome result (λ n. (least ≤ n) × (n ≤ most)) }
 {
@@ -30,7 +30,7 @@ pub fn unit(word: &str) -> Option<u8>
     Some(number(word, 1, 64)? as u8)
 }
 
-/// A number of 16 bits, as requests have.
+/// A number of 16 bits, for requests.
 pub fn short(word: &str) -> Option<u16> {
     Some(number(word, 0, 65_535)? as u16)
 }
@@ -42,17 +42,17 @@ pub fn ppm(word: &str) -> Option<u32>
     number(word, 0, 999_999)
 }
 
-/// The day that a word says.
+/// The day that a word spells.
 pub fn day(word: &str) -> Option<Day> {
     Day::read(word.as_bytes())
 }
 
-/// Whether a word is among some.
+/// Whether a word is one of these.
 pub fn has(words: &[&str], word: &str) -> bool {
     words.iter().any(|other| *other == word)
 }
 
-/// Texts one after another.
+/// The texts, joined in order.
 pub fn joined(alloc: Global, parts: &[&str]) -> Result<String, AllocError> {
     let mut text = String::new(alloc);
     for part in parts {

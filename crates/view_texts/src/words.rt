@@ -8,7 +8,7 @@ use ldar_days::Day;
 use ldar_law::{DelayEntry, Until};
 use std::fmt;
 
-/// A day, or a hyphen if there is none.
+/// A day, or a hyphen for no day.
 #[derive(Clone, Copy)]
 pub struct DayOrHyphen(pub Option<Day>);
 

@@ -1,4 +1,4 @@
-//! The views that are asked, and what is said of their texts.
+//! The views that are requested, and summaries of their texts.
 
 ghost use Rattle.office_views.specs.Answers.{IsView};
 
@@ -9,7 +9,7 @@ use memory_office::Office;
 use office_views::Shown;
 use std::alloc::Global;
 
-/// The view that a word names, on a day, and of the quarter or half in which the day lies.
+/// The view that a word names, on a day; for percent and report, of the quarter or half that contains the day.
 fn request(view: &str, day: Day) -> Request
     ensures view { IsView result }
 {
@@ -37,7 +37,7 @@ fn request(view: &str, day: Day) -> Request
     }
 }
 
-/// What a view shows, as the length of its text and a sum over its bytes.
+/// A summary of what a view shows: the length of its text and a sum over its bytes.
 pub fn said(
     alloc: Global,
     office: &mut Office,

@@ -7,41 +7,46 @@ use fact_kinds::{Batch, Class, Designation, Fact, FactBody, Kind, Memory, Name, 
 use ldar_days::Day;
 use std::alloc::Global;
 
-/// How many handhelds read the valves each month, and how many valves each of them reads.
+/// The number of handhelds that read the valves each month, and the number of valves that each of them reads.
 pub const HANDHELDS: u32 = 40;
 
 const READ: u32 = 500;
 
-/// How many valves there are; the register has the unit, an election and two shutdowns besides, and another unit of one valve.
+/// The number of valves. The register also has the unit, an election, two shutdowns, and another unit with one valve.
 const VALVES: u32 = 20_000;
 
 pub const ENTRIES: u32 = 20_006;
 
-/// The handheld whose readings come late.
+/// The handheld whose readings arrive late.
 const LATE: u16 = 41;
 
-/// 2020-01-15, when the unit starts up, and 2020-02-10, from when on it is monitored.
+/// 2020-01-15, the startup of the unit, and 2020-02-10, the first day of its monitoring.
 const STARTUP: u32 = 18_276;
 
 const FIRST: u32 = 18_302;
 
-/// 2022-07-01, from when on quarters may be skipped, and 2022-04-01, when this was notified.
+/// 2022-07-01, from which quarters may be skipped, and 2022-04-01, the day of the notice.
 const ELECTION: u32 = 19_174;
 
 const NOTIFIED: u32 = 19_083;
 
-/// The day on which the unit starts up.
+/// The startup of the unit.
 pub fn startup() -> Day
     ensures in_range { result ≤ LAST_STARTUP }
 {
     Day::at(STARTUP)
 }
 
-/// The day for which the views are asked, after that many months.
+/// The day of the views after this many months.
 pub fn view_day(months: u32) -> Day {
     Day::at(FIRST)
         .plus_months(months.saturating_sub(1))
         .plus_days(15)
+}
+
+/// The day of the views after this many months, and days in quarters before it.
+pub fn day_in_turn(months: u32, turn: u32) -> Day {
+    view_day(months.saturating_sub(turn.saturating_mul(3)))
 }
 
 /// The batch of the register with this number, from 0; `None` after the last.
@@ -97,7 +102,7 @@ fn valve_at(place: u32) -> u16
     (place % 60_000 + 1) as u16
 }
 
-/// The number that a handheld, counted from 0, and its instrument have in facts.
+/// The number of a handheld in facts, and of its instrument; `handheld` counts from 0.
 fn number_of(handheld: u32) -> u16
     ensures in_range { 1 ≤ result }
 {
@@ -140,7 +145,7 @@ fn election() -> Fact {
     }
 }
 
-/// A shutdown of ten days, this many days after the election.
+/// A shutdown of ten days that begins this many days after the election.
 fn shutdown(days: u32) -> Fact {
     Fact {
         day: Day::at(ELECTION).plus_days(days),
@@ -149,7 +154,7 @@ fn shutdown(days: u32) -> Fact {
     }
 }
 
-/// The batch of a handheld in a month, both from 0: the tests of its instrument, its readings, and what follows its leaks.
+/// The batch of a handheld in a month, both from 0: the tests of its instrument, its readings, and the follow-up of its leaks.
 pub fn monthly_batch(alloc: Global, month: u32, handheld: u32) -> Result<Option<Batch>, Memory> {
     let number = number_of(handheld);
     let day = Day::at(FIRST).plus_months(month).plus_days(handheld % 10);
@@ -166,7 +171,7 @@ pub fn monthly_batch(alloc: Global, month: u32, handheld: u32) -> Result<Option<
     Ok(Batch::new(number, month, facts))
 }
 
-/// The batch with this number, from 0, of at most 512 readings that come late: each of another valve, on the first day.
+/// The batch with this number, from 0, of at most 512 late readings, each of another valve, on the first day of monitoring.
 pub fn late_batch(alloc: Global, number: u32, readings: u32) -> Result<Option<Batch>, Memory> {
     let first = number.wrapping_mul(512);
     let mut facts = Vec::new(alloc);
@@ -205,7 +210,7 @@ fn is_leak(place: u32, month: u32) -> bool {
     place.wrapping_add(month.wrapping_mul(7)) % 50 == 0
 }
 
-/// What is read of a valve in a month.
+/// The reading of a valve in a month, in ppm.
 fn ppm(place: u32, month: u32) -> u32 {
     if is_leak(place, month) {
         return 700;
@@ -229,7 +234,7 @@ fn reading(day: Day, number: u16, place: u32, ppm: u32) -> Fact {
     }
 }
 
-/// What follows a leak on its day: a delay of repair for want of a shutdown at one in five, and else an attempt.
+/// The follow-up of a leak on its day: a delay until a shutdown for one leak in five, and otherwise an attempt.
 fn follow_up(day: Day, place: u32) -> Fact {
     if place / 50 % 5 == 4 {
         return delay(day, place);

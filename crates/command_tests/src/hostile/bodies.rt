@@ -7,7 +7,7 @@ use std::test::Fail;
 const FACT: &[u8] =
     b"{\"kind\":\"calibration\",\"day\":\"2024-02-20\",\"minute\":600,\"instrument\":1,\"gas\":500}";
 
-// What a body has for the handheld, and for its facts, that is not what a batch has.
+// Pairs of a handheld and a fact with which a body is not a batch.
 const WRONG: [(&[u8], &[u8]); 12] = [
     (b"1e3", FACT),
     (b"1.0", FACT),
@@ -65,7 +65,7 @@ pub fn longest(alloc: Global, count: usize) -> Result<Vec<u8>, Fail> {
     request(alloc, &body)
 }
 
-// What is answered to a batch that is kept first, to a second one, and to a body that is none and a batch that follows.
+// The answer to the first batch that is kept, and the answers to a body that is no batch and to a batch after it.
 pub const KEPT: &str =
     "HTTP/1.1 200 OK\r\nContent-Type: text/plain\r\nContent-Length: 15\r\n\r\nreceipt 7 12 1\n";
 
@@ -73,7 +73,7 @@ const REFUSED: &str =
     "HTTP/1.1 400 Bad Request\r\nContent-Type: text/plain\r\nContent-Length: 12\r\n\r\nbad request\n\
     HTTP/1.1 200 OK\r\nContent-Type: text/plain\r\nContent-Length: 15\r\n\r\nreceipt 7 12 1\n";
 
-// Sees that a request that is refused is followed by one with batch 12 that is kept.
+// Checks that after a request that is refused, one with batch 12 is kept.
 fn goes_on(alloc: Global, request: &[u8]) -> Result<(), Fail> {
     let mut input = Vec::from_slice(alloc, request)?;
     input.extend_from_slice(SYNC.as_bytes())?;
@@ -88,7 +88,7 @@ fn a_session_goes_on_after_a_body_that_is_no_batch(rt: HostRuntime) -> Result<()
     for (handheld, fact) in WRONG {
         goes_on(alloc, &request(alloc, &body_of(alloc, handheld, fact, 1)?)?)?;
     }
-    // Arrays in each other, and a fact too many.
+    // Nested arrays, and one fact too many.
     let mut arrays = vec![in alloc; b'['; 256]?;
     arrays.truncate(128);
     arrays.resize(256, b']')?;

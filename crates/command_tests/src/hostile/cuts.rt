@@ -6,7 +6,7 @@ use disk_model::MemoryDisk;
 use std::alloc::Global;
 use std::test::Fail;
 
-// Sees how `drain` ends over an input whose first `whole` bytes are requests with these answers.
+// Checks the result of `drain` over an input whose first `whole` bytes are requests with these answers.
 fn ends_cut(
     alloc: Global,
     journal: &[u8],
@@ -31,7 +31,7 @@ fn ends_cut(
     Ok(())
 }
 
-// How many of the first `length` bytes are whole requests of an input of two, and their answers.
+// The number of bytes of whole requests in the first `length` bytes of an input with two requests, and their answers.
 fn whole_in(length: usize) -> (usize, &'static str) {
     if length >= SYNC.len() + VIEWED.len() {
         return (SYNC.len() + VIEWED.len(), ANSWERED);
@@ -55,7 +55,7 @@ fn two_requests_are_cut_at_each_byte(rt: HostRuntime) -> Result<(), Fail> {
     Ok(())
 }
 
-// Checks how `drain` ends over the first bytes of an input, if they contain no whole request.
+// Checks the result of `drain` over the first bytes of an input, if they contain no whole request.
 fn ends_within(alloc: Global, input: &[u8], length: usize) -> Result<(), Fail> {
     ends_cut(alloc, EMPTY, input.get(..length).unwrap_or(&[]), 0, "")
 }

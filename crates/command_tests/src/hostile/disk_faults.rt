@@ -6,15 +6,15 @@ use std::alloc::Global;
 use std::test::Fail;
 use test_kit::is;
 
-// The calls of the disk that `init` makes, and those with which `dock` appends three batches, one by one.
+// The number of calls of the disk in `init`, and of those with which `dock` appends three batches, one by one.
 const OF_INIT: u64 = 3;
 
 const OF_APPENDS: u64 = 12;
 
 const IN_ORDER: &str = "receipt 7 12 1\nreceipt 7 13 2\nreceipt 7 14 3\n";
 
-// What `dock` puts for the script if this one of its appending calls fails, and what it puts for the three batches afterwards. A
-// batch whose gate was written keeps its position; any other leaves it to the next.
+// The output of `dock` over the script if this one of its appending calls fails, and its output for the three batches after
+// that. A batch whose gate was written keeps its position; otherwise the next batch gets the position.
 fn answers(call: u64) -> (&'static str, &'static str) {
     match call {
         0..=3 => (
@@ -36,7 +36,7 @@ fn answers(call: u64) -> (&'static str, &'static str) {
     }
 }
 
-// The status of `dock` over the script if this call fails, what it puts and notes, and what a last `dock` of the three batches puts.
+// The status, the output and the notes of `dock` over the script if this call fails, and the output of a last `dock` of the batches.
 fn wanted(call: u64, opened: u64) -> (u8, &'static str, &'static str, &'static str) {
     match call.checked_sub(opened) {
         None => (5, "", "disk fault\n", IN_ORDER),
@@ -47,7 +47,7 @@ fn wanted(call: u64, opened: u64) -> (u8, &'static str, &'static str, &'static s
     }
 }
 
-// Sees how the script ends if this call fails, where `dock` has opened the journal before this one.
+// Checks the result of the script if this call fails. `dock` opens the journal with the calls before `opened`.
 fn passes_over(alloc: Global, call: u64, opened: u64) -> Result<(), Fail> {
     let mut disk = MemoryDisk::new(alloc, &[], &[call])?;
     if call < OF_INIT {
@@ -67,7 +67,7 @@ fn passes_over(alloc: Global, call: u64, opened: u64) -> Result<(), Fail> {
     says(alloc, &mut disk, "dock", THREE, at_last)
 }
 
-// How many calls the script makes if none fails.
+// The number of calls of the script if none fails.
 fn calls_of_script(alloc: Global) -> Result<u64, Fail> {
     let mut disk = MemoryDisk::new(alloc, &[], &[])?;
     says(alloc, &mut disk, "init", b"", "")?;

@@ -10,7 +10,7 @@ use test_kit::is;
 // The positions in the receipts of the script.
 const POSITIONS: [usize; 4] = [1, 1, 2, 3];
 
-// How many batches were receipted by this clock of the disk.
+// The number of batches with a receipt by this clock of the disk.
 fn receipted(output: &StampedSink, clock: u64) -> usize {
     let mut most = 0;
     for (piece, position) in output.pieces().iter().zip(POSITIONS) {
@@ -41,7 +41,7 @@ fn opens(alloc: Global, disk: &mut MemoryDisk, least: usize) -> Result<(), Fail>
     says(alloc, disk, "dock", SCRIPT, RECEIPTS)
 }
 
-// Sees what a stop leaves that leaves nothing, the first half or all of what this call writes.
+// Checks the disk after a stop inside this call that leaves nothing, the first half, or all of what the call writes.
 fn stops(alloc: Global, disk: &MemoryDisk, call: u64, least: usize) -> Result<(), Fail> {
     let mut before = stopped(alloc, disk, call, &[])?;
     let mut after = stopped(alloc, disk, call.saturating_add(1), &[])?;
@@ -53,7 +53,7 @@ fn stops(alloc: Global, disk: &MemoryDisk, call: u64, least: usize) -> Result<()
     opens(alloc, &mut after, least)
 }
 
-// Runs the script on an empty disk, and tells the calls of `init` and those of both commands.
+// Runs the script on an empty disk. Returns the number of calls of `init` and of both commands.
 fn runs_script(
     alloc: Global,
     disk: &mut MemoryDisk,
@@ -71,7 +71,7 @@ fn what_was_receipted_before_a_stop_is_kept(rt: HostRuntime) -> Result<(), Fail>
     let mut disk = MemoryDisk::new(rt.alloc(), &[], &[])?;
     let mut streams = streams_of(rt.alloc(), SCRIPT, in_pieces(OF_A_BATCH))?;
     let (made, docked) = runs_script(rt.alloc(), &mut disk, &mut streams)?;
-    // Further calls, so that a stop after the last one of the script is reported as well.
+    // Further calls, so that a stop after the last call of the script is tested too.
     says(
         rt.alloc(),
         &mut disk,

@@ -24,14 +24,14 @@ const UP_TO_GATE: &[u8] = b"LDARJNL1\0\0\0\0\0\0\0\0\x01\0\0\0\x14\
 #[test]
 fn a_frame_that_may_not_be_is_told_with_its_place(rt: HostRuntime) -> Result<(), Fail> {
     let alloc = rt.alloc();
-    // No byte, one more than a frame has, 17 batches, and one batch twice.
+    // An empty payload, one byte more than a frame can have, 17 batches, and one batch twice.
     let zeros = vec![in alloc; 0; 188_561]?;
     let many = seventeen(alloc)?;
     for payload in [b"".as_slice(), zeros.as_slice(), many.as_slice(), TWICE] {
         let bytes = framed(alloc, HEADER, payload)?;
         refuses(alloc, &bytes, "damaged journal at 16\n")?;
     }
-    // A batch again in a second frame, and an open gate with nothing after it.
+    // A batch that is repeated in a second frame, and an open gate with nothing after it.
     refuses(
         alloc,
         &framed(alloc, UP_TO_GATE, BATCH)?,
@@ -54,7 +54,7 @@ fn a_frame_cut_at_each_byte_is_told_with_its_place(rt: HostRuntime) -> Result<()
 
 #[test]
 fn what_follows_a_closed_gate_does_not_count(rt: HostRuntime) -> Result<(), Fail> {
-    // What would be an open frame if the gate before it were open.
+    // Bytes that would be an open frame if the gate before them were open.
     let mut bytes = Vec::from_slice(rt.alloc(), ONE)?;
     bytes.extend_from_slice(&framed(rt.alloc(), b"", BATCH)?)?;
     let mut disk = MemoryDisk::new(rt.alloc(), &bytes, &[])?;

@@ -5,7 +5,7 @@ use disk_model::MemoryDisk;
 use std::alloc::Global;
 use std::test::Fail;
 
-// What is put for the first 0, 1, 2 and 3 of the batches 12 to 14.
+// The output for the first 0, 1, 2 and 3 of the batches 12 to 14.
 const FIRST: [&str; 4] = [
     "",
     "receipt 7 12 1\n",
@@ -13,8 +13,8 @@ const FIRST: [&str; 4] = [
     "receipt 7 12 1\nreceipt 7 13 2\nreceipt 7 14 3\n",
 ];
 
-// The call of the input and that of the output which fails, the status, the note, and how many batches are answered and kept. A batch
-// is kept before its line is put.
+// The failing call of the input and of the output, the status, the notes, and how many batches are answered and kept. A batch
+// is kept before its line is written.
 const FAULTS: [(u64, u64, u8, &str, usize, usize); 8] = [
     (0, NEVER, 3, "read fault\n", 0, 0),
     (1, NEVER, 3, "read fault\n", 1, 1),
@@ -26,7 +26,7 @@ const FAULTS: [(u64, u64, u8, &str, usize, usize); 8] = [
     (4, 3, 0, "", 3, 3),
 ];
 
-// Checks how `dock` ends over the three batches, and how many of them are answered and kept.
+// Checks the result of `dock` over the three batches, and how many of them are answered and kept.
 fn ends_so(
     alloc: Global,
     manner: Manner,

@@ -7,7 +7,7 @@ use std::alloc::Global;
 use std::test::Fail;
 use test_kit::is;
 
-// A disk that takes nothing, and changes each byte that it gives: by a mask at its first read, and by so much more at each later one.
+// A disk that accepts no writes and returns wrong bytes: each read XORs them with the mask, which then grows by the step.
 #[derive(Drop)]
 struct WrongDisk {
     bytes: Vec<u8>,
@@ -76,10 +76,10 @@ const COMMANDS: [&str; 12] = [
     "file 1 8 2024-03-31",
 ];
 
-// The mask and the step: each bit wrong at each read, right at the first read alone, wrong at the first alone, and others.
+// The mask and the step: each bit wrong at each read, only the first read right, only the second read right, and others.
 const MANNERS: [(u8, u8); 6] = [(0xff, 0), (0, 1), (1, 0xff), (0x80, 0x80), (3, 7), (0, 0)];
 
-// Sees that a command over a disk with these bytes ends with one of the statuses that it may have if no stream fails.
+// Checks that a command over a disk with these bytes ends with a status that is possible if no stream fails.
 fn ends_somehow(
     alloc: Global,
     bytes: &[u8],

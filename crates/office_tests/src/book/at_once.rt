@@ -1,6 +1,6 @@
 ghost use Rattle.std.specs.Prelude.{◌≡◌, true, IfOk};
 ghost use Rattle.std.specs.List.{AllByRecursion};
-ghost use Rattle.office_book.specs.Asking.{IsFromHandheld, HasRule};
+ghost use Rattle.office_interface.specs.Asking.{IsFromHandheld, HasRule};
 
 use crate::book::{Asked, request};
 use fact_kinds::FRAME_BATCHES;

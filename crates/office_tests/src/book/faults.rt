@@ -86,7 +86,7 @@ fn position(alloc: Global, book: &mut Book<MemoryDisk>, asked: Asked) -> Result<
     }
 }
 
-// Sees that these positions are 1 to 3 in some order.
+// Checks that these positions are 1 to 3 in some order.
 fn are_one_to_three(first: u32, second: u32, third: u32) -> Result<(), Fail> {
     let found = bit(first) | bit(second) | bit(third);
     is(found == 0b1110, "the positions 1 to 3")

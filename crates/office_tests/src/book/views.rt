@@ -54,7 +54,7 @@ fn a_view_settles_first(rt: HostRuntime) -> Result<(), Fail> {
     runs(rt.alloc(), &[GATE_SYNC, GATE_SYNC + 1], &SETTLED_LATER)
 }
 
-// The reason why there is no report of the unit, if there is none.
+// The reason why the unit has no report, or `None` if it has one.
 fn report_fails(alloc: Global, book: &mut Book<MemoryDisk>) -> Option<AskError> {
     book.report(alloc, 1, 8, Day::at(19_813)).err()
 }

@@ -274,7 +274,7 @@ fn zeros_for_ever_are_no_journal(rt: HostRuntime) -> Result<(), Fail> {
     same("the reads", &disk.reads, &1)
 }
 
-// The bytes after two good frames of 25 and 45 bytes, the second of which ends at 86, and whether the journal opens.
+// The bytes after two good frames of 25 and 45 bytes, which end at 86, and whether the journal opens.
 const BEHIND: [(&[u8], bool); 9] = [
     (&[0], true),
     (&[7], true),

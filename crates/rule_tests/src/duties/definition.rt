@@ -9,7 +9,7 @@ use ldar_days::{Day, Month, first_quarter, quarter_of};
 use ldar_law::{Duty, Equipment, Event, Regime};
 use std::alloc::Global;
 
-/// A question: what must be done at a component, as the list of a day has it.
+/// A question: which duties of a component are on the list of a day.
 #[derive(Clone, Copy)]
 pub struct Asked<'a> {
     pub item: &'a Equipment,

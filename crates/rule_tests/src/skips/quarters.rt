@@ -48,7 +48,7 @@ fn tally(leaking: u32, monitored: u32) -> Tally {
     Tally { leaking, monitored }
 }
 
-/// The counts of 20 quarters, of which these are good.
+/// The counts of 20 quarters; these are the good ones.
 fn good_quarters(good: &[usize]) -> [Tally; 20] {
     let mut tallies = [tally(3, 100); 20];
     for place in 0..20 {

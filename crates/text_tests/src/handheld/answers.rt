@@ -7,7 +7,7 @@ use std::alloc::Global;
 use std::test::Fail;
 use test_kit::is;
 
-/// What is appended for an answer.
+/// The bytes that are appended for an answer.
 fn written(alloc: Global, answer: Answer, closing: bool) -> Result<Vec<u8>, Memory>
     requires { IsSent answer }
 {
@@ -16,7 +16,7 @@ fn written(alloc: Global, answer: Answer, closing: bool) -> Result<Vec<u8>, Memo
     Vec::from_slice(alloc, out.strip_prefix(b"before".as_slice()).unwrap_or(b""))
 }
 
-/// Sees that this is appended for an answer.
+/// Checks the bytes that are appended for an answer.
 fn writes(alloc: Global, answer: Answer, closing: bool, want: &[u8]) -> Result<(), Fail>
     requires { IsSent answer }
 {

@@ -44,7 +44,7 @@ fn told_refusal(refusal: Refusal) -> Told {
     (word, 0, 0, 0)
 }
 
-/// What the request at the front of the bytes asks.
+/// The meaning of the request at the front of the bytes.
 fn told(alloc: Global, bytes: &[u8]) -> Result<Told, Fail> {
     let Cut::Whole { head, .. } = cut(bytes) else {
         return Ok(("cut", 0, 0, 0));
@@ -55,14 +55,14 @@ fn told(alloc: Global, bytes: &[u8]) -> Result<Told, Fail> {
     })
 }
 
-/// What a request without a body asks, whose first line begins so.
+/// The meaning of a request without a body whose first line begins like this.
 fn told_of(alloc: Global, line: &[u8]) -> Result<Told, Fail> {
     let mut bytes = Vec::from_slice(alloc, line)?;
     bytes.extend_from_slice(b" HTTP/1.1\r\nContent-Length: 0\r\n\r\n")?;
     told(alloc, &bytes)
 }
 
-/// Sees what a request without a body asks, whose first line begins so.
+/// Checks the meaning of a request without a body whose first line begins like this.
 fn asks(alloc: Global, line: &[u8], want: Told) -> Result<(), Fail> {
     let told = told_of(alloc, line)?;
     is(told == want, want.0)
@@ -182,7 +182,7 @@ fn of_facts(alloc: Global, count: usize) -> Result<Vec<u8>, Fail> {
     Ok(bytes)
 }
 
-/// Checks what a request with `count` facts asks.
+/// Checks the meaning of a request with `count` facts.
 fn asks_with(alloc: Global, count: usize, want: &str) -> Result<(), Fail> {
     let bytes = of_facts(alloc, count)?;
     let told = told(alloc, &bytes)?;

@@ -1,4 +1,4 @@
-//! Random calls of both filings, beside a list that the test keeps itself.
+//! Random calls of both filings, compared with a list that the test keeps.
 
 ghost use Rattle.std.specs.Prelude.{◌≡◌, ◌<◌, Some};
 
@@ -11,7 +11,7 @@ use std::alloc::Global;
 use std::test::Fail;
 use test_kit::{day, is};
 
-/// The calls of a round, and the rounds.
+/// The number of calls in a round, and the number of rounds.
 const CALLS: u32 = 20;
 
 const ROUNDS: u32 = 100;
@@ -19,7 +19,7 @@ const ROUNDS: u32 = 100;
 /// The place of a report's number of late repairs in March.
 const LATE_IN_MARCH: usize = 31;
 
-/// Numbers with no order in them, the same in each run.
+/// Pseudo-random numbers, the same in each run.
 #[derive(Drop)]
 struct Numbers {
     state: u64,
@@ -39,7 +39,7 @@ impl Numbers {
     }
 }
 
-/// What the test knows of a report on file.
+/// What the test keeps about a report on file.
 #[derive(Clone, Copy, Debug, PartialEq, Eq)]
 struct Known {
     unit: u8,
@@ -68,7 +68,7 @@ fn known_of(filed: &Filed) -> Known {
     }
 }
 
-/// How many revisions of a unit's half are known.
+/// The number of known revisions of a unit's half.
 fn count_of(known: &[Known], unit: u8, half: u16) -> usize {
     known
         .iter()
@@ -84,7 +84,7 @@ fn one_of(known: &[Known], unit: u8, half: u16, revision: usize) -> Option<Known
         .copied()
 }
 
-/// Whether a report was found as it is known.
+/// Whether the report that was found is the known one.
 fn is_found(found: &Option<Filed>, want: Option<Known>) -> bool {
     match found {
         Some(filed) => Some(known_of(filed)) == want,
@@ -92,7 +92,7 @@ fn is_found(found: &Option<Filed>, want: Option<Known>) -> bool {
     }
 }
 
-/// Whether a call is answered as by the list, which then has what was filed. A call that failed leaves it.
+/// Whether the answer to a call agrees with the list. A report that was filed is added to the list; a call that failed changes nothing.
 fn is_answered(
     known: &mut Vec<Known>,
     call: &FilingCall,
@@ -135,7 +135,7 @@ fn is_answered(
     }
 }
 
-/// A unit's half of a few, of which two have their numbers exchanged.
+/// One of six pairs of a unit and a half. Two of them have the same numbers in opposite order.
 fn place(number: u32) -> (u8, u16) {
     match number {
         0 => (1, 8),
@@ -192,7 +192,7 @@ fn calls_of(alloc: Global, numbers: &mut Numbers) -> Result<Vec<FilingCall>, Fai
     Ok(calls)
 }
 
-/// How many of these answers are faults.
+/// The number of errors among these answers.
 fn faults_in(answers: &[FilingAnswer]) -> usize {
     answers
         .iter()
@@ -200,7 +200,7 @@ fn faults_in(answers: &[FilingAnswer]) -> usize {
         .count()
 }
 
-/// Makes a round of calls, and counts those that failed.
+/// Makes a round of calls. Returns the number of those that failed.
 fn round<F: Filing>(
     alloc: Global,
     filing: &mut F,
@@ -216,7 +216,7 @@ fn round<F: Filing>(
     Ok(faults_in(&answers))
 }
 
-/// A filing in memory that is refused memory now and then.
+/// A filing in memory that runs out of memory now and then.
 #[derive(Drop)]
 struct Refused {
     kept: MapFiling,
@@ -224,7 +224,7 @@ struct Refused {
 }
 
 impl Refused {
-    /// Whether the next call is refused memory.
+    /// Whether the next call runs out of memory.
     fn is_refused(&mut self) -> bool
         ensures unchanged { self.new.kept ≡ self.old.kept }
     {
@@ -286,7 +286,7 @@ fn a_map_answers_random_calls(rt: HostRuntime) -> Result<(), Fail> {
     )
 }
 
-/// The limit on the steps of a round: mostly none.
+/// The limit on the steps of a round; in most rounds there is no limit.
 fn limit_of(numbers: &mut Numbers) -> Option<u64> {
     match numbers.below(4) {
         0 => Some(u64::from(numbers.below(6))),

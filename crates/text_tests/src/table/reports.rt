@@ -11,7 +11,7 @@ use std::fs;
 use std::test::Fail;
 use test_kit::day;
 
-/// A line on a repair that is delayed until then.
+/// The line of a repair that is delayed until this due day.
 fn line(until: Until, expected: Option<Day>) -> Result<DelayLine, Fail> {
     let key = Key {
         day: day("2024-02-21")?,
@@ -137,7 +137,7 @@ impl Table for Nowhere {
 fn a_report_with_other_cells_is_the_next_revision(rt: HostRuntime) -> Result<(), Fail> {
     let alloc = rt.alloc();
     let mut filing = TableFiling::new(InMemory::new());
-    // The half, the number in March, the limit on steps, and what is answered.
+    // The half, the number in March, the limit on steps, and the result.
     let cases = [
         (8, 1, None, Ok(1)),
         (8, 1, None, Err(FileError::Same { revision: 1 })),
@@ -174,7 +174,7 @@ fn nothing_is_filed_where_the_store_fails(rt: HostRuntime) -> Result<(), Fail> {
     Ok(())
 }
 
-/// What the later of two revisions amends, or nothing if one of them is not on file.
+/// The numbers that the later of two revisions amends, or `None` if one of them is not on file.
 fn amended<F: Filing>(
     alloc: Global,
     filing: &mut F,
@@ -190,7 +190,7 @@ fn amended<F: Filing>(
     Ok(Some(amended_cells(alloc, &old.cells, &new.cells)?))
 }
 
-/// Whether this is what the second revision amends of the first: month 6, column 2, from 1 to 0.
+/// Whether the second revision amends the first in month 6, column 2, from 1 to 0.
 fn is_late_repair(amended: &[Amended]) -> bool {
     let want = Amended {
         month: 6,
@@ -221,13 +221,13 @@ fn revisions_in_memory_amend_each_other(rt: HostRuntime) -> Result<(), Fail> {
     Ok(())
 }
 
-/// The reports on file at a path, as a run of the program of its own has them.
+/// The filing at a path, as another run of the program would open it.
 fn at_path(rt: &HostRuntime, path: &str) -> Result<TableFiling<AtPath>, Fail> {
     let path = String::from_str(rt.alloc(), path)?;
     Ok(TableFiling::new(AtPath::new(*rt, path)))
 }
 
-/// Files this report in a run of its own.
+/// Files this report as another run of the program would.
 fn filed_at(rt: &HostRuntime, path: &str, report: &Report) -> Result<Result<u32, FileError>, Fail> {
     Ok(file_report(rt.alloc(), &mut at_path(rt, path)?, report))
 }
@@ -237,7 +237,7 @@ fn reports_stay_on_file_at_a_path(rt: HostRuntime) -> Result<(), Fail> {
     let alloc = rt.alloc();
     let path = path_of(&rt, "filed")?;
     let path = path.as_str();
-    // A question makes no file.
+    // Reading creates no file.
     assert!(rt; amended(alloc, &mut at_path(&rt, path)?, 1, 2)?.is_none());
     let last = at_path(&rt, path)?.latest(alloc, 1, 8);
     assert!(rt; last.ok().ok_or("failed")?.is_none());

@@ -36,7 +36,7 @@ fn the_greatest_revision_is_found(rt: HostRuntime) -> Result<(), Fail> {
     let alloc = rt.alloc();
     let mut table = InMemory::new();
     assert!(rt; found(alloc, &mut table, 8).ok().ok_or("refused")?.is_none());
-    // The half, the revision and the shutdowns of what is put, and whether it is taken.
+    // The half, the revision and the shutdowns of a row that is added, and whether it is accepted.
     let cases = [
         (8, 2, 7, true),
         (8, 10, 8, true),
@@ -74,7 +74,7 @@ fn a_statement_past_the_limit_on_steps_is_refused(rt: HostRuntime) -> Result<(),
     Ok(())
 }
 
-/// A store at a path, whose table has a row with a revision past the greatest number.
+/// Creates a table at a path, with a row whose revision is past the greatest number.
 fn spoil(rt: &HostRuntime, path: &str) -> Result<(), Error> {
     Connection::open(rt, path)?.execute_batch(
         "CREATE TABLE filed (unit INTEGER NOT NULL, half INTEGER NOT NULL, revision INTEGER NOT NULL, day INTEGER NOT NULL, months BLOB NOT NULL, delays BLOB NOT NULL, stops BLOB NOT NULL, PRIMARY KEY (unit, half, revision)) STRICT; INSERT INTO filed VALUES (1, 8, 5000000000, 19813, x'00', x'', x'')",

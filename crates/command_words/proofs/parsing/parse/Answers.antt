@@ -6,7 +6,7 @@ use Rattle.command_words.specs.Parsing.{command_with, name_in}
 use Rattle.command_words.specs.Positionals.{are_plain}
 use Rattle.command_words.proofs.parsing.parse.Goals as goal
 
--- the words are taken by the command that was made
+-- clap accepted the words for the command that was made
 pub returns-in-Ok-clause-found : goal.returns-in-Ok-clause-found
 returns-in-Ok-clause-found c =
     let words = map string_bytes c.args.words.now in
@@ -23,7 +23,7 @@ returns-in-Ok-clause-found c =
       },
     )
 
--- .. or refused, and not for want of memory
+-- clap refused the words, and did not run out of memory
 pub returns-clause-found : goal.returns-clause-found
 returns-clause-found c plain taken =
     let words = map string_bytes c.args.words.now in

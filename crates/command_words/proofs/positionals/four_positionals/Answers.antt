@@ -7,7 +7,7 @@ use Rattle.command_words.proofs.PositionalLemmas.{are_plain-positionals, positio
 use Rattle.command_words.proofs.RefusedWords.{counted_four, positionals_of-faultless}
 use Rattle.command_words.proofs.positionals.four_positionals.Goals as goal
 
--- clap took the words, so they are as many
+-- clap accepted the words, so there are four
 pub returns-in-Some-clause-value : goal.returns-in-Some-clause-value
 returns-in-Some-clause-value c =
     let words = map string_bytes c.args.words.now in
@@ -16,7 +16,7 @@ returns-in-Some-clause-value c =
     ∙ values_in-four_positionals words (found_of c.in-Some.matches)
     (positionals_of-faultless 4 ids_of_four counted_four words taken.0 (taken.1.faultless refl)) (taken.1.rows refl)
 
--- it did not, so they are not
+-- clap refused the words, so they are not four plain words
 pub returns-in-None-clause-value : goal.returns-in-None-clause-value
 returns-in-None-clause-value c =
     let words = map string_bytes c.args.words.now in

@@ -1,4 +1,4 @@
-use Rattle.std.proofs.Common.{◌≤◌, ◌++◌, [], ◌∷◌, take, drop, false, inl, inr, refl, sym, subst, arith}
+use Rattle.std.proofs.Common.{◌≤◌, [], ◌∷◌, take, drop, false, inl, inr, refl, sym, subst, arith}
 use Rattle.ldar_session.specs.Served.{clock_beside}
 use Rattle.ldar_session.specs.Speech.{AsksEach, HasAnswer}
 use Rattle.ldar_session.proofs.ItemLemmas.{group_served, part_served}

@@ -1,8 +1,8 @@
 use Rattle.std.proofs.Common.{◌≤◌, ◌++◌, [], inl, inr, refl, sym, ap, subst, ◌∙◌, arith}
 use Rattle.ldar_ports.specs.Sink.{bytes_of}
-use Rattle.office_book.specs.Asking.{replies_of}
+use Rattle.office_interface.specs.Asking.{replies_of}
 use Rattle.ldar_session.specs.Served.{Talk, texts_of, clock_beside}
-use Rattle.ldar_session.specs.Speech.{HasAnswer, answers_text}
+use Rattle.ldar_session.specs.Speech.{HasAnswer}
 use Rattle.ldar_session.proofs.ItemLemmas.{answers_shown, are_answered, asked_each, have_answers, map-item-served_in, served_in, turns_of-served_in}
 use Rattle.ldar_session.proofs.TalkLemmas.{talk_group, talk_none, talk_unsaid}
 use Rattle.ldar_session.proofs.answer.answer_group.Goals as goal

@@ -1,6 +1,6 @@
 use Rattle.std.proofs.Common.{◌≡◌, ◌++◌, length}
 use Rattle.std.specs.List.{AllByRecursion}
-use Rattle.office_book.specs.Asking.{HasRule}
+use Rattle.office_interface.specs.Asking.{HasRule}
 use Rattle.ldar_session.specs.Speech.{answers_text}
 use Rattle.ldar_session.proofs.answer.text_of.Given as goal
 

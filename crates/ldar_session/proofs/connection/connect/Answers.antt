@@ -1,4 +1,4 @@
-use Rattle.std.proofs.Common.{◌≡◌, ◌+◌, ◌<◌, ◌≤◌, ◌*◌, ◌++◌, [], ℕ, List, Bool, true, false, length, drop, refl, sym, ap, subst, ◌∙◌, inl}
+use Rattle.std.proofs.Common.{◌≡◌, ◌+◌, ◌<◌, ◌≤◌, ◌++◌, [], ℕ, List, Bool, true, false, length, drop, refl, sym, ap, subst, ◌∙◌, inl}
 use Rattle.std.proofs.Common.{length-append, length-drop, arith}
 use Rattle.std.proofs.lemmas.Grind.{flat_map-append}
 use Rattle.ldar_ports.specs.Source.{Takes}

@@ -1,8 +1,8 @@
-use Rattle.std.proofs.Common.{◌≡◌, ◌≤◌, ◌+◌, ◌-◌, inr, List, ℕ, [], ◌∷◌, ◌++◌, length, take, drop, sym, ap, subst, length-append, length-drop, arith}
+use Rattle.std.proofs.Common.{◌≡◌, ◌+◌, ◌-◌, inr, List, ℕ, [], ◌∷◌, ◌++◌, length, take, drop, sym, ap, subst, length-append, length-drop, arith}
 use Rattle.std.specs.List.{AllByRecursion}
 use Rattle.std.proofs.lemmas.List.{take_all}
 use Rattle.list_words.proofs.Members.{all_append}
-use Rattle.office_book.specs.Asking.{IsFromHandheld}
+use Rattle.office_interface.specs.Asking.{IsFromHandheld}
 use Rattle.ldar_session.specs.Speech.{AreInFront, IsQuestion, NoneJoins}
 use Rattle.ldar_session.proofs.ItemLemmas.{one_more_in_front}
 use Rattle.ldar_session.proofs.group.add_others.Goals as goal

@@ -1,6 +1,6 @@
 use Rattle.std.proofs.Common.{◌-◌, ◌≤◌, length}
 use Rattle.std.specs.List.{AllByRecursion}
-use Rattle.office_book.specs.Asking.{IsFromHandheld}
+use Rattle.office_interface.specs.Asking.{IsFromHandheld}
 use Rattle.ldar_session.specs.Speech.{AreInFront}
 use Rattle.ldar_session.proofs.group.add_others.Given as goal
 

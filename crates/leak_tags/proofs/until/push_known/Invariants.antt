@@ -1,5 +1,5 @@
 use Rattle.std.proofs.Common.{◌≡◌, ◌+◌, ◌≤◌, ◌++◌, take, drop, map, count_by, nat_le, vec_len, vec_capacity}
-use Rattle.history_laws.specs.SpanLaws.{span_on, detected_by}
+use Rattle.ldar_law.specs.SpansByDay.{span_on, detected_by}
 use Rattle.leak_tags.proofs.until.push_known.Given as goal
 
 abbrev pub invariant-loop-span : goal.invariant-loop-span

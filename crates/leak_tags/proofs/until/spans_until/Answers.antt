@@ -1,7 +1,7 @@
 use Rattle.std.proofs.Common.{◌≡◌, ◌++◌, [], map, sym, ap, ◌∙◌}
 use Rattle.std.proofs.lemmas.List.{append-nil}
-use Rattle.history_laws.specs.DayLaws.{events_to}
-use Rattle.history_laws.specs.SpanLaws.{span_on, detected_by}
+use Rattle.ldar_law.specs.SpansByDay.{events_to}
+use Rattle.ldar_law.specs.SpansByDay.{span_on, detected_by}
 use Rattle.leak_tags.proofs.UntilLemmas.{known_spans, none_detected}
 use Rattle.leak_tags.proofs.until.spans_until.Goals as goal
 

@@ -4,7 +4,7 @@ use Rattle.ldar_law.specs.declared.verdict.Verdict.TheVariants as verdicts
 use Rattle.ldar_law.specs.Verdicts.{verdict_on}
 use Rattle.office_book.proofs.OpeningLemmas.{all_taken, first_at, front_next, new_next, passes_next, room_next, ruly_next, spare_next}
 use Rattle.office_book.proofs.intake.take_in.Goals as goal
-use Rattle.office_views.specs.Held.{Held}
+use Rattle.office_views.specs.Viewed.{Viewed, held_of}
 
 pub adopt-requires-clause-roomy : goal.adopt-requires-clause-roomy
 adopt-requires-clause-roomy g c =
@@ -33,8 +33,8 @@ loop-batch-preserved g c =
     let passes = passes_next history batches i batch old.adopted within c.batch-item.is c.requires.kept was.adopted
     (c.in-None.ensures.passes (search rules)) in
     record {
-      adopted = ap (λ (h : Held). h.adopted) c.adopt.ensures.value ∙ front_next history batches i batch old.adopted within c.batch-item.is was.adopted;
-      spare = ap (λ (h : Held). h.spare) c.adopt.ensures.value ∙ spare_next batches old.spare i was.spare;
+      adopted = ap (λ (v : Viewed). v.adopted) c.adopt.ensures.value ∙ front_next history batches i batch old.adopted within c.batch-item.is was.adopted;
+      spare = ap (λ (v : Viewed). v.spare) c.adopt.ensures.value ∙ spare_next batches old.spare i was.spare;
       ruly = ruly_next history batches i batch old.adopted within c.batch-item.is was.adopted was.ruly passes;
     }
 
@@ -55,6 +55,6 @@ pub returns : goal.returns
 returns g c =
     let was = c.loop-batch.invariant in
     record {
-      value = all_taken c.args.views.now.adopted c.args.batches.now c.loop-batch.batch-index c.loop-batch.views c.loop-batch-test.false was.adopted was.spare
+      value = all_taken c.args.views.now.adopted c.args.batches.now c.loop-batch.batch-index (held_of c.loop-batch.views) c.loop-batch-test.false was.adopted was.spare
           was.ruly;
     }

@@ -4,6 +4,6 @@ use Rattle.std.specs.List.{flat_map}
 use Rattle.office_commands.specs.Filing.{change_line}
 use Rattle.office_commands.proofs.amendments.put_each.Given as goal
 
--- a line stands for each change so far
+-- there is a line for each change so far
 abbrev pub invariant-loop-change : goal.invariant-loop-change
 invariant-loop-change l = string_bytes l.text ≡ string_bytes l.initial.text ++ flat_map change_line (take l.change-index l.changes)

@@ -5,7 +5,7 @@ use Rattle.office_commands.specs.Sending.{AllReceipted, IsSent}
 use Rattle.ldar_session.specs.Served.{Served, Talk, clock_beside}
 use Rattle.office_commands.proofs.batches.send.Given as goal
 
--- the batches gone over so far were sent, each has its receipt, and all is said
+-- the batches so far were sent, each has its receipt, and all lines were written
 abbrev pub invariant-loop-batch : goal.invariant-loop-batch
 invariant-loop-batch g l =
     let d = g.D.Disk in

@@ -4,7 +4,6 @@ use Rattle.ldar_law.specs.Replies.{reply_text}
 use Rattle.ldar_session.specs.Served.{clock_beside, texts_of}
 use Rattle.ldar_ports.specs.Sink.{bytes_of}
 use Rattle.office_book.specs.Safe.{Leads, moment_of}
-use Rattle.office_commands.specs.Sending.{IsOfBatch}
 use Rattle.office_commands.proofs.SendingLemmas.{call_of_batch, sent_in, sent_put, sent_unsaid, sent_one, ends_one, text_of_one, unsaid_short}
 use Rattle.office_commands.proofs.batches.send_one.Goals as goal
 

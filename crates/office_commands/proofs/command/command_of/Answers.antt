@@ -8,6 +8,15 @@ use Rattle.office_commands.specs.Command.{command_with}
 use Rattle.office_commands.proofs.WordLemmas.{command_with-positionals}
 use Rattle.office_commands.proofs.command.command_of.Goals as goal
 
+pub returns-in-len2-clause-value : goal.returns-in-len2-clause-value
+returns-in-len2-clause-value c =
+    let words = map string_bytes c.args.words.now in
+    let long : length words ≡ 2 = grind (arith, common_steps) in
+    let named : c.as_str-in-len2.result.now ≡ name_in words = grind (arith, common_steps) in
+    IfOk-weaker c.of_two_words.result _ _
+    (λ command is. is ∙ ap (λ (name : List ℕ). command_with name (positionals_of 1 words)) named ∙ command_with-positionals 1 words long)
+    c.of_two_words.ensures.value
+
 pub returns-in-len3-clause-value : goal.returns-in-len3-clause-value
 returns-in-len3-clause-value c =
     let words = map string_bytes c.args.words.now in

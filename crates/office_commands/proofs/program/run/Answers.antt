@@ -1,4 +1,4 @@
-use Rattle.std.proofs.Common.{◌≤◌, ◌≡◌, ◌∙◌, inl, inr, sym, subst, ap, map, MutBor}
+use Rattle.std.proofs.Common.{◌≤◌, ◌∙◌, inl, inr, sym, subst, ap, map, MutBor}
 use Rattle.disk_model.specs.Faults.{Rose}
 use Rattle.std.specs.String.{string_bytes}
 use Rattle.office_commands.specs.Command.{command_in}

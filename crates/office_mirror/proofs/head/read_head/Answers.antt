@@ -1,4 +1,4 @@
-use Rattle.std.proofs.Common.{◌≡◌, ◌≢◌, length, arith, sym, ◌∙◌}
+use Rattle.std.proofs.Common.{length, arith, sym, ◌∙◌}
 use Rattle.std.proofs.lemmas.Bool.{eqb-true, eqb-false, false≢true}
 use Rattle.ldar_facts.specs.Form.{IsBytes}
 use Rattle.office_mirror.proofs.HeadLemmas.{none_begin, wrong_letter, few_begin, wrong_count}

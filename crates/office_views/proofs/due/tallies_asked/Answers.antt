@@ -11,9 +11,9 @@ returns-then-is_empty c =
     let a = c.args in
     let known = a.known.now in
     record {
-      value = counts_not_asked c.new.result.items (law.tallies_to a.startup a.day (all_in_law known.of_unit known.components.items) (a.quarter - 1))
-          known.elections a.startup a.quarter
-          (ap length (sym c.as_slice.ensures.value) ∙ eqb-true (length c.as_slice.result.now) 0 (sym c.is_empty.ensures ∙ c.if-is_empty.true));
+      value = counts_not_asked c.new.result.items (law.tallies_to a.startup a.day (all_in_law known.stops.now known.components.items) (a.quarter - 1))
+          known.elections.now a.startup a.quarter
+          (eqb-true (length known.elections.now) 0 (sym c.is_empty.ensures ∙ c.if-is_empty.true));
     }
 
 pub returns : goal.returns
@@ -21,12 +21,13 @@ returns c =
     let a = c.args in
     let known = a.known.now in
     let counted = c.saturating_sub.result in
-    let same = ap (λ cs. law.tallies_to a.startup a.day (all_in_law known.of_unit cs) counted) c.deref.ensures.value
-    ∙ ap (law.tallies_to a.startup a.day (all_in_law known.of_unit known.components.items)) c.saturating_sub.ensures in
+    let same = ap (λ cs. law.tallies_to a.startup a.day (all_in_law known.stops.now cs) counted) c.deref.ensures.value
+    ∙ ap (law.tallies_to a.startup a.day (all_in_law known.stops.now known.components.items)) c.saturating_sub.ensures in
     record {
       value = IfOk-weaker c.tallies_to.result
-          (λ tallies. tallies.items ≡ law.tallies_to a.startup a.day (all_in_law known.of_unit c.deref.result.now) counted)
-          (λ tallies. skipped_to tallies.items known.elections a.startup a.quarter
-          ≡ skipped_to (law.tallies_to a.startup a.day (all_in_law known.of_unit known.components.items) (a.quarter - 1)) known.elections a.startup a.quarter)
-          (λ tallies is. ap (λ ts. skipped_to ts known.elections a.startup a.quarter) (is ∙ same)) c.tallies_to.ensures.value;
+          (λ tallies. tallies.items ≡ law.tallies_to a.startup a.day (all_in_law known.stops.now c.deref.result.now) counted)
+          (λ tallies. skipped_to tallies.items known.elections.now a.startup a.quarter
+          ≡ skipped_to (law.tallies_to a.startup a.day (all_in_law known.stops.now known.components.items) (a.quarter - 1)) known.elections.now a.startup
+          a.quarter)
+          (λ tallies is. ap (λ ts. skipped_to ts known.elections.now a.startup a.quarter) (is ∙ same)) c.tallies_to.ensures.value;
     }

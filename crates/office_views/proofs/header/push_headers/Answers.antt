@@ -4,6 +4,7 @@ use Rattle.std.proofs.lemmas.List.Folds.{length-flat_map-take}
 use Rattle.list_words.proofs.Members.{all_append}
 use Rattle.office_views.proofs.HeaderLemmas.{headers_pushed, stated_more}
 use Rattle.office_views.proofs.header.push_headers.Goals as goal
+use Rattle.fact_kinds.specs.declared.limits.TheConstants.{BATCH_FACTS}
 
 pub push_reserved-requires : goal.push_reserved-requires
 push_reserved-requires c = omega (arith, c.loop-batch.invariant.long, c.loop-batch.invariant.room)
@@ -32,5 +33,5 @@ loop-batch-preserved c =
       long = omega (arith, was.long, c.push_reserved.ensures.len);
       room = omega (arith, was.room, c.push_reserved.ensures.capacity);
       filled = rw (take_more batches i batch within, sym c.batch-item.is) (all_append _ (take i batches) (batch ∷ []) was.filled
-          (subst (λ fs. (0 < length fs) × (length fs ≤ 512)) c.as_slice-count.ensures.value c.as_slice-count.ensures.in_range, tt));
+          (subst (λ fs. (0 < length fs) × (length fs ≤ BATCH_FACTS)) c.as_slice-count.ensures.value c.as_slice-count.ensures.in_range, tt));
     }

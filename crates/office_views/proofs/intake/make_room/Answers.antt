@@ -1,8 +1,5 @@
-use Rattle.std.proofs.Common.{◌≡◌, ◌+◌, ◌++◌, List, length, take, drop, sym, ap, ◌∙◌, subst, arith, length-append}
-use Rattle.std.proofs.Math.Seq.{drop-append_seam, take-append_seam}
-use Rattle.std.proofs.lemmas.List.{take_all}
-use Rattle.fact_kinds.specs.Stated.{Stated}
-use Rattle.fact_store.specs.Kept.{Kept}
+use Rattle.std.proofs.Common.{length, ap, arith, length-append}
+use Rattle.fact_store.specs.Coming.{Coming}
 use Rattle.office_views.proofs.intake.make_room.Goals as goal
 
 pub keep_room-requires : goal.keep_room-requires
@@ -12,7 +9,7 @@ keep_room-requires c =
       within = omega (
         arith,
         c.room-before.ensures.value,
-        ap (λ (k : Kept). length k.spare) c.in_ok-reserve_more.ensures.ok,
+        ap (λ (k : Coming). length k.spare) c.in_ok-reserve_more.ensures.ok,
         length-append store.spare c.args.facts.now,
       );
     }
@@ -24,7 +21,7 @@ keep_room-requires-2 c =
       within = omega (
         arith,
         c.room-before.ensures.value,
-        ap (λ (k : Kept). length k.spare) c.in_ok-reserve_more.ensures.ok,
+        ap (λ (k : Coming). length k.spare) c.in_ok-reserve_more.ensures.ok,
         length-append store.spare c.args.facts.now,
       );
     }

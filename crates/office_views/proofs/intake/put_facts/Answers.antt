@@ -2,6 +2,7 @@ use Rattle.std.proofs.Common.{◌≡◌, Some, length, slice_get, refl, ap, ◌�
 use Rattle.std.proofs.lemmas.Option.{slice_get_read}
 use Rattle.fact_kinds.specs.Facts.{key_of}
 use Rattle.fact_kinds.specs.Fields.{IsFact}
+use Rattle.fact_store.specs.Coming.{stored}
 use Rattle.fact_store.specs.Kept.{is_held}
 use Rattle.office_views.proofs.TakingLemmas.{new_key, stored_more, stored_all, all_next}
 use Rattle.office_views.proofs.intake.put_facts.Goals as goal
@@ -25,9 +26,10 @@ loop-index-preserved c =
     c.index-facts-index.is in
     let here = subst (λ fs. slice_get fs c.loop-index.index ≡ Some item) c.as_slice-facts.ensures.value read in
     record {
-      stored = c.insert.ensures.value
-          ∙ stored_more c.args.store.now c.loop-index.store batch c.loop-index.index c.key_at.result item c.loop-index.invariant.stored c.key_at.ensures.value
+      stored = ap stored c.insert.ensures.value
+          ∙ stored_more (stored c.args.store.now) (stored c.loop-index.store) batch c.loop-index.index c.key_at.result item c.loop-index.invariant.stored c.key_at.ensures.value
           here;
+      listed = ap (λ k. k.listed) c.insert.ensures.value ∙ c.loop-index.invariant.listed;
       in_range = all_next IsFact batch.facts c.loop-index.index item here c.loop-index.invariant.in_range c.key_at.ensures.in_range;
     }
 
@@ -35,4 +37,4 @@ pub returns-clause-value : goal.returns-clause-value
 returns-clause-value c =
     let all : c.loop-index.index ≡ length c.args.batch.now.facts =
     omega (arith, ap length c.as_slice-facts.ensures.value, c.loop-index-test.false, c.loop-index.auto.index-end) in
-    c.loop-index.invariant.stored ∙ stored_all c.args.store.now c.args.batch.now c.loop-index.index all
+    c.loop-index.invariant.stored ∙ stored_all (stored c.args.store.now) c.args.batch.now c.loop-index.index all

@@ -3,7 +3,7 @@ use Rattle.ldar_law.specs.Texts.{route_text}
 use Rattle.office_views.proofs.routes.route_on.Goals as goal
 
 pub returns : goal.returns
-returns g c = record {
-  value = subst (λ found. IfOk c.routes_text.result (λ text. text ≡ route_text c.args.unit c.args.lists.now.day c.args.stops found))
+returns c = record {
+  value = subst (λ found. IfOk c.routes_text.result (λ text. text ≡ route_text c.args.unit c.args.source.now.day c.args.stops found))
       (c.deref.ensures.value ∙ c.in_ok-found.ensures.value) c.routes_text.ensures.value;
 }

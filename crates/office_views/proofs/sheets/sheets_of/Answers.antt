@@ -1,4 +1,4 @@
-use Rattle.std.proofs.Common.{[], ◌∷◌, ◌++◌, map, sym, ap, ◌∙◌, arith}
+use Rattle.std.proofs.Common.{[], ◌∷◌, ◌++◌, map, ap, ◌∙◌, arith}
 use Rattle.std.proofs.lemmas.List.{map-append, take_all}
 use Rattle.ldar_law.specs.Shown.{sheet_of}
 use Rattle.office_views.specs.Components.{all_in_law}
@@ -9,7 +9,7 @@ pub loop-component-preserved : goal.loop-component-preserved
 loop-component-preserved c =
     let a = c.args in
     let l = c.loop-component in
-    list_more a.unit.now a.components.now l.component-index c.component-item.result c.loop-component-test.true c.component-item.is
+    list_more a.stops.now a.components.now l.component-index c.component-item.result c.loop-component-test.true c.component-item.is
     (map sheet_of) (map-append sheet_of) l.sheets.items c.push.new.self.items l.invariant
     (c.in_ok-push.ensures.items ∙ ap (λ sheet. l.sheets.items ++ sheet ∷ []) c.in_ok-sheet_of.ensures.value)
 
@@ -18,5 +18,5 @@ returns c =
     let a = c.args in
     let l = c.loop-component in
     record {
-      value = l.invariant ∙ ap (λ cs. map sheet_of (all_in_law a.unit.now cs)) (take_all l.component-index a.components.now (omega arith));
+      value = l.invariant ∙ ap (λ cs. map sheet_of (all_in_law a.stops.now cs)) (take_all l.component-index a.components.now (omega arith));
     }

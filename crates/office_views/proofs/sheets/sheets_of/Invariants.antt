@@ -4,4 +4,4 @@ use Rattle.office_views.specs.Components.{all_in_law}
 use Rattle.office_views.proofs.sheets.sheets_of.Given as goal
 
 abbrev pub invariant-loop-component : goal.invariant-loop-component
-invariant-loop-component l = l.sheets.items ≡ map shown.sheet_of (all_in_law l.unit (take l.component-index l.components))
+invariant-loop-component l = l.sheets.items ≡ map shown.sheet_of (all_in_law l.stops (take l.component-index l.components))

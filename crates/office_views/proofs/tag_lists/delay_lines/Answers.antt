@@ -9,7 +9,7 @@ pub loop-component-preserved : goal.loop-component-preserved
 loop-component-preserved c =
     let a = c.args in
     let l = c.loop-component in
-    list_more a.unit.now a.components.now l.component-index c.component-item.result c.loop-component-test.true c.component-item.is
+    list_more a.stops.now a.components.now l.component-index c.component-item.result c.loop-component-test.true c.component-item.is
     delay_list delay_list-append l.lines.items c.add_lines.new.lines.items l.invariant c.in_ok-add_lines.ensures.put
 
 pub returns : goal.returns
@@ -17,5 +17,5 @@ returns c =
     let a = c.args in
     let l = c.loop-component in
     record {
-      value = l.invariant ∙ ap (λ cs. delay_list (all_in_law a.unit.now cs)) (take_all l.component-index a.components.now (omega arith));
+      value = l.invariant ∙ ap (λ cs. delay_list (all_in_law a.stops.now cs)) (take_all l.component-index a.components.now (omega arith));
     }

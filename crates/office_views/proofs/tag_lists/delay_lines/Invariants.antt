@@ -4,4 +4,4 @@ use Rattle.office_views.specs.Components.{all_in_law}
 use Rattle.office_views.proofs.tag_lists.delay_lines.Given as goal
 
 abbrev pub invariant-loop-component : goal.invariant-loop-component
-invariant-loop-component l = l.lines.items ≡ law.delay_list (all_in_law l.unit (take l.component-index l.components))
+invariant-loop-component l = l.lines.items ≡ law.delay_list (all_in_law l.stops (take l.component-index l.components))

@@ -9,7 +9,7 @@ pub loop-component-preserved : goal.loop-component-preserved
 loop-component-preserved c =
     let a = c.args in
     let l = c.loop-component in
-    list_more a.unit.now a.components.now l.component-index c.component-item.result c.loop-component-test.true c.component-item.is
+    list_more a.stops.now a.components.now l.component-index c.component-item.result c.loop-component-test.true c.component-item.is
     (tag_list a.day) (tag_list-append a.day) l.tags.items c.add_tags.new.tags.items l.invariant c.in_ok-add_tags.ensures.put
 
 pub returns : goal.returns
@@ -17,5 +17,5 @@ returns c =
     let a = c.args in
     let l = c.loop-component in
     record {
-      value = l.invariant ∙ ap (λ cs. tag_list a.day (all_in_law a.unit.now cs)) (take_all l.component-index a.components.now (omega arith));
+      value = l.invariant ∙ ap (λ cs. tag_list a.day (all_in_law a.stops.now cs)) (take_all l.component-index a.components.now (omega arith));
     }

@@ -4,4 +4,4 @@ use Rattle.office_views.specs.Components.{all_in_law}
 use Rattle.office_views.proofs.tag_lists.tags_shown.Given as goal
 
 abbrev pub invariant-loop-component : goal.invariant-loop-component
-invariant-loop-component l = l.tags.items ≡ law.tag_list l.fn.day (all_in_law l.unit (take l.component-index l.components))
+invariant-loop-component l = l.tags.items ≡ law.tag_list l.fn.day (all_in_law l.stops (take l.component-index l.components))

@@ -9,13 +9,13 @@ pub add_marks-requires-clause-same : goal.add_marks-requires-clause-same
 add_marks-requires-clause-same c =
     let a = c.args in
     ap length (c.deref.ensures.value ∙ c.in_ok-marks.ensures.value)
-    ∙ numbers_long (λ q. mark_in a.startup a.day q (in_law a.unit.now a.component.now)) a.quarter ∙ sym c.requires.count
+    ∙ numbers_long (λ q. mark_in a.startup a.day q (in_law a.stops.now a.component.now)) a.quarter ∙ sym c.requires.count
 
 pub returns : goal.returns
 returns c =
     let a = c.args in
     let old = a.tallies.now.items in
     record {
-      put = one_counted a.startup a.day a.quarter (in_law a.unit.now a.component.now) c.deref.result.now old c.add_marks.new.tallies.items
+      put = one_counted a.startup a.day a.quarter (in_law a.stops.now a.component.now) c.deref.result.now old c.add_marks.new.tallies.items
           (c.deref.ensures.value ∙ c.in_ok-marks.ensures.value) (omega (arith, c.requires.count, a.tallies.now.ok)) c.add_marks.ensures.value;
     }

@@ -1,7 +1,8 @@
 use Rattle.std.proofs.Common.{ap, ◌∙◌, arith}
 use Rattle.std.proofs.lemmas.List.{take_all}
 use Rattle.ldar_law.specs.Units.{tallies_to}
-use Rattle.office_views.specs.Components.{all_in_law}
+use Rattle.office_views.specs.Components.{IsInOrder, all_in_law}
+use Rattle.office_views.proofs.ListLemmas.{all_item}
 use Rattle.office_views.proofs.TallyLemmas.{tallies_are}
 use Rattle.office_views.proofs.UnitLemmas.{room_for_one, tallies_more}
 use Rattle.office_views.proofs.tallies.tallies_to.Goals as goal
@@ -16,13 +17,13 @@ pub add_component-requires-clause-room : goal.add_component-requires-clause-room
 add_component-requires-clause-room c =
     let a = c.args in
     let l = c.loop-component in
-    room_for_one a.unit.now a.components.now l.component-index a.startup a.day a.quarter l.tallies.items c.loop-component-test.true c.requires.few l.invariant
+    room_for_one a.stops.now a.components.now l.component-index a.startup a.day a.quarter l.tallies.items c.loop-component-test.true c.requires.few l.invariant
 
 pub loop-component-preserved : goal.loop-component-preserved
 loop-component-preserved c =
     let a = c.args in
     let l = c.loop-component in
-    tallies_more a.unit.now a.components.now l.component-index c.component-item.result c.loop-component-test.true c.component-item.is
+    tallies_more a.stops.now a.components.now l.component-index c.component-item.result c.loop-component-test.true c.component-item.is
     a.startup a.day a.quarter l.tallies.items c.add_component.new.tallies.items l.invariant c.in_ok-add_component.ensures.put
 
 pub returns : goal.returns
@@ -31,5 +32,11 @@ returns c =
     let l = c.loop-component in
     record {
       value = tallies_are a.startup a.day a.quarter _ l.tallies.items l.invariant
-          ∙ ap (λ cs. tallies_to a.startup a.day (all_in_law a.unit.now cs) a.quarter) (take_all l.component-index a.components.now (omega arith));
+          ∙ ap (λ cs. tallies_to a.startup a.day (all_in_law a.stops.now cs) a.quarter) (take_all l.component-index a.components.now (omega arith));
     }
+
+pub add_component-requires-clause-ordered : goal.add_component-requires-clause-ordered
+add_component-requires-clause-ordered c =
+    let a = c.args in
+    all_item IsInOrder a.components.now c.loop-component.component-index c.component-item.result c.requires.ordered c.loop-component-test.true
+    c.component-item.is

@@ -5,4 +5,4 @@ use Rattle.office_views.proofs.tallies.tallies_to.Given as goal
 
 abbrev pub invariant-loop-component : goal.invariant-loop-component
 invariant-loop-component l =
-    AreTallies l.startup l.fn.day (all_in_law l.unit (take l.component-index l.components)) l.quarter l.tallies.items
+    AreTallies l.startup l.fn.day (all_in_law l.stops (take l.component-index l.components)) l.quarter l.tallies.items

@@ -10,7 +10,7 @@ use Rattle.ldar_law.proofs.EnteredLemmas.{rises_in_order}
 use Rattle.component_register.specs.Classes.{class_named}
 use Rattle.component_register.specs.Members.{unit_joined}
 use Rattle.component_register.specs.Once.{IsFirstOfNumber}
-use Rattle.component_register.proofs.HoldLemmas.{classes_ascend, sound_more}
+use Rattle.component_register.proofs.HoldLemmas.{sound_more}
 use Rattle.component_register.proofs.register.Register.insert.Goals as goal
 
 pub put_class-requires-clause-roomy : goal.put_class-requires-clause-roomy
@@ -23,9 +23,7 @@ put_class-requires-clause-roomy c =
     (rw stated at named)
 
 pub put_class-requires-clause-ordered : goal.put_class-requires-clause-ordered
-put_class-requires-clause-ordered c =
-    let inside = c.self.inside in
-    λ n. classes_ascend inside.store inside.slots.items inside.units.items inside.classes.items inside.rosters.items c.self.invariant n
+put_class-requires-clause-ordered c = λ n. (c.self.invariant.holds.listed n).days
 
 pub put_member-requires-clause-roomy : goal.put_member-requires-clause-roomy
 put_member-requires-clause-roomy c =

@@ -5,7 +5,7 @@ use Rattle.ldar_journal.specs.Image.{batches_of}
 use Rattle.std.specs.List.{AllByRecursion}
 use Rattle.ldar_law.specs.declared.reply.Reply.{Reply}
 use Rattle.ldar_law.specs.declared.reply.Reply.TheVariants as replied
-use Rattle.office_book.specs.Asking.{HasRule}
+use Rattle.office_interface.specs.Asking.{HasRule}
 use Rattle.office_book.specs.Room.{AddsNothing}
 use Rattle.office_book.proofs.AskLemmas.{all_faults, faults_group, serves_group, faults_ruled}
 use Rattle.office_book.proofs.KeepLemmas.{from_err}

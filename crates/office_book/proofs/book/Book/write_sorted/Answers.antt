@@ -9,7 +9,7 @@ use Rattle.ldar_law.specs.declared.reply.Reply.TheVariants as replied
 use Rattle.ldar_law.specs.Machine.{State}
 use Rattle.std.specs.List.{AllByRecursion}
 use Rattle.office_book.specs.Archive.{MayCome}
-use Rattle.office_book.specs.Asking.{HasRule}
+use Rattle.office_interface.specs.Asking.{HasRule}
 use Rattle.office_book.specs.Grouped.{IsUnwritten}
 use Rattle.office_book.specs.Room.{IsNoFault}
 use Rattle.office_book.specs.Safe.{state_of}

@@ -1,4 +1,4 @@
-use Rattle.std.proofs.Common.{◌≡◌, List, ℕ, ◌+◌, [], ◌++◌, length, refl, subst, sym, arith}
+use Rattle.std.proofs.Common.{◌≡◌, List, ℕ, ◌+◌, ◌++◌, length, refl, subst, sym, arith}
 use Rattle.office_mirror.specs.AnswerGrammar.{BeginsAnswer, HasNoAnswer, IsFirstWrongInAnswer}
 use Rattle.office_mirror.proofs.PieceLemmas.{head_begins, few_are_none, wrong_head, wrong_is_none}
 use Rattle.office_mirror.proofs.reader.AnswerReader.read_first.Goals as goal

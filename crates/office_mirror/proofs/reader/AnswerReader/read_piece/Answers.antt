@@ -1,4 +1,4 @@
-use Rattle.std.proofs.Common.{◌≡◌, ◌+◌, ap, arith, sym, refl, List, ℕ, ◌++◌, length, subst, ◌∙◌}
+use Rattle.std.proofs.Common.{◌≡◌, ◌+◌, ap, sym, refl, List, ℕ, ◌++◌, length, subst, ◌∙◌}
 use Rattle.ldar_facts.specs.Grammar.{Begins, HasNoBatch, IsFirstWrongPlace, OnShort, IfBad}
 use Rattle.office_mirror.specs.AnswerGrammar.{BeginsAnswer, HasNoAnswer, IsFirstWrongInAnswer}
 use Rattle.office_mirror.specs.Reader.{AreSoFar, read_so_far}

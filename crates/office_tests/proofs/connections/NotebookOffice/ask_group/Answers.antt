@@ -3,7 +3,7 @@ use Rattle.std.specs.List.{AllByRecursion}
 use Rattle.std.proofs.lemmas.List.{map-append, take_all, take_more}
 use Rattle.list_words.proofs.Members.{all_append}
 use Rattle.ldar_law.specs.Machine.{Call, Turn, not_asked}
-use Rattle.office_book.specs.Asking.{HasRule}
+use Rattle.office_interface.specs.Asking.{HasRule}
 use Rattle.office_tests.proofs.connections.NotebookOffice.ask_group.Goals as goal
 
 -- one more turn

@@ -1,7 +1,7 @@
 use Rattle.std.proofs.Common.{◌≡◌, ◌++◌, List, map, take}
 use Rattle.std.specs.List.{AllByRecursion}
 use Rattle.ldar_law.specs.Machine.{Turn}
-use Rattle.office_book.specs.Asking.{HasRule}
+use Rattle.office_interface.specs.Asking.{HasRule}
 use Rattle.office_tests.proofs.connections.NotebookOffice.ask_group.Given as goal
 
 -- the turns of the requests so far

@@ -1,4 +1,5 @@
 use Rattle.std.proofs.Common.{◌≡◌, ◌+◌, ◌-◌, Some, None, length, take, slice_get, get_or, sym, ap, ◌∙◌, arith}
+use Rattle.fact_store.specs.Coming.{stored}
 use Rattle.std.proofs.lemmas.Bool.Decides.{nat_tests}
 use Rattle.office_views.specs.Headers.{batch_by, batches_by, facts_kept}
 use Rattle.office_views.proofs.HeaderLemmas.{length-headers_of}
@@ -23,7 +24,7 @@ is_batch_of-requires-clause-held g c =
       arith,
       header_within 0 sound.0 at inside.adopted header c.if-at-self.true (omega (arith, c.if-at-self.true, sound.1.counted)),
       ap (λ h. h.first + h.count) same,
-      stated_is sound.0 inside.store inside.register inside.headers.items inside.adopted sound.1,
+      stated_is sound.0 (stored inside.store) inside.register inside.headers.items inside.adopted sound.1,
     )
 
 pub returns-then-at-self : goal.returns-then-at-self
@@ -32,7 +33,7 @@ returns-then-at-self g c =
     let sound = c.self.invariant.0 in
     let at = c.saturating_sub-at.result in
     let header = c.index.result.now in
-    let kept = facts_kept inside.store in
+    let kept = facts_kept (stored inside.store) in
     let batches = take inside.adopted (batches_by kept inside.headers.items) in
     let held = ap (λ h. h.adopted) (sym c.self.view_is) in
     let found : slice_get c.args.self.now.adopted (c.args.position - 1) ≡ Some (batch_by kept header) =
@@ -52,7 +53,7 @@ returns-else-at-self g c =
     let inside = c.self.inside in
     let at = c.saturating_sub-at.result in
     let held = ap (λ h. h.adopted) (sym c.self.view_is) in
-    let batches = batches_by (facts_kept inside.store) inside.headers.items in
+    let batches = batches_by (facts_kept (stored inside.store)) inside.headers.items in
     let none : slice_get c.args.self.now.adopted (c.args.position - 1) ≡ None =
     ap (λ bs. slice_get bs (c.args.position - 1)) held ∙ ap (λ k. slice_get (take inside.adopted batches) k) (sym c.saturating_sub-at.ensures)
     ∙ none_at batches at inside.adopted c.if-at-self.false in

@@ -1,0 +1,4 @@
+pub mod Fronts
+pub mod Serving
+pub mod Together
+pub mod Words

@@ -1,0 +1,10 @@
+pub mod AskedLemmas
+pub mod BatchLemmas
+pub mod CostLemmas
+pub mod EventLemmas
+pub mod KnownLemmas
+pub mod ListLemmas
+pub mod MemberLemmas
+pub mod ReadLemmas
+pub mod RowLemmas
+pub mod SoundLemmas

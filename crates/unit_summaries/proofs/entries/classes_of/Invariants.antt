@@ -1,0 +1,6 @@
+use Rattle.std.proofs.Common.{◌≡◌, ◌++◌, drop}
+use Rattle.ldar_law.specs.Equipment as law
+use Rattle.unit_summaries.proofs.entries.classes_of.Given as goal
+
+abbrev pub invariant-loop-e : goal.invariant-loop-e
+invariant-loop-e l = l.classes.items ++ law.classes_of l.number (drop l.e-index l.facts) ≡ law.classes_of l.number l.facts

@@ -1,0 +1,5 @@
+pub mod Cost
+pub mod Known
+pub mod Rows
+pub mod Says
+pub mod Sound
