@@ -23,7 +23,8 @@ CLAIMS = TOP / "docs" / "CLAIMS.md"
 MOST_WORDS = 25
 COMPLETE = """ldar_days disk_model ldar_ports ldar_facts ldar_law fact_store component_register method21_reading leak_tags
     delay_of_repair monitor_calendar skip_periods route_planner semiannual_report report_filing ldar_journal batch_rules
-    office_views office_book sync_room office_mirror handheld_http ldar_session register_import office_commands ldar_cli""".split()
+    office_views office_book sync_room office_mirror handheld_http ldar_session register_import office_commands office_server
+    decimal_words ldar_cli""".split()
 
 
 def without_comments(text):

@@ -15,7 +15,7 @@ import sys
 import tempfile
 
 HERE = pathlib.Path(__file__).resolve().parent
-LDAR = HERE.parent / "ldar"
+PROGRAM = HERE.parent / "crates/ldar_cli/out/ldar_cli"
 DAY = 19_773   # 2024-02-20
 FIRST = 18_276  # 2020-01-15
 GROWTH, SECONDS, RUNS = 7, 2.0, 3
@@ -200,7 +200,7 @@ def seconds(words, given=None):
     """The processor seconds of a run, which has to end with status 0, and its output."""
     before = resource.getrusage(resource.RUSAGE_CHILDREN)
     with open(given or os.devnull, "rb") as source:
-        ran = subprocess.run([LDAR, *words], stdin=source, stdout=subprocess.PIPE, check=True)
+        ran = subprocess.run([PROGRAM, *words], stdin=source, stdout=subprocess.PIPE, check=True)
     after = resource.getrusage(resource.RUSAGE_CHILDREN)
     return after.ru_utime + after.ru_stime - before.ru_utime - before.ru_stime, ran.stdout
 

@@ -20,7 +20,7 @@ import sys
 import tempfile
 import time
 
-SIZES = [int(word) for word in sys.argv[1:]] or [1_000_000, 2_000_000, 4_000_000, 8_000_000]
+SIZES = [int(word) for word in sys.argv[1:] if word.isdigit()] or [1_000_000, 2_000_000, 4_000_000, 8_000_000]
 RUNS = 3
 
 here = pathlib.Path(__file__).parent
@@ -177,6 +177,16 @@ def loop(path, frames, size):
             os.fsync(file.fileno())
             at += 5 + size
         return time.monotonic() - began
+
+
+def frames_of(path):
+    """The number of frames of a journal, and their mean length without the 5 bytes before them."""
+    data = path.read_bytes()
+    at, frames = 16, 0
+    while data[at]:
+        at += 5 + int.from_bytes(data[at + 1 : at + 5], "big")
+        frames += 1
+    return frames, (at - 16) // max(frames, 1) - 5
 
 
 def docked(programs, folder):

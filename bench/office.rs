@@ -22,108 +22,7 @@ mod law {
             const HEADER: &[u8; 16] = b"LDARJNL1\0\0\0\0\0\0\0\0";
             const PIECE: usize = 1 << 20;
 
-            // ---- bytes
-
-            struct Bytes<'a> { rest: &'a [u8] }
-
-            impl Bytes<'_> {
-                fn number(&mut self, width: usize, low: u32, high: u32) -> Option<u32> {
-                    let (now, rest) = self.rest.split_at_checked(width)?;
-                    self.rest = rest;
-                    let value = now.iter().fold(0, |value, byte| value << 8 | u32::from(*byte));
-                    (low <= value && value <= high).then_some(value)
-                }
-
-                fn flag(&mut self) -> Option<bool> { Some(self.number(1, 0, 1)? == 1) }
-                fn component(&mut self) -> Option<u16> { Some(self.number(2, 1, 60_000)? as u16) }
-                fn unit(&mut self) -> Option<u8> { Some(self.number(1, 1, 64)? as u8) }
-                fn instrument(&mut self) -> Option<u16> { Some(self.number(2, 1, 65_535)? as u16) }
-                fn ppm(&mut self) -> Option<u32> { self.number(4, 0, 999_999) }
-
-                fn class(&mut self) -> Option<Class> {
-                    let service = [Service::Gas, Service::Light, Service::Heavy, Service::Vacuum, Service::Under300][self.number(1, 1, 5)? as usize - 1];
-                    let designation = [Designation::Plain, Designation::Nde, Designation::Unsafe, Designation::Difficult][self.number(1, 0, 3)? as usize];
-                    let plan = if designation == Designation::Unsafe { self.number(1, 1, 60)? } else { self.number(1, 0, 0)? } as u8;
-                    Some(Class { service, designation, plan, month: self.number(1, 1, 3)? as u8 })
-                }
-
-                fn name(&mut self) -> Option<[u8; 12]> {
-                    let (now, rest) = self.rest.split_first_chunk::<12>()?;
-                    self.rest = rest;
-                    let length = now.iter().position(|byte| *byte == 0).unwrap_or(12);
-                    let fits = now[..length].iter().all(|byte| byte.is_ascii_uppercase() || byte.is_ascii_digit() || *byte == b'-');
-                    (length > 0 && fits && now[length..].iter().all(|byte| *byte == 0)).then_some(*now)
-                }
-
-                fn tested(&mut self) -> Option<(u16, u32, (u32, u32, u32))> {
-                    Some((self.instrument()?, self.number(4, 1, 999_999)?, (self.ppm()?, self.ppm()?, self.ppm()?)))
-                }
-
-                fn fact(&mut self) -> Option<Fact> {
-                    let kind = self.number(1, 1, 15)?;
-                    let (day, minute) = (self.number(2, 13_879, 47_481)? as u16, self.number(2, 0, 1_439)? as u16);
-                    let body = match kind {
-                        1 => Body::Unit { unit: self.unit()?, older: self.flag()?, name: self.name()? },
-                        2 => Body::Component {
-                            component: self.component()?,
-                            unit: self.unit()?,
-                            kind: [Kind::Valve, Kind::Pump, Kind::Compressor, Kind::Relief][self.number(1, 1, 4)? as usize - 1],
-                            monomer: self.flag()?,
-                            replaces: self.flag()?,
-                            class: self.class()?,
-                        },
-                        3 => Body::Class { component: self.component()?, class: self.class()? },
-                        4 => Body::Retire { component: self.component()? },
-                        5 => Body::Election {
-                            unit: self.unit()?,
-                            mode: self.number(1, 0, 3).filter(|mode| *mode != 2)? as u8,
-                            notified: self.number(2, 13_879, 47_481)? as u16,
-                        },
-                        6 => Body::Shutdown { unit: self.unit()?, days: self.number(2, 1, 366)? as u16 },
-                        7 => Body::Calibration { instrument: self.instrument()?, gas: self.number(4, 1, 999_999)? },
-                        8 => {
-                            let (instrument, value, readings) = self.tested()?;
-                            Body::Precision { instrument, value, readings }
-                        }
-                        9 => {
-                            let (instrument, value, readings) = self.tested()?;
-                            Body::Drift { instrument, value, readings }
-                        }
-                        10 => Body::Reading {
-                            component: self.component()?,
-                            instrument: self.number(2, 0, 65_535)? as u16,
-                            operator: self.number(2, 0, 65_535)? as u16,
-                            purpose: self.number(1, 1, 2)? as u8,
-                            ppm: self.ppm()?,
-                            background: self.ppm()?,
-                        },
-                        11 => Body::Visual { component: self.component()?, state: self.number(1, 0, 2)? as u8 },
-                        12 => Body::Attempt { component: self.component()?, complete: self.flag()? },
-                        13 => Body::Delay {
-                            component: self.component()?,
-                            ground: self.number(1, 0, 5)? as u8,
-                            signer: self.number(2, 0, 65_535)? as u16,
-                            expected: match self.number(2, 0, 47_481)? {
-                                0 => None,
-                                day => Some(day as u16).filter(|day| *day >= 13_879).map(Some)?,
-                            },
-                        },
-                        14 => Body::Release { component: self.component()? },
-                        _ => Body::Indication { component: self.component()?, sensor: self.number(1, 1, 2)? == 1, present: self.flag()? },
-                    };
-                    Some(Fact { day, minute, body })
-                }
-
-                fn batch(&mut self, facts: Vec<Fact>) -> Option<Batch> {
-                    self.number(1, 66, 66)?;
-                    let (handheld, number) = (self.number(2, 0, 65_535)? as u16, self.number(4, 0, u32::MAX)?);
-                    let count = self.number(2, 1, 512)?;
-                    let mut batch = Batch { handheld, number, facts };
-                    batch.facts.clear();
-                    for _ in 0..count { batch.facts.push(self.fact()?); }
-                    Some(batch)
-                }
-            }
+            include!("office_bytes.rs");
 
             // ---- the office
 
@@ -374,59 +273,6 @@ mod law {
                 }
             }
 
-            fn law_kind(kind: Kind) -> law::Kind {
-                match kind {
-                    Kind::Valve => law::Kind::Valve,
-                    Kind::Pump => law::Kind::Pump,
-                    Kind::Compressor => law::Kind::Compressor,
-                    Kind::Relief => law::Kind::Relief,
-                }
-            }
-
-            fn law_class(class: &Class) -> law::Class {
-                let service = match class.service {
-                    Service::Gas => law::Service::Gas,
-                    Service::Light => law::Service::Light,
-                    Service::Heavy => law::Service::Heavy,
-                    Service::Vacuum => law::Service::Vacuum,
-                    Service::Under300 => law::Service::Under300,
-                };
-                let designation = match class.designation {
-                    Designation::Plain => law::Designation::Plain,
-                    Designation::Nde => law::Designation::Nde,
-                    Designation::Unsafe => law::Designation::Unsafe,
-                    Designation::Difficult => law::Designation::Difficult,
-                };
-                law::Class { service, designation, plan: class.plan, month: class.month }
-            }
-
-            fn law_fact(fact: &Fact) -> law::Fact {
-                let body = match fact.body {
-                    Body::Unit { unit, older, name } => law::Body::Unit { unit, older, name },
-                    Body::Component { component, unit, kind, monomer, replaces, class } => {
-                        law::Body::Component { component, unit, kind: law_kind(kind), monomer, replaces, class: law_class(&class) }
-                    }
-                    Body::Class { component, class } => law::Body::Class { component, class: law_class(&class) },
-                    Body::Retire { component } => law::Body::Retire { component },
-                    Body::Election { unit, mode, notified } => law::Body::Election { unit, mode, notified },
-                    Body::Shutdown { unit, days } => law::Body::Shutdown { unit, days },
-                    Body::Calibration { instrument, gas } => law::Body::Calibration { instrument, gas },
-                    Body::Precision { instrument, value, readings } => law::Body::Precision { instrument, value, readings },
-                    Body::Drift { instrument, value, readings } => law::Body::Drift { instrument, value, readings },
-                    Body::Reading { component, instrument, operator, purpose, ppm, background } => {
-                        law::Body::Reading { component, instrument, operator, routine: purpose == 1, ppm, background }
-                    }
-                    Body::Visual { component, state } => {
-                        law::Body::Visual { component, state: [law::State::Dry, law::State::Drips, law::State::Designated][usize::from(state)] }
-                    }
-                    Body::Attempt { component, complete } => law::Body::Attempt { component, complete },
-                    Body::Delay { component, ground, signer, expected } => law::Body::Delay { component, ground, signer, expected },
-                    Body::Release { component } => law::Body::Release { component },
-                    Body::Indication { component, sensor, present } => law::Body::Indication { component, sensor, present },
-                };
-                law::Fact { day: fact.day, minute: fact.minute, body }
-            }
-
             /// Keeps the batches of standard input. Those in hand together share a frame of up to 16 batches.
             fn dock(office: &mut Office) {
                 let (mut input, mut output) = (std::io::stdin().lock(), std::io::stdout().lock());
@@ -460,6 +306,46 @@ mod law {
             }
 
             include!("requests.rs");
+
+            /// Answers the requests of standard input. Those in hand together share a frame of up to 16 batches.
+            fn drain(office: &mut Office) {
+                let (mut input, mut output) = (std::io::stdin().lock(), std::io::stdout().lock());
+                let (mut window, mut at, mut piece) = (Vec::new(), 0, vec![0; 65_536]);
+                loop {
+                    let (mut group, mut view) = (Vec::new(), None);
+                    while group.len() < 16 {
+                        match request_at(&window[at..]) {
+                            Some(Wanted { asked: Asked::Sync(batch), length, .. }) => { group.push(batch); at += length; }
+                            Some(Wanted { asked: Asked::Percent { unit, quarter, day }, length, .. }) => { view = Some((unit, quarter, day)); at += length; break; }
+                            None => break,
+                        }
+                    }
+                    let mut said = Vec::new();
+                    if !group.is_empty() {
+                        let spellings: Vec<Vec<u8>> = group.iter().map(|batch| { let mut out = Vec::new(); put_bytes(&mut out, batch); out }).collect();
+                        let identities: Vec<(u16, u32)> = group.iter().map(|batch| (batch.handheld, batch.number)).collect();
+                        office.dock(group.into_iter().zip(spellings.iter().map(Vec::as_slice)).collect());
+                        for identity in identities {
+                            let position = office.positions[&identity];
+                            answer(&mut said, &format!("receipt {} {} {position}\n", identity.0, identity.1));
+                        }
+                    }
+                    if let Some((unit, quarter, day)) = view {
+                        let text = office.view("percent", unit, quarter, day);
+                        answer(&mut said, &text);
+                    }
+                    if said.is_empty() {
+                        let count = input.read(&mut piece).expect("requests");
+                        if count == 0 { return; }
+                        window.drain(..at);
+                        at = 0;
+                        window.extend_from_slice(&piece[..count]);
+                    } else {
+                        output.write_all(&said).expect("an answer");
+                        output.flush().expect("an answer");
+                    }
+                }
+            }
 
             pub fn main() {
                 let words: Vec<String> = std::env::args().skip(1).collect();

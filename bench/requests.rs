@@ -1,7 +1,10 @@
-// HTTP requests with batches as JSON, read by hand, and their answers: what drain.py sends. office.rs includes it.
+// HTTP requests with batches as JSON, read by hand, and their answers: what drain.py and serve.py send. Included by office.rs and serve.rs.
 
-/// What a request asks, and its number of bytes.
+/// What a request asks.
 enum Asked { Sync(Batch), Percent { unit: u8, quarter: u16, day: u16 } }
+
+/// A request, its number of bytes, and whether the connection closes after it.
+struct Wanted { asked: Asked, length: usize, closes: bool }
 
 struct Json<'a> { rest: &'a [u8] }
 
@@ -106,17 +109,18 @@ fn day_of(text: &str) -> Option<u16> {
     (1 <= day && first + day - 1 <= law::last_day(year * 12 + month - 1)).then_some(first + day - 1)
 }
 
-/// The request at the front of some bytes and its length, once it is complete.
-fn request_at(bytes: &[u8]) -> Option<(Asked, usize)> {
+/// The request at the front of some bytes, once it is complete.
+fn request_at(bytes: &[u8]) -> Option<Wanted> {
     let head = bytes.windows(4).position(|four| four == b"\r\n\r\n")? + 4;
     let text = std::str::from_utf8(&bytes[..head]).expect("a head");
     let mut lines = text.split("\r\n");
     let (method, target) = lines.next().expect("a line").split_once(' ').expect("a target");
     let path = target.split(' ').next().expect("a path");
-    let mut length = 0;
+    let (mut length, mut closes) = (0, false);
     for line in lines.filter(|line| !line.is_empty()) {
         let (name, value) = line.split_once(':').expect("a field");
         if name.eq_ignore_ascii_case("content-length") { length = value.trim().parse().expect("a length"); }
+        closes |= name.eq_ignore_ascii_case("connection") && value.trim().eq_ignore_ascii_case("close");
         assert!(!name.eq_ignore_ascii_case("transfer-encoding"));
     }
     if bytes.len() < head + length { return None; }
@@ -128,73 +132,9 @@ fn request_at(bytes: &[u8]) -> Option<(Asked, usize)> {
             Asked::Percent { unit, quarter, day: day_of(parts.next().expect("a day")).expect("a day") }
         }
     };
-    Some((asked, head + length))
-}
-
-fn put_bytes(out: &mut Vec<u8>, batch: &Batch) {
-    out.push(66);
-    out.extend_from_slice(&batch.handheld.to_be_bytes());
-    out.extend_from_slice(&batch.number.to_be_bytes());
-    out.extend_from_slice(&(batch.facts.len() as u16).to_be_bytes());
-    for fact in &batch.facts {
-        out.push(if matches!(fact.body, Body::Calibration { .. }) { 7 } else { 10 });
-        out.extend_from_slice(&fact.day.to_be_bytes());
-        out.extend_from_slice(&fact.minute.to_be_bytes());
-        match fact.body {
-            Body::Calibration { instrument, gas } => {
-                out.extend_from_slice(&instrument.to_be_bytes());
-                out.extend_from_slice(&gas.to_be_bytes());
-            }
-            Body::Reading { component, instrument, operator, purpose, ppm, background } => {
-                for number in [component, instrument, operator] { out.extend_from_slice(&number.to_be_bytes()); }
-                out.push(purpose);
-                for number in [ppm, background] { out.extend_from_slice(&number.to_be_bytes()); }
-            }
-            _ => panic!("only calibrations and readings are sent"),
-        }
-    }
+    Some(Wanted { asked, length: head + length, closes })
 }
 
 fn answer(out: &mut Vec<u8>, body: &str) {
     out.extend_from_slice(format!("HTTP/1.1 200 OK\r\nContent-Type: text/plain\r\nContent-Length: {}\r\n\r\n{body}", body.len()).as_bytes());
-}
-
-/// Answers the requests of standard input. Those in hand together share a frame of up to 16 batches.
-fn drain(office: &mut Office) {
-    let (mut input, mut output) = (std::io::stdin().lock(), std::io::stdout().lock());
-    let (mut window, mut at, mut piece) = (Vec::new(), 0, vec![0; 65_536]);
-    loop {
-        let (mut group, mut view) = (Vec::new(), None);
-        while group.len() < 16 {
-            match request_at(&window[at..]) {
-                Some((Asked::Sync(batch), used)) => { group.push(batch); at += used; }
-                Some((Asked::Percent { unit, quarter, day }, used)) => { view = Some((unit, quarter, day)); at += used; break; }
-                None => break,
-            }
-        }
-        let mut said = Vec::new();
-        if !group.is_empty() {
-            let spellings: Vec<Vec<u8>> = group.iter().map(|batch| { let mut out = Vec::new(); put_bytes(&mut out, batch); out }).collect();
-            let identities: Vec<(u16, u32)> = group.iter().map(|batch| (batch.handheld, batch.number)).collect();
-            office.dock(group.into_iter().zip(spellings.iter().map(Vec::as_slice)).collect());
-            for identity in identities {
-                let position = office.positions[&identity];
-                answer(&mut said, &format!("receipt {} {} {position}\n", identity.0, identity.1));
-            }
-        }
-        if let Some((unit, quarter, day)) = view {
-            let text = office.view("percent", unit, quarter, day);
-            answer(&mut said, &text);
-        }
-        if said.is_empty() {
-            let count = input.read(&mut piece).expect("requests");
-            if count == 0 { return; }
-            window.drain(..at);
-            at = 0;
-            window.extend_from_slice(&piece[..count]);
-        } else {
-            output.write_all(&said).expect("an answer");
-            output.flush().expect("an answer");
-        }
-    }
 }

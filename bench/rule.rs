@@ -12,10 +12,10 @@ enum Service { Gas, Light, Heavy, Vacuum, Under300 }
 enum Designation { Plain, Nde, Unsafe, Difficult }
 #[derive(Clone, Copy, PartialEq, Eq)]
 enum Regime { Valve, Pump, Compressor, Relief, Heavy, LeftOut }
-#[derive(Clone, Copy)]
+#[derive(Clone, Copy, PartialEq)]
 struct Class { service: Service, designation: Designation, plan: u8, month: u8 }
 
-#[derive(Clone, Copy)]
+#[derive(Clone, Copy, PartialEq)]
 enum Body {
     Unit { unit: u8, older: bool, name: [u8; 12] },
     Component { component: u16, unit: u8, kind: Kind, monomer: bool, replaces: bool, class: Class },
@@ -35,7 +35,7 @@ enum Body {
 }
 #[derive(Clone, Copy, PartialEq, Eq)]
 enum State { Dry, Drips, Designated }
-#[derive(Clone, Copy)]
+#[derive(Clone, Copy, PartialEq)]
 struct Fact { day: u16, minute: u16, body: Body }
 
 #[derive(Clone, Copy)]
