@@ -225,7 +225,7 @@ module _ {X : Type 0} (P : X → Type 0) where
   all_dropped (suc n) [] all = tt
   all_dropped (suc n) (x ∷ xs) all = all_dropped n xs all.1
 
-  -- what holds of each element holds of each element of each part
+  -- a property of all elements is one of all elements of each part
   pub all_cut_up_to : (most n : ℕ) (xs : List X) → AllByRecursion P xs → AllByRecursion (AllByRecursion P) (cut_up_to most n xs)
   all_cut_up_to zero n xs all = tt
   all_cut_up_to (suc most) n [] all = tt

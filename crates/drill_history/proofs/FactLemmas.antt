@@ -134,7 +134,7 @@ no_classes number (e ∷ es) none =
     ap (λ o. cons_option (option_map (λ class. (e.0, class)) o) (classes_of number es)) (no_class number e.1.body parts.0)
     ∙ no_classes number es parts.1
 
--- a component is in the program as far as its fact says so
+-- a component is in the program if its fact says so
 entered_class : (number day : ℕ) (body : FactBody) (item : Equipment) → component_entered number None day body ≡ Some item
     → (is_vacuum item.class.service || is_under_300 item.class.service) ≡ excludes body
 entered_class number day (ComponentFact other unit kind monomer replaces class) item e =

@@ -79,7 +79,7 @@ own_identity b = rw (eq-eqb b.handheld b.handheld refl, eq-eqb b.number b.number
 found_among : (xs : List Batch) (b : Batch) → Among xs b → list_any (is_same_identity b) xs ≡ true
 found_among xs b among = among_any (is_same_identity b) xs b among (own_identity b)
 
--- the first of a list is found in the reversed list, behind others
+-- the first element of a list is found in the reversed list, after others
 found_first : (front xs : List Batch) → AllByRecursion (λ b. list_any (is_same_identity b) (front ++ reverse xs) ≡ true) (take 1 xs)
 found_first front [] = tt
 found_first front (x ∷ xs) = (

@@ -1,4 +1,4 @@
--- What holds of the history of each drill: the statements of `laws`.
+-- Laws about the history of each drill: the statements of `laws`.
 use Rattle.std.specs.Prelude.{◌≡◌, ℕ, ◌+◌, ◌*◌, ◌≤◌, true, false, IsTrue, Some, List, length, take, codes}
 use Rattle.std.specs.List.{AllByRecursion, list_any}
 use Rattle.fact_kinds.specs.Facts.{facts_of, facts_to}

@@ -190,7 +190,7 @@ module _ (p : Speech) where
             (ap (λ l. flat_map (λ (i : List ℕ). i) in_front.items ++ l) (sym (append-nil item)) ∙ sym (flat_map-append (λ (i : List ℕ). i) in_front.items (item ∷ [])));
       }
 
-  -- a request that may not share a frame is passed on alone
+  -- a request that may not share a frame is passed on by itself
   pub asked_alone : (bytes : List ℕ) (most : ℕ) (question : Question) → 0 < most → IsQuestion p bytes question → ¬ (IsFromHandheld question.request)
       → IsGroup p bytes most (question.request ∷ []) question.closing question.used
   asked_alone bytes most question some is alone = record {

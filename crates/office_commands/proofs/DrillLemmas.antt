@@ -317,7 +317,7 @@ made_stays (Some x) None z made same = absurd made
 made_stays (Some x) (Some y) None made same = absurd same
 made_stays (Some x) (Some y) (Some z) made same = (made.0, subst (λ (l : List ℕ). Opens l []) (sym same) made.1)
 
--- what holds of bytes that stay
+-- a property of bytes that stay the same
 told_stays : (P : List ℕ → Type 0) (y z : Option (List ℕ)) → BothTold y z (λ old new. new ≡ old) → Told y P → Told z P
 told_stays P None None same holds = tt
 told_stays P None (Some z) same holds = absurd same

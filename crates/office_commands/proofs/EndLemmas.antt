@@ -24,7 +24,7 @@ use Rattle.office_commands.proofs.ConnectionLemmas.{opens_history, opened_stays}
 
 -- ---- which statuses report which faults
 
--- a cause holds if what it rests on does
+-- a cause follows from its premise
 pub cause_by : (status : Status) (input input' output output' disk disk' filing filing' : Type 0) → (input → input') → (output → output')
     → (disk → disk') → (filing → filing') → HasCause status input output disk filing → HasCause status input' output' disk' filing'
 cause_by status input input' output output' disk disk' filing filing' one two three four has =

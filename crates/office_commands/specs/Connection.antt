@@ -42,7 +42,7 @@ AreLinesKept left (s ∷ served) stamps =
 -- What a crash leaves of a run of calls over an opened disk.
 -- any_moment: an image left at any moment was possible before, or opens in a state of the run.
 -- since: an image left since the opening opens in the opened state or in the state after some call.
--- behind: an image left since a call returned opens in the state after this call or after a later one.
+-- `behind`: an image left since a call returned opens in the state after this call or after a later one.
 -- receipts: the batch of a receipt is at its position in each image left since its call returned.
 -- lines: the batch of a receipt is at its position in each image left after a byte of its line was written.
 -- at_end: an image that could be left now opens in the last state.

@@ -73,7 +73,7 @@ fn text_of<S: Source>(alloc: Global, input: &mut S) -> Result<Window, Status>
     Ok(window)
 }
 
-/// The batches that a file of this sort says, numbered from here.
+/// The batches of a file of this sort, numbered from here.
 fn batches_in(
     alloc: Global,
     text: &[u8],

@@ -155,7 +155,7 @@ fn named_by(rule: u8) -> &'static str
     ""
 }
 
-/// Puts the note that there is none of what this word says.
+/// Puts the note that there is none of what this word names.
 fn put_no_such<E: Sink, D: Disk>(notes: &mut E, beside: &D, word: &str) -> Result<(), SinkFault>
     ensures said { IsPut (codes "no such " ++ word.now ++ end_of_line) (E.pieces notes.old) (E.pieces notes.new) result }
     ensures count { E.faults notes.old ≤ E.faults notes.new }

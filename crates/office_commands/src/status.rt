@@ -52,7 +52,7 @@ pub enum Status {
     NoSuchRevision(u32),
     /// The journal has fewer batches than this.
     NoSuchPosition(u32),
-    /// The batch at this place of an answer, from 1, is not one of the history that a mirror holds.
+    /// The batch at this place of an answer, from 1, is not in the history that a mirror keeps.
     Stranger(u8),
 }
 

@@ -51,7 +51,7 @@ texts_of-served_for bytes line [] = append-nil line
 texts_of-served_for bytes line (turn ∷ []) = append-nil line
 texts_of-served_for bytes line (turn ∷ other ∷ turns) = texts_of-served_for bytes line (other ∷ turns)
 
--- what holds of anything holds of each
+-- a property of everything is one of each element
 pub all_hold : {X : Type 0} (xs : List X) → AllByRecursion (λ _. Unit {0}) xs
 all_hold [] = tt
 all_hold (x ∷ xs) = (tt, all_hold xs)

@@ -32,7 +32,7 @@ turned_true : (b : Bool) → not b ≡ false → b ≡ true
 turned_true true h = refl
 turned_true false h = absurd cc
 
--- neither of two tests holds
+-- if a disjunction is false, both parts are
 or_false : (a b : Bool) → (a || b) ≡ false → (a ≡ false) × (b ≡ false)
 or_false true b h = absurd cc
 or_false false b h = (refl, h)

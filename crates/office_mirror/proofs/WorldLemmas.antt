@@ -125,7 +125,7 @@ none_from n (x ∷ xs) b h =
 other_way : (x b : Batch) → is_same_identity b x ≡ is_same_identity x b
 other_way x b = grind (arith, nat_tests)
 
--- neither of two tests holds
+-- if a disjunction is false, both parts are
 or_true : (a c : Bool) → (a || c) ≡ false → (a ≡ false) × (c ≡ false)
 or_true true c h = absurd cc
 or_true false c h = (refl, h)

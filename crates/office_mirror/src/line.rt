@@ -9,7 +9,7 @@ use disk_model::Disk;
 use itoa::Buffer;
 use ldar_ports::{Sink, SinkFault, put_all};
 
-/// Writes the line that says what came of an answer, if it has one. Allocates nothing.
+/// Writes the line for the outcome of an answer, if it has one. Allocates nothing.
 pub(crate) fn put_line<K: Sink, D: Disk>(
     sink: &mut K,
     beside: &D,

@@ -4,7 +4,7 @@ use Rattle.std.specs.List.{AllByRecursion}
 use Rattle.ldar_ports.specs.Front.{Connection, Finished}
 use Rattle.office_server.specs.Fronts.{DeskState, EachWorked, WorkedAt}
 
--- what holds of each element holds of the one
+-- a property of each element holds for this one
 pub holds_alone : {A : Type 0} (P : A → Type 0) (xs : List A) (x : A) → length xs ≡ 1 → AllByRecursion P xs → P (get_or xs 0 x)
 holds_alone P [] x one all = absurd (omega (arith, one))
 holds_alone P (y ∷ xs) x one all = all.0

@@ -7,7 +7,7 @@ use Rattle.office_server.specs.Together.{HasOwn, Has, HaveOthers, Together}
 use Rattle.sync_room.specs.Calls.{IsLegal}
 use Rattle.sync_room.specs.Passes.{PassState, RoomId, Met, new_pass}
 
--- what holds of all holds of those before the last
+-- a property of all is one of those before the last
 pub all_front : {A : Type 0} (P : A → Type 0) (xs : List A) (x : A) → AllByRecursion P (xs ++ x ∷ []) → AllByRecursion P xs
 all_front P [] x all = tt
 all_front P (y ∷ xs) x all = (all.0, all_front P xs x all.1)

@@ -1,4 +1,4 @@
--- What holds of the passes of several desks, and of the one pass in which they met.
+-- The passes of several desks, and the one pass in which they met.
 use Rattle.std.specs.Prelude.{◌≡◌, ℕ, Option, Some, List, [], ◌∷◌, Contains}
 use Rattle.std.specs.List.{AllByRecursion}
 use Rattle.office_server.specs.Fronts.{DeskState}

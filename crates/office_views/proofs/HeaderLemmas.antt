@@ -16,7 +16,7 @@ pub length-headers_of : (first : ℕ) (batches : List Batch) → length (headers
 length-headers_of first [] = refl
 length-headers_of first (batch ∷ batches) = omega (arith, length-headers_of (first + length batch.facts) batches)
 
--- the headers of some batches and others behind them
+-- the headers of some batches and of others after them
 pub headers_of-append : (first : ℕ) (xs ys : List Batch) → headers_of first (xs ++ ys) ≡ headers_of first xs ++ headers_of (first + length (facts_stated xs)) ys
 headers_of-append first [] ys = ap (λ n. headers_of n ys) (sym (add-zero first))
 headers_of-append first (x ∷ xs) ys =
@@ -26,7 +26,7 @@ headers_of-append first (x ∷ xs) ys =
     (headers_of-append (first + length x.facts) xs ys
     ∙ ap (λ n. headers_of (first + length x.facts) xs ++ headers_of n ys) sum)
 
--- the headers of the first so many and of the next
+-- the headers of the first batches and of the next one
 pub headers_more : (first : ℕ) (batches : List Batch) (i : ℕ) (batch : Batch) → i < length batches → batch ≡ get_or batches i batch
     → headers_of first (take (i + 1) batches)
     ≡ headers_of first (take i batches) ++ record {
@@ -72,7 +72,7 @@ stated_more batches i batch within is =
     ∙ length-append (facts_stated (take i batches)) (batch.facts ++ [])
     ∙ ap (λ fs. length (facts_stated (take i batches)) + length fs) (append-nil batch.facts)
 
--- the headers of the first so many
+-- the headers of the first batches
 pub take-headers_of : (n first : ℕ) (batches : List Batch) → take n (headers_of first batches) ≡ headers_of first (take n batches)
 take-headers_of zero first batches = refl
 take-headers_of (suc n) first [] = refl
@@ -80,7 +80,7 @@ take-headers_of (suc n) first (batch ∷ batches) =
     ap (λ hs. record { handheld = batch.handheld; number = batch.number; first = first; count = length batch.facts } ∷ hs)
     (take-headers_of n (first + length batch.facts) batches)
 
--- by their headers the batches are found again among the facts of all, which stand behind some and before others
+-- with their headers the batches are found again among the facts of all, which follow some facts and precede others
 pub batches_back : (before : List Stated) (batches : List Batch) (after : List Stated)
     → batches_by (before ++ (facts_stated batches ++ after)) (headers_of (length before) batches) ≡ batches
 batches_back before [] after = refl

@@ -18,7 +18,7 @@ use Rattle.fact_kinds.proofs.Identities.{history_apart}
 use Rattle.fact_kinds.proofs.KeyOrder.{no_tie}
 use Rattle.fact_store.specs.Kept.{is_held}
 
--- what holds of each of two lists behind one another holds of each of the second
+-- a property of all elements of two joined lists is one of all elements of the second
 pub all_behind : {X : Type 0} (P : X → Type 0) (xs ys : List X) → AllByRecursion P (xs ++ ys) → AllByRecursion P ys
 all_behind P [] ys all = all
 all_behind P (x ∷ xs) ys all = all_behind P xs ys all.1
@@ -36,7 +36,7 @@ apart_is_new (x ∷ xs) e apart =
     let rest = apart_is_new xs e apart.1 in
     rw (tie, rest) refl
 
--- of entries apart those in front are apart from each behind them
+-- if all entries differ, those of the first part differ from each of the second
 apart_before : (xs ys : List Entry) (e : Entry) → AllApart goes_first (xs ++ ys) → Among ys e
     → AllByRecursion (λ x. (goes_first x e || goes_first e x) ≡ true) xs
 apart_before [] ys e apart among = tt
@@ -45,7 +45,7 @@ apart_before (x ∷ xs) ys e apart among = (
   apart_before xs ys e apart.1 among,
 )
 
--- .. and so none in front has a key of one behind
+-- .. so none of the first part has a key of the second
 pub none_held : (xs ys : List Entry) → AllApart goes_first (xs ++ ys) → AllByRecursion (λ e. is_held e.0 xs ≡ false) ys
 none_held xs ys apart = all_from_among (λ e. is_held e.0 xs ≡ false) ys (λ e among. apart_is_new xs e (apart_before xs ys e apart among))
 

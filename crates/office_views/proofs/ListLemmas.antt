@@ -55,12 +55,12 @@ pub numbers_long : {Y : Type 0} (f : ℕ → Y) (last : ℕ) → length (map f (
 unfolding until
 numbers_long f last = length-map-range_with_len f 1 (last + 1 - 1) ∙ omega arith
 
--- a number's own stands one place before it
+-- the entry of a number is one place before it
 pub number_at : {Y : Type 0} (f : ℕ → Y) (last k : ℕ) (d : Y) → k < last → get_or (map f (from_to 1 last)) k d ≡ f (k + 1)
 unfolding until
 number_at f last k d within = get_or-map-range_with_len f 1 (last + 1 - 1) k (k + 1) d (omega arith) (omega arith)
 
--- the last one stands behind the others
+-- the last one comes after the others
 pub number_last : {Y : Type 0} (f : ℕ → Y) (last : ℕ) → 1 ≤ last → map f (from_to 1 last) ≡ map f (from_to 1 (last - 1)) ++ f last ∷ []
 unfolding until
 number_last f last some =
@@ -75,7 +75,7 @@ number_front f last some =
 
 -- ---- in order
 
--- what holds of what each element gives
+-- a property of the image of each element is one of each image
 pub all_map : {X Y : Type 0} (P : Y → Type 0) (f : X → Y) (xs : List X) → AllByRecursion (λ x. P (f x)) xs → AllByRecursion P (map f xs)
 all_map P f [] all = tt
 all_map P f (x ∷ xs) all = (all.0, all_map P f xs all.1)
@@ -108,7 +108,7 @@ module _ {X : Type 0} (number : X → ℕ) (f : ℕ → Option X) (numbered : (n
         )
       ] refl
 
--- what holds of what each number gives
+-- a property of the image of each number is one of each image
 pub all_given : {X : Type 0} (P : X → Type 0) (f : ℕ → Option X) (ns : List ℕ) → ((n : ℕ) (x : X) → f n ≡ Some x → P x)
     → AllByRecursion P (filter_map f ns)
 all_given P f [] holds = tt
@@ -118,12 +118,12 @@ all_given P f (n ∷ ns) holds =
       | Some x ↦ λ is. (holds n x is, all_given P f ns holds)
     ] refl
 
--- what holds of the value holds if there is one
+-- a property of a value holds if there is a value
 pub some_holds : {X : Type 0} (P : X → Type 0) (o : Option X) → ((x : X) → o ≡ Some x → P x) → IfSome o P
 some_holds P None holds = tt
 some_holds P (Some x) holds = holds x refl
 
--- what holds of each element holds of the one at a place
+-- a property of all elements holds for the one at a place
 all_get : {X : Type 0} (P : X → Type 0) (xs : List X) (i : ℕ) (d : X) → AllByRecursion P xs → i < length xs → P (get_or xs i d)
 all_get P [] i d all within = absurd (omega (arith, within))
 all_get P (x ∷ xs) zero d all within = all.0

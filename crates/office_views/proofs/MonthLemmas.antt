@@ -12,7 +12,7 @@ begun_by month day low is_day by =
     let inside = month_of-is day is_day in
     omega (arith, earlier.0, inside.0)
 
--- a later month begins behind it
+-- a later month begins after it
 begins_behind : (month day : ℕ) → IsDay day → month_of day < month → day < first_day month
 begins_behind month day is_day behind =
     let in_calendar = month_of-month day is_day in
@@ -28,5 +28,5 @@ begun_is month day low is_day =
       | inr by ↦ let early = begun_by month day low is_day by in grind (arith, nat_tests)
     ]
 
--- what a day's month says of a month
+-- a day's month compared with a month
 pub ruleset begun = (begun_is, month_of-month)

@@ -19,7 +19,7 @@ use Rattle.ldar_law.specs.Equipment.{component_entered, equipment_of, retired_on
 use Rattle.ldar_law.proofs.Gifts.{cases_Option}
 use Rattle.unit_summaries.specs.Sound.{is_known}
 
--- one of two holds if the second does
+-- a disjunction follows from its second part
 or_second : (a : Bool) {b : Bool} → b ≡ true → (a || b) ≡ true
 or_second true is = refl
 or_second false is = is

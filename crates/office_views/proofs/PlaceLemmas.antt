@@ -9,7 +9,7 @@ use Rattle.office_views.specs.declared.header.Header.{Header}
 use Rattle.office_views.specs.Headers.{headers_of}
 use Rattle.office_views.specs.Inside.{facts_stated}
 
--- a header of the first so many batches tells facts of these
+-- a header among the first headers names facts of the first batches
 pub header_within : (first : ℕ) (batches : List Batch) (i n : ℕ) (d : Header) → i < n → i < length batches
     → (get_or (headers_of first batches) i d).first + (get_or (headers_of first batches) i d).count ≤ first + length (facts_stated (take n batches))
 header_within first [] i n d before within = absurd (omega arith)
@@ -18,7 +18,7 @@ header_within first (b ∷ bs) zero (suc n) d before within = omega (arith, leng
 header_within first (b ∷ bs) (suc i) (suc n) d before within =
     omega (arith, header_within (first + length b.facts) bs i n d (omega arith) (omega arith), length-append b.facts (facts_stated (take n bs)))
 
--- an element of the first so many of a mapped list
+-- an element of the first part of a mapped list
 pub taken_at : {X Y : Type 0} (f : X → Y) (xs : List X) (i n : ℕ) (x : X) → i < n → i < length xs → x ≡ get_or xs i x
     → slice_get (take n (map f xs)) i ≡ Some (f x)
 taken_at f [] i n x before within is = absurd (omega arith)
@@ -26,7 +26,7 @@ taken_at f (y ∷ ys) i zero x before within is = absurd (omega arith)
 taken_at f (y ∷ ys) zero (suc n) x before within is = ap (λ z. Some (f z)) (sym is)
 taken_at f (y ∷ ys) (suc i) (suc n) x before within is = taken_at f ys i n x (omega arith) (omega arith) is
 
--- .. and none behind them
+-- .. and none after them
 pub none_at : {X : Type 0} (xs : List X) (i n : ℕ) → n ≤ i → slice_get (take n xs) i ≡ None
 none_at [] i zero behind = refl
 none_at [] i (suc n) behind = refl
@@ -34,7 +34,7 @@ none_at (x ∷ xs) i zero behind = refl
 none_at (x ∷ xs) zero (suc n) behind = absurd (omega arith)
 none_at (x ∷ xs) (suc i) (suc n) behind = none_at xs i n (omega arith)
 
--- the fact at a place behind the first so many
+-- the fact at a place after the first part
 pub stated_at : (arrived : List Entry) (first i : ℕ) (e : Entry) → slice_get arrived (first + i) ≡ Some e
     → slice_get (drop first (map (λ e. e.1) arrived)) i ≡ Some e.1
 stated_at [] first i e here = absurd (omega (arith, slice_get_within [] (first + i) e here))

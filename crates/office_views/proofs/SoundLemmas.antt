@@ -23,7 +23,7 @@ use Rattle.office_views.specs.Inside.{AreOf, facts_stated}
 use Rattle.office_views.proofs.HeaderLemmas.{headers_of-append, take-headers_of, batches_back, stated_of_entries}
 use Rattle.office_views.proofs.KeyLemmas.{all_before}
 
--- what holds of each holds of each of the first so many
+-- a property of all elements is one of the first elements
 pub all_of_first : {X : Type 0} (P : X → Type 0) (n : ℕ) (xs : List X) → AllByRecursion P xs → AllByRecursion P (take n xs)
 all_of_first P n xs all = all_before P (take n xs) (drop n xs) (subst (AllByRecursion P) (sym (take-append-drop n xs)) all)
 

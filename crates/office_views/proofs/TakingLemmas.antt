@@ -29,7 +29,7 @@ use Rattle.office_views.proofs.KeyLemmas.{none_held, none_held_of_part, batch_ap
 
 -- ---- an element at a place
 
--- the first so many, and the next
+-- the first elements, and the next one
 pub take_next : {X : Type 0} (xs : List X) (i : ℕ) (x : X) → slice_get xs i ≡ Some x → take (i + 1) xs ≡ take i xs ++ x ∷ []
 take_next xs i x here = take_more xs i x (slice_get_within xs i x here) ∙ ap (λ y. take i xs ++ y ∷ []) (get_or_from_slice_get xs i x x here)
 
@@ -37,7 +37,7 @@ take_next xs i x here = take_more xs i x (slice_get_within xs i x here) ∙ ap (
 pub drop_here : {X : Type 0} (xs : List X) (i : ℕ) (x : X) → slice_get xs i ≡ Some x → drop i xs ≡ x ∷ drop (i + 1) xs
 drop_here xs i x here = drop_more xs i x (slice_get_within xs i x here) ∙ ap (λ y. y ∷ drop (i + 1) xs) (get_or_from_slice_get xs i x x here)
 
--- what stands before it and behind it
+-- the elements before it and after it
 pub cut_here : {X : Type 0} (xs : List X) (i : ℕ) (x : X) → slice_get xs i ≡ Some x → xs ≡ take i xs ++ x ∷ drop (i + 1) xs
 cut_here xs i x here = sym (take-append-drop i xs) ∙ ap (λ ys. take i xs ++ ys) (drop_here xs i x here)
 
@@ -76,7 +76,7 @@ module _ (batch : Batch) (i : ℕ) (fact : Stated) (here : slice_get batch.facts
 
 -- ---- a store
 
--- what a store or a register holds
+-- the facts that a store or a register keeps
 abbrev pub kept_of : List Entry → List Stated → Kept
 kept_of arrived spare = record { arrived = arrived; spare = spare }
 
@@ -136,7 +136,7 @@ first_by history batch before key fact after facts first cut came (ComponentFact
     first.component before (key, fact) after component facts cut (subst (λ b. enters_component component b ≡ true) is (eq-eqb component component refl)) came
 first_by history batch before key fact after facts first cut came _ is = tt
 
--- the entries of the first so many facts of a batch, behind those of a register
+-- the entries of the first facts of a batch, after those of a register
 abbrev entered_by : Kept → Batch → ℕ → Kept
 entered_by old batch i = record {
   arrived = old.arrived ++ register_facts (take i (entries_of batch));

@@ -78,7 +78,7 @@ components_fit day unit facts entries up kept =
 
 -- ---- what is known of a unit's components, from their summaries
 
--- what holds of each element holds of what is given of those of which something holds
+-- a property of all elements is one of all elements that a filter keeps
 all_given_of : {X : Type 0} (Q : ℕ → Type 0) (P : X → Type 0) (f : ℕ → Option X) (ns : List ℕ) → AllByRecursion Q ns
     → ((n : ℕ) (x : X) → Q n → f n ≡ Some x → P x) → AllByRecursion P (filter_map f ns)
 all_given_of Q P f [] all holds = tt
@@ -88,7 +88,7 @@ all_given_of Q P f (n ∷ ns) all holds =
       | Some x ↦ λ is. (holds n x all.0 is, all_given_of Q P f ns all.1 holds)
     ] refl
 
--- what holds of what each element gives
+-- a property of the image of each element is one of each image
 all_unmapped : {X Y : Type 0} (P : Y → Type 0) (f : X → Y) (xs : List X) → AllByRecursion P (map f xs) → AllByRecursion (λ x. P (f x)) xs
 all_unmapped P f [] all = tt
 all_unmapped P f (x ∷ xs) all = (all.0, all_unmapped P f xs all.1)
@@ -105,7 +105,7 @@ known_is_of facts number c is =
     ]
 
 module _ (unit : ℕ) (facts : List Entry) where
-  -- the components of a unit stand in it
+  -- the components of a unit belong to it
   stand_in_unit : IsEachOnce facts → AllByRecursion (λ (c : Known). c.item.unit ≡ unit) (components_of unit facts)
   stand_in_unit once =
       all_given_of (λ n. Among (members_of unit facts) n) (λ (c : Known). c.item.unit ≡ unit)

@@ -45,7 +45,7 @@ report_asked unit half day facts = elim (unit_entry_of unit facts) [
 abbrev pub half_text_of : UnitEntry → ℕ → ℕ → List Entry → List ℕ
 half_text_of unit half day facts = report_text (half_month unit.startup half) (report_of_unit unit half day facts)
 
--- what is told of a report that was asked for: the report, or what there is none of; no memory only where there is a report
+-- the answer to a request for a report: the report, or what there is none of; out of memory only if there is a report
 abbrev pub Tells : Result Report AskError → Result Report What → Type 0
 Tells (Ok report) asked = asked ≡ Ok report
 Tells (Err (NoneOf what)) asked = asked ≡ Err what

@@ -1,11 +1,11 @@
--- Batches as the views keep them: a header for each, and the facts of all behind one another.
+-- Batches as the views keep them: a header for each, and the facts of all, one after another.
 use Rattle.std.specs.Prelude.{ℕ, ◌+◌, List, [], ◌∷◌, ◌++◌, length, take, drop, map}
 use Rattle.fact_kinds.specs.declared.batch.Batch.{Batch}
 use Rattle.fact_kinds.specs.Stated.{Stated}
 use Rattle.fact_store.specs.Kept.{Kept}
 use Rattle.office_views.specs.declared.header.Header.{Header}
 
--- the headers of some batches, where so many facts stand before theirs
+-- the headers of some batches, given the number of facts before theirs
 abbrev pub headers_of : ℕ → List Batch → List Header
 headers_of first [] = []
 headers_of first (batch ∷ batches) =
@@ -21,6 +21,6 @@ batch_by facts header =
 abbrev pub batches_by : List Stated → List Header → List Batch
 batches_by facts headers = map (batch_by facts) headers
 
--- the facts that came to a store, and behind them those that have room
+-- the facts that came to a store, and after them those that have room
 abbrev pub facts_kept : Kept → List Stated
 facts_kept kept = map (λ e. e.1) kept.arrived ++ kept.spare

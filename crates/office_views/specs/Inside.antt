@@ -13,11 +13,11 @@ use Rattle.ldar_law.specs.Verdicts.{is_ruly}
 use Rattle.office_views.specs.declared.header.Header.{Header}
 use Rattle.office_views.specs.Headers.{headers_of}
 
--- the facts of some batches, behind one another
+-- the facts of some batches, one after another
 abbrev pub facts_stated : List Batch → List Stated
 facts_stated batches = flat_map (λ batch. batch.facts) batches
 
--- of these batches the first so many were adopted: what the store and the register hold of them, and have room for
+-- the first of these batches were adopted: what the store and the register keep of them, and have room for
 pub record AreOf (batches : List Batch) (store register : Kept) (headers : List Header) (count : ℕ) : Type 0 where
   pub headed : headers ≡ headers_of 0 batches
   pub counted : count ≤ length batches

@@ -16,7 +16,7 @@ pub record Viewed : Type 0 where
   pub spare : List Batch
   pub answered : List ℕ
 
--- the batches alone
+-- the batches only
 abbrev pub held_of : Viewed → Held
 held_of v = record { adopted = v.adopted; spare = v.spare }
 

@@ -1,4 +1,4 @@
-//! What a view asks of a process unit, by the register alone: what there is none of takes no memory to say.
+//! The process unit that a view asks for, by the register. If there is none, the answer takes no memory.
 
 ghost use Rattle.std.specs.Prelude.{◌≡◌, ◌≤◌, None, IfOk, IfSome};
 ghost use Rattle.fact_store.specs.Kept.{facts_in};

@@ -7,7 +7,7 @@ ghost use Rattle.office_views.specs.Inside.{facts_stated};
 use fact_kinds::{Batch, Fact, Memory};
 use std::alloc::Global;
 
-/// Who sent a batch, and where its facts stand among those of all batches.
+/// Who sent a batch, and where its facts are among those of all batches.
 #[derive(Clone, Copy)]
 pub struct Header {
     pub number: u32,
@@ -16,7 +16,7 @@ pub struct Header {
     pub first: usize,
 }
 
-/// The facts of some batches, behind one another.
+/// The facts of some batches, one after another.
 pub fn facts_of_all(alloc: Global, batches: &[Batch]) -> Result<Vec<Fact>, Memory>
     ensures value { IfOk result (λ facts. facts.items ≡ facts_stated batches.now) }
 {
@@ -27,7 +27,7 @@ pub fn facts_of_all(alloc: Global, batches: &[Batch]) -> Result<Vec<Fact>, Memor
     Ok(facts)
 }
 
-/// Adds the headers of some batches, before whose facts so many stand. There is room for them.
+/// Adds the headers of some batches whose facts follow the first `facts` ones. There is room for them.
 pub fn push_headers(headers: &mut Vec<Header>, first: usize, batches: &[Batch])
     requires roomy { vec_len headers.old + length batches.now ≤ vec_capacity headers.old }
     requires fits { first + length (facts_stated batches.now) < 2 ^ 64 }

@@ -162,7 +162,7 @@ impl Views {
             self.facts,
             steps,
         );
-        // The store is put back before memory may be wanted: its facts are kept.
+        // The store is put back before an error is returned, so that its facts are kept.
         self.store = Facts::of(store);
         Ok(Shown::Text(text?))
     }

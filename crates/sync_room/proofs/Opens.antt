@@ -1,4 +1,4 @@
--- The rule holds of a room that was just opened.
+-- The rule holds for a room that was just opened.
 use Rattle.std.proofs.Common.{◌≡◌, ℕ, zero, suc, List, [], ◌∷◌, map, refl, ap, sym, subst, arith, inl, Option, Some}
 use mathlib.Core.Option.{some, some-injective, some-ne-none}
 use lib.ListN.{get_elem?}
@@ -32,7 +32,7 @@ fits_newcomer start = record {
   stage = refl;
 }
 
--- the rule holds of a new room
+-- the rule holds for a new room
 pub opens : {B : Type 0} (moment_at : B → Moment) (is_durable : B → Type 0) (start : Moment) (items : List (Option B)) (book : B) → items ≡ Some book ∷ []
     → moment_at book ≡ start → is_durable book
     → IsRoom moment_at is_durable start (opening (0 ∷ 0 ∷ []) items (newcomer start))

@@ -123,7 +123,7 @@ pub record IsInSlot {B : Type 0} (moment_at : B → Moment) (is_durable : B → 
   pub moment : moment_at book ≡ moment_after start log
   pub durable : is_durable book
 
--- the book is with a seat, whose stage says so
+-- the book is with a seat, as its stage shows
 pub record IsWithSeat {B : Type 0} (homes : List (Place (Option B))) (views : List SeatView) : Type 0 where
   pub out : homes ≡ none ∷ []
   pub seat : ℕ

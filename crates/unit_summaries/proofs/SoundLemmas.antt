@@ -15,7 +15,7 @@ use Rattle.unit_summaries.specs.Rows.{Rows, RenewsRows, is_fresh}
 use Rattle.unit_summaries.specs.Says.{IsSaid, IsUnitSaid, Says, SaysUnit}
 use Rattle.unit_summaries.specs.Sound.{Are, Sums, answered_at, is_known}
 
--- nothing is said of no facts
+-- without facts there is nothing to keep
 pub are_none : (components : Rows Summary) (units : Rows UnitSummary) → components.fresh ≡ [] → units.fresh ≡ []
     → Are [] [] 0 (record { components = components; units = units; answered = [] })
 are_none components units none no_units = record {

@@ -3,7 +3,7 @@ use Rattle.ldar_session.specs.Speech.{AreInFront, IsGroup}
 use Rattle.ldar_session.proofs.ItemLemmas.{asked_alone, group_of, one_in_front}
 use Rattle.ldar_session.proofs.group.group_from.Goals as goal
 
--- a request that shares no frame is passed on alone
+-- a request that shares no frame is passed on by itself
 pub returns-then-is_alone : goal.returns-then-is_alone
 returns-then-is_alone g c =
     let first = c.args.first in
