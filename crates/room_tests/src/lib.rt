@@ -1,5 +1,5 @@
-//! Tests of `sync_room` and `office_server`: threads ask one office through passes that split and meet, and the office is as one
-//! history leaves it; fronts are served side by side.
+//! Tests of `sync_room` and `office_server`: threads ask one office through passes that split and meet, and fronts are served
+//! side by side.
 #![tactic(auto)]
 
 #[cfg(test)]
