@@ -143,6 +143,18 @@ impl<'a> Front for HeldFront<'a> {
     }
 }
 
+// Checks that a service ended well, and the answer of each front.
+fn have_answers(
+    alloc: Global,
+    status: u8,
+    fronts: &[HeldFront<'_>; 2],
+    answers: (&str, &str),
+) -> Result<(), Fail> {
+    is(status == 0, "the status")?;
+    fronts[0].has_answer(alloc, answers.0)?;
+    fronts[1].has_answer(alloc, answers.1)
+}
+
 // Serves two fronts with a request each, of which the first or the second waits for the other's answer.
 fn serve_both<R: Threads + Wait + Sync>(
     rt: &R,
@@ -152,14 +164,11 @@ fn serve_both<R: Threads + Wait + Sync>(
     disk: &mut MemoryDisk,
 ) -> Result<(), Fail> {
     let answered = AtomicBool::new(false);
-    let mut fronts = [
-        HeldFront::new(alloc, SEVEN, first_waits, &answered)?,
-        HeldFront::new(alloc, EIGHT, !first_waits, &answered)?,
-    ];
-    let status = serve_to(rt, alloc, "serve 8080 2", &mut fronts, disk)?;
-    is(status == 0, "the status")?;
-    fronts[0].has_answer(alloc, answers.0)?;
-    fronts[1].has_answer(alloc, answers.1)
+    let first = HeldFront::new(alloc, SEVEN, first_waits, &answered)?;
+    let second = HeldFront::new(alloc, EIGHT, !first_waits, &answered)?;
+    let mut fronts = [first, second];
+    let status = serve_to(rt, alloc, "serve 8080 2", &mut fronts, disk);
+    have_answers(alloc, status, &fronts, answers)
 }
 
 // Checks that a batch, which is sent again, is held at this position.
@@ -186,17 +195,23 @@ fn holds_both(alloc: Global, journal: &[u8], positions: (u32, u32)) -> Result<()
     holds_at(alloc, &mut book, 8, 3, positions.1)
 }
 
+// Checks that both connections are answered though one waits for the other, and what the office holds afterwards.
+fn one_waits<R: Threads + Wait + Sync>(
+    rt: &R,
+    alloc: Global,
+    first_waits: bool,
+    answers: (&str, &str),
+    positions: (u32, u32),
+) -> Result<(), Fail> {
+    let mut disk = MemoryDisk::new(alloc, &EMPTY, &[])?;
+    serve_both(rt, alloc, first_waits, answers, &mut disk)?;
+    holds_both(alloc, disk.bytes(), positions)
+}
+
 #[test]
 fn a_connection_is_answered_while_another_waits(rt: HostRuntime) -> Result<(), Fail> {
-    let alloc = rt.alloc();
-    let cases = [
-        (true, ("receipt 7 12 2\n", "receipt 8 3 1\n"), (2, 1)),
-        (false, ("receipt 7 12 1\n", "receipt 8 3 2\n"), (1, 2)),
-    ];
-    for (first_waits, answers, positions) in cases {
-        let mut disk = MemoryDisk::new(alloc, &EMPTY, &[])?;
-        serve_both(&rt, alloc, first_waits, answers, &mut disk)?;
-        holds_both(alloc, disk.bytes(), positions)?;
-    }
-    Ok(())
+    let seven_last = ("receipt 7 12 2\n", "receipt 8 3 1\n");
+    one_waits(&rt, rt.alloc(), true, seven_last, (2, 1))?;
+    let eight_last = ("receipt 7 12 1\n", "receipt 8 3 2\n");
+    one_waits(&rt, rt.alloc(), false, eight_last, (1, 2))
 }

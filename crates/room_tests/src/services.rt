@@ -31,15 +31,17 @@ pub fn serve_to<R: Threads + Wait + Sync, L: Front + Send>(
     words: &str,
     fronts: &mut [L],
     disk: &mut MemoryDisk,
-) -> Result<u8, AllocError>
+) -> u8
 where
     L::In: Send,
     L::Out: Send,
     requires some { 0 < length fronts.old }
     requires most { length fronts.old ≤ 64 }
 {
-    let words = words_of(alloc, words)?;
-    Ok(serve(rt, alloc, &words, fronts, disk))
+    match words_of(alloc, words) {
+        Ok(words) => serve(rt, alloc, &words, fronts, disk),
+        Err(_) => 6,
+    }
 }
 
 // The source of a connection, from which these bytes come in pieces of a size.
@@ -68,8 +70,14 @@ fn has_response(
     Ok(connection.ended() == Ended::Done && written.as_slice() == response)
 }
 
-// Checks that these are the responses of the connections that a front got back.
-fn has_responses(alloc: Global, front: &ListFront, responses: &[&[u8]]) -> Result<(), Fail> {
+// Checks that a front counted this many errors, and that these are the responses of the connections that it got back.
+fn has_responses(
+    alloc: Global,
+    front: &ListFront,
+    faults: u64,
+    responses: &[&[u8]],
+) -> Result<(), Fail> {
+    is(front.faults() == faults, "the errors of a front")?;
     is(
         front.done().len() == responses.len(),
         "the number of connections",
@@ -80,19 +88,24 @@ fn has_responses(alloc: Global, front: &ListFront, responses: &[&[u8]]) -> Resul
     Ok(())
 }
 
-// Serves the request of handheld 7 on one front. Checks its response, what the journal holds afterwards, and the status.
+// Checks a status and the bytes of a journal.
+fn has_left(found: (u8, &[u8]), want: (u8, &[u8])) -> Result<(), Fail> {
+    is(found.0 == want.0, "the status")?;
+    is(found.1 == want.1, "the journal")
+}
+
+// Checks that the request of handheld 7 is answered and its batch kept, on a front whose calls with these numbers fail.
 fn serve_seven<R: Threads + Wait + Sync>(
     rt: &R,
     alloc: Global,
     failing: &[u64],
-    want: u8,
+    status: u8,
 ) -> Result<(), Fail> {
     let mut disk = MemoryDisk::new(alloc, &EMPTY, &[])?;
     let mut fronts = [front_of(alloc, &[SEVEN], failing)?];
-    let status = serve_to(rt, alloc, "serve 8080 1", &mut fronts, &mut disk)?;
-    is(status == want, "the status")?;
-    is(disk.bytes() == WITH_TWELVE.as_slice(), "the journal")?;
-    has_responses(alloc, &fronts[0], &[RECEIPT_OF_SEVEN])
+    let found = serve_to(rt, alloc, "serve 8080 1", &mut fronts, &mut disk);
+    has_left((found, disk.bytes()), (status, &WITH_TWELVE))?;
+    has_responses(alloc, &fronts[0], failing.len() as u64, &[RECEIPT_OF_SEVEN])
 }
 
 #[test]
@@ -101,27 +114,28 @@ fn a_connection_is_answered_though_the_front_fails_after_it(rt: HostRuntime) -> 
     serve_seven(&rt, rt.alloc(), &[1], 12)
 }
 
-#[test]
-fn the_other_fronts_are_served_if_one_fails(rt: HostRuntime) -> Result<(), Fail> {
-    let alloc = rt.alloc();
-    let mut disk = MemoryDisk::new(alloc, &EMPTY, &[])?;
-    let mut fronts = [
-        front_of(alloc, &[SEVEN], &[0])?,
-        front_of(alloc, &[SEVEN, EIGHT], &[])?,
-    ];
-    let status = serve_to(&rt, alloc, "serve 8080 2", &mut fronts, &mut disk)?;
+// Checks that the second of two fronts was served, and that the first failed.
+fn second_was_served(alloc: Global, status: u8, fronts: &[ListFront; 2]) -> Result<(), Fail> {
     is(status == 12, "the status")?;
-    is(fronts[0].faults() == 1, "the front that failed")?;
-    is(fronts[1].faults() == 0, "the front that did not fail")?;
-    has_responses(alloc, &fronts[0], &[])?;
-    has_responses(alloc, &fronts[1], &[RECEIPT_OF_SEVEN, RECEIPT_OF_EIGHT])
+    has_responses(alloc, &fronts[0], 1, &[])?;
+    has_responses(alloc, &fronts[1], 0, &[RECEIPT_OF_SEVEN, RECEIPT_OF_EIGHT])
 }
 
-// Row 2's journal with another first byte of the batch.
+#[test]
+fn the_other_front_is_served_if_one_fails(rt: HostRuntime) -> Result<(), Fail> {
+    let alloc = rt.alloc();
+    let mut disk = MemoryDisk::new(alloc, &EMPTY, &[])?;
+    let failing = front_of(alloc, &[SEVEN], &[0])?;
+    let mut fronts = [failing, front_of(alloc, &[SEVEN, EIGHT], &[])?];
+    let status = serve_to(&rt, alloc, "serve 8080 2", &mut fronts, &mut disk);
+    second_was_served(alloc, status, &fronts)
+}
+
+// A journal with one frame, whose payload does not begin as a batch.
 const DAMAGED: [u8; 42] = *b"LDARJNL1\0\0\0\0\0\0\0\0\x01\0\0\0\x14\
     \x43\0\x07\0\0\0\x0c\0\x01\x07\x4d\x3d\x02\x58\0\x01\0\0\x01\xf4\0";
 
-// The words, the bytes on the disk and its calls that fail, for which nobody is served, and the status.
+// Words, the bytes on the disk and its calls that fail, with which nobody is served, and the status.
 const REFUSALS: [(&str, &[u8], &[u64], u8); 5] = [
     ("serve 8080 1", b"LDAR?", &[], 7),
     ("serve 8080 1", &DAMAGED, &[], 7),
@@ -130,22 +144,26 @@ const REFUSALS: [(&str, &[u8], &[u64], u8); 5] = [
     ("serve 0 1", &EMPTY, &[], 2),
 ];
 
-// Checks the status, and that the connection is left at the front and the bytes on the disk are unchanged.
+// Checks that no connection was accepted, since the first one is still there.
+fn has_accepted_none(alloc: Global, front: &mut ListFront) -> Result<(), Fail> {
+    has_responses(alloc, front, 0, &[])?;
+    is(matches!(front.accept(), Ok(Some(_))), "the connection")
+}
+
+// Checks the status, that no connection was accepted, and that the bytes on the disk are unchanged.
 fn refuses<R: Threads + Wait + Sync>(
     rt: &R,
     alloc: Global,
     words: &str,
     bytes: &[u8],
     failing: &[u64],
-    want: u8,
+    status: u8,
 ) -> Result<(), Fail> {
     let mut disk = MemoryDisk::new(alloc, bytes, failing)?;
     let mut fronts = [front_of(alloc, &[SEVEN], &[])?];
-    let status = serve_to(rt, alloc, words, &mut fronts, &mut disk)?;
-    is(status == want, "the status")?;
-    is(disk.bytes() == bytes, "the bytes")?;
-    has_responses(alloc, &fronts[0], &[])?;
-    is(matches!(fronts[0].accept(), Ok(Some(_))), "the connection")
+    let found = serve_to(rt, alloc, words, &mut fronts, &mut disk);
+    has_left((found, disk.bytes()), (status, bytes))?;
+    has_accepted_none(alloc, &mut fronts[0])
 }
 
 #[test]
