@@ -1,19 +1,32 @@
 -- The components of a process unit on a day, from their summaries.
-use Rattle.std.proofs.Common.{◌≡◌, ℕ, ◌+◌, ◌<◌, true, Option, Some, None, List, ◌++◌, option_map, length, map, take, get_or, refl, sym, ap, ◌∙◌, subst}
+use Rattle.std.proofs.Common.{◌≡◌, ℕ, ◌+◌, ◌<◌, true, Option, Some, None, List, ◌++◌, option_and_then, option_map, length, map, take, get_or, refl, sym, ap, ◌∙◌, subst}
 use Rattle.std.specs.Prelude.{Contains}
 use Rattle.std.specs.List.{filter_map}
 use Rattle.std.specs.Option.{option_to_list}
 use Rattle.std.proofs.lemmas.List.{map-append}
 use Rattle.std.proofs.lemmas.List.Elements.{Contains-get_or}
-use Rattle.list_words.proofs.Members.{all_at, among_from_Contains}
-use Rattle.fact_kinds.specs.Facts.{Entry}
-use Rattle.ldar_law.specs.Equipment.{equipment_of, members_of}
-use Rattle.ldar_law.specs.Units.{Known, known_of}
+use Rattle.list_words.specs.Order.{Ascends}
+use Rattle.list_words.proofs.Members.{Among, Contains-from_among, all_at, all_from_among, all_weaker, among_from_Contains}
+use Rattle.fact_kinds.specs.Facts.{Entry, goes_first}
+use Rattle.history_laws.specs.DayLaws.{up_to}
+use Rattle.history_laws.specs.RulyLaws.{IsEachOnce}
+use Rattle.history_laws.proofs.MemberLemmas.{members_stand_in_unit}
+use Rattle.history_laws.proofs.RegisterUpTo.{components_are_of_all_members}
+use Rattle.history_laws.proofs.UpTo.{ascending_are_in_order}
+use Rattle.ldar_law.specs.declared.equipment.Equipment.{Equipment}
+use Rattle.ldar_law.specs.declared.of_unit.OfUnit.{OfUnit}
+use Rattle.ldar_law.specs.Equipment.{equipment_of, members_of, stops_of}
+use Rattle.ldar_law.specs.Units.{Known, components_of, known_of}
 use Rattle.unit_summaries.specs.declared.known.KnownOn.{KnownOn}
+use Rattle.unit_summaries.specs.declared.summary.Summary.{Summary}
+use Rattle.unit_summaries.specs.declared.summary.UnitSummary.{UnitSummary}
+use Rattle.unit_summaries.specs.Kept.{known_at, known_from, known_rows}
 use Rattle.unit_summaries.specs.Known.{known_by}
-use Rattle.unit_summaries.specs.Rows.{is_fresh, row_of}
-use Rattle.unit_summaries.specs.Says.{IsSaid}
+use Rattle.unit_summaries.specs.Rows.{Rows, is_fresh, row_of}
+use Rattle.unit_summaries.specs.Says.{IsSaid, SaysUnit}
 use Rattle.unit_summaries.specs.Sound.{Are, IsRenewed, Sums}
+use Rattle.unit_summaries.proofs.KeptLemmas.{alike_given}
+use Rattle.unit_summaries.proofs.KnownLemmas.{known_from_is}
 use Rattle.unit_summaries.proofs.ListLemmas.{given_next}
 
 -- what is known of those of these numbers that the facts enter
@@ -44,3 +57,37 @@ member_said facts arrived listed unit s are renewed numbers same i d within =
     let held : Contains (members_of unit facts) n = subst (λ ns. Contains ns n) same (Contains-get_or numbers i d within) in
     are.fresh n (all_at (λ m. is_fresh s.components m ≡ true) (members_of unit facts) n renewed.members
     (among_from_Contains (members_of unit facts) n held))
+
+-- ---- the rows of a process unit that was renewed
+
+module _ (day : ℕ) (facts : List Entry) (up : Ascends goes_first facts) (unit : ℕ) (once : IsEachOnce facts) (row : UnitSummary)
+    (said : SaysUnit facts unit row) where
+  row_known : (n : ℕ) → Among (members_of unit facts) n → (o : Option Summary) → IsSaid facts n o
+      → option_and_then (known_from day row.of_unit.stops) o ≡ option_map (known_of (up_to day facts)) (equipment_of n (up_to day facts))
+  row_known n among None never = absurd never
+  row_known n among (Some s) says =
+      let stands = members_stand_in_unit facts unit n once (Contains-from_among (members_of unit facts) n among) in
+      let both : Some stands.0 ≡ Some s.item = sym stands.1 ∙ says.equipment in
+      let item : stands.0 ≡ s.item = cc in
+      let here : unit ≡ s.item.unit = sym stands.3 ∙ ap (λ (i : Equipment). i.unit) item in
+      known_from_is day facts n s says up row.of_unit.stops
+      (ap (λ (u : OfUnit). u.stops) said.of_unit ∙ ap (λ u. stops_of u facts) here)
+
+  -- they are its components
+  pub rows_are_components : (components : Rows Summary)
+      → AllByRecursion (λ n. IsSaid facts n (row_of components n)) (members_of unit facts)
+      → known_rows day row.of_unit.stops components (members_of unit facts) ≡ components_of unit (up_to day facts)
+  rows_are_components components all =
+      alike_given (known_at day row.of_unit.stops components) (λ n. option_map (known_of (up_to day facts)) (equipment_of n (up_to day facts)))
+      (members_of unit facts)
+      (all_from_among (λ n. known_at day row.of_unit.stops components n ≡ option_map (known_of (up_to day facts)) (equipment_of n (up_to day facts)))
+      (members_of unit facts)
+      (λ n among.
+      row_known n among (row_of components n) (all_at (λ m. IsSaid facts m (row_of components m)) (members_of unit facts) n all among)))
+      ∙ sym (components_are_of_all_members day unit facts (ascending_are_in_order facts up) once)
+
+-- the rows of the members of a process unit that was renewed say what the facts say
+pub members_said : (facts arrived : List Entry) (listed unit : ℕ) (s : Sums) → Are facts arrived listed s → IsRenewed facts unit s
+    → AllByRecursion (λ n. IsSaid facts n (row_of s.components n)) (members_of unit facts)
+members_said facts arrived listed unit s are renewed =
+    all_weaker (λ n. is_fresh s.components n ≡ true) (λ n. IsSaid facts n (row_of s.components n)) are.fresh (members_of unit facts) renewed.members
