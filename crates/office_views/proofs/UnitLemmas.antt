@@ -37,13 +37,11 @@ use Rattle.ldar_law.proofs.EventLemmas.{events_ascend}
 use Rattle.ldar_law.proofs.SliceLemmas.{register_facts_suffice}
 use Rattle.semiannual_report.specs.Columns.{AreOfComponents}
 use Rattle.unit_summaries.specs.declared.known.KnownOn.{KnownOn}
-use Rattle.unit_summaries.specs.Known.{known_by}
-use Rattle.unit_summaries.proofs.ReadLemmas.{classes_in_order}
-use Rattle.office_views.specs.Components.{AreInOrder, all_in_law, in_law, known_among}
+use Rattle.unit_summaries.specs.Known.{all_in_law, in_law}
+use Rattle.office_views.specs.Components.{known_among}
 use Rattle.office_views.specs.Sources.{AreKept}
-use Rattle.office_views.specs.Tallied.{AreTallies, CountsMore, HaveRoom}
-use Rattle.office_views.proofs.ListLemmas.{all_given, all_map, ascends_map, few_given, given_ascend, mapped_more}
-use Rattle.office_views.proofs.TallyLemmas.{room_for, tallied_more}
+use Rattle.unit_summaries.proofs.ListLemmas.{few_given, mapped_more}
+use Rattle.office_views.proofs.ListLemmas.{all_given, all_map, ascends_map, given_ascend}
 
 -- the members as the register has them
 pub members_are : (unit : ℕ) (facts entries : List Entry) → entries ≡ register_facts facts → members_of unit entries ≡ members_of unit facts

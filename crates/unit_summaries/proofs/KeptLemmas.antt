@@ -1,13 +1,14 @@
 -- Counts of quarters that are kept stay those of the summaries.
-use Rattle.std.proofs.Common.{◌≡◌, ◌⊎◌, ℕ, zero, suc, ◌+◌, ◌<◌, ◌≤◌, Bool, true, false, cond, not, nat_eq, Option, Some, None, option_and_then, List, [], ◌∷◌, length, take}
+use Rattle.std.proofs.Common.{◌≡◌, ◌⊎◌, ℕ, zero, suc, ◌+◌, ◌<◌, ◌≤◌, Bool, true, false, cond, not, nat_eq, Option, Some, None, option_and_then, List, [], ◌∷◌, length, take, drop, take-append-drop}
 use Rattle.std.proofs.Common.{◌++◌, map, filter, get_or, set, length-take-le, refl, sym, ap, ◌∙◌, subst, inl, inr, arith}
-use Rattle.std.specs.Prelude.{Contains}
+use Rattle.std.specs.Prelude.{Contains, OnOk, Result, Ok, Err}
+use Rattle.std.specs.Result.{is_err}
 use Rattle.std.specs.List.{AllByRecursion, cons_option, filter_map}
 use Rattle.std.specs.Option.{IfSome}
 use Rattle.std.proofs.lemmas.Bool.{cases_Bool, cases_eq, eqb-true, false≢true}
 use Rattle.std.proofs.lemmas.Bool.Decides.{nat_tests}
 use Rattle.std.proofs.lemmas.List.{get_or_default, get_or-set_same, get_or-set_other, get_or-take, length-set}
-use Rattle.list_words.proofs.Members.{Among, Contains-from_among, all_at, all_from_among, all_weaker, among_append, among_from_Contains}
+use Rattle.list_words.proofs.Members.{Among, Contains-from_among, all_at, all_from_among, all_weaker, among_append, among_from_Contains, among_left, among_right}
 use Rattle.fact_kinds.specs.Facts.{Entry}
 use Rattle.history_laws.specs.RulyLaws.{IsEachOnce}
 use Rattle.history_laws.proofs.MemberLemmas.{members_ascend, members_stand_in_unit}
@@ -39,6 +40,37 @@ alike_given f g (n ∷ ns) all = ap (λ o. cons_option o (filter_map f ns)) all.
 pub all_from_places : {X : Type 0} (P : X → Type 0) (xs : List X) → ((k : ℕ) (d : X) → k < length xs → P (get_or xs k d)) → AllByRecursion P xs
 all_from_places P [] at = tt
 all_from_places P (x ∷ xs) at = (at zero x (omega arith), all_from_places P xs (λ k d within. at (suc k) d (omega (arith, within))))
+
+-- what holds of each of some elements holds of the one at a place that did not change
+pub kept_at : {X : Type 0} (P : X → Type 0) (first now : List X) (place : ℕ) (d : X) → AllByRecursion P first → place < length first
+    → get_or now place d ≡ get_or first place d → d ≡ get_or now place d → P d
+kept_at P first now place d all within same is = subst P (sym (is ∙ same)) (all_get P first place d all within)
+
+-- what holds if there was no error
+pub ok_of : {A E : Type 0} (r : Result A E) (P : Type 0) → OnOk r P → is_err r ≡ false → P
+ok_of (Ok a) P this no_error = this
+ok_of (Err e) P this no_error = absurd cc
+
+-- ---- rows in order
+
+-- with a row that is in order
+pub rows_orderly : (c after : Rows Summary) (n : ℕ) (s : Summary) → PutsRow n s c after → IsOrderly s
+    → ((m : ℕ) (x : Summary) → row_of c m ≡ Some x → IsOrderly x) → (m : ℕ) (x : Summary) → row_of after m ≡ Some x → IsOrderly x
+rows_orderly c after n s puts orderly all m x is = elim (cases_Bool (nat_eq m n)) [
+  | inl here ↦
+      let both : Some s ≡ Some x = sym (puts.row m ∙ ap (λ b. cond b (Some s) (row_of c m)) here) ∙ is in
+      let same : s ≡ x = cc in
+      subst IsOrderly same orderly
+  | inr else ↦ all m x (sym (puts.row m ∙ ap (λ b. cond b (Some s) (row_of c m)) else) ∙ is)
+]
+
+-- nothing is kept
+pub counted_none : (facts : List Entry) (c after : Rows Summary) (units : Rows UnitSummary) (days kept : List DayTallies) (n : ℕ) (s : Summary)
+    → AreCounted facts c units days → PutsRow n s c after → IsOrderly s → kept ≡ [] → AreCounted facts after units kept
+counted_none facts c after units days kept n s are puts orderly none = record {
+  orderly = rows_orderly c after n s puts orderly are.orderly;
+  kept = subst (AllByRecursion (IsKept facts after units)) (sym none) tt;
+}
 
 -- ---- the same rows
 
@@ -151,16 +183,6 @@ module _ (facts : List Entry) where
       own_row : row_of after n ≡ Some s
       own_row = puts.row n ∙ ap (λ b. cond b (Some s) (row_of c n)) (let itself : nat_eq n n ≡ true = grind (arith, nat_tests) in itself)
 
-      pub rows_orderly : IsOrderly s → ((m : ℕ) (x : Summary) → row_of c m ≡ Some x → IsOrderly x) → (m : ℕ) (x : Summary) → row_of after m ≡ Some x
-          → IsOrderly x
-      rows_orderly orderly all m x is = elim (cases_Bool (nat_eq m n)) [
-        | inl here ↦
-            let both : Some s ≡ Some x = sym (puts.row m ∙ ap (λ b. cond b (Some s) (row_of c m)) here) ∙ is in
-            let same : s ≡ x = cc in
-            subst IsOrderly same orderly
-        | inr else ↦ all m x (sym (other_row m else) ∙ is)
-      ]
-
       -- the counts of a kept day are those of the rows afterwards
       pub kept_recounted : (d new : DayTallies) → IsKept facts c units d → Recounts number row.of_unit.stops (row_of c n) s d new
           → IsKept facts after units new
@@ -243,11 +265,21 @@ all_kept P d old new only all this =
       | inr same ↦ subst P (sym same) this
     ])
 
--- one more, of which it holds
-pub keeps_pushed : (d : DayTallies) (old new : List DayTallies) → new ≡ old ++ d ∷ [] → KeepsOnly d old new
-keeps_pushed d old new is x held =
-    elim (among_append old (d ∷ []) x (among_from_Contains (old ++ d ∷ []) x (subst (λ ds. Contains ds x) is held))) [
-      | inl before ↦ inl (Contains-from_among old x before)
+-- what is left when one is removed was there
+pub cut_held : {X : Type 0} (i j : ℕ) (xs : List X) (x : X) → Contains (take i xs ++ drop j xs) x → Contains xs x
+cut_held i j xs x held =
+    Contains-from_among xs x
+    (elim (among_append (take i xs) (drop j xs) x (among_from_Contains (take i xs ++ drop j xs) x held)) [
+      | inl front ↦ subst (λ ys. Among ys x) (take-append-drop i xs) (among_left (take i xs) (drop i xs) x front)
+      | inr back ↦ subst (λ ys. Among ys x) (take-append-drop j xs) (among_right (take j xs) (drop j xs) x back)
+    ])
+
+-- with a new one at the end
+pub keeps_pushed : (d : DayTallies) (old left new : List DayTallies) → ((x : DayTallies) → Contains left x → Contains old x) → new ≡ left ++ d ∷ []
+    → KeepsOnly d old new
+keeps_pushed d old left new within is x held =
+    elim (among_append left (d ∷ []) x (among_from_Contains (left ++ d ∷ []) x (subst (λ ds. Contains ds x) is held))) [
+      | inl before ↦ inl (within x (Contains-from_among left x before))
       | inr last ↦ inr (only_last last)
     ]
   where

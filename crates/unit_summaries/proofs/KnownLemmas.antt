@@ -1,5 +1,5 @@
 -- What is known of a component on a day, from its summary.
-use Rattle.std.proofs.Common.{◌≡◌, ℕ, zero, suc, ◌+◌, ◌-◌, ◌<◌, ◌≤◌, cond, nat_eq, nat_le, Bool, true, false, Some, None, List, [], ◌∷◌, length, get_or, inl, inr, arith, option_map, option_and_then, filter, refl, sym, ap, ◌∙◌, subst}
+use Rattle.std.proofs.Common.{◌≡◌, ℕ, zero, suc, ◌+◌, ◌-◌, ◌<◌, ◌≤◌, cond, nat_eq, nat_le, Bool, true, false, Option, Some, None, List, [], ◌∷◌, length, get_or, inl, inr, arith, option_map, option_and_then, filter, refl, sym, ap, ◌∙◌, subst}
 use Rattle.std.specs.List.{AllByRecursion, cons_option}
 use Rattle.std.specs.List.Sorted.{IsPartitionedBy}
 use Rattle.std.specs.Option.{IfSome}

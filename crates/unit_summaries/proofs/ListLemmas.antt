@@ -83,7 +83,7 @@ number_front f last some =
     ∙ take_at (map f (from_to 1 (last - 1))) (f last ∷ []) (last - 1) (numbers_long f (last - 1))
 
 -- what holds of each element holds of the one at a place
-all_get : {X : Type 0} (P : X → Type 0) (xs : List X) (i : ℕ) (d : X) → AllByRecursion P xs → i < length xs → P (get_or xs i d)
+pub all_get : {X : Type 0} (P : X → Type 0) (xs : List X) (i : ℕ) (d : X) → AllByRecursion P xs → i < length xs → P (get_or xs i d)
 all_get P [] i d all within = absurd (omega (arith, within))
 all_get P (x ∷ xs) zero d all within = all.0
 all_get P (x ∷ xs) (suc i) d all within = all_get P xs i d all.1 (omega (arith, within))

@@ -1,7 +1,7 @@
 -- The components of a process unit on a day, from their summaries.
-use Rattle.std.proofs.Common.{◌≡◌, ℕ, ◌+◌, ◌<◌, true, Option, Some, None, List, ◌++◌, option_and_then, option_map, length, map, take, get_or, refl, sym, ap, ◌∙◌, subst}
+use Rattle.std.proofs.Common.{◌≡◌, ℕ, ◌+◌, ◌<◌, ◌≤◌, true, Option, Some, None, List, ◌++◌, option_and_then, option_map, length, map, take, get_or, refl, sym, ap, ◌∙◌, subst}
 use Rattle.std.specs.Prelude.{Contains}
-use Rattle.std.specs.List.{filter_map}
+use Rattle.std.specs.List.{AllByRecursion, filter_map}
 use Rattle.std.specs.Option.{option_to_list}
 use Rattle.std.proofs.lemmas.List.{map-append}
 use Rattle.std.proofs.lemmas.List.Elements.{Contains-get_or}
@@ -16,18 +16,22 @@ use Rattle.history_laws.proofs.UpTo.{ascending_are_in_order}
 use Rattle.ldar_law.specs.declared.equipment.Equipment.{Equipment}
 use Rattle.ldar_law.specs.declared.of_unit.OfUnit.{OfUnit}
 use Rattle.ldar_law.specs.Equipment.{equipment_of, members_of, stops_of}
-use Rattle.ldar_law.specs.Units.{Known, components_of, known_of}
+use Rattle.ldar_law.specs.declared.numbers.TheConstants.{LAST_FACT_DAY, MOST_COMPONENTS}
+use Rattle.ldar_law.specs.declared.tally.Tally.{Tally}
+use Rattle.ldar_law.specs.Units.{Known, components_of, known_of, tallies_to, tally_in}
 use Rattle.unit_summaries.specs.declared.known.KnownOn.{KnownOn}
+use Rattle.unit_summaries.specs.declared.kept.DayTallies.{DayTallies}
 use Rattle.unit_summaries.specs.declared.summary.Summary.{Summary}
 use Rattle.unit_summaries.specs.declared.summary.UnitSummary.{UnitSummary}
-use Rattle.unit_summaries.specs.Kept.{known_at, known_from, known_rows}
+use Rattle.unit_summaries.specs.Kept.{IsFound, IsKept, known_at, known_from, known_rows}
 use Rattle.unit_summaries.specs.Known.{known_by}
 use Rattle.unit_summaries.specs.Rows.{Rows, is_fresh, row_of}
-use Rattle.unit_summaries.specs.Says.{IsSaid, SaysUnit}
+use Rattle.unit_summaries.specs.Says.{IsSaid, IsUnitSaid, SaysUnit}
 use Rattle.unit_summaries.specs.Sound.{Are, IsRenewed, Sums}
-use Rattle.unit_summaries.proofs.KeptLemmas.{alike_given}
+use Rattle.unit_summaries.specs.Tallied.{AreTallies}
+use Rattle.unit_summaries.proofs.KeptLemmas.{alike_given, front_tallies}
 use Rattle.unit_summaries.proofs.KnownLemmas.{known_from_is}
-use Rattle.unit_summaries.proofs.ListLemmas.{given_next}
+use Rattle.unit_summaries.proofs.ListLemmas.{given_next, number_at, numbers_long}
 
 -- what is known of those of these numbers that the facts enter
 abbrev pub known_among : List Entry → List ℕ → List Known
@@ -91,3 +95,54 @@ pub members_said : (facts arrived : List Entry) (listed unit : ℕ) (s : Sums) �
     → AllByRecursion (λ n. IsSaid facts n (row_of s.components n)) (members_of unit facts)
 members_said facts arrived listed unit s are renewed =
     all_weaker (λ n. is_fresh s.components n ≡ true) (λ n. IsSaid facts n (row_of s.components n)) are.fresh (members_of unit facts) renewed.members
+
+-- ---- the counts of its quarters that are kept
+
+-- the law's counts stand at their places
+pub law_tallies : (startup day quarter : ℕ) (cs : List Known) (tallies : List Tally) → tallies ≡ tallies_to startup day cs quarter
+    → AreTallies startup day cs quarter tallies
+law_tallies startup day quarter cs tallies is = record {
+  count = ap length is ∙ numbers_long (tally_in startup day cs) quarter;
+  each = λ k d within. ap (λ ts. get_or ts k d) is ∙ number_at (tally_in startup day cs) quarter k d within;
+}
+
+module _ (facts arrived : List Entry) (listed : ℕ) (s : Sums) (are : Are facts arrived listed s) (up : Ascends goes_first facts) (once : IsEachOnce facts)
+  where
+    -- of a process unit that was renewed they are the law's
+    pub found_tallies : (unit startup day quarters : ℕ) (tallies : List Tally) → IsRenewed facts unit s → IsFound unit startup day quarters s.kept tallies
+        → tallies ≡ tallies_to startup day (components_of unit (up_to day facts)) quarters
+    found_tallies unit startup day quarters tallies renewed found = by_row (row_of s.units unit) refl (are.lists unit renewed.shown)
+      where
+        by_row : (o : Option UnitSummary) → row_of s.units unit ≡ o → IsUnitSaid facts unit o
+            → tallies ≡ tallies_to startup day (components_of unit (up_to day facts)) quarters
+        by_row None row_is never = absurd never
+        by_row (Some row) row_is said =
+            let one = found.one in
+            let stops = row.of_unit.stops in
+            let kept = all_at (IsKept facts s.components s.units) s.kept one are.counted.kept (among_from_Contains s.kept one found.held) in
+            let counted = kept.counted row (ap (is_fresh s.units) found.of_unit ∙ renewed.shown) (ap (row_of s.units) found.of_unit ∙ row_is) in
+            let in_unit = subst (λ u. AreTallies one.startup one.day (known_rows one.day stops s.components (members_of u facts)) one.quarters one.tallies.items)
+            found.of_unit counted.are in
+            let by_startup = subst (λ t. AreTallies t one.day (known_rows one.day stops s.components (members_of unit facts)) one.quarters one.tallies.items)
+            found.of_startup in_unit in
+            let on_day = subst (λ t. AreTallies startup t (known_rows t stops s.components (members_of unit facts)) one.quarters one.tallies.items)
+            found.of_day by_startup in
+            let by_law = subst (λ cs. AreTallies startup day cs one.quarters one.tallies.items)
+            (rows_are_components day facts up unit once row said s.components (members_said facts arrived listed unit s are renewed)) on_day in
+            found.value ∙ front_tallies startup day one.quarters quarters (components_of unit (up_to day facts)) one.tallies.items by_law found.within
+
+    -- .. so the law's can be kept
+    pub new_kept : (d : DayTallies) → IsRenewed facts d.unit s → d.startup ≤ LAST_FACT_DAY → length (members_of d.unit facts) ≤ MOST_COMPONENTS
+        → d.tallies.items ≡ tallies_to d.startup d.day (components_of d.unit (up_to d.day facts)) d.quarters → IsKept facts s.components s.units d
+    new_kept d renewed startup few is = record {
+      startup = startup;
+      long = ap length is ∙ numbers_long (tally_in d.startup d.day (components_of d.unit (up_to d.day facts))) d.quarters;
+      counted = λ row fresh row_is.
+          let said = subst (IsUnitSaid facts d.unit) row_is (are.lists d.unit fresh) in
+          record {
+            few = few;
+            are = subst (λ cs. AreTallies d.startup d.day cs d.quarters d.tallies.items)
+                (sym (rows_are_components d.day facts up d.unit once row said s.components (members_said facts arrived listed d.unit s are renewed)))
+                (law_tallies d.startup d.day d.quarters (components_of d.unit (up_to d.day facts)) d.tallies.items is);
+          };
+    }

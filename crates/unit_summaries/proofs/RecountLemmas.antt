@@ -21,7 +21,7 @@ use Rattle.unit_summaries.proofs.TallyLemmas.{few_room, no_mark, none}
 
 -- ---- one tally
 
-one : Bool → ℕ
+abbrev one : Bool → ℕ
 one b = cond b 1 0
 
 -- tallies with the same counts are the same
@@ -138,7 +138,7 @@ fold_moves t m (n ∷ marks) = ap (λ s. fold with_mark s marks) (marks_swap t m
 
 module _ (n : ℕ) where
   -- the other numbers
-  pub others : List ℕ → List ℕ
+  abbrev pub others : List ℕ → List ℕ
   others ns = filter (λ m. not (nat_eq m n)) ns
 
   apart : (m : ℕ) → nat_lt m n ≡ true → nat_eq m n ≡ false
@@ -183,7 +183,7 @@ module _ (n : ℕ) where
   ]
 
   module _ (startup day quarter : ℕ) (f : ℕ → Option Known) where
-    mark : Known → Mark
+    abbrev mark : Known → Mark
     mark = mark_in startup day quarter
 
     -- a number's component is counted first
@@ -205,13 +205,12 @@ module _ (n : ℕ) where
         ∙ ap (λ k. with_mark (fold with_mark t (map mark (filter_map f (others ns)))) (mark_by startup day (f k) quarter)) same)
     apart_from t (m ∷ ns) up (inr there) =
         let else : nat_eq m n ≡ false = apart m (all_at (λ k. nat_lt m k ≡ true) ns n up.0 there) in
-        rw else (with_first (f m))
-      where
-        with_first : (o : Option Known)
-            → fold with_mark t (map mark (cons_option o (filter_map f ns)))
-            ≡ with_mark (fold with_mark t (map mark (cons_option o (filter_map f (others ns))))) (mark_by startup day (f n) quarter)
-        with_first None = apart_from t ns up.1 there
-        with_first (Some c) = apart_from (with_mark t (mark c)) ns up.1 there
+        rw else
+        (elim (f m) as (λ o. fold with_mark t (map mark (cons_option o (filter_map f ns)))
+        ≡ with_mark (fold with_mark t (map mark (cons_option o (filter_map f (others ns))))) (mark_by startup day (f n) quarter)) [
+          | None ↦ apart_from t ns up.1 there
+          | Some c ↦ apart_from (with_mark t (mark c)) ns up.1 there
+        ])
 
     -- the counts of a quarter are those of the others and its own
     pub tally_apart : (ns : List ℕ) → Ascends nat_lt ns → Among ns n

@@ -15,7 +15,7 @@ use Rattle.unit_summaries.specs.declared.summary.UnitSummary.{UnitSummary}
 use Rattle.unit_summaries.specs.Kept.{AreCounted}
 use Rattle.unit_summaries.specs.Rows.{Rows, RenewsRows, is_fresh}
 use Rattle.unit_summaries.specs.Says.{IsSaid, IsUnitSaid, Says, SaysUnit}
-use Rattle.unit_summaries.specs.Sound.{Are, Sums, answered_at, is_known}
+use Rattle.unit_summaries.specs.Sound.{Are, IsRenewed, Sums, answered_at, is_known}
 
 -- nothing is said of no facts
 pub are_none : (components : Rows Summary) (units : Rows UnitSummary) → components.fresh ≡ [] → units.fresh ≡ []
@@ -132,3 +132,11 @@ module _ (facts arrived : List Entry) (s : Sums) (are : Are facts arrived (lengt
     ];
     counted = are.counted;
   }
+
+-- the same summaries are still up to date
+pub still_renewed : (facts : List Entry) (unit : ℕ) (old new : Sums) → new.components ≡ old.components → new.units ≡ old.units
+    → IsRenewed facts unit old → IsRenewed facts unit new
+still_renewed facts unit old new components units renewed = record {
+  shown = ap (λ (rows : Rows UnitSummary). is_fresh rows unit) units ∙ renewed.shown;
+  members = subst (λ (rows : Rows Summary). AllByRecursion (λ n. is_fresh rows n ≡ true) (members_of unit facts)) (sym components) renewed.members;
+}

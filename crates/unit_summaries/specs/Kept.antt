@@ -59,9 +59,9 @@ pub record IsKept (facts : List Entry) (components : Rows Summary) (units : Rows
       → IsCounted (members_of d.unit facts) components unit d
 
 -- the rows of components are in order, and what is kept counts them
-pub record AreCounted (facts : List Entry) (components : Rows Summary) (units : Rows UnitSummary) (kept : List DayTallies) : Type 0 where
+pub record AreCounted (facts : List Entry) (components : Rows Summary) (units : Rows UnitSummary) (days : List DayTallies) : Type 0 where
   pub orderly : (n : ℕ) (s : Summary) → row_of components n ≡ Some s → IsOrderly s
-  pub kept : AllByRecursion (IsKept facts components units) kept
+  pub kept : AllByRecursion (IsKept facts components units) days
 
 -- the summary of a process unit is up to date, and its shutdowns are by their first days
 pub record IsShown (unit : ℕ) (units : Rows UnitSummary) : Type 0 where

@@ -42,11 +42,11 @@ pub record IsOrderly (s : Summary) : Type 0 where
   pub spans : s.spans ≡ spans_of s.item.kind s.events
 
 -- this is known of a component on a day by its summary
-pub record IsOfSummary (day : ℕ) (s : Summary) (k : KnownOn) : Type 0 where
-  pub item : if_begun day s.item ≡ Some k.item
-  pub classes : k.classes.now ≡ filter (λ entered. nat_le entered.0.day day) s.classes
-  pub events : k.events.now ≡ events_to day s.events
-  pub day : k.day ≡ day
+pub record IsOfSummary (t : ℕ) (s : Summary) (k : KnownOn) : Type 0 where
+  pub item : if_begun t s.item ≡ Some k.item
+  pub classes : k.classes.now ≡ filter (λ entered. nat_le entered.0.day t) s.classes
+  pub events : k.events.now ≡ events_to t s.events
+  pub day : k.day ≡ t
   pub all_events : k.all_events.now ≡ s.events
   pub spans : k.spans.now ≡ s.spans
 

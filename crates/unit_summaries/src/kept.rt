@@ -54,7 +54,7 @@ pub fn tallies_kept(
 fn place_to_drop(kept: &[DayTallies], unit: u8, day: Day) -> Option<usize>
     ensures within { IfSome result (λ place. place < length kept.now) }
 {
-    if let Some(place) = kept.iter().position(|d| d.unit == unit && d.day == day) {
+    if let Some(place) = kept.iter().position(|d| d.day == day && d.unit == unit) {
         return Some(place);
     }
     if kept.iter().filter(|d| d.unit == unit).count() < KEPT_DAYS {
@@ -70,5 +70,6 @@ pub fn keep(kept: &mut Vec<DayTallies>, day: DayTallies) -> Result<(), Memory>
     if let Some(place) = place_to_drop(kept, day.unit, day.day) {
         kept.remove(place);
     }
-    kept.push(day)
+    kept.push(day)?;
+    Ok(())
 }

@@ -30,7 +30,8 @@ fn no_marks(alloc: Global, quarters: u16) -> Result<Vec<Mark>, Memory>
         leaking: false,
         monitored: false,
     };
-    vec![in alloc; none; usize::from(quarters)]
+    let marks = vec![in alloc; none; usize::from(quarters)]?;
+    Ok(marks)
 }
 
 /// What a component adds to the counts of each quarter up to one, by its summary and the shutdowns of its process unit.
@@ -66,7 +67,7 @@ fn marks_before(
     requires orderly { IfSome summary (λ s. IsOrderly s.now) }
     requires stops { AreByDay (λ stop. stop.first) stops.now }
     ensures value { IfOk result (λ marks. marks.items
-        ≡ marks_by startup day (option_and_then (known_from day stops.now) (option_map (λ s. s.now) summary)) quarters) }
+        ≡ marks_by startup day (option_and_then (known_from day stops.now) (option_map (λ s. s.now) summary.entry)) quarters) }
 {
     match summary {
         Some(summary) => marks_on(alloc, startup, quarters, day, summary, stops),
@@ -114,7 +115,7 @@ fn recount_day(
     requires counted { kept.old.unit ≡ unit
         → AreWith (marks_by kept.old.startup kept.old.day (option_and_then (known_from kept.old.day stops.now) (option_map (λ s. s.now) first)) kept.old.quarters)
         kept.old.tallies.items }
-    ensures value { OnOk result (Recounts unit stops.now (option_map (λ s. s.now) first) second.now kept.old kept.new) }
+    ensures value { OnOk result (Recounts unit stops.now (option_map (λ s. s.now) first.entry) second.now kept.old kept.new) }
 {
     if kept.unit != unit {
         return Ok(());

@@ -162,7 +162,9 @@ impl Summaries {
         ensures value { IfOk result (λ tallies. tallies.items
             ≡ law.tallies_to entry.now.startup day (law.components_of entry.now.unit (up_to day (facts_in store.now))) quarters) }
         ensures sound { Are (facts_in store.now) store.now.arrived (length store.now.arrived) self.new }
-        ensures others { self.new ≡ record self.old { kept = self.new.kept } }
+        ensures components { self.new.components ≡ self.old.components }
+        ensures units { self.new.units ≡ self.old.units }
+        ensures answered { self.new.answered ≡ self.old.answered }
     {
         let found = tallies_kept(&self.kept, entry.unit, entry.startup, day, quarters);
         if let Some(tallies) = found {
