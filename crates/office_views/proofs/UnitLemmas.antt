@@ -1,22 +1,17 @@
 -- What the register and the lists of a store say of a process unit on a day.
 use Rattle.std.proofs.Common.{◌≡◌, ℕ, Bool, Option, Some, None, false, cond, nat_le, nat_lt, inl, inr, arith, leb-false, option_map, option_and_then}
-use Rattle.std.proofs.Common.{List, [], ◌∷◌, ◌++◌, length, take, filter, map, get_or, ◌<◌, ◌≤◌, ◌+◌, sym, refl, ap, ◌∙◌, subst, length-take-le}
-use Rattle.std.specs.List.{AllByRecursion, cons_option, filter_map}
+use Rattle.std.proofs.Common.{List, [], ◌∷◌, ◌++◌, length, take, filter, map, get_or, ◌<◌, ◌≤◌, ◌+◌, sym, ap, ◌∙◌, subst}
+use Rattle.std.specs.List.{AllByRecursion, filter_map}
 use Rattle.std.proofs.lemmas.Bool.{cases_Bool}
 use Rattle.ldar_law.proofs.Gifts.{cases_Option}
-use Rattle.std.proofs.lemmas.List.{length-map}
 use Rattle.std.proofs.lemmas.List.Concat.{flat_map-append}
 use Rattle.std.proofs.lemmas.List.Elements.{filter-append, filter_map-append}
 use Rattle.list_words.specs.Order.{Ascends}
-use Rattle.list_words.proofs.PutLemmas.{ascends_filter}
-use Rattle.fact_kinds.proofs.KeyOrder.{strict_goes_first}
-use Rattle.list_words.proofs.Members.{Among, Contains-from_among, all_from_among}
-use Rattle.fact_kinds.specs.Facts.{Entry, goes_first, is_earlier}
+use Rattle.fact_kinds.specs.Facts.{Entry, goes_first}
 use Rattle.history_laws.specs.DayLaws.{up_to, if_started}
 use Rattle.history_laws.specs.RulyLaws.{IsEachOnce}
 use Rattle.history_laws.specs.RangeLaws.{IsInRange}
-use Rattle.history_laws.proofs.MemberLemmas.{components_are_members, members_ascend, members_stand_in_unit}
-use Rattle.history_laws.proofs.OnceLemmas.{part_has_each_once}
+use Rattle.history_laws.proofs.MemberLemmas.{components_are_members, members_ascend}
 use Rattle.history_laws.proofs.RangeLemmas.{components_stand_in_range, members_fit, part_is_in_range, startups_are_days}
 use Rattle.history_laws.proofs.RegisterUpTo.{components_are_of_all_members, units_up_to_a_day}
 use Rattle.history_laws.proofs.UpTo.{ascending_are_in_order}
@@ -24,16 +19,13 @@ use Rattle.ldar_law.specs.declared.equipment.Equipment.{Equipment}
 use Rattle.ldar_law.specs.declared.numbers.TheConstants.{LAST_FACT_DAY, MOST_COMPONENTS}
 use Rattle.ldar_law.specs.declared.delay.Stop.{Stop}
 use Rattle.ldar_law.specs.declared.sheet.Sheet.{Sheet}
-use Rattle.ldar_law.specs.declared.tally.Tally.{Tally}
 use Rattle.ldar_law.specs.declared.unit_entry.UnitEntry.{UnitEntry}
 use Rattle.ldar_law.specs.Duties.{duties_of}
-use Rattle.ldar_law.specs.Equipment.{classes_of, equipment_of, members_of, of_unit, stops_of, unit_entry_of}
-use Rattle.ldar_law.specs.Force.{limit_on}
+use Rattle.ldar_law.specs.Equipment.{equipment_of, members_of, unit_entry_of}
 use Rattle.ldar_law.specs.Shown.{sheet_of}
 use Rattle.ldar_law.specs.Slices.{register_facts}
 use Rattle.ldar_law.specs.Tags.{is_shown, line_on_open}
-use Rattle.ldar_law.specs.Units.{Known, known_of, known_with, components_of, all_tags, tag_list, delay_list, due_list}
-use Rattle.ldar_law.proofs.EventLemmas.{events_ascend}
+use Rattle.ldar_law.specs.Units.{Known, known_of, components_of, all_tags, tag_list, delay_list, due_list}
 use Rattle.ldar_law.proofs.SliceLemmas.{register_facts_suffice}
 use Rattle.semiannual_report.specs.Columns.{AreOfComponents}
 use Rattle.unit_summaries.specs.declared.known.KnownOn.{KnownOn}

@@ -1,4 +1,4 @@
-ghost use Rattle.std.specs.Prelude.{◌≡◌, ◌+◌, ◌-◌, ◌*◌, ◌≤◌, nat_le, IfOk, IsTrue};
+ghost use Rattle.std.specs.Prelude.{◌≡◌, ◌+◌, ◌-◌, ◌*◌, ◌<◌, ◌≤◌, nat_le, IfOk, IsTrue, length, slice_index_or};
 ghost use Rattle.ldar_days.specs.Calendar.{first_day};
 ghost use Rattle.ldar_days.specs.Quarters.{first_quarter as first_quarter_of};
 ghost use Rattle.ldar_law.specs.declared.numbers.TheConstants.{LAST_FACT_DAY};
@@ -43,6 +43,14 @@ pub fn has_quarter_begun(startup: Day, quarter: u16, day: Day) -> bool
     1 <= quarter && has_month_begun(quarter_month(startup, quarter), day)
 }
 
+/// The counts at a place.
+fn tally_at(tallies: &[Tally], place: usize) -> Tally
+    requires within { place < length tallies.now }
+    ensures value { result ≡ slice_index_or tallies.now place result }
+{
+    tallies[place]
+}
+
 /// The text of a quarter that has begun: its counts, whether they are good, and whether it is skipped. `tallies` are the counts of the
 /// quarters up to it.
 pub fn quarter_text(
@@ -60,7 +68,7 @@ pub fn quarter_text(
 {
     let elections = elections_on(source, unit.unit);
     let past = usize::from(quarter - 1);
-    let tally = tallies[past];
+    let tally = tally_at(tallies, past);
     let is_skipped = skipped(&tallies[..past], elections, unit.startup, quarter);
     percent_text(
         source.alloc,

@@ -35,8 +35,9 @@ pub fn tallies_shown(
     ensures answered { summaries.new.answered ≡ summaries.old.answered }
 {
     match request {
-        Request::Percent { quarter, day, .. } =>
-            summaries.tallies_on(store, register, entry, *day, *quarter),
+        Request::Percent { quarter, day, .. } => summaries.tallies_on(
+            store, register, entry, *day, *quarter,
+        ),
         Request::Sync(_)
         | Request::Due { .. }
         | Request::Tags { .. }

@@ -1,13 +1,12 @@
 -- Counts of quarters that are kept stay those of the summaries.
-use Rattle.std.proofs.Common.{◌≡◌, ◌⊎◌, ℕ, zero, suc, ◌+◌, ◌<◌, ◌≤◌, Bool, true, false, cond, not, nat_eq, Option, Some, None, option_and_then, List, [], ◌∷◌, length, take, drop, take-append-drop}
-use Rattle.std.proofs.Common.{◌++◌, map, filter, get_or, set, length-take-le, refl, sym, ap, ◌∙◌, subst, inl, inr, arith}
+use Rattle.std.proofs.Common.{◌≡◌, ℕ, zero, suc, ◌<◌, ◌≤◌, true, false, cond, not, nat_eq, Option, Some, option_and_then, List, [], ◌∷◌, length, take, drop, take-append-drop}
+use Rattle.std.proofs.Common.{◌++◌, filter, get_or, length-take-le, refl, sym, ap, ◌∙◌, subst, inl, inr, arith}
 use Rattle.std.specs.Prelude.{Contains, OnOk, Result, Ok, Err}
 use Rattle.std.specs.Result.{is_err}
 use Rattle.std.specs.List.{AllByRecursion, cons_option, filter_map}
-use Rattle.std.specs.Option.{IfSome}
-use Rattle.std.proofs.lemmas.Bool.{cases_Bool, cases_eq, eqb-true, false≢true}
+use Rattle.std.proofs.lemmas.Bool.{cases_Bool, eqb-true, false≢true}
 use Rattle.std.proofs.lemmas.Bool.Decides.{nat_tests}
-use Rattle.std.proofs.lemmas.List.{get_or_default, get_or-set_same, get_or-set_other, get_or-take, length-set}
+use Rattle.std.proofs.lemmas.List.{get_or-take}
 use Rattle.list_words.proofs.Members.{Among, Contains-from_among, all_at, all_from_among, all_weaker, among_append, among_from_Contains, among_left, among_right}
 use Rattle.fact_kinds.specs.Facts.{Entry}
 use Rattle.history_laws.specs.RulyLaws.{IsEachOnce}
@@ -16,12 +15,12 @@ use Rattle.ldar_law.specs.declared.delay.Stop.{Stop}
 use Rattle.ldar_law.specs.declared.equipment.Equipment.{Equipment}
 use Rattle.ldar_law.specs.declared.numbers.TheConstants.{LAST_FACT_DAY, MOST_COMPONENTS}
 use Rattle.ldar_law.specs.declared.tally.Tally.{Tally}
-use Rattle.ldar_law.specs.Equipment.{equipment_of, members_of}
+use Rattle.ldar_law.specs.Equipment.{members_of}
 use Rattle.ldar_law.specs.Units.{Known, tallies_to}
 use Rattle.unit_summaries.specs.declared.kept.DayTallies.{DayTallies}
 use Rattle.unit_summaries.specs.declared.summary.Summary.{Summary}
 use Rattle.unit_summaries.specs.declared.summary.UnitSummary.{UnitSummary}
-use Rattle.unit_summaries.specs.Kept.{AreCounted, AreWith, Changes, IsCounted, IsFound, IsKept, KeepsOnly, Recounts, known_at, known_from, known_rows, marks_by}
+use Rattle.unit_summaries.specs.Kept.{AreCounted, AreWith, Changes, IsCounted, IsKept, KeepsOnly, Recounts, known_at, known_from, known_rows, marks_by}
 use Rattle.unit_summaries.specs.Known.{IsOrderly}
 use Rattle.unit_summaries.specs.Rows.{PutsRow, Rows, SameRows, is_fresh, row_of}
 use Rattle.unit_summaries.specs.Tallied.{AreTallies}

@@ -1,13 +1,12 @@
 -- One valve counted anew: its old mark goes, its new mark comes, the others stay.
-use Rattle.std.proofs.Common.{◌≡◌, ℕ, zero, suc, ◌+◌, ◌<◌, ◌≤◌, Bool, true, false, cond, not, nat_eq, nat_lt, Option, Some, None, List, [], ◌∷◌, length}
+use Rattle.std.proofs.Common.{◌≡◌, ℕ, ◌+◌, ◌<◌, ◌≤◌, Bool, true, false, cond, not, nat_eq, nat_lt, Option, Some, None, List, [], ◌∷◌, length}
 use Rattle.std.proofs.Common.{map, filter, get_or, set, replicate, refl, sym, ap, ◌∙◌, subst, inl, inr, arith}
 use Rattle.std.specs.Prelude.{fold}
 use Rattle.std.specs.List.{AllByRecursion, cons_option, filter_map}
-use Rattle.std.proofs.lemmas.Bool.{cases_Bool, cases_eq, eqb-true}
+use Rattle.std.proofs.lemmas.Bool.{cases_Bool, cases_eq}
 use Rattle.std.proofs.lemmas.Bool.Decides.{nat_tests}
 use Rattle.std.proofs.lemmas.List.{ext_get_or, get_or_default, get_or-set_same, get_or-set_other, length-set, length-replicate, get_or-replicate, length-map}
 use Rattle.list_words.specs.Order.{Ascends}
-use Rattle.list_words.specs.Ranges.{from_to}
 use Rattle.list_words.proofs.Members.{Among, all_at}
 use Rattle.ldar_law.specs.declared.numbers.TheConstants.{MOST_COMPONENTS}
 use Rattle.ldar_law.specs.declared.tally.Mark.{Mark}

@@ -1,5 +1,5 @@
 -- Counts of quarters that are kept from view to view.
-use Rattle.std.specs.Prelude.{◌≡◌, ◌⊎◌, ℕ, ◌+◌, ◌<◌, ◌≤◌, true, false, nat_eq, nat_le, Option, Some, None, option_and_then, option_map, List, length, map, filter, filter_map, slice_index_or, take, Contains}
+use Rattle.std.specs.Prelude.{◌≡◌, ◌⊎◌, ℕ, ◌<◌, ◌≤◌, true, false, nat_eq, nat_le, Option, Some, None, option_and_then, option_map, List, length, map, filter, filter_map, slice_index_or, take, Contains}
 use Rattle.std.specs.List.{AllByRecursion}
 use Rattle.list_words.specs.Ranges.{from_to}
 use Rattle.fact_kinds.specs.Facts.{Entry}

@@ -1,4 +1,4 @@
-use Rattle.std.proofs.Common.{◌≡◌, ℕ, ◌+◌, ◌-◌, ◌<◌, ◌≤◌, List, length, take, map, get_or, sym, ap, ◌∙◌, arith, length-take-le}
+use Rattle.std.proofs.Common.{◌≡◌, ℕ, ◌+◌, ◌-◌, ◌<◌, length, take, map, get_or, sym, ap, ◌∙◌, arith, length-take-le}
 use Rattle.std.proofs.lemmas.Result.{IfOk-weaker}
 use Rattle.list_words.specs.Ranges.{from_to}
 use Rattle.ldar_law.specs.declared.tally.Tally.{Tally}
@@ -11,13 +11,13 @@ use Rattle.office_views.specs.Sources.{facts_by}
 use Rattle.office_views.proofs.AnswerLemmas.{quarter_is}
 use Rattle.office_views.proofs.shares.quarter_text.Goals as goal
 
-pub index-requires : goal.index-requires
-index-requires c =
+pub tally_at-tally-requires : goal.tally_at-tally-requires
+tally_at-tally-requires c =
     let source = c.args.source.now in
     let unit = c.args.unit.now in
     let own : ℕ → Tally = tally_in unit.startup source.day (components_of unit.unit (facts_by source)) in
     let long = ap length c.requires.tallies ∙ numbers_long own c.args.quarter in
-    omega (arith, c.from-past.ensures, c.requires.quarter, long)
+    record { within = omega (arith, c.from-past.ensures, c.requires.quarter, long) }
 
 pub slice_bounds-skipped-end : goal.slice_bounds-skipped-end
 slice_bounds-skipped-end c =
@@ -44,11 +44,11 @@ returns c =
     let quarter = c.args.quarter in
     let elections = c.elections_on-elections.result.now in
     let own : ℕ → Tally = tally_in unit.startup source.day (components_of unit.unit facts) in
-    let tally = c.index.result in
+    let tally = c.tally_at-tally.result in
     let past = c.from-past.result in
     let before : quarter - 1 < quarter = omega (arith, c.requires.quarter) in
     let again : quarter - 1 + 1 ≡ quarter = omega (arith, c.requires.quarter) in
-    let tally_is = c.index.ensures ∙ ap (λ ts. get_or ts past tally) c.requires.tallies
+    let tally_is = c.tally_at-tally.ensures.value ∙ ap (λ ts. get_or ts past tally) c.requires.tallies
     ∙ ap (λ k. get_or (map own (from_to 1 quarter)) k tally) c.from-past.ensures ∙ number_at own quarter (quarter - 1) tally before ∙ ap own again in
     let front = ap (take past) c.requires.tallies
     ∙ ap (λ k. take k (map own (from_to 1 quarter))) c.from-past.ensures ∙ number_front own quarter c.requires.quarter in

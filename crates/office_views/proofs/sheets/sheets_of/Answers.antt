@@ -22,8 +22,10 @@ returns c =
       value = l.invariant ∙ ap (λ cs. map sheet_of (all_in_law a.stops.now cs)) (take_all l.component-index a.components.now (omega arith));
     }
 
-pub sheet_of-requires-clause-ordered : goal.sheet_of-requires-clause-ordered
-sheet_of-requires-clause-ordered c =
+pub sheet_of-requires : goal.sheet_of-requires
+sheet_of-requires c =
     let a = c.args in
-    all_item IsInOrder a.components.now c.loop-component.component-index c.component-item.result c.requires.ordered c.loop-component-test.true
-    c.component-item.is
+    record {
+      ordered = all_item IsInOrder a.components.now c.loop-component.component-index c.component-item.result c.requires.ordered c.loop-component-test.true
+          c.component-item.is;
+    }

@@ -21,8 +21,10 @@ returns c =
       value = l.invariant ∙ ap (λ cs. tag_list a.day (all_in_law a.stops.now cs)) (take_all l.component-index a.components.now (omega arith));
     }
 
-pub add_tags-requires-clause-ordered : goal.add_tags-requires-clause-ordered
-add_tags-requires-clause-ordered c =
+pub add_tags-requires : goal.add_tags-requires
+add_tags-requires c =
     let a = c.args in
-    all_item IsInOrder a.components.now c.loop-component.component-index c.component-item.result c.requires.ordered c.loop-component-test.true
-    c.component-item.is
+    record {
+      ordered = all_item IsInOrder a.components.now c.loop-component.component-index c.component-item.result c.requires.ordered c.loop-component-test.true
+          c.component-item.is;
+    }

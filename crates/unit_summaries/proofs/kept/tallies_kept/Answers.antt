@@ -1,4 +1,4 @@
-use Rattle.std.proofs.Common.{◌≡◌, rules, take, sym, ap, ◌∙◌, subst, arith}
+use Rattle.std.proofs.Common.{rules, take, sym, ap, ◌∙◌, subst, arith}
 use Rattle.std.specs.Prelude.{Contains}
 use Rattle.std.proofs.lemmas.List.Elements.{Contains-get_or}
 use Rattle.unit_summaries.proofs.kept.tallies_kept.Goals as goal
