@@ -12,7 +12,5 @@ pub mod PlaceLemmas
 pub mod ReadsLemmas
 pub mod SkipLemmas
 pub mod SoundLemmas
-pub mod TagLemmas
 pub mod TakingLemmas
-pub mod TallyLemmas
 pub mod UnitLemmas

@@ -3,7 +3,7 @@ use Rattle.std.proofs.Common.{◌≡◌, ℕ, List, [], ◌∷◌, length, refl,
 use Rattle.ldar_law.specs.declared.election.ElectionEntry.{ElectionEntry}
 use Rattle.ldar_law.specs.declared.tally.Tally.{Tally}
 use Rattle.ldar_law.specs.Skips.{is_skipped, skipped_to}
-use Rattle.office_views.proofs.ListLemmas.{alike_numbers}
+use Rattle.unit_summaries.proofs.ListLemmas.{alike_numbers}
 
 -- none are, whatever the counts
 pub counts_not_asked : (tallies others : List Tally) (elections : List ElectionEntry) (startup quarter : ℕ) → length elections ≡ 0

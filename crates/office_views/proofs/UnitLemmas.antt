@@ -1,22 +1,17 @@
 -- What the register and the lists of a store say of a process unit on a day.
 use Rattle.std.proofs.Common.{◌≡◌, ℕ, Bool, Option, Some, None, false, cond, nat_le, nat_lt, inl, inr, arith, leb-false, option_map, option_and_then}
-use Rattle.std.proofs.Common.{List, [], ◌∷◌, ◌++◌, length, take, filter, map, get_or, ◌<◌, ◌≤◌, ◌+◌, sym, refl, ap, ◌∙◌, subst, length-take-le}
-use Rattle.std.specs.List.{AllByRecursion, cons_option, filter_map}
+use Rattle.std.proofs.Common.{List, [], ◌∷◌, ◌++◌, length, take, filter, map, get_or, ◌<◌, ◌≤◌, ◌+◌, sym, ap, ◌∙◌, subst}
+use Rattle.std.specs.List.{AllByRecursion, filter_map}
 use Rattle.std.proofs.lemmas.Bool.{cases_Bool}
 use Rattle.ldar_law.proofs.Gifts.{cases_Option}
-use Rattle.std.proofs.lemmas.List.{length-map}
 use Rattle.std.proofs.lemmas.List.Concat.{flat_map-append}
 use Rattle.std.proofs.lemmas.List.Elements.{filter-append, filter_map-append}
 use Rattle.list_words.specs.Order.{Ascends}
-use Rattle.list_words.proofs.PutLemmas.{ascends_filter}
-use Rattle.fact_kinds.proofs.KeyOrder.{strict_goes_first}
-use Rattle.list_words.proofs.Members.{Among, Contains-from_among, all_from_among}
-use Rattle.fact_kinds.specs.Facts.{Entry, goes_first, is_earlier}
+use Rattle.fact_kinds.specs.Facts.{Entry, goes_first}
 use Rattle.history_laws.specs.DayLaws.{up_to, if_started}
 use Rattle.history_laws.specs.RulyLaws.{IsEachOnce}
 use Rattle.history_laws.specs.RangeLaws.{IsInRange}
-use Rattle.history_laws.proofs.MemberLemmas.{components_are_members, members_ascend, members_stand_in_unit}
-use Rattle.history_laws.proofs.OnceLemmas.{part_has_each_once}
+use Rattle.history_laws.proofs.MemberLemmas.{components_are_members, members_ascend}
 use Rattle.history_laws.proofs.RangeLemmas.{components_stand_in_range, members_fit, part_is_in_range, startups_are_days}
 use Rattle.history_laws.proofs.RegisterUpTo.{components_are_of_all_members, units_up_to_a_day}
 use Rattle.history_laws.proofs.UpTo.{ascending_are_in_order}
@@ -24,34 +19,21 @@ use Rattle.ldar_law.specs.declared.equipment.Equipment.{Equipment}
 use Rattle.ldar_law.specs.declared.numbers.TheConstants.{LAST_FACT_DAY, MOST_COMPONENTS}
 use Rattle.ldar_law.specs.declared.delay.Stop.{Stop}
 use Rattle.ldar_law.specs.declared.sheet.Sheet.{Sheet}
-use Rattle.ldar_law.specs.declared.tally.Tally.{Tally}
 use Rattle.ldar_law.specs.declared.unit_entry.UnitEntry.{UnitEntry}
 use Rattle.ldar_law.specs.Duties.{duties_of}
-use Rattle.ldar_law.specs.Equipment.{classes_of, equipment_of, members_of, of_unit, stops_of, unit_entry_of}
-use Rattle.ldar_law.specs.Force.{limit_on}
+use Rattle.ldar_law.specs.Equipment.{equipment_of, members_of, unit_entry_of}
 use Rattle.ldar_law.specs.Shown.{sheet_of}
 use Rattle.ldar_law.specs.Slices.{register_facts}
 use Rattle.ldar_law.specs.Tags.{is_shown, line_on_open}
-use Rattle.ldar_law.specs.Units.{Known, known_of, known_with, components_of, all_tags, tag_list, delay_list, due_list}
-use Rattle.ldar_law.proofs.EventLemmas.{events_ascend}
+use Rattle.ldar_law.specs.Units.{Known, known_of, components_of, all_tags, tag_list, delay_list, due_list}
 use Rattle.ldar_law.proofs.SliceLemmas.{register_facts_suffice}
 use Rattle.semiannual_report.specs.Columns.{AreOfComponents}
 use Rattle.unit_summaries.specs.declared.known.KnownOn.{KnownOn}
-use Rattle.unit_summaries.specs.Known.{known_by}
-use Rattle.unit_summaries.proofs.ReadLemmas.{classes_in_order}
-use Rattle.office_views.specs.Components.{AreInOrder, all_in_law, in_law, known_among}
+use Rattle.unit_summaries.specs.Known.{all_in_law, in_law}
+use Rattle.office_views.specs.Components.{known_among}
 use Rattle.office_views.specs.Sources.{AreKept}
-use Rattle.office_views.specs.Tallied.{AreTallies, CountsMore, HaveRoom}
-use Rattle.office_views.proofs.ListLemmas.{all_given, all_map, ascends_map, few_given, given_ascend, mapped_more}
-use Rattle.office_views.proofs.TallyLemmas.{room_for, tallied_more}
-
--- the facts up to a day are in order
-pub front_ascends : (day : ℕ) (facts : List Entry) → Ascends goes_first facts → Ascends goes_first (up_to day facts)
-front_ascends day facts up = ascends_filter goes_first strict_goes_first (λ e. nat_le e.0.day day) facts up
-
--- .. and enter nothing twice
-pub front_once : (day : ℕ) (facts : List Entry) → IsEachOnce facts → IsEachOnce (up_to day facts)
-front_once day facts once = part_has_each_once facts (λ e. nat_le e.0.day day) once
+use Rattle.unit_summaries.proofs.ListLemmas.{few_given, mapped_more}
+use Rattle.office_views.proofs.ListLemmas.{all_given, all_map, ascends_map, given_ascend}
 
 -- the members as the register has them
 pub members_are : (unit : ℕ) (facts entries : List Entry) → entries ≡ register_facts facts → members_of unit entries ≡ members_of unit facts
@@ -75,97 +57,6 @@ components_fit day unit facts entries up kept =
     let given = few_given (λ number. option_map (known_of (up_to day facts)) (equipment_of number (up_to day facts))) members in
     subst (λ (cs : List Known). length cs ≤ MOST_COMPONENTS) (sym (components_are day unit facts entries up kept.once kept.register))
     (omega (arith, most, given))
-
--- ---- what is known of a unit's components, from their summaries
-
--- a property of all elements is one of all elements that a filter keeps
-all_given_of : {X : Type 0} (Q : ℕ → Type 0) (P : X → Type 0) (f : ℕ → Option X) (ns : List ℕ) → AllByRecursion Q ns
-    → ((n : ℕ) (x : X) → Q n → f n ≡ Some x → P x) → AllByRecursion P (filter_map f ns)
-all_given_of Q P f [] all holds = tt
-all_given_of Q P f (n ∷ ns) all holds =
-    elim (f n) as (λ o. f n ≡ o → AllByRecursion P (cons_option o (filter_map f ns))) [
-      | None ↦ λ is. all_given_of Q P f ns all.1 holds
-      | Some x ↦ λ is. (holds n x all.0 is, all_given_of Q P f ns all.1 holds)
-    ] refl
-
--- a property of the image of each element is one of each image
-all_unmapped : {X Y : Type 0} (P : Y → Type 0) (f : X → Y) (xs : List X) → AllByRecursion P (map f xs) → AllByRecursion (λ x. P (f x)) xs
-all_unmapped P f [] all = tt
-all_unmapped P f (x ∷ xs) all = (all.0, all_unmapped P f xs all.1)
-
--- what is known under a number is of the component of the number
-known_is_of : (facts : List Entry) (number : ℕ) (c : Known) → option_map (known_of facts) (equipment_of number facts) ≡ Some c
-    → (item : Equipment) × (equipment_of number facts ≡ Some item) × (known_of facts item ≡ c)
-known_is_of facts number c is =
-    elim (cases_Option (equipment_of number facts)) [
-      | inl none ↦ let never : None ≡ Some c = rw none at is in absurd cc
-      | inr some ↦
-          let known : Some (known_of facts some.0) ≡ Some c = rw some.1 at is in
-          (some.0, some.1, (let same : known_of facts some.0 ≡ c = cc in same))
-    ]
-
-module _ (unit : ℕ) (facts : List Entry) where
-  -- the components of a unit belong to it
-  stand_in_unit : IsEachOnce facts → AllByRecursion (λ (c : Known). c.item.unit ≡ unit) (components_of unit facts)
-  stand_in_unit once =
-      all_given_of (λ n. Among (members_of unit facts) n) (λ (c : Known). c.item.unit ≡ unit)
-      (λ number. option_map (known_of facts) (equipment_of number facts)) (members_of unit facts)
-      (all_from_among (λ n. Among (members_of unit facts) n) (members_of unit facts) (λ n among. among))
-      (λ n c among is.
-      let found = known_is_of facts n c is in
-      let stands = members_stand_in_unit facts unit n once (Contains-from_among (members_of unit facts) n among) in
-      let same : Some stands.0 ≡ Some found.0 = sym stands.1 ∙ found.1 in
-      let item : stands.0 ≡ found.0 = cc in
-      ap (λ (k : Known). k.item.unit) (sym found.2) ∙ ap (λ (i : Equipment). i.unit) (sym item) ∙ stands.3)
-
-  -- .. and their classes and events are in key order
-  known_ascend : Ascends goes_first facts
-      → AllByRecursion (λ (c : Known). Ascends (λ a b. is_earlier a.0 b.0) c.classes × Ascends (λ a b. is_earlier a.key b.key) c.events)
-      (components_of unit facts)
-  known_ascend up =
-      all_given (λ (c : Known). Ascends (λ a b. is_earlier a.0 b.0) c.classes × Ascends (λ a b. is_earlier a.key b.key) c.events)
-      (λ number. option_map (known_of facts) (equipment_of number facts)) (members_of unit facts)
-      (λ n c is.
-      let found = known_is_of facts n c is in
-      let item = found.0 in
-      let classes = classes_of item.component facts in
-      subst (λ (k : Known). Ascends (λ a b. is_earlier a.0 b.0) k.classes × Ascends (λ a b. is_earlier a.key b.key) k.events) found.2
-      (classes_in_order item.component facts up, events_ascend item classes (limit_on item classes) facts up))
-
-  -- by the shutdowns of the unit they are known as its own ones
-  all_by_stops : (known : List KnownOn) → AllByRecursion (λ k. (known_by facts k).item.unit ≡ unit) known
-      → all_in_law (stops_of unit facts) known ≡ map (known_by facts) known
-  all_by_stops [] all = refl
-  all_by_stops (k ∷ known) all =
-      ap (λ c. c ∷ all_in_law (stops_of unit facts) known)
-      (ap (λ u. known_with k.item k.classes.now k.events.now (of_unit u facts)) (sym all.0))
-      ∙ ap (λ cs. known_by facts k ∷ cs) (all_by_stops known all.1)
-
-  module _ (known : List KnownOn) (are : map (known_by facts) known ≡ components_of unit facts) where
-    -- what is known of the components of the unit
-    pub known_in_law : (stops : List Stop) → stops ≡ stops_of unit facts → IsEachOnce facts → all_in_law stops known ≡ components_of unit facts
-    known_in_law stops stops_are once =
-        ap (λ ss. all_in_law ss known) stops_are
-        ∙ all_by_stops known (all_unmapped (λ (c : Known). c.item.unit ≡ unit) (known_by facts) known
-        (subst (AllByRecursion (λ (c : Known). c.item.unit ≡ unit)) (sym are) (stand_in_unit once)))
-        ∙ are
-
-    -- .. is in key order
-    pub known_in_order : Ascends goes_first facts → AreInOrder known
-    known_in_order up =
-        in_order_of known (all_unmapped _ (known_by facts) known
-        (subst (AllByRecursion (λ (c : Known). Ascends (λ a b. is_earlier a.0 b.0) c.classes × Ascends (λ a b. is_earlier a.key b.key) c.events)) (sym are)
-        (known_ascend up)))
-      where
-        in_order_of : (ks : List KnownOn)
-            → AllByRecursion (λ (k : KnownOn). Ascends (λ a b. is_earlier a.0 b.0) k.classes.now × Ascends (λ a b. is_earlier a.key b.key) k.events.now) ks
-            → AreInOrder ks
-        in_order_of [] all = tt
-        in_order_of (k ∷ ks) all = (record { classes = all.0.0; events = all.0.1 }, in_order_of ks all.1)
-
-    -- .. and of few
-    pub known_few : length (components_of unit facts) ≤ MOST_COMPONENTS → length known ≤ MOST_COMPONENTS
-    known_few few = omega (arith, few, length-map known (known_by facts), ap length are)
 
 -- ---- the lists of a unit
 
@@ -191,20 +82,6 @@ module _ (of : List Stop) (cs : List KnownOn) (i : ℕ) (c : KnownOn) (within : 
   list_more f joins old new was put =
       put ∙ ap (λ xs. xs ++ f (in_law of c ∷ [])) was ∙ sym (joins (all_in_law of (take i cs)) (in_law of c ∷ []))
       ∙ ap f (sym (mapped_more (in_law of) cs i c within is))
-
-  -- the counts of its quarters
-  pub tallies_more : (startup day quarter : ℕ) (old new : List Tally) → AreTallies startup day (all_in_law of (take i cs)) quarter old
-      → CountsMore startup day (in_law of c ∷ []) old new → AreTallies startup day (all_in_law of (take (i + 1) cs)) quarter new
-  tallies_more startup day quarter old new are counts =
-      subst (λ ks. AreTallies startup day ks quarter new) (sym (mapped_more (in_law of) cs i c within is))
-      (tallied_more startup day quarter (all_in_law of (take i cs)) (in_law of c ∷ []) old new are counts)
-
--- there is room for one more of at most 60,000 components
-pub room_for_one : (of : List Stop) (cs : List KnownOn) (i startup day quarter : ℕ) (tallies : List Tally) → i < length cs
-    → length cs ≤ MOST_COMPONENTS → AreTallies startup day (all_in_law of (take i cs)) quarter tallies → HaveRoom tallies
-room_for_one of cs i startup day quarter tallies within few counted =
-    room_for startup day quarter (all_in_law of (take i cs)) tallies counted
-    (omega (arith, few, within, length-map (take i cs) (in_law of), length-take-le i cs (omega (arith, within))))
 
 -- ---- the sheets of a unit
 

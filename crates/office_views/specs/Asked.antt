@@ -6,9 +6,11 @@ use Rattle.ldar_law.specs.declared.request.Request.{Request}
 use Rattle.ldar_law.specs.declared.request.Request.TheVariants.{Sync, Due, Tags, Delays, Route, Percent, Report as ReportView}
 use Rattle.ldar_law.specs.declared.request.What.{What}
 use Rattle.ldar_law.specs.declared.request.What.TheVariants.{Unit as NoUnit, Quarter as NoQuarter, Half as NoHalf, Stops as NoStops}
+use Rattle.ldar_law.specs.declared.tally.Tally.{Tally}
 use Rattle.ldar_law.specs.declared.unit_entry.UnitEntry.{UnitEntry}
 use Rattle.ldar_law.specs.Equipment.{unit_entry_of}
 use Rattle.ldar_law.specs.Reports.{half_month, has_half_begun, has_quarter_begun}
+use Rattle.ldar_law.specs.Units.{components_of, tallies_to}
 
 -- the number of the process unit that a view asks of
 abbrev pub view_unit : Request → ℕ
@@ -19,6 +21,11 @@ view_unit (Delays unit day) = unit
 view_unit (Route unit day stops) = unit
 view_unit (Percent unit quarter day) = unit
 view_unit (ReportView unit half day) = unit
+
+-- these are the counts of quarters that a view shows of a process unit, by the facts up to its day
+abbrev pub AreTalliesOf : Request → UnitEntry → List Entry → List Tally → Type 0
+AreTalliesOf (Percent unit quarter day) entry facts tallies = tallies ≡ tallies_to entry.startup day (components_of entry.unit facts) quarter
+AreTalliesOf _ entry facts tallies = Unit {0}
 
 -- the process unit of a number as the entries of a register have it on a day; one above 255 is none
 abbrev pub unit_known : ℕ → ℕ → List Entry → Option UnitEntry

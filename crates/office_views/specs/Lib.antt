@@ -6,6 +6,5 @@ pub mod Held
 pub mod Inside
 pub mod Sources
 pub mod Taking
-pub mod Tallied
 pub mod Totals
 pub mod Viewed

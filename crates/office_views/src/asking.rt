@@ -7,7 +7,7 @@ ghost use Rattle.ldar_law.specs.Equipment.{unit_entry_of};
 ghost use Rattle.ldar_law.specs.Shown as law;
 ghost use Rattle.ldar_law.specs.Stirred.{stirred};
 ghost use Rattle.office_views.specs.Answers.{IsShown, IsView, in_text};
-ghost use Rattle.office_views.specs.Asked.{view_unit, IsWhole};
+ghost use Rattle.office_views.specs.Asked.{AreTalliesOf, IsWhole, view_unit};
 ghost use Rattle.office_views.specs.Sources.{AreReady, IsReady, facts_from};
 ghost use Rattle.office_views.specs.Viewed.{Notes};
 ghost use Rattle.unit_summaries.specs.Sound.{Are, is_known, news_of};
@@ -18,22 +18,29 @@ use crate::reports::half_text;
 use crate::routes::route_on;
 use crate::shares::quarter_text;
 use crate::source::Source;
+use crate::tallied::tallies_shown;
 use component_register::Register;
 use fact_kinds::Memory;
 use fact_store::{FactStore, Steps};
-use ldar_law::{Request, Text, UnitEntry};
+use ldar_law::{Request, Tally, Text, UnitEntry};
 use std::alloc::Global;
 use std::sync::ledger::Ledger;
 use unit_summaries::Summaries;
 
-/// The text of a view of a process unit that has all that the view asks.
-fn answer(source: &Source<'_>, entry: &UnitEntry, request: &Request) -> Result<Text, Memory>
+/// The text of a view of a process unit that has all that the view asks. `tallies` are the counts of quarters that it shows.
+fn answer(
+    source: &Source<'_>,
+    entry: &UnitEntry,
+    request: &Request,
+    tallies: &[Tally],
+) -> Result<Text, Memory>
     requires view { IsView request.now }
     requires day { source.now.day ≡ law.view_day request.now }
     requires ready { IsReady source.now entry.now.unit }
     requires entered { unit_entry_of (view_unit request.now) (up_to (law.view_day request.now) (facts_from source.now)) ≡ Some entry.now }
     requires startup { entry.now.startup ≤ LAST_FACT_DAY }
     requires whole { IsWhole request.now entry.now }
+    requires tallies { AreTalliesOf request.now entry.now (up_to (law.view_day request.now) (facts_from source.now)) tallies.now }
     ensures value { IsShown (in_text result) (law.view_of request.now (up_to (law.view_day request.now) (facts_from source.now))) }
 {
     match request {
@@ -41,7 +48,7 @@ fn answer(source: &Source<'_>, entry: &UnitEntry, request: &Request) -> Result<T
         Request::Tags { unit, .. } => tags_on(source, *unit, entry),
         Request::Delays { unit, .. } => delays_on(source, *unit, entry),
         Request::Route { unit, stops, .. } => route_on(source, *unit, entry, *stops),
-        Request::Percent { quarter, .. } => quarter_text(source, entry, *quarter),
+        Request::Percent { quarter, .. } => quarter_text(source, entry, *quarter, tallies),
         Request::Report { half, .. } => half_text(source, entry, *half),
         Request::Sync(_) => unreachable!(),
     }
@@ -72,6 +79,7 @@ pub fn text_anew<L: Ledger>(
     ensures counted { steps.new ≤ steps.old + stirred (facts_in store.now) (news_of store.now.arrived summaries.old entry.now.unit) entry.now.unit }
 {
     summaries.renew(store, register, entry.unit, steps)?;
+    let tallies = tallies_shown(alloc, store, register, summaries, entry, request)?;
     let source = Source {
         alloc,
         store,
@@ -79,7 +87,7 @@ pub fn text_anew<L: Ledger>(
         summaries,
         day: view_day(request),
     };
-    let text = answer(&source, entry, request)?;
+    let text = answer(&source, entry, request, &tallies)?;
     summaries.answer(entry.unit, facts);
     Ok(text)
 }

@@ -4,12 +4,11 @@ ghost use Rattle.ldar_law.specs.declared.delay.Stop.{Stop as SomeStop};
 ghost use Rattle.ldar_law.specs.Duties as duties;
 ghost use Rattle.ldar_law.specs.Skips.{skipped_to};
 ghost use Rattle.ldar_law.specs.Units as law;
-ghost use Rattle.office_views.specs.Components.{AreInOrder, IsInOrder, all_in_law};
+ghost use Rattle.unit_summaries.specs.Known.{AreInOrder, IsInOrder, all_in_law};
 ghost use Rattle.office_views.specs.Sources.{IsReady, facts_by};
 
 use crate::members::unit_of;
 use crate::source::Source;
-use crate::tallies::tallies_to;
 use crate::unit::Unit;
 use fact_kinds::Memory;
 use ldar_days::{Day, quarter_of};
@@ -17,7 +16,7 @@ use ldar_law::{Duty, Tally, UnitEntry};
 use monitor_calendar::duties_of;
 use skip_periods::all_skipped;
 use std::alloc::Global;
-use unit_summaries::KnownOn;
+use unit_summaries::{KnownOn, tallies_to};
 
 /// The number of the quarter in which a day lies; 0 before the first.
 fn quarter_at(startup: Day, day: Day) -> u16

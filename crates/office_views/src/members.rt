@@ -32,7 +32,7 @@ fn stops_on<'a>(source: &Source<'a>, unit: u8) -> &'a [Stop]
 }
 
 /// The elections of a process unit up to the day, in key order.
-fn elections_on<'a>(source: &Source<'a>, unit: u8) -> &'a [ElectionEntry]
+pub fn elections_on<'a>(source: &Source<'a>, unit: u8) -> &'a [ElectionEntry]
     requires ready { IsReady source.now unit }
     ensures value { result.now ≡ equipment.elections_of unit (facts_by source.now) }
     ensures ordered { Ascends (λ a b. is_earlier a.key b.key) result.now }

@@ -1,17 +1,17 @@
-ghost use Rattle.std.specs.Prelude.{◌≡◌, ◌+◌, ◌-◌, ◌*◌, ◌≤◌, nat_le, IfOk, IsTrue};
+ghost use Rattle.std.specs.Prelude.{◌≡◌, ◌+◌, ◌-◌, ◌*◌, ◌<◌, ◌≤◌, nat_le, IfOk, IsTrue, length, slice_index_or};
 ghost use Rattle.ldar_days.specs.Calendar.{first_day};
 ghost use Rattle.ldar_days.specs.Quarters.{first_quarter as first_quarter_of};
 ghost use Rattle.ldar_law.specs.declared.numbers.TheConstants.{LAST_FACT_DAY};
 ghost use Rattle.ldar_law.specs.Reports as reports;
 ghost use Rattle.ldar_law.specs.Shown as law;
+ghost use Rattle.ldar_law.specs.Units as units;
 ghost use Rattle.office_views.specs.Sources.{IsReady, facts_by};
 
-use crate::members::unit_of;
+use crate::members::elections_on;
 use crate::source::Source;
-use crate::tallies::tallies_to;
 use fact_kinds::Memory;
 use ldar_days::{Day, first_quarter};
-use ldar_law::{Text, UnitEntry};
+use ldar_law::{Tally, Text, UnitEntry};
 use skip_periods::skipped;
 use view_texts::percent_text;
 
@@ -43,25 +43,33 @@ pub fn has_quarter_begun(startup: Day, quarter: u16, day: Day) -> bool
     1 <= quarter && has_month_begun(quarter_month(startup, quarter), day)
 }
 
-/// The text of a quarter that has begun: its counts, whether they are good, and whether it is skipped.
-pub fn quarter_text(source: &Source<'_>, unit: &UnitEntry, quarter: u16) -> Result<Text, Memory>
+/// The counts at a place.
+fn tally_at(tallies: &[Tally], place: usize) -> Tally
+    requires within { place < length tallies.now }
+    ensures value { result ≡ slice_index_or tallies.now place result }
+{
+    tallies[place]
+}
+
+/// The text of a quarter that has begun: its counts, whether they are good, and whether it is skipped. `tallies` are the counts of the
+/// quarters up to it.
+pub fn quarter_text(
+    source: &Source<'_>,
+    unit: &UnitEntry,
+    quarter: u16,
+    tallies: &[Tally],
+) -> Result<Text, Memory>
     requires ready { IsReady source.now unit.now.unit }
     requires startup { unit.now.startup ≤ LAST_FACT_DAY }
     requires quarter { 1 ≤ quarter }
+    requires tallies { tallies.now
+        ≡ units.tallies_to unit.now.startup source.now.day (units.components_of unit.now.unit (facts_by source.now)) quarter }
     ensures value { IfOk result (λ text. text ≡ law.quarter_text unit.now quarter source.now.day (facts_by source.now)) }
 {
-    let known = unit_of(source, unit.unit)?;
-    let tallies = tallies_to(
-        source.alloc,
-        unit.startup,
-        quarter,
-        source.day,
-        &known.components,
-        known.stops,
-    )?;
+    let elections = elections_on(source, unit.unit);
     let past = usize::from(quarter - 1);
-    let tally = tallies[past];
-    let is_skipped = skipped(&tallies[..past], known.elections, unit.startup, quarter);
+    let tally = tally_at(tallies, past);
+    let is_skipped = skipped(&tallies[..past], elections, unit.startup, quarter);
     percent_text(
         source.alloc,
         u16::from(unit.unit),

@@ -2,14 +2,13 @@ ghost use Rattle.std.specs.Prelude.{◌≡◌, IfOk, filter, map};
 ghost use Rattle.ldar_days.specs.Calendar.{month_of};
 ghost use Rattle.ldar_law.specs.Happenings as happenings;
 ghost use Rattle.ldar_law.specs.Shown as shown;
-ghost use Rattle.office_views.specs.Components.{all_in_law, in_law};
+ghost use Rattle.unit_summaries.specs.Known.{AreInOrder, IsInOrder, all_in_law, in_law};
 
-use crate::tags::tags_of;
 use fact_kinds::Memory;
 use ldar_days::Month;
 use ldar_law::{Event, Items, Sheet, Stop};
 use std::alloc::Global;
-use unit_summaries::KnownOn;
+use unit_summaries::{KnownOn, tags_of};
 
 /// The months of the leaks among some events.
 fn leak_months(alloc: Global, events: &[Event]) -> Result<Vec<Month>, Memory>
@@ -27,6 +26,7 @@ fn leak_months(alloc: Global, events: &[Event]) -> Result<Vec<Month>, Memory>
 
 /// The sheet of a component, by the shutdowns of its process unit.
 fn sheet_of(alloc: Global, component: &KnownOn<'_>, stops: &[Stop]) -> Result<Sheet, Memory>
+    requires ordered { IsInOrder component.now }
     ensures value { IfOk result (λ sheet. sheet ≡ shown.sheet_of (in_law stops.now component.now)) }
 {
     let leaks = leak_months(alloc, component.events)?;
@@ -45,6 +45,7 @@ pub fn sheets_of(
     components: &[KnownOn<'_>],
     stops: &[Stop],
 ) -> Result<Vec<Sheet>, Memory>
+    requires ordered { AreInOrder components.now }
     ensures value { IfOk result (λ sheets. sheets.items ≡ map shown.sheet_of (all_in_law stops.now components.now)) }
 {
     let mut sheets = Vec::with_capacity(alloc, components.len())?;

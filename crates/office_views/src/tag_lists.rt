@@ -1,17 +1,16 @@
 ghost use Rattle.std.specs.Prelude.{◌≡◌, [], ◌∷◌, ◌++◌, IfOk, OnOk, filter};
 ghost use Rattle.ldar_law.specs.Tags as shown;
 ghost use Rattle.ldar_law.specs.Units as law;
-ghost use Rattle.office_views.specs.Components.{all_in_law, in_law};
+ghost use Rattle.unit_summaries.specs.Known.{AreInOrder, IsInOrder, all_in_law, in_law};
 ghost use Rattle.office_views.specs.Sources.{IsReady, facts_by};
 
 use crate::members::unit_of;
 use crate::source::Source;
-use crate::tags::{add, tags_of};
 use fact_kinds::Memory;
 use ldar_days::Day;
 use ldar_law::{DelayLine, Stop, Tag, UnitEntry};
 use std::alloc::Global;
-use unit_summaries::KnownOn;
+use unit_summaries::{KnownOn, add, tags_of};
 
 /// Adds those of some tags that are shown on a day.
 fn add_shown(tags: &mut Vec<Tag>, day: Day, more: &[Tag]) -> Result<(), Memory>
@@ -33,6 +32,7 @@ fn add_tags(
     component: &KnownOn<'_>,
     stops: &[Stop],
 ) -> Result<(), Memory>
+    requires ordered { IsInOrder component.now }
     ensures put { OnOk result (tags.new.items ≡ tags.old.items ++ law.tag_list day (in_law stops.now component.now ∷ [])) }
 {
     let own = tags_of(alloc, component, stops)?;
@@ -46,6 +46,7 @@ fn tags_shown(
     components: &[KnownOn<'_>],
     stops: &[Stop],
 ) -> Result<Vec<Tag>, Memory>
+    requires ordered { AreInOrder components.now }
     ensures value { IfOk result (λ tags. tags.items ≡ law.tag_list day (all_in_law stops.now components.now)) }
 {
     let mut tags = Vec::new(alloc);
@@ -78,7 +79,7 @@ fn line_on_open(tag: &Tag) -> Option<DelayLine>
 }
 
 /// Adds the lines on those of some tags that are open and whose repair is delayed.
-#[tactic(auto, using(crate::proofs::ListLemmas::given_pushed))]
+#[tactic(auto, using(unit_summaries::proofs::ListLemmas::given_pushed))]
 fn add_lines_on(lines: &mut Vec<DelayLine>, tags: &[Tag]) -> Result<(), Memory>
     ensures put { OnOk result (lines.new.items ≡ lines.old.items ++ shown.delay_lines tags.now) }
 {
@@ -95,6 +96,7 @@ fn add_lines(
     component: &KnownOn<'_>,
     stops: &[Stop],
 ) -> Result<(), Memory>
+    requires ordered { IsInOrder component.now }
     ensures put { OnOk result (lines.new.items ≡ lines.old.items ++ law.delay_list (in_law stops.now component.now ∷ [])) }
 {
     let own = tags_of(alloc, component, stops)?;
@@ -107,6 +109,7 @@ fn delay_lines(
     components: &[KnownOn<'_>],
     stops: &[Stop],
 ) -> Result<Vec<DelayLine>, Memory>
+    requires ordered { AreInOrder components.now }
     ensures value { IfOk result (λ lines. lines.items ≡ law.delay_list (all_in_law stops.now components.now)) }
 {
     let mut lines = Vec::new(alloc);

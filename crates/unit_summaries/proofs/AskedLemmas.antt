@@ -26,6 +26,7 @@ are_listed facts arrived listed s are = record {
   lists = are.lists;
   unread = are.unread;
   asked = are.asked;
+  counted = are.counted;
 }
 
 -- the summary of a process unit that was renewed says what the facts say

@@ -27,11 +27,14 @@ use Rattle.ldar_law.specs.Slices.{facts_of_component}
 use Rattle.ldar_law.specs.Stirred.{is_touched, matters_to, touches}
 use Rattle.ldar_law.proofs.EnteredLemmas.{members_are_entered}
 use Rattle.touched_readings.specs.Windows.{is_judged_anew}
+use Rattle.unit_summaries.specs.declared.kept.DayTallies.{DayTallies}
 use Rattle.unit_summaries.specs.declared.summary.Summary.{Summary}
 use Rattle.unit_summaries.specs.declared.summary.UnitSummary.{UnitSummary}
+use Rattle.unit_summaries.specs.Kept.{IsKept}
 use Rattle.unit_summaries.specs.Rows.{is_fresh, row_of}
 use Rattle.unit_summaries.specs.Says.{IsSaid, IsUnitSaid}
 use Rattle.unit_summaries.specs.Sound.{Are, Sums, answered_at, is_known, news_of}
+use Rattle.unit_summaries.proofs.KeptLemmas.{counted_same}
 
 -- ---- tests of lists
 
@@ -267,7 +270,7 @@ module _ (history : List Batch) (batch : Batch) (arrived : List Entry) (came : a
       ≡ ((is_fresh old.components n && not (is_judged_anew (take listed arrived) news n)) && not (list_any (is_of_component n) news)))
       (unit_rows : (u : ℕ) → row_of new.units u ≡ row_of old.units u)
       (unit_flags : (u : ℕ) → is_fresh new.units u ≡ (is_fresh old.units u && not (list_any (is_of_unit u) news)))
-      (same : (u : ℕ) → answered_at new u ≡ answered_at old u) where
+      (same : (u : ℕ) → answered_at new u ≡ answered_at old u) (kept_same : new.kept ≡ old.kept) where
     three_kept : (a b c : Bool) → ((a && not b) && not c) ≡ true → (a ≡ true) × (b ≡ false) × (c ≡ false)
     three_kept true false false is = (refl, refl, refl)
     three_kept true false true is = absurd cc
@@ -399,6 +402,22 @@ module _ (history : List Batch) (batch : Batch) (arrived : List Entry) (came : a
         was_stale false b unnamed is = refl
         was_stale true b unnamed is = absurd (let kept : true ≡ false = rw unnamed at is in cc)
 
+    -- what is kept counts the same members, if the batch does not name their process unit
+    kept_more : (d : DayTallies) → IsKept facts old.components old.units d → IsKept more new.components new.units d
+    kept_more d kept = record {
+      startup = kept.startup;
+      long = kept.long;
+      counted = λ unit fresh row.
+          let was = two_kept (is_fresh old.units d.unit) (list_any (is_of_unit d.unit) news) (sym (unit_flags d.unit) ∙ fresh) in
+          let stays = unnamed_unit_stays d.unit history batch differ was.1 in
+          counted_same unit d (members_of d.unit facts) (members_of d.unit more) old.components new.components stays.members
+          (all_rows (members_of d.unit facts)) (kept.counted unit was.0 (sym (unit_rows d.unit) ∙ row));
+    }
+      where
+        all_rows : (ns : List ℕ) → AllByRecursion (λ n. row_of new.components n ≡ row_of old.components n) ns
+        all_rows [] = tt
+        all_rows (n ∷ ns) = (rows n, all_rows ns)
+
     pub are_more : Are more (arrived ++ news) listed new
     are_more = record {
       fresh = fresh_more;
@@ -413,4 +432,9 @@ module _ (history : List Batch) (batch : Batch) (arrived : List Entry) (came : a
           subst (IsUnitSaid more u) (sym (unit_rows u)) (unit_said_more u (row_of old.units u) kept.1 (are.lists u kept.0));
       unread = unread_more;
       asked = λ u. omega (arith, same u, are.asked u, length-append arrived news);
+      counted = record {
+        orderly = λ n x is. are.counted.orderly n x (sym (rows n) ∙ is);
+        kept = subst (AllByRecursion (IsKept more new.components new.units)) (sym kept_same)
+            (weaker_all (IsKept facts old.components old.units) (IsKept more new.components new.units) kept_more old.kept are.counted.kept);
+      };
     }

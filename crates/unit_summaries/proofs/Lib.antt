@@ -2,9 +2,14 @@ pub mod AskedLemmas
 pub mod BatchLemmas
 pub mod CostLemmas
 pub mod EventLemmas
+pub mod KeptLemmas
 pub mod KnownLemmas
 pub mod ListLemmas
 pub mod MemberLemmas
 pub mod ReadLemmas
+pub mod RecountLemmas
 pub mod RowLemmas
 pub mod SoundLemmas
+pub mod TagLemmas
+pub mod TallyLemmas
+pub mod UnitLemmas

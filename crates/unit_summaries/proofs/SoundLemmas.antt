@@ -1,5 +1,5 @@
 -- What is true of summaries stays true when some are renewed and when a view is answered.
-use Rattle.std.proofs.Common.{◌≡◌, ℕ, ◌≤◌, true, false, cond, nat_eq, List, [], length, drop, sym, ap, ◌∙◌, subst, inl, inr, arith}
+use Rattle.std.proofs.Common.{◌≡◌, ℕ, ◌≤◌, true, false, cond, nat_eq, Some, None, List, [], length, drop, sym, ap, ◌∙◌, subst, inl, inr, arith}
 use Rattle.std.specs.Prelude.{Contains}
 use Rattle.std.specs.List.{AllByRecursion}
 use Rattle.std.proofs.lemmas.Bool.{cases_Bool, eqb-true, false≢true}
@@ -9,22 +9,25 @@ use Rattle.fact_kinds.specs.Facts.{Entry}
 use Rattle.fact_kinds.specs.Named.{component_of, is_numbered}
 use Rattle.ldar_law.specs.Equipment.{members_of}
 use Rattle.ldar_law.specs.Stirred.{is_touched}
+use Rattle.unit_summaries.specs.declared.kept.DayTallies.{DayTallies}
 use Rattle.unit_summaries.specs.declared.summary.Summary.{Summary}
 use Rattle.unit_summaries.specs.declared.summary.UnitSummary.{UnitSummary}
+use Rattle.unit_summaries.specs.Kept.{AreCounted}
 use Rattle.unit_summaries.specs.Rows.{Rows, RenewsRows, is_fresh}
 use Rattle.unit_summaries.specs.Says.{IsSaid, IsUnitSaid, Says, SaysUnit}
-use Rattle.unit_summaries.specs.Sound.{Are, Sums, answered_at, is_known}
+use Rattle.unit_summaries.specs.Sound.{Are, IsRenewed, Sums, answered_at, is_known}
 
 -- without facts there is nothing to keep
 pub are_none : (components : Rows Summary) (units : Rows UnitSummary) → components.fresh ≡ [] → units.fresh ≡ []
-    → Are [] [] 0 (record { components = components; units = units; answered = [] })
-are_none components units none no_units = record {
+    → components.slots ≡ [] → Are [] [] 0 (record { components = components; units = units; answered = []; kept = [] })
+are_none components units none no_units empty = record {
   fresh = λ n is. absurd (let never : false ≡ true = rw none at is in cc);
   stale = λ u n held old. absurd (omega (arith, held.1));
   tail = tt;
   lists = λ u is. absurd (let never : false ≡ true = rw no_units at is in cc);
   unread = λ u known old. absurd cc;
   asked = λ u. omega arith;
+  counted = record { orderly = λ n x is. absurd (let never : None ≡ Some x = rw empty at is in cc); kept = tt };
 }
 
 module _ (facts arrived : List Entry) (s : Sums) (are : Are facts arrived (length arrived) s) where
@@ -32,9 +35,9 @@ module _ (facts arrived : List Entry) (s : Sums) (are : Are facts arrived (lengt
   none_left P = subst (AllByRecursion P) (sym (drop_all (length arrived) arrived (omega arith))) tt
 
   -- after summaries of components were renewed
-  pub renewed_components : (t : Rows Summary) → RenewsRows (Says facts) s.components t
-      → Are facts arrived (length arrived) (record s { components = t })
-  renewed_components t renews = record {
+  pub renewed_components : (t : Rows Summary) (kept : List DayTallies) → RenewsRows (Says facts) s.components t → AreCounted facts t s.units kept
+      → Are facts arrived (length arrived) (record s { components = t; kept = kept })
+  renewed_components t kept renews counted = record {
     fresh = λ n is. elim (renews.row n is) [
       | inl old ↦ subst (IsSaid facts n) (sym old.1) (are.fresh n old.0)
       | inr new ↦ subst (IsSaid facts n) (sym new.1) new.2
@@ -44,6 +47,7 @@ module _ (facts arrived : List Entry) (s : Sums) (are : Are facts arrived (lengt
     lists = are.lists;
     unread = are.unread;
     asked = are.asked;
+    counted = counted;
   }
     where
       still_stale : (n : ℕ) → is_fresh t n ≡ false → is_fresh s.components n ≡ false
@@ -53,9 +57,9 @@ module _ (facts arrived : List Entry) (s : Sums) (are : Are facts arrived (lengt
       ]
 
   -- .. or those of process units
-  pub renewed_units : (t : Rows UnitSummary) → RenewsRows (SaysUnit facts) s.units t
-      → Are facts arrived (length arrived) (record s { units = t })
-  renewed_units t renews = record {
+  pub renewed_units : (t : Rows UnitSummary) (kept : List DayTallies) → RenewsRows (SaysUnit facts) s.units t → AreCounted facts s.components t kept
+      → Are facts arrived (length arrived) (record s { units = t; kept = kept })
+  renewed_units t kept renews counted = record {
     fresh = are.fresh;
     stale = are.stale;
     tail = are.tail;
@@ -65,6 +69,7 @@ module _ (facts arrived : List Entry) (s : Sums) (are : Are facts arrived (lengt
     ];
     unread = λ u known is. are.unread u known (still_stale u is);
     asked = are.asked;
+    counted = counted;
   }
     where
       still_stale : (n : ℕ) → is_fresh t n ≡ false → is_fresh s.units n ≡ false
@@ -83,6 +88,19 @@ module _ (facts arrived : List Entry) (s : Sums) (are : Are facts arrived (lengt
     lists = are.lists;
     unread = λ u known is. subst (λ k. is_known (drop k arrived) u ≡ true) (sym (same u)) (are.unread u known is);
     asked = λ u. subst (λ k. k ≤ length arrived) (sym (same u)) (are.asked u);
+    counted = are.counted;
+  }
+
+  -- with other counts of quarters
+  pub with_kept : (kept : List DayTallies) → AreCounted facts s.components s.units kept → Are facts arrived (length arrived) (record s { kept = kept })
+  with_kept kept counted = record {
+    fresh = are.fresh;
+    stale = are.stale;
+    tail = are.tail;
+    lists = are.lists;
+    unread = are.unread;
+    asked = are.asked;
+    counted = counted;
   }
 
   -- after a view of a process unit was answered
@@ -112,4 +130,13 @@ module _ (facts arrived : List Entry) (s : Sums) (are : Are facts arrived (lengt
       | inl here ↦ omega (arith, updates u ∙ ap (λ b. cond b (length arrived) (answered_at s u)) here)
       | inr else ↦ omega (arith, updates u ∙ ap (λ b. cond b (length arrived) (answered_at s u)) else, are.asked u)
     ];
+    counted = are.counted;
   }
+
+-- the same summaries are still up to date
+pub still_renewed : (facts : List Entry) (unit : ℕ) (old new : Sums) → new.components ≡ old.components → new.units ≡ old.units
+    → IsRenewed facts unit old → IsRenewed facts unit new
+still_renewed facts unit old new components units renewed = record {
+  shown = ap (λ (rows : Rows UnitSummary). is_fresh rows unit) units ∙ renewed.shown;
+  members = subst (λ (rows : Rows Summary). AllByRecursion (λ n. is_fresh rows n ≡ true) (members_of unit facts)) (sym components) renewed.members;
+}

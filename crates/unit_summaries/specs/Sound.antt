@@ -6,17 +6,20 @@ use Rattle.fact_kinds.specs.Named.{component_of, unit_of, is_numbered}
 use Rattle.fact_store.specs.Lists.{value_at}
 use Rattle.ldar_law.specs.Equipment.{members_of}
 use Rattle.ldar_law.specs.Stirred.{is_touched}
+use Rattle.unit_summaries.specs.declared.kept.DayTallies.{DayTallies}
 use Rattle.unit_summaries.specs.declared.summary.Summary.{Summary}
 use Rattle.unit_summaries.specs.declared.summary.UnitSummary.{UnitSummary}
+use Rattle.unit_summaries.specs.Kept.{AreCounted}
 use Rattle.unit_summaries.specs.Rows.{Rows, SameRows, is_fresh, row_of}
 use Rattle.unit_summaries.specs.Says.{IsSaid, IsUnitSaid}
 
--- the value of summaries: those of components and of process units at their numbers, and for each process unit the number of facts at its
--- last answered view
+-- the value of summaries: those of components and of process units at their numbers, for each process unit the number of facts at its
+-- last answered view, and the counts of quarters that are kept
 pub record Sums : Type 0 where
   pub components : Rows Summary
   pub units : Rows UnitSummary
   pub answered : List ℕ
+  pub kept : List DayTallies
 
 -- the number of facts at the last answered view of a process unit; 0 if none was answered
 abbrev pub answered_at : Sums → ℕ → ℕ
@@ -43,6 +46,8 @@ pub record Are (facts arrived : List Entry) (listed : ℕ) (s : Sums) : Type 0 w
   pub unread : (u : ℕ) → is_known arrived u ≡ true → is_fresh s.units u ≡ false → is_known (news_of arrived s u) u ≡ true
   -- no view was answered with more facts
   pub asked : (u : ℕ) → answered_at s u ≤ length arrived
+  -- the counts of quarters that are kept are those of the summaries
+  pub counted : AreCounted facts s.components s.units s.kept
 
 -- the summary of each component of a process unit is up to date
 abbrev pub AreFresh : List Entry → ℕ → Sums → Type 0

@@ -6,13 +6,13 @@ ghost use Rattle.history_laws.specs.DayLaws.{events_to, up_to};
 ghost use Rattle.ldar_law.specs.Equipment.{elections_of, equipment_of, stops_of};
 ghost use Rattle.ldar_law.specs.Units.{known_of};
 ghost use Rattle.touched_readings.specs.Windows.{AreByDay};
-ghost use Rattle.unit_summaries.specs.Known.{known_by};
+ghost use Rattle.unit_summaries.specs.Known.{IsKnownFrom, known_by};
 ghost use Rattle.unit_summaries.specs.Says.{Says, SaysUnit};
 
 use crate::summary::{Summary, UnitSummary};
 use fact_kinds::{Class, Key};
 use ldar_days::Day;
-use ldar_law::{ElectionEntry, Equipment, Event, Stop};
+use ldar_law::{ElectionEntry, Equipment, Event, Span, Stop};
 
 /// What is known of a component on a day: its entry without a later retirement, and its classes and events up to the day, in key order.
 #[derive(Clone, Copy)]
@@ -20,6 +20,10 @@ pub struct KnownOn<'s> {
     pub item: Equipment,
     pub classes: &'s [(Key, Class)],
     pub events: &'s [Event],
+    pub day: Day,
+    /// All its events, and the tags that they open: those of later days too.
+    pub all_events: &'s [Event],
+    pub spans: &'s [Span],
 }
 
 /// A day, if it is not after another.
@@ -69,12 +73,16 @@ impl Summary {
         requires events { Ascends (λ a b. is_earlier a.key b.key) self.now.events }
         ensures value { (facts : List Entry) (number : ℕ) → Says facts number self.now → Ascends goes_first facts
             → option_map (known_by (up_to day facts)) result ≡ option_map (known_of (up_to day facts)) (equipment_of number (up_to day facts)) }
+        ensures known { IsKnownFrom day self.now result }
     {
         match if_begun(day, self.item) {
             Some(item) => Some(KnownOn {
                 item,
                 classes: classes_to(self.classes.as_slice(), day),
                 events: front_of(self.events.as_slice(), day),
+                day,
+                all_events: self.events.as_slice(),
+                spans: self.spans.as_slice(),
             }),
             None => None,
         }
@@ -82,7 +90,7 @@ impl Summary {
 }
 
 /// The shutdowns that begin by a day, of shutdowns by their first days.
-fn stops_to(stops: &[Stop], day: Day) -> &[Stop]
+pub fn stops_to(stops: &[Stop], day: Day) -> &[Stop]
     requires ordered { AreByDay (λ stop. stop.first) stops.now }
     ensures value { result.now ≡ filter (λ stop. nat_le stop.first day) stops.now }
 {

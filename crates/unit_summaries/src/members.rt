@@ -1,4 +1,4 @@
-ghost use Rattle.std.specs.Prelude.{◌≡◌, IfOk, length, map, option_map};
+ghost use Rattle.std.specs.Prelude.{◌≡◌, IfOk, IfSome, length, map, option_map};
 ghost use Rattle.list_words.specs.Order.{Ascends};
 ghost use Rattle.fact_kinds.specs.Facts.{goes_first};
 ghost use Rattle.fact_store.specs.Kept.{facts_in};
@@ -7,7 +7,7 @@ ghost use Rattle.history_laws.specs.RulyLaws.{IsEachOnce};
 ghost use Rattle.ldar_law.specs.Equipment.{equipment_of};
 ghost use Rattle.ldar_law.specs.Slices.{register_facts};
 ghost use Rattle.ldar_law.specs.Units.{components_of, known_of};
-ghost use Rattle.unit_summaries.specs.Known.{known_by};
+ghost use Rattle.unit_summaries.specs.Known.{AreInOrder, IsInOrder, known_by};
 ghost use Rattle.unit_summaries.specs.Rows.{row_of};
 ghost use Rattle.unit_summaries.specs.Says.{IsSaid};
 ghost use Rattle.unit_summaries.specs.Sound.{Are, IsRenewed};
@@ -32,6 +32,7 @@ fn member_on<'s>(
     requires said { IsSaid (facts_in store.now) number (row_of summaries.now.components number) }
     ensures value { option_map (known_by (up_to day (facts_in store.now))) result
         ≡ option_map (known_of (up_to day (facts_in store.now))) (equipment_of number (up_to day (facts_in store.now))) }
+    ensures ordered { IfSome result IsInOrder }
 {
     match summaries.component(number) {
         Some(summary) => summary.known_on(day),
@@ -56,6 +57,7 @@ pub fn known_members<'s>(
     requires renewed { IsRenewed (facts_in store.now) unit summaries.now }
     ensures value { IfOk result (λ known. map (known_by (up_to day (facts_in store.now))) known.items
         ≡ components_of unit (up_to day (facts_in store.now))) }
+    ensures ordered { IfOk result (λ known. AreInOrder known.items) }
 {
     let mut known = Vec::new(alloc);
     for number in register.members(unit) {

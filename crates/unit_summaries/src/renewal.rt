@@ -1,4 +1,4 @@
-ghost use Rattle.std.specs.Prelude.{◌≡◌, ℕ, ◌+◌, ◌≤◌, true, List, Some, IfOk, OnOk, length};
+ghost use Rattle.std.specs.Prelude.{◌≡◌, ℕ, ◌+◌, ◌≤◌, true, List, Some, IfOk, OnOk, length, Contains};
 ghost use Rattle.std.specs.List.{AllByRecursion};
 ghost use Rattle.list_words.specs.Order.{Ascends};
 ghost use Rattle.fact_kinds.specs.Facts.{Entry, goes_first};
@@ -8,13 +8,16 @@ ghost use Rattle.ldar_law.specs.declared.equipment.Equipment.{Equipment as SomeE
 ghost use Rattle.ldar_law.specs.Equipment.{equipment_of, members_of};
 ghost use Rattle.ldar_law.specs.Slices.{facts_of_component, facts_of_unit, register_facts};
 ghost use Rattle.unit_summaries.specs.Cost.{AreReady, AreTouched, IsPool, UsesOnly, cost_left, members_cost, own_cost, unit_cost};
-ghost use Rattle.unit_summaries.specs.Rows.{RenewsRows, is_fresh};
+ghost use Rattle.unit_summaries.specs.Kept.{AreCounted, IsShown};
+ghost use Rattle.unit_summaries.specs.Rows.{RenewsRows, Rows, is_fresh};
 ghost use Rattle.unit_summaries.specs.Says.{Judges, Says, SaysUnit};
 
 use crate::entries::{classes_of, elections_of, entered_for};
 use crate::events::events_of_component;
 use crate::instruments::{Instruments, none_ready};
+use crate::kept::{DayTallies, drop_kept};
 use crate::reads::Lists;
+use crate::recount::recount;
 use crate::summary::{Summary, UnitSummary};
 use crate::table::Table;
 use component_register::Register;
@@ -75,20 +78,29 @@ pub fn unit_summary_of<L: Ledger>(
     })
 }
 
-/// Makes the summary of a component up to date if it is not. After `Memory` it is as it was.
+/// Makes the summary of a component up to date if it is not, and counts the component anew in what is kept of its process unit. After
+/// `Memory` the summary is as it was.
 pub fn renew_component<L: Ledger>(
     table: &mut Table<Summary>,
+    kept: &mut Vec<DayTallies>,
+    units: &Table<UnitSummary>,
     ready: &mut Instruments,
     lists: &Lists<'_>,
+    unit: u8,
     number: u16,
     item: &Equipment,
     steps: &mut Steps<L>,
 ) -> Result<(), Memory>
     requires ordered { Ascends goes_first (facts_in lists.now.store.now) }
+    requires once { IsEachOnce (facts_in lists.now.store.now) }
     requires ready { AreReady ready.old.items (facts_in lists.now.store.now) }
     requires entered { equipment_of number (facts_in lists.now.store.now) ≡ Some item.now }
     requires named { item.now.component ≡ number }
+    requires held { Contains (members_of unit (facts_in lists.now.store.now)) number }
+    requires shown { IsShown unit units.now }
+    requires kept { AreCounted (facts_in lists.now.store.now) table.old units.now kept.old.items }
     ensures value { RenewsRows (Says (facts_in lists.now.store.now)) table.old table.new }
+    ensures kept { AreCounted (facts_in lists.now.store.now) table.new units.now kept.new.items }
     ensures fresh { OnOk result (is_fresh table.new number ≡ true) }
     ensures ready { OnOk result (AreReady ready.new.items (facts_in lists.now.store.now)) }
     ensures counted { (pool : List ℕ) → IsPool pool number table.old (facts_in lists.now.store.now)
@@ -104,13 +116,16 @@ pub fn renew_component<L: Ledger>(
     }
     table.make_room(number)?;
     let summary = summary_of(ready, lists, item, steps)?;
+    recount(kept, lists, table, units, unit, number, &summary);
     table.put(number, summary);
     Ok(())
 }
 
-/// Makes the summary of a process unit up to date if it is not. After `Memory` it is as it was.
+/// Makes the summary of a process unit up to date if it is not, and drops what is kept of the unit then. After `Memory` the summary is as
+/// it was.
 pub fn renew_unit<L: Ledger>(
     table: &mut Table<UnitSummary>,
+    kept: &mut Vec<DayTallies>,
     lists: &Lists<'_>,
     unit: u8,
     steps: &mut Steps<L>,
@@ -118,6 +133,8 @@ pub fn renew_unit<L: Ledger>(
     requires ordered { Ascends goes_first (facts_in lists.now.store.now) }
     ensures value { RenewsRows (SaysUnit (facts_in lists.now.store.now)) table.old table.new }
     ensures fresh { OnOk result (is_fresh table.new unit ≡ true) }
+    ensures kept { (components : Rows Summary) → AreCounted (facts_in lists.now.store.now) components table.old kept.old.items
+        → AreCounted (facts_in lists.now.store.now) components table.new kept.new.items }
     ensures counted { steps.new ≤ steps.old + unit_cost (facts_in lists.now.store.now) table.old unit }
 {
     if table.is_fresh(u16::from(unit)) {
@@ -125,6 +142,7 @@ pub fn renew_unit<L: Ledger>(
     }
     table.make_room(u16::from(unit))?;
     let summary = unit_summary_of(lists, unit, steps)?;
+    drop_kept(kept, unit);
     table.put(u16::from(unit), summary);
     Ok(())
 }
@@ -132,17 +150,25 @@ pub fn renew_unit<L: Ledger>(
 /// Makes the summary of a component of the register up to date if it is not. After `Memory` it is as it was.
 fn renew_member<L: Ledger>(
     table: &mut Table<Summary>,
+    kept: &mut Vec<DayTallies>,
+    units: &Table<UnitSummary>,
     ready: &mut Instruments,
     lists: &Lists<'_>,
     register: &Register,
+    unit: u8,
     number: u16,
     steps: &mut Steps<L>,
 ) -> Result<(), Memory>
     requires ordered { Ascends goes_first (facts_in lists.now.store.now) }
+    requires once { IsEachOnce (facts_in lists.now.store.now) }
     requires register { facts_in register.now ≡ register_facts (facts_in lists.now.store.now) }
     requires ready { AreReady ready.old.items (facts_in lists.now.store.now) }
     requires member { (item : SomeEquipment) × (equipment_of number (facts_in lists.now.store.now) ≡ Some item) × (item.component ≡ number) }
+    requires held { Contains (members_of unit (facts_in lists.now.store.now)) number }
+    requires shown { IsShown unit units.now }
+    requires kept { AreCounted (facts_in lists.now.store.now) table.old units.now kept.old.items }
     ensures value { RenewsRows (Says (facts_in lists.now.store.now)) table.old table.new }
+    ensures kept { AreCounted (facts_in lists.now.store.now) table.new units.now kept.new.items }
     ensures fresh { OnOk result (is_fresh table.new number ≡ true) }
     ensures ready { OnOk result (AreReady ready.new.items (facts_in lists.now.store.now)) }
     ensures counted { (pool : List ℕ) → IsPool pool number table.old (facts_in lists.now.store.now)
@@ -154,7 +180,7 @@ fn renew_member<L: Ledger>(
         + cost_left (facts_in lists.now.store.now) pool ready.old.items) }
 {
     match register.component(number) {
-        Some(item) => renew_component(table, ready, lists, number, &item, steps),
+        Some(item) => renew_component(table, kept, units, ready, lists, unit, number, &item, steps),
         None => Ok(()),
     }
 }
@@ -162,6 +188,8 @@ fn renew_member<L: Ledger>(
 /// Makes the summaries of the components of a process unit up to date. After `Memory` those made so far are.
 pub fn renew_members<L: Ledger>(
     table: &mut Table<Summary>,
+    kept: &mut Vec<DayTallies>,
+    units: &Table<UnitSummary>,
     lists: &Lists<'_>,
     register: &Register,
     unit: u8,
@@ -170,14 +198,19 @@ pub fn renew_members<L: Ledger>(
     requires ordered { Ascends goes_first (facts_in lists.now.store.now) }
     requires register { facts_in register.now ≡ register_facts (facts_in lists.now.store.now) }
     requires once { IsEachOnce (facts_in lists.now.store.now) }
+    requires shown { IsShown unit units.now }
+    requires kept { AreCounted (facts_in lists.now.store.now) table.old units.now kept.old.items }
     ensures value { RenewsRows (Says (facts_in lists.now.store.now)) table.old table.new }
+    ensures kept { AreCounted (facts_in lists.now.store.now) table.new units.now kept.new.items }
     ensures fresh { OnOk result (AllByRecursion (λ n. is_fresh table.new n ≡ true) (members_of unit (facts_in lists.now.store.now))) }
     ensures counted { (news : List Entry) → AreTouched (facts_in lists.now.store.now) news unit table.old
         → steps.new ≤ steps.old + members_cost (facts_in lists.now.store.now) news unit }
 {
     let mut ready = none_ready(lists.alloc);
     for number in register.members(unit) {
-        renew_member(table, &mut ready, lists, register, *number, steps)?;
+        renew_member(
+            table, kept, units, &mut ready, lists, register, unit, *number, steps,
+        )?;
     }
     Ok(())
 }

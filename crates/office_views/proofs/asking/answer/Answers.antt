@@ -7,9 +7,9 @@ use Rattle.ldar_law.specs.Reports.{half_month, has_half_begun, has_quarter_begun
 use Rattle.ldar_law.specs.Shown.{view_day}
 use Rattle.ldar_law.specs.Shown as law
 use Rattle.ldar_law.specs.Texts.{delays_text, due_text, route_text, tags_text}
-use Rattle.ldar_law.specs.Units.{delays_of_unit, duties_of_unit, routes_of_unit, tags_of_unit}
+use Rattle.ldar_law.specs.Units.{components_of, delays_of_unit, duties_of_unit, routes_of_unit, tags_of_unit, tallies_to}
 use Rattle.office_views.specs.Answers.{half_text_of, in_text, Shows}
-use Rattle.office_views.specs.Asked.{lacked, IsInCalendar}
+use Rattle.office_views.specs.Asked.{AreTalliesOf, lacked, IsInCalendar}
 use Rattle.office_views.proofs.AskedLemmas.{from_one, half_begun, quarter_begun, shows_first, shows_second, some_stops}
 use Rattle.office_views.specs.Sources.{facts_from}
 use Rattle.office_views.proofs.AskedLemmas.{text_shows, unit_is_shown, unit_reply}
@@ -25,6 +25,15 @@ quarter_text-requires-clause-quarter c =
     from_one c.in-Percent.quarter _
     (subst (λ r. lacked r entry ≡ None → has_quarter_begun entry.startup c.in-Percent.quarter (view_day r) ≡ true) (sym c.in-Percent.is)
     (quarter_begun entry.startup c.in-Percent.quarter _) c.requires.whole.nothing_lacked)
+
+pub quarter_text-requires-clause-tallies : goal.quarter_text-requires-clause-tallies
+quarter_text-requires-clause-tallies c =
+    let entry = c.args.entry.now in
+    let facts = facts_from c.args.source.now in
+    let tallies = c.args.tallies.now in
+    subst (λ day. tallies ≡ tallies_to entry.startup day (components_of entry.unit (up_to day facts)) c.in-Percent.quarter)
+    (sym (subst (λ r. c.args.source.now.day ≡ view_day r) c.in-Percent.is c.requires.day))
+    (subst (λ r. AreTalliesOf r entry (up_to (view_day r) facts) tallies) c.in-Percent.is c.requires.tallies)
 
 pub half_text-requires-clause-begun : goal.half_text-requires-clause-begun
 half_text-requires-clause-begun c =

@@ -2,8 +2,8 @@ use Rattle.std.proofs.Common.{◌++◌, sym, ap, ◌∙◌, arith}
 use Rattle.std.proofs.lemmas.List.{append-nil, take_all}
 use Rattle.ldar_law.specs.Duties.{duties_of}
 use Rattle.ldar_law.specs.Units.{due_list}
-use Rattle.office_views.specs.Components.{IsInOrder, all_in_law}
-use Rattle.office_views.proofs.ListLemmas.{all_item}
+use Rattle.unit_summaries.specs.Known.{IsInOrder, all_in_law}
+use Rattle.unit_summaries.proofs.ListLemmas.{all_item}
 use Rattle.office_views.proofs.UnitLemmas.{due_list-append, list_more}
 use Rattle.office_views.proofs.due.duties_at.Goals as goal
 

@@ -2,7 +2,7 @@ use Rattle.std.proofs.Common.{◌≡◌, ap, ◌∙◌}
 use Rattle.std.proofs.lemmas.Result.{IfOk-weaker}
 use Rattle.ldar_law.specs.Equipment.{elections_of}
 use Rattle.ldar_law.specs.Units.{due_list, duties_by, duties_of_unit, skipped_on}
-use Rattle.office_views.specs.Components.{all_in_law}
+use Rattle.unit_summaries.specs.Known.{all_in_law}
 use Rattle.office_views.specs.Sources.{facts_by}
 use Rattle.office_views.proofs.due.duties_of_unit.Goals as goal
 

@@ -2,7 +2,7 @@ use Rattle.std.proofs.Common.{◌≡◌, ◌-◌, length, sym, ◌∙◌, ap, eq
 use Rattle.std.proofs.lemmas.Result.{IfOk-weaker}
 use Rattle.ldar_law.specs.Skips.{skipped_to}
 use Rattle.ldar_law.specs.Units as law
-use Rattle.office_views.specs.Components.{all_in_law}
+use Rattle.unit_summaries.specs.Known.{all_in_law}
 use Rattle.office_views.proofs.SkipLemmas.{counts_not_asked}
 use Rattle.office_views.proofs.due.tallies_asked.Goals as goal
 

@@ -5,7 +5,7 @@ use Rattle.ldar_law.specs.declared.election.ElectionEntry.{ElectionEntry}
 use Rattle.unit_summaries.proofs.KnownLemmas.{elections_ascend}
 use Rattle.unit_summaries.proofs.ReadLemmas.{elections_in_order}
 use Rattle.office_views.specs.Sources.{facts_by, facts_from}
-use Rattle.office_views.proofs.UnitLemmas.{front_ascends}
+use Rattle.unit_summaries.proofs.UnitLemmas.{front_ascends}
 use Rattle.office_views.proofs.members.elections_on.Goals as goal
 
 pub elections_on-requires : goal.elections_on-requires

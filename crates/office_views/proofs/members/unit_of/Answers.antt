@@ -1,6 +1,7 @@
 use Rattle.fact_store.specs.Kept.{facts_in}
 use Rattle.office_views.specs.Sources.{facts_by, facts_from}
-use Rattle.office_views.proofs.UnitLemmas.{components_fit, front_ascends, front_once, known_few, known_in_law, known_in_order}
+use Rattle.unit_summaries.proofs.UnitLemmas.{front_once, known_few, known_in_law}
+use Rattle.office_views.proofs.UnitLemmas.{components_fit}
 use Rattle.office_views.proofs.members.unit_of.Goals as goal
 
 pub returns : goal.returns
@@ -18,6 +19,6 @@ returns c =
         elections = c.elections_on.ensures.value;
         components = known_in_law unit facts known are c.stops_on.result.now c.stops_on.ensures.value (front_once source.day all ready.kept.once);
         few = known_few unit facts known are (components_fit source.day unit all (facts_in source.register.now) ready.ordered ready.kept);
-        ordered = known_in_order unit facts known are (front_ascends source.day all ready.ordered);
+        ordered = c.in_ok-components.ensures.ordered;
       };
     }

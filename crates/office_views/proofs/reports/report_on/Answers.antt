@@ -3,7 +3,7 @@ use Rattle.fact_store.specs.Kept.{facts_in}
 use Rattle.ldar_law.specs.Reports as reports
 use Rattle.ldar_law.specs.Shown.{sheet_of}
 use Rattle.semiannual_report.specs.Columns.{AreOfComponents}
-use Rattle.office_views.specs.Components.{all_in_law}
+use Rattle.unit_summaries.specs.Known.{all_in_law}
 use Rattle.office_views.specs.Sources.{facts_from}
 use Rattle.office_views.proofs.UnitLemmas.{sheets_of_unit_are_distinct}
 use Rattle.office_views.proofs.reports.report_on.Goals as goal

@@ -1,7 +1,8 @@
 use Rattle.std.proofs.Common.{[], ◌∷◌, ◌++◌, map, ap, ◌∙◌, arith}
 use Rattle.std.proofs.lemmas.List.{map-append, take_all}
 use Rattle.ldar_law.specs.Shown.{sheet_of}
-use Rattle.office_views.specs.Components.{all_in_law}
+use Rattle.unit_summaries.specs.Known.{IsInOrder, all_in_law}
+use Rattle.unit_summaries.proofs.ListLemmas.{all_item}
 use Rattle.office_views.proofs.UnitLemmas.{list_more}
 use Rattle.office_views.proofs.sheets.sheets_of.Goals as goal
 
@@ -19,4 +20,12 @@ returns c =
     let l = c.loop-component in
     record {
       value = l.invariant ∙ ap (λ cs. map sheet_of (all_in_law a.stops.now cs)) (take_all l.component-index a.components.now (omega arith));
+    }
+
+pub sheet_of-requires : goal.sheet_of-requires
+sheet_of-requires c =
+    let a = c.args in
+    record {
+      ordered = all_item IsInOrder a.components.now c.loop-component.component-index c.component-item.result c.requires.ordered c.loop-component-test.true
+          c.component-item.is;
     }

@@ -1,6 +1,6 @@
 use Rattle.std.proofs.Common.{◌≡◌, take, map}
 use Rattle.ldar_law.specs.Shown as shown
-use Rattle.office_views.specs.Components.{all_in_law}
+use Rattle.unit_summaries.specs.Known.{all_in_law}
 use Rattle.office_views.proofs.sheets.sheets_of.Given as goal
 
 abbrev pub invariant-loop-component : goal.invariant-loop-component

@@ -1,7 +1,8 @@
 use Rattle.std.proofs.Common.{ap, ◌∙◌, arith}
 use Rattle.std.proofs.lemmas.List.{take_all}
 use Rattle.ldar_law.specs.Units.{tag_list}
-use Rattle.office_views.specs.Components.{all_in_law}
+use Rattle.unit_summaries.specs.Known.{IsInOrder, all_in_law}
+use Rattle.unit_summaries.proofs.ListLemmas.{all_item}
 use Rattle.office_views.proofs.UnitLemmas.{list_more, tag_list-append}
 use Rattle.office_views.proofs.tag_lists.tags_shown.Goals as goal
 
@@ -18,4 +19,12 @@ returns c =
     let l = c.loop-component in
     record {
       value = l.invariant ∙ ap (λ cs. tag_list a.day (all_in_law a.stops.now cs)) (take_all l.component-index a.components.now (omega arith));
+    }
+
+pub add_tags-requires : goal.add_tags-requires
+add_tags-requires c =
+    let a = c.args in
+    record {
+      ordered = all_item IsInOrder a.components.now c.loop-component.component-index c.component-item.result c.requires.ordered c.loop-component-test.true
+          c.component-item.is;
     }

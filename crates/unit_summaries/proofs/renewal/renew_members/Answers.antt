@@ -26,6 +26,16 @@ renew_member-requires-clause-member g c =
     (subst (λ ms. Contains ms n) are (Contains-get_or members i 0 c.loop-number-test.true)) in
     (stands.0, stands.1, stands.2)
 
+pub renew_member-requires-clause-held : goal.renew_member-requires-clause-held
+renew_member-requires-clause-held g c =
+    let facts = facts_in c.args.lists.now.store.now in
+    let members = c.members-number-items.result.now in
+    let i = c.loop-number.number-index in
+    let n = get_or members i 0 in
+    let are : members ≡ members_of c.args.unit facts =
+    c.members-number-items.ensures.value ∙ ap (members_of c.args.unit) c.requires.register ∙ (register_facts_suffice c.args.unit facts).1.members in
+    subst (λ ms. Contains ms n) are (Contains-get_or members i 0 c.loop-number-test.true)
+
 pub returns-in_err-renew_member-clause-value : goal.returns-in_err-renew_member-clause-value
 returns-in_err-renew_member-clause-value g c =
     renews_then (Says (facts_in c.args.lists.now.store.now)) c.args.table.now c.loop-number.table c.renew_member.new.table
@@ -67,6 +77,7 @@ loop-number-preserved g c =
           (all_weaker (λ m. is_fresh l.table m ≡ true) (λ m. is_fresh c.renew_member.new.table m ≡ true) c.renew_member.ensures.value.fresh
           (take i members) l.invariant.fresh)
           c.in_ok-renew_member.ensures.fresh;
+      kept = c.renew_member.ensures.kept;
       ready = c.in_ok-renew_member.ensures.ready;
       counted = λ news touch.
           omega (

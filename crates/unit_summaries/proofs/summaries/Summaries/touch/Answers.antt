@@ -16,11 +16,12 @@ returns-clause-sound g c = λ history came differ are.
     let inside = c.self.inside in
     let names = c.make_stale_by_names.ensures in
     let read = c.make_stale_by_readings.ensures.value in
-    let old : Sums = record { components = inside.components; units = inside.units; answered = inside.answered.items } in
+    let old : Sums = record { components = inside.components; units = inside.units; answered = inside.answered.items; kept = inside.kept.items } in
     let new : Sums = record {
       components = c.make_stale_by_names.new.components;
       units = c.make_stale_by_names.new.units;
       answered = inside.answered.items;
+      kept = inside.kept.items;
     } in
     let component_named : (n : ℕ) → list_any (λ fact. is_numbered (component_of fact.body) n) c.as_slice.result.now
     ≡ list_any (is_of_component n) (entries_of batch) =
@@ -37,4 +38,4 @@ returns-clause-sound g c = λ history came differ are.
     ∙ ap (λ b. (is_fresh inside.components n && not (is_judged_anew (take listed arrived) (entries_of batch) n)) && not b) (component_named n))
     (λ u. names.units.row u)
     (λ u. names.units.fresh u ∙ ap (λ b. is_fresh inside.units u && not b) (unit_named u))
-    (λ u. refl)
+    (λ u. refl) refl

@@ -1,8 +1,0 @@
-use Rattle.std.proofs.Common.{take}
-use Rattle.office_views.specs.Components.{all_in_law}
-use Rattle.office_views.specs.Tallied.{AreTallies}
-use Rattle.office_views.proofs.tallies.tallies_to.Given as goal
-
-abbrev pub invariant-loop-component : goal.invariant-loop-component
-invariant-loop-component l =
-    AreTallies l.startup l.fn.day (all_in_law l.stops (take l.component-index l.components)) l.quarter l.tallies.items
