@@ -17,7 +17,7 @@ mod summaries;
 mod summary;
 mod table;
 
-pub use known::KnownOn;
+pub use known::{KnownOn, if_begun};
 pub use members::known_members;
 pub use summaries::Summaries;
 pub use summary::{Summary, UnitSummary};
