@@ -1,14 +1,16 @@
-ghost use Rattle.std.specs.Prelude.{◌≡◌, ◌↔◌, ◌+◌, ◌<◌, ◌≤◌, List, IsTrue, Some, [], ◌++◌, length, take, drop, map, IfOk, OnOk, IfSome, IsNone};
+ghost use Rattle.std.specs.Prelude.{◌≡◌, ◌↔◌, ◌+◌, ◌<◌, ◌≤◌, List, IsTrue, is_some, Some, [], ◌++◌, length, take, drop, map, IfOk, OnOk, IfSome, IsNone};
 ghost use Rattle.fact_kinds.specs.declared.batch.Batch.{Batch as FactBatch};
 ghost use Rattle.fact_kinds.specs.declared.limits.TheConstants.{MOST_FACTS};
-ghost use Rattle.fact_kinds.specs.Facts.{facts_of, facts_to};
+ghost use Rattle.fact_kinds.specs.Facts.{facts_of, facts_to, is_earlier};
 ghost use Rattle.fact_kinds.specs.Identity.{identity_of};
 ghost use Rattle.ldar_journal.specs.Image.{IsKept};
+ghost use Rattle.ldar_law.specs.Equipment.{equipment_of, unit_entry_of};
 ghost use Rattle.ldar_law.specs.Machine.{batch_at, IsNew};
 ghost use Rattle.ldar_law.specs.Shown as law;
 ghost use Rattle.ldar_law.specs.Slices.{register_facts};
 ghost use Rattle.ldar_law.specs.Units.{history_of_component};
 ghost use Rattle.ldar_law.specs.Verdicts.{is_ruly, verdict_on};
+ghost use Rattle.list_words.specs.Order.{Ascends};
 ghost use Rattle.office_book.specs.Archive.{IsKeptAt, MayCome};
 ghost use Rattle.office_views.specs.Answers.{report_asked, IsShown, IsView, Tells};
 ghost use Rattle.office_views.specs.Totals.{totals_asked};
@@ -20,7 +22,7 @@ use batch_rules::verdict;
 use fact_kinds::Batch;
 use fact_store::Steps;
 use ldar_days::Day;
-use ldar_law::{History, Report, Request, Verdict};
+use ldar_law::{Equipment, History, Report, Request, Verdict};
 use office_views::{
     AskError, Shown, Totals, Views, ask_views, events_of_views, report_views, total_views,
 };
@@ -146,9 +148,24 @@ impl Archive {
         total_views::<Brand>(&mut self.views, unit, day, Blank::new(1))
     }
 
-    /// A component with its judged events as of a day, from the kept batches, or `None` if no fact has entered it by then.
+    /// Whether a process unit has started up by a day.
+    pub fn has_unit(&self, unit: u16, day: Day) -> bool
+        ensures value { result ≡ is_some (unit_entry_of unit (facts_to day self.now.adopted)) }
+    {
+        self.views.has_unit(unit, day)
+    }
+
+    /// A component as of a day, or `None` if no fact has entered it by then.
+    pub fn equipment(&self, component: u16, day: Day) -> Option<Equipment>
+        ensures value { result ≡ equipment_of component (facts_to day self.now.adopted) }
+    {
+        self.views.equipment(component, day)
+    }
+
+    /// A component with its judged events as of a day, in key order, from the kept batches, or `None` if no fact has entered it by then.
     pub fn events(&mut self, component: u16, day: Day) -> Result<Option<History>, Memory>
         ensures value { IfOk result (λ history. history ≡ history_of_component component (facts_to day self.old.adopted)) }
+        ensures ordered { IfOk result (λ history. IfSome history (λ history. Ascends (λ a b. is_earlier a.key b.key) history.events)) }
         ensures unchanged { self.new ≡ self.old }
     {
         events_of_views::<Brand>(&mut self.views, component, day, Blank::new(1))

@@ -8,6 +8,7 @@ mod book;
 mod copies;
 mod frame;
 mod group;
+mod histories;
 mod intake;
 pub mod laws;
 mod opening;

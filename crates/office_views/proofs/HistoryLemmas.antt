@@ -24,6 +24,12 @@ component_said facts arrived listed s item are renewed entered =
     are.fresh item.component (all_at (λ n. is_fresh s.components n ≡ true) (members_of item.unit facts) item.component renewed.members
     (among_from_Contains (members_of item.unit facts) item.component (components_are_members facts item.component item entered).1))
 
+-- a component by the facts up to a day, from what all facts enter
+pub equipment_on : (day number : ℕ) (facts : List Entry) (found : Option Equipment) → Ascends goes_first facts → equipment_of number facts ≡ found
+    → option_and_then (if_begun day) found ≡ equipment_of number (up_to day facts)
+equipment_on day number facts found up is =
+    sym ((components_up_to_a_day day number facts (ascending_are_in_order facts up)).equipment ∙ ap (option_and_then (if_begun day)) is)
+
 -- a component that was not entered has no history on any day
 pub no_history : (day number : ℕ) (facts : List Entry) → Ascends goes_first facts → equipment_of number facts ≡ None
     → None ≡ history_of_component number (up_to day facts)

@@ -1,8 +1,9 @@
-ghost use Rattle.std.specs.Prelude.{◌≡◌, ℕ, ◌+◌, ◌*◌, ◌<◌, ◌≤◌, ◌↔◌, Some, None, IsTrue, [], ◌∷◌, ◌++◌, length, drop, slice_get, sum_by, IfOk, OnOk, OnErr};
+ghost use Rattle.std.specs.Prelude.{◌≡◌, ℕ, ◌+◌, ◌*◌, ◌<◌, ◌≤◌, ◌↔◌, Some, None, is_some, IsTrue, [], ◌∷◌, ◌++◌, length, drop, slice_get, sum_by, IfOk, OnOk, OnErr};
 ghost use Rattle.fact_kinds.specs.Facts.{facts_of, facts_to};
 ghost use Rattle.fact_kinds.specs.declared.limits.TheConstants.{MOST_FACTS};
 ghost use Rattle.fact_store.specs.Kept.{facts_in};
 ghost use Rattle.ldar_law.specs.declared.verdict.Verdict.TheVariants.{Pass};
+ghost use Rattle.ldar_law.specs.Equipment.{equipment_of, unit_entry_of};
 ghost use Rattle.ldar_law.specs.Machine.{batch_at, IsNew};
 ghost use Rattle.history_laws.specs.MoreLaws.{with_batch};
 ghost use Rattle.ldar_law.specs.Shown as law;
@@ -26,15 +27,16 @@ use crate::intake::{make_room, put_entries, put_facts};
 use crate::reports::report_anew;
 use crate::shown::{AskError, Shown};
 use crate::totals::{Totals, totals_anew};
+use crate::unit_on::unit_on;
 use component_register::Register;
 use fact_kinds::{Batch, Memory};
 use fact_store::{Facts, Steps};
 use ldar_days::Day;
-use ldar_law::{History, Report, Request};
+use ldar_law::{Equipment, History, Report, Request};
 use std::alloc::Global;
 use std::marker::Model;
 use std::sync::ledger::{Blank, Ledger};
-use unit_summaries::Summaries;
+use unit_summaries::{Summaries, if_begun};
 
 /// The facts of the adopted batches, and what they say of each process unit on a day. In contracts it is the adopted batches in the order
 /// in which they came, the batches that have room, and for each process unit the number of facts at its last answered view.
@@ -102,6 +104,23 @@ impl Views {
         ensures in_range { result.1 ≤ MOST_FACTS }
     {
         (self.adopted as u32, self.facts as u64)
+    }
+
+    /// Whether a process unit has started up by a day.
+    pub fn has_unit(&self, unit: u16, day: Day) -> bool
+        ensures value { result ≡ is_some (unit_entry_of unit (facts_to day self.now.adopted)) }
+    {
+        unit_on(&self.register, unit, day).is_some()
+    }
+
+    /// A component as it is known on a day, or `None` if no fact has entered it by then.
+    pub fn equipment(&self, component: u16, day: Day) -> Option<Equipment>
+        ensures value { result ≡ equipment_of component (facts_to day self.now.adopted) }
+    {
+        match self.register.component(component) {
+            Some(item) => if_begun(day, item),
+            None => None,
+        }
     }
 
     /// Makes room for just these batches, in this order. After `Memory` all is as it was.

@@ -37,7 +37,7 @@ fn if_come(day: Day, other: Option<Day>) -> Option<Day>
 }
 
 /// A component as it is known on a day, if it has begun by then: a later retirement is not known.
-fn if_begun(day: Day, item: Equipment) -> Option<Equipment>
+pub fn if_begun(day: Day, item: Equipment) -> Option<Equipment>
     ensures value { result ≡ days.if_begun day item }
 {
     if day < item.begin {

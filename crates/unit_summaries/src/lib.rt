@@ -23,7 +23,7 @@ mod tags;
 mod tallies;
 
 pub use entries::add;
-pub use known::KnownOn;
+pub use known::{KnownOn, if_begun};
 pub use members::known_members;
 pub use summaries::Summaries;
 pub use summary::{Summary, UnitSummary};
