@@ -8,9 +8,10 @@ use Rattle.ldar_law.specs.declared.request.What.{What}
 use Rattle.ldar_law.specs.declared.request.What.TheVariants.{Unit as NoUnit, Quarter as NoQuarter, Half as NoHalf, Stops as NoStops}
 use Rattle.ldar_law.specs.declared.tally.Tally.{Tally}
 use Rattle.ldar_law.specs.declared.unit_entry.UnitEntry.{UnitEntry}
-use Rattle.ldar_law.specs.Equipment.{unit_entry_of}
+use Rattle.ldar_law.specs.Equipment.{elections_of, unit_entry_of}
 use Rattle.ldar_law.specs.Reports.{half_month, has_half_begun, has_quarter_begun}
-use Rattle.ldar_law.specs.Units.{components_of, tallies_to}
+use Rattle.ldar_law.specs.Skips.{skipped_to}
+use Rattle.ldar_law.specs.Units.{components_of, quarter_at, skipped_on, tallies_to}
 
 -- the number of the process unit that a view asks of
 abbrev pub view_unit : Request → ℕ
@@ -22,8 +23,16 @@ view_unit (Route unit day stops) = unit
 view_unit (Percent unit quarter day) = unit
 view_unit (ReportView unit half day) = unit
 
--- these are the counts of quarters that a view shows of a process unit, by the facts up to its day
+-- by these counts of quarters the same quarters of a process unit are skipped as by all that the facts up to the day count
+abbrev pub AreTalliesDue : UnitEntry → ℕ → List Entry → List Tally → Type 0
+AreTalliesDue entry day facts tallies =
+    skipped_to tallies (elections_of entry.unit facts) entry.startup (quarter_at entry.startup day)
+    ≡ skipped_on entry.startup day (components_of entry.unit facts) (elections_of entry.unit facts)
+
+-- these are the counts of quarters that a view needs of a process unit, by the facts up to its day
 abbrev pub AreTalliesOf : Request → UnitEntry → List Entry → List Tally → Type 0
+AreTalliesOf (Due unit day) entry facts tallies = AreTalliesDue entry day facts tallies
+AreTalliesOf (Route unit day stops) entry facts tallies = AreTalliesDue entry day facts tallies
 AreTalliesOf (Percent unit quarter day) entry facts tallies = tallies ≡ tallies_to entry.startup day (components_of entry.unit facts) quarter
 AreTalliesOf _ entry facts tallies = Unit {0}
 

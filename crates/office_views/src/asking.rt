@@ -27,7 +27,7 @@ use std::alloc::Global;
 use std::sync::ledger::Ledger;
 use unit_summaries::Summaries;
 
-/// The text of a view of a process unit that has all that the view asks. `tallies` are the counts of quarters that it shows.
+/// The text of a view of a process unit that has all that the view asks. `tallies` are the counts of quarters that it needs.
 fn answer(
     source: &Source<'_>,
     entry: &UnitEntry,
@@ -44,10 +44,10 @@ fn answer(
     ensures value { IsShown (in_text result) (law.view_of request.now (up_to (law.view_day request.now) (facts_from source.now))) }
 {
     match request {
-        Request::Due { unit, .. } => due_on(source, *unit, entry),
+        Request::Due { unit, .. } => due_on(source, *unit, entry, tallies),
         Request::Tags { unit, .. } => tags_on(source, *unit, entry),
         Request::Delays { unit, .. } => delays_on(source, *unit, entry),
-        Request::Route { unit, stops, .. } => route_on(source, *unit, entry, *stops),
+        Request::Route { unit, stops, .. } => route_on(source, *unit, entry, *stops, tallies),
         Request::Percent { quarter, .. } => quarter_text(source, entry, *quarter, tallies),
         Request::Report { half, .. } => half_text(source, entry, *half),
         Request::Sync(_) => unreachable!(),

@@ -5,6 +5,7 @@ ghost use Rattle.history_laws.specs.DayLaws.{up_to};
 ghost use Rattle.ldar_law.specs.declared.numbers.TheConstants.{LAST_FACT_DAY};
 ghost use Rattle.ldar_law.specs.Stirred.{stirred};
 ghost use Rattle.ldar_law.specs.Tags.{is_open};
+ghost use Rattle.office_views.specs.Asked.{AreTalliesDue};
 ghost use Rattle.office_views.specs.Sources.{AreReady, IsReady, facts_by};
 ghost use Rattle.office_views.specs.Totals.{totals_of_unit};
 ghost use Rattle.office_views.specs.Viewed.{KeepsNotes};
@@ -13,11 +14,12 @@ ghost use Rattle.unit_summaries.specs.Sound.{Are, is_known, news_of};
 use crate::due::duties_of_unit;
 use crate::source::Source;
 use crate::tag_lists::tags_of_unit;
+use crate::tallied::tallies_due;
 use component_register::Register;
 use fact_kinds::Memory;
 use fact_store::{FactStore, Steps};
 use ldar_days::Day;
-use ldar_law::{Tag, UnitEntry};
+use ldar_law::{Tag, Tally, UnitEntry};
 use std::alloc::Global;
 use std::sync::ledger::Ledger;
 use unit_summaries::Summaries;
@@ -41,13 +43,14 @@ fn count_open(tags: &[Tag]) -> usize
 }
 
 /// The numbers of a process unit's tags that are shown on the day, and of its duties.
-fn totals_on(source: &Source<'_>, unit: &UnitEntry) -> Result<Totals, Memory>
+fn totals_on(source: &Source<'_>, unit: &UnitEntry, tallies: &[Tally]) -> Result<Totals, Memory>
     requires ready { IsReady source.now unit.now.unit }
     requires startup { unit.now.startup ≤ LAST_FACT_DAY }
+    requires tallies { AreTalliesDue unit.now source.now.day (facts_by source.now) tallies.now }
     ensures value { IfOk result (λ totals. totals ≡ totals_of_unit unit.now source.now.day (facts_by source.now)) }
 {
     let tags = tags_of_unit(source, unit)?;
-    let duties = duties_of_unit(source, unit)?;
+    let duties = duties_of_unit(source, unit, tallies)?;
     Ok(Totals {
         tags: tags.len(),
         open_tags: count_open(&tags),
@@ -75,6 +78,7 @@ pub(crate) fn totals_anew<L: Ledger>(
     ensures counted { steps.new ≤ steps.old + stirred (facts_in store.now) (news_of store.now.arrived summaries.old unit.now.unit) unit.now.unit }
 {
     summaries.renew(store, register, unit.unit, steps)?;
+    let tallies = tallies_due(alloc, store, register, summaries, unit, day)?;
     let source = Source {
         alloc,
         store,
@@ -82,5 +86,5 @@ pub(crate) fn totals_anew<L: Ledger>(
         summaries,
         day,
     };
-    totals_on(&source, unit)
+    totals_on(&source, unit, &tallies)
 }

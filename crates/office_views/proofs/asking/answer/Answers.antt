@@ -9,7 +9,7 @@ use Rattle.ldar_law.specs.Shown as law
 use Rattle.ldar_law.specs.Texts.{delays_text, due_text, route_text, tags_text}
 use Rattle.ldar_law.specs.Units.{components_of, delays_of_unit, duties_of_unit, routes_of_unit, tags_of_unit, tallies_to}
 use Rattle.office_views.specs.Answers.{half_text_of, in_text, Shows}
-use Rattle.office_views.specs.Asked.{AreTalliesOf, lacked, IsInCalendar}
+use Rattle.office_views.specs.Asked.{AreTalliesDue, AreTalliesOf, lacked, IsInCalendar}
 use Rattle.office_views.proofs.AskedLemmas.{from_one, half_begun, quarter_begun, shows_first, shows_second, some_stops}
 use Rattle.office_views.specs.Sources.{facts_from}
 use Rattle.office_views.proofs.AskedLemmas.{text_shows, unit_is_shown, unit_reply}
@@ -25,6 +25,22 @@ quarter_text-requires-clause-quarter c =
     from_one c.in-Percent.quarter _
     (subst (λ r. lacked r entry ≡ None → has_quarter_begun entry.startup c.in-Percent.quarter (view_day r) ≡ true) (sym c.in-Percent.is)
     (quarter_begun entry.startup c.in-Percent.quarter _) c.requires.whole.nothing_lacked)
+
+pub due_on-requires-clause-tallies : goal.due_on-requires-clause-tallies
+due_on-requires-clause-tallies c =
+    let entry = c.args.entry.now in
+    let facts = facts_from c.args.source.now in
+    let tallies = c.args.tallies.now in
+    subst (λ day. AreTalliesDue entry day (up_to day facts) tallies) (sym (subst (λ r. c.args.source.now.day ≡ view_day r) c.in-Due.is c.requires.day))
+    (subst (λ r. AreTalliesOf r entry (up_to (view_day r) facts) tallies) c.in-Due.is c.requires.tallies)
+
+pub route_on-requires-clause-tallies : goal.route_on-requires-clause-tallies
+route_on-requires-clause-tallies c =
+    let entry = c.args.entry.now in
+    let facts = facts_from c.args.source.now in
+    let tallies = c.args.tallies.now in
+    subst (λ day. AreTalliesDue entry day (up_to day facts) tallies) (sym (subst (λ r. c.args.source.now.day ≡ view_day r) c.in-Route.is c.requires.day))
+    (subst (λ r. AreTalliesOf r entry (up_to (view_day r) facts) tallies) c.in-Route.is c.requires.tallies)
 
 pub quarter_text-requires-clause-tallies : goal.quarter_text-requires-clause-tallies
 quarter_text-requires-clause-tallies c =
