@@ -1,5 +1,4 @@
-ghost use Rattle.std.specs.Prelude.{◌≡◌, ◌≤◌, None};
-ghost use Rattle.disk_model.specs.Faults.{Rose};
+ghost use Rattle.std.specs.Prelude.{None};
 
 use crate::offices::{EMPTY, calibration, opened};
 use crate::services::{EIGHT, SEVEN, serve_to, source_of};
