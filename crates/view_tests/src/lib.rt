@@ -18,6 +18,8 @@ mod in_turn;
 #[cfg(test)]
 mod late_facts;
 #[cfg(test)]
+mod many_views;
+#[cfg(test)]
 mod memory;
 #[cfg(test)]
 mod orders;
