@@ -260,7 +260,8 @@ def slow(office, name, shown):
 
 
 def untaken(office, name, shown):
-    """Asks for much, and takes nothing for longer than it is waited for."""
+    """Asks for more than the buffers of the system hold, and takes nothing for longer than it is waited for."""
+    given, sent = get(VIEWS[5]) * 200_000, 0
     with socket.socket() as it:
         it.setsockopt(socket.SOL_SOCKET, socket.SO_RCVBUF, 4_096)
         it.settimeout(300)
@@ -268,11 +269,14 @@ def untaken(office, name, shown):
         it.send(get(VIEWS[4]))
         it.recv(4_096)
         it.setblocking(False)
-        try:
-            it.send(get(VIEWS[5]) * 4_000)
-        except BlockingIOError:
-            pass
-        time.sleep(SILENCE + 10)
+        until = time.monotonic() + WHOLE + 10
+        while time.monotonic() < until:
+            try:
+                sent += it.send(given[sent:sent + 65_536])
+            except BlockingIOError:
+                time.sleep(0.1)
+            except OSError:
+                break
         it.settimeout(10)
         taken = 0
         try:
@@ -280,7 +284,7 @@ def untaken(office, name, shown):
                 taken += len(piece)
         except OSError:
             pass
-        return 0 < taken < 4_000 * len(shown[5])
+        return 0 < taken < sent // len(get(VIEWS[5])) * len(shown[5])
 
 
 def garbage(office, name, shown):
