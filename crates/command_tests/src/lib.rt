@@ -20,6 +20,8 @@ mod requests;
 #[cfg(test)]
 mod runs;
 #[cfg(test)]
+mod seals;
+#[cfg(test)]
 mod stops;
 #[cfg(test)]
 mod views;

@@ -41,6 +41,7 @@ COMMAND  init                           makes an empty journal
          show route UNIT DAY STOPS      shows routes of at most STOPS components
          show percent UNIT QUARTER DAY  shows the percent leaking in a quarter
          show report UNIT HALF DAY      shows the semiannual report
+         seals UNIT DAY                 shows the sealed pumps it reads (CSV)
          file UNIT HALF DAY             files that report in JOURNAL.filed
          amended UNIT HALF FROM TO      shows what differs between two filed revisions
          check                          prints the number of batches and facts

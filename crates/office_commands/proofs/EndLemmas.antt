@@ -17,8 +17,9 @@ use Rattle.ldar_ports.specs.declared.ended.Ended.TheVariants as ends
 use Rattle.office_commands.specs.declared.status.Status.{Status}
 use Rattle.office_commands.specs.declared.status.Status.TheVariants.{Done, NotEmpty}
 use Rattle.office_commands.specs.declared.command.Question.{Question}
-use Rattle.office_commands.specs.Run.{Answers, IsAnswered, IsMade, IsNotOpened, InitEnds}
+use Rattle.office_commands.specs.Run.{Answers, AreSealsShown, IsAnswered, IsMade, IsNotOpened, InitEnds}
 use Rattle.office_commands.specs.Scene.{Streams, LeavesAlone, MayLeave, seen}
+use Rattle.office_commands.specs.SealViews.{ShowsSeals}
 use Rattle.office_commands.specs.Statuses.{HasCause, refusal_of, status_of}
 use Rattle.office_commands.proofs.ConnectionLemmas.{opens_history, opened_stays}
 
@@ -95,6 +96,19 @@ module _ {D : Type 0} (content_of : D → Option (List ℕ)) (images_of : D → 
     opened = record { opens = opens_history (content_of old) (content_of start.disk) start.frames opened; ruly = ruly };
     unread = unread;
     ends = ends;
+    alone = handed_back old new start opened leaves same;
+  }
+
+  -- .. or the pumps that a seal file names were shown
+  pub are_shown : (unit day : ℕ) (status : Status) (at at' : Streams) (old new : D) (start : Shelf D)
+      → HasFrames (content_of old) (content_of start.disk) start.frames → IsTrue (is_ruly (batches_of start.frames))
+      → LeavesOnly clock_of left_of old start.disk (images_of old) → new ≡ start.disk → ShowsSeals unit day (batches_of start.frames) status at at'
+      → AreSealsShown unit day status at at' (seen content_of images_of left_of clock_of faults_of old)
+      (seen content_of images_of left_of clock_of faults_of new)
+  are_shown unit day status at at' old new start opened ruly leaves same shows = record {
+    history = batches_of start.frames;
+    opened = record { opens = opens_history (content_of old) (content_of start.disk) start.frames opened; ruly = ruly };
+    shows = shows;
     alone = handed_back old new start opened leaves same;
   }
 

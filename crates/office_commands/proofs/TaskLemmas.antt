@@ -16,7 +16,7 @@ use Rattle.ldar_session.specs.Requests.{HasItsAnswer}
 use Rattle.ldar_session.specs.Session.{Ends as EndsRequests}
 use Rattle.office_commands.specs.declared.command.Command.{Command}
 use Rattle.office_commands.specs.declared.command.Task.{Task}
-use Rattle.office_commands.specs.declared.command.Task.TheVariants.{Dock, Drain, Import, Ask}
+use Rattle.office_commands.specs.declared.command.Task.TheVariants.{Dock, Drain, Import, Seals, Ask}
 use Rattle.office_commands.specs.declared.status.Status.{Status}
 use Rattle.office_commands.specs.Imports.{EndsImport}
 use Rattle.office_commands.specs.Run.{Ends, task_row}
@@ -24,7 +24,7 @@ use Rattle.office_commands.specs.Scene.{SeenDisk, Streams, seen}
 use Rattle.office_commands.specs.Sending.{IsSent}
 use Rattle.office_commands.specs.Tasks.{Does}
 use Rattle.office_commands.proofs.ConnectionLemmas.{run_keeps_disk, served_by}
-use Rattle.office_commands.proofs.EndLemmas.{is_answered}
+use Rattle.office_commands.proofs.EndLemmas.{are_shown, is_answered}
 
 -- words that are the command end as it does
 pub ends_for : (command other : Option Command) (status : Status) (at at' : Streams) (disk disk' : SeenDisk) → command ≡ other
@@ -62,6 +62,9 @@ module _ {D : Type 0} (content_of : D → Option (List ℕ)) (images_of : D → 
   task_ends (Import number sort) status old new start end at at' opened settled ruly entry only keeps does same stands =
       served_by content_of images_of left_of clock_of name_of faults_of only_now since_earlier IsSent
       (EndsImport sort number (at.output_faults, at'.output_faults)) old new start end status at at' opened settled ruly entry only keeps does same stands
+  task_ends (Seals unit day) status old new start end at at' opened settled ruly entry only keeps does same stands =
+      are_shown content_of images_of left_of clock_of faults_of unit day status at at' old new start opened ruly entry
+      (same ∙ ap (λ (s : Shelf D). s.disk) does.0) does.1
   task_ends (Ask question) status old new start end at at' opened settled ruly entry only keeps does same stands =
       is_answered content_of images_of left_of clock_of faults_of question status at at' old new start opened ruly entry
       (same ∙ ap (λ (s : Shelf D). s.disk) does.0) does.1 does.2
@@ -81,6 +84,7 @@ module _ {D : Type 0} (content_of : D → Option (List ℕ)) (images_of : D → 
       run_keeps_disk content_of images_of left_of clock_of name_of faults_of only_now since_earlier start end does.2.4.stretch.calls does.2.4.stretch.run
   task_keeps (Import number sort) status start end at at' does =
       run_keeps_disk content_of images_of left_of clock_of name_of faults_of only_now since_earlier start end does.4.stretch.calls does.4.stretch.run
+  task_keeps (Seals unit day) status start end at at' does = stays_keeps start end does.0
   task_keeps (Ask question) status start end at at' does = stays_keeps start end does.0
 
   -- .. and so does opening the journal, the task, and handing the disk back

@@ -11,7 +11,7 @@ use Rattle.drill_history.specs.declared.numbers.TheConstants.{GREATEST_SEED, LAR
 use Rattle.handheld_http.specs.Requests.{decimal_in}
 use Rattle.office_commands.specs.declared.command.Command.{Command}
 use Rattle.office_commands.specs.declared.command.Command.TheVariants.{Init, Amended, Drill, Mirror, Office}
-use Rattle.office_commands.specs.declared.command.Task.TheVariants.{Dock, Drain, Import, Ask}
+use Rattle.office_commands.specs.declared.command.Task.TheVariants.{Dock, Drain, Import, Seals, Ask}
 use Rattle.office_commands.specs.declared.command.Question.{Question}
 use Rattle.office_commands.specs.declared.command.Question.TheVariants.{Show, File, Check, Offer}
 use Rattle.office_commands.specs.declared.command.Sort.{Sort}
@@ -77,10 +77,19 @@ drill_of seed size = elim (counting_in GREATEST_SEED seed) [
   | Some seed ↦ elim (counting_in LARGEST_DRILL size) [ None ↦ None | Some size ↦ Some (Drill seed size) ]
 ]
 
+-- the command that shows the pumps of UNIT that a seal file names, as known on DAY
+unfoldable pub seals_of : List ℕ → List ℕ → Option Command
+seals_of unit day = elim (decimal_in 255 unit) [
+  | None ↦ None
+  | Some unit ↦ elim (day_of day) [ None ↦ None | Some day ↦ Some (Office (Seals unit day)) ]
+]
+
 -- the command with a word and two further words
 abbrev pub of_two_further : List ℕ → List ℕ → List ℕ → Option Command
 of_two_further word first second =
-    if is_word word (codes "drill") then drill_of first second else importing word first second
+    if is_word word (codes "drill") then drill_of first second
+    else if is_word word (codes "seals") then seals_of first second
+    else importing word first second
 
 -- a view of a process unit on a day, from its name
 abbrev pub view_named : List ℕ → ℕ → ℕ → Option Request

@@ -7,6 +7,7 @@ pub mod Mirrors
 pub mod Offering
 pub mod Run
 pub mod Scene
+pub mod SealViews
 pub mod Sending
 pub mod Statuses
 pub mod Tasks

@@ -22,7 +22,7 @@ use Rattle.office_commands.specs.declared.command.Command.{Command}
 use Rattle.office_commands.specs.declared.command.Command.TheVariants.{Init, Amended, Drill, Mirror, Office}
 use Rattle.office_commands.specs.declared.command.RevisionPair.{RevisionPair}
 use Rattle.office_commands.specs.declared.command.Task.{Task}
-use Rattle.office_commands.specs.declared.command.Task.TheVariants.{Dock, Drain, Import, Ask}
+use Rattle.office_commands.specs.declared.command.Task.TheVariants.{Dock, Drain, Import, Seals, Ask}
 use Rattle.office_commands.specs.declared.command.Question.{Question}
 use Rattle.office_commands.specs.declared.command.Question.TheVariants.{Show, File, Check, Offer}
 use Rattle.office_commands.specs.declared.status.Status.{Status}
@@ -34,6 +34,7 @@ use Rattle.office_commands.specs.Filing.{AmendedEnds, AskedEnds}
 use Rattle.office_commands.specs.Mirrors.{IsMirrored}
 use Rattle.office_commands.specs.Offering.{OfferEnds}
 use Rattle.office_commands.specs.Scene.{Streams, SeenDisk, IsSilent, LeavesAlone, MayLeave}
+use Rattle.office_commands.specs.SealViews.{ShowsSeals}
 use Rattle.office_commands.specs.Statuses.{TextEnds, refusal_of, status_of}
 
 -- ---- the journal
@@ -165,6 +166,13 @@ pub record IsAnswered (question : Question) (status : Status) (old new : Streams
   pub ends : Answers question history status old.filed new.filed old.pieces new.pieces
   pub alone : LeavesAlone disk disk'
 
+-- the pumps that a seal file names were shown by the history of the journal, and the journal is unchanged
+pub record AreSealsShown (unit day : ℕ) (status : Status) (old new : Streams) (disk disk' : SeenDisk) : Type 0 where
+  pub history : List Batch
+  pub opened : IsOpened disk.content history
+  pub shows : ShowsSeals unit day history status old new
+  pub alone : LeavesAlone disk disk'
+
 -- the journal was not opened, and nothing else was changed
 pub record IsRefused (status : Status) (old new : Streams) (disk disk' : SeenDisk) : Type 0 where
   pub silent : IsSilent old new
@@ -192,6 +200,11 @@ task_row (Import number sort) = record {
   touches = record office_only { input = true };
   in_range = number ≤ LAST_NUMBER;
   ends = IsImported sort number;
+}
+task_row (Seals unit day) = record {
+  touches = record office_only { input = true };
+  in_range = Unit {0};
+  ends = AreSealsShown unit day;
 }
 task_row (Ask question) = record {
   touches = (question_row question).touches;

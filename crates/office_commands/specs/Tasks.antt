@@ -11,11 +11,12 @@ use Rattle.ldar_session.specs.Session.{Ends as EndsRequests}
 use Rattle.ldar_session.specs.Served.{Served, Talk, clock_beside, items_of}
 use Rattle.ldar_ports.specs.declared.ended.Ended.{Ended}
 use Rattle.office_commands.specs.declared.command.Task.{Task}
-use Rattle.office_commands.specs.declared.command.Task.TheVariants.{Dock, Drain, Import, Ask}
+use Rattle.office_commands.specs.declared.command.Task.TheVariants.{Dock, Drain, Import, Seals, Ask}
 use Rattle.office_commands.specs.declared.status.Status.{Status}
 use Rattle.office_commands.specs.Imports.{EndsImport}
 use Rattle.office_commands.specs.Run.{Answers}
 use Rattle.office_commands.specs.Scene.{Streams}
+use Rattle.office_commands.specs.SealViews.{ShowsSeals}
 use Rattle.office_commands.specs.Sending.{IsSent}
 use Rattle.office_commands.specs.Statuses.{status_of}
 
@@ -27,7 +28,8 @@ Talks led clock_of IsItem Closes ended office office' old new =
     × Talk IsItem led (clock_beside clock_of (λ office. office.disk)) office office' old.pieces new.pieces served unsaid
     × Closes ended served rest new.unread unsaid
 
--- what a task does: it serves items, or it leaves the office as it was, reads nothing, and answers a question of its history
+-- what a task does: it serves items; or it leaves the office as it was, and shows the pumps that a seal file names, or reads nothing and answers
+-- a question of its history
 abbrev pub Does : {D : Type 0} (led : Shelf D → List Call → Shelf D → Type 0) (clock_of : D → ℕ) → Task → Status → (office office' : Shelf D) → Streams → Streams → Type 0
 Does led clock_of Dock status office office' old new =
     (ended : Ended) × (status ≡ status_of ended) × Talks led clock_of IsBatch EndsBatches ended office office' old new
@@ -35,6 +37,7 @@ Does led clock_of Drain status office office' old new =
     (ended : Ended) × (status ≡ status_of ended) × Talks led clock_of HasItsAnswer EndsRequests ended office office' old new
 Does led clock_of (Import number sort) status office office' old new =
     Talks led clock_of IsSent (EndsImport sort number (old.output_faults, new.output_faults)) status office office' old new
+Does led clock_of (Seals unit day) status office office' old new = (office' ≡ office) × ShowsSeals unit day (batches_of office.frames) status old new
 Does led clock_of (Ask question) status office office' old new =
     (office' ≡ office) × (new.unread ≡ old.unread)
     × Answers question (batches_of office.frames) status old.filed new.filed old.pieces new.pieces

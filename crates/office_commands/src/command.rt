@@ -57,6 +57,8 @@ pub enum Task {
     Drain,
     /// Keep a file of the register, as batches that are numbered from `number`.
     Import { number: u32, sort: Sort },
+    /// Show the pumps with dual mechanical seals that a seal file names. The office stays as it was.
+    Seals { unit: u16, day: Day },
     /// Answer a question. The office stays as it was.
     Ask(Question),
 }
@@ -188,7 +190,21 @@ fn of_two_further(word: &str, first: &str, second: &str) -> Option<Command>
     if word == "drill" {
         return drill_of(first, second);
     }
+    if word == "seals" {
+        return seals_of(first, second);
+    }
     importing(word, first, second)
+}
+
+/// The command that shows the pumps of UNIT that a seal file names, as known on DAY.
+#[tactic(auto, unfolding(crate::specs::Command::seals_of))]
+fn seals_of(unit: &str, day: &str) -> Option<Command>
+    ensures value { result ≡ spec.seals_of unit.now day.now }
+    ensures range { IfSome result IsInRange }
+{
+    let unit = number_in(255, unit)?;
+    let day = Day::read(day.as_bytes())?;
+    Some(Command::Office(Task::Seals { unit, day }))
 }
 
 /// The command that runs the drill N of SIZE.

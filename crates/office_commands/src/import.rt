@@ -51,8 +51,8 @@ pub fn import<D: Disk, S: Source, K: Sink>(
     }
 }
 
-/// The whole input, if it is short enough for a file of the register.
-fn text_of<S: Source>(alloc: Global, input: &mut S) -> Result<Window, Status>
+/// The whole input, if it is short enough for a file of the register or a seal file.
+pub fn text_of<S: Source>(alloc: Global, input: &mut S) -> Result<Window, Status>
     ensures taken { (text : List ℕ) × Takes (S.left input.old) text (S.left input.new)
         × IfOk result (λ window. (window.bytes ≡ text) × IsRead text (S.left input.new))
         × IfErr result (λ status. ReadsNone status text) }

@@ -15,6 +15,7 @@ mod notes;
 mod offers;
 mod program;
 mod reports;
+mod seals;
 mod status;
 mod tasks;
 mod views;

@@ -36,8 +36,8 @@ pub fn run<S: Source, D: Disk, K: Sink, E: Sink, F: Filing>(
 ) -> u8
     // What the command reads, writes and leaves, by its status, which is noted; or memory ran out while the words were read. A
     // status that reports a fault is reached only where the count of that object rose. For `dock`, `drain` and `import` see
-    // `IsDocked`, `IsDrained` and `IsImported`; for `show`, `file`, `check` and `offer` `Answers`; for `amended` `IsCompared`; for
-    // `drill` `IsDrilled`; for `mirror` `IsMirrored`.
+    // `IsDocked`, `IsDrained` and `IsImported`; for `seals` `AreSealsShown`; for `show`, `file`, `check` and `offer` `Answers`; for
+    // `amended` `IsCompared`; for `drill` `IsDrilled`; for `mirror` `IsMirrored`.
     ensures ends { (status : Status)
         × IsNoted status (E.pieces notes.old) (E.pieces notes.new) (E.faults notes.old) (E.faults notes.new) result
         × HasCause status (Rose (S.faults input.old) (S.faults input.new)) (Rose (K.faults output.old) (K.faults output.new))

@@ -28,11 +28,11 @@ pub enum Status {
     CutShort { got: u64 },
     /// No batch continues with the byte at this place of the input, from 0.
     BadInput { at: u64 },
-    /// The input is longer than a file that can be imported.
+    /// The input is longer than a file that can be read.
     TooLarge,
     /// A journal was to be created on a disk that is not empty.
     NotEmpty,
-    /// The first bad row of the imported file, from 1; or 0 if the file is not a document of its form.
+    /// The first bad row of the file that was read, from 1; or 0 if the file is not a document of its form.
     BadRow { at: u32 },
     /// A batch was sent whose identity is kept at this position with other content.
     Conflict { position: u32 },

@@ -11,6 +11,7 @@ use crate::command::{Question, Task};
 use crate::import::import;
 use crate::offers::put_offers;
 use crate::reports::file;
+use crate::seals::seals;
 use crate::status::{Status, status_of};
 use crate::views::{check, show};
 use disk_model::Disk;
@@ -47,6 +48,7 @@ pub fn do_task<D: Disk, S: Source, K: Sink, F: Filing>(
         Task::Dock => status_of(dock(alloc, book, input, output)),
         Task::Drain => status_of(session(alloc, book, input, output)),
         Task::Import { number, sort } => import(alloc, book, input, output, number, sort),
+        Task::Seals { unit, day } => seals(alloc, book, input, output, unit, day),
         Task::Ask(question) => answer(alloc, question, book, output, filing),
     }
 }

@@ -1,5 +1,5 @@
 use Rattle.std.proofs.Common.{refl}
-use Rattle.office_commands.specs.declared.command.Task.TheVariants.{Dock, Drain, Import, Ask}
+use Rattle.office_commands.specs.declared.command.Task.TheVariants.{Dock, Drain, Import, Seals, Ask}
 use Rattle.office_commands.proofs.EndLemmas.{ended_cause}
 use Rattle.office_commands.proofs.ImportLemmas.{import_disk, run_faulty, takes_text}
 use Rattle.office_commands.proofs.TaskLemmas.{does_for}
@@ -58,6 +58,11 @@ returns-in-Import-clause-cause g c =
           (import_disk c.in-Import.sort c.in-Import.number _ c.import.result talk.0 talk.1 _ talk.2 is talk.5),
       λ is. absurd (ensures.no_filing is),
     )
+
+-- seals
+pub returns-in-Seals-clause-does : goal.returns-in-Seals-clause-does
+returns-in-Seals-clause-does g c =
+    does_for _ g.D.Disk.clock c.args.task (Seals c.in-Seals.unit c.in-Seals.day) _ _ _ _ _ c.in-Seals.is (c.seals.ensures.unchanged, c.seals.ensures.shows)
 
 -- ask
 pub returns-in-Ask-clause-does : goal.returns-in-Ask-clause-does
