@@ -154,16 +154,18 @@ def stops():
         fresh()
         calls = fault_cases.calls_of(["mirror", "mirror"], given, b"")
         for what in fault_cases.FAULTS:
+            # (a wrong answer to brk or mmap is none of the kernel's, and the loader falls over it; want of memory is below)
+            some = [it for it in calls if what == "signal=KILL" or it[0] not in ("brk", "mmap")]
             wrong = [after_stop(first, f"{name} {number}", lambda: fault_cases.with_fault(name, number, what, ["mirror", "mirror"], given))
-                     for name, number, _ in calls]
-            case(f"a mirror with {what} at each of {len(calls)} calls", [it for it in wrong if it], [])
+                     for name, number, _ in some]
+            case(f"a mirror with {what} at each of {len(some)} calls", [it for it in wrong if it], [])
     library = fault_cases.shim()
     if library:
         refusing = lambda number: fault_cases.refusing(library, number, ["mirror", "mirror"], given)
         fresh()
         _, asked = refusing(0)
         wrong = [after_stop(first, f"piece {number}", lambda: refusing(number)[0]) for number in range(1, asked + 1)]
-        case(f"a mirror with each of {asked} pieces of memory refused", [it for it in wrong if it], [])
+        case(f"a mirror with each of {asked} pieces of memory refused", (asked > 0, [it for it in wrong if it]), (True, []))
 
 
 def fresh():
@@ -172,7 +174,7 @@ def fresh():
         file.write(held("base"))
 
 
-LINE = re.compile(rb"mirrored [1-7]|gap [1-6] [1-6]|disk fault|memory")
+LINES = [b"mirrored %d" % it for it in range(1, 8)] + [b"gap %d %d" % it for it in itertools.product(range(1, 7), repeat=2)] + [b"disk fault", b"memory"]
 # As docs/ldar.1 has them; 127 is of a program that could not be loaded, and a signal's number is negative.
 ENDS = (0, 3, 4, 5, 6, 127, -9)
 
@@ -181,11 +183,11 @@ def after_stop(first, where, run):
     """What is wrong with the mirror after a run that something stopped, if anything."""
     fresh()
     status, text = run()
-    lines = text.splitlines()
+    *lines, begun = text.split(b"\n")
     told = max([int(it.split()[1]) for it in lines if it.startswith(b"mirrored ")], default=1)
     ran, found = ldar("mirror", "check")
-    if status not in ENDS or not all(map(LINE.fullmatch, lines)):
-        return f"{where}: status {status} with {lines}"
+    if status not in ENDS or not set(lines) <= set(LINES) or not any(it.startswith(begun) for it in LINES):
+        return f"{where}: status {status} with {text}"
     if ran or not told <= int(found.split()[1]) <= len(BATCHES):
         return f"{where}: {lines}, and then {found} with status {ran}"
     if ldar("mirror", "offer", "0")[1] != answer(0, BATCHES[: int(found.split()[1])]):
