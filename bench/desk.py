@@ -444,7 +444,8 @@ def help_lines():
 def backup(folder):
     """The journal is copied while handhelds sync, and put back later; `systemctl` is this script's."""
     save, restore = help_lines()
-    case("the lines are those of docs/DESK.md", all(it in open(f"{HERE}/docs/DESK.md", encoding="utf-8").read() for it in (save, restore)), True)
+    for page in ("docs/DESK.md", "README.md"):
+        case(f"the lines are those of {page}", f"{save}\n{restore}\n".encode() in kit_bytes(f"{HERE}/{page}"), True)
     journal, port = f"{folder}/unit.journal", kit.free_port()
     kit.init(journal)
     office = Office(journal, port)

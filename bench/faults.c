@@ -25,6 +25,12 @@ static void __attribute__((destructor)) end(void) {
     if (refused >= 0) dprintf(9, "%ld", asked);
 }
 
+/* A program that ends so runs no destructors. */
+void _exit(int status) {
+    end();
+    for (;;) syscall(SYS_exit_group, status);
+}
+
 static size_t cut(size_t count) { return count < most ? count : most; }
 
 static int fails(void) { return failing && __atomic_add_fetch(&disk_calls, 1, __ATOMIC_SEQ_CST) % failing == 0; }

@@ -3,10 +3,12 @@
 
 `dock` and the opening of journals are predicted whole: each line, the status, the note and the place in it, by a reader of bytes
 below and by bench/rule_model.py. `drain` and `import` are held to the forms of their answers, and to the journal that they leave.
-An input that shows something wrong is kept in bench/corpus/, and all of that folder is run first.
+An input that shows something wrong is kept in bench/corpus/, and all of that folder is run first. It needs gcc, for fork_server.c.
 usage: fuzz.py [--seconds N] [--seed N]      60 seconds and a seed of the clock if left out
 """
+import collections
 import concurrent.futures
+import contextlib
 import multiprocessing
 import os
 import pathlib
@@ -24,6 +26,8 @@ import rule_model
 
 PROGRAM = HERE.parent / "crates/ldar_cli/out/ldar_cli"
 CORPUS = HERE / "corpus"
+# In memory a sync is quick; the system calls are the same.
+WHERE = "/dev/shm" if os.access("/dev/shm", os.W_OK) else None
 DAYS, NONE_OR_DAY = [(13_879, 47_481)], [(0, 0), (13_879, 47_481)]
 TYPES, SERVICES = ("valve", "pump", "compressor", "relief"), ("gas", "light", "heavy", "vacuum", "under300")
 DESIGNATIONS, STATES = ("none", "nde", "unsafe", "difficult"), ("dry", "drips", "leak")
@@ -311,30 +315,80 @@ def table_input(rng, sort):
 # ---- runs
 
 
-def run(words, data):
-    return subprocess.run([PROGRAM, *words], input=data, stdout=subprocess.PIPE, stderr=subprocess.PIPE, timeout=20)
+Ran = collections.namedtuple("Ran", "returncode stdout stderr")
 
 
-def tried_dock(journal, data):
-    pathlib.Path(journal).write_bytes(b"LDARJNL1" + bytes(9))
+class Program:
+    """The program in this folder, with the file `journal`. For each command it is loaded once, and a copy of it runs each time."""
+
+    def __init__(self, preloaded):
+        self.preloaded, self.loaded = preloaded, {}
+
+    def run(self, *words, given=b""):
+        if words not in self.loaded:
+            self.loaded[words] = subprocess.Popen([PROGRAM, "journal", *words], env={"LD_PRELOAD": self.preloaded}, bufsize=0,
+                                                  stdin=subprocess.PIPE, stdout=subprocess.PIPE)
+        put("in", given)
+        it = self.loaded[words]
+        it.stdin.write(b".")
+        status = os.waitstatus_to_exitcode(struct.unpack("i", it.stdout.read(4))[0])
+        return Ran(status, held("out"), held("note"))
+
+    def stop(self):
+        for it in self.loaded.values():
+            it.stdin.close()
+            it.stdout.close()
+            it.wait()
+
+
+@contextlib.contextmanager
+def loaded():
+    """The program, in a new folder that is the current one."""
+    with tempfile.TemporaryDirectory(dir=WHERE) as folder:
+        os.chdir(folder)
+        preloaded = f"{folder}/fork_server.so"
+        subprocess.run(["gcc", "-O1", "-shared", "-fPIC", "-o", preloaded, HERE / "fork_server.c"], check=True)
+        program = Program(preloaded)
+        try:
+            yield program
+        finally:
+            program.stop()
+            os.chdir(HERE)
+
+
+def put(name, data):
+    with open(name, "wb", buffering=0) as file:
+        file.write(data)
+
+
+def held(name):
+    with open(name, "rb", buffering=0) as file:
+        return file.read()
+
+
+EMPTY, WITH_REGISTER = (b"LDARJNL1" + bytes(8) + it + b"\0" for it in (b"", b"\1" + len(REGISTER).to_bytes(4, "big") + REGISTER))
+
+
+def tried_dock(program, data):
+    put("journal", EMPTY)
     office = Office()
     lines, status, note = docked(office, data)
-    ran = run([journal, "dock"], data)
+    ran = program.run("dock", given=data)
     if (ran.returncode, ran.stderr.decode()) != (status, note) or ran.stdout.decode().splitlines() != lines:
         return f"dock: {ran.returncode} {ran.stderr} {ran.stdout}, not {status} {note!r} {lines}"
-    again = run([journal, "check"], b"")
-    return None if again.stdout.decode() == office.counts() else f"check: {again.stdout}, not {office.counts()!r}"
+    again = program.run("check")
+    return None if again == (0, office.counts().encode(), b"") else f"check: {again}, not {office.counts()!r}"
 
 
-def tried_open(journal, data):
-    pathlib.Path(journal).write_bytes(data)
+def tried_open(program, data):
+    put("journal", data)
     office, note = opened(data)
-    ran = run([journal, "check"], b"")
+    ran = program.run("check")
     want = (0, office.counts(), "") if office else (7, "", note)
     got = ran.returncode, ran.stdout.decode(), ran.stderr.decode()
     if got != want:
         return f"check: {got}, not {want}"
-    return None if pathlib.Path(journal).read_bytes() == data else "check changed the journal"
+    return None if held("journal") == data else "check changed the journal"
 
 
 RESPONSE = re.compile(rb"HTTP/1\.1 (200|400|404|405|409|411|413|414|417|422|431|500|501|503|505|507) [A-Za-z -]+\r\nContent-Type: text/plain\r\n"
@@ -351,79 +405,73 @@ def are_responses(said):
     return True
 
 
-def tried_drain(journal, data):
-    pathlib.Path(journal).write_bytes(b"LDARJNL1" + bytes(8) + b"\1" + len(REGISTER).to_bytes(4, "big") + REGISTER + b"\0")
-    ran = run([journal, "drain"], data)
+def tried_drain(program, data):
+    put("journal", WITH_REGISTER)
+    ran = program.run("drain", given=data)
     if ran.returncode not in (0, 8) or not NOTE.fullmatch(ran.stderr.decode()) or not are_responses(ran.stdout):
         return f"drain: {ran.returncode} {ran.stderr} {ran.stdout}"
     if (ran.returncode == 0) != (ran.stderr == b""):
         return f"drain: {ran.returncode} {ran.stderr}"
-    return receipted_stand(journal, ran.stdout)
+    return receipted_stand(program, ran.stdout)
 
 
-def tried_import(journal, data, sort):
-    pathlib.Path(journal).write_bytes(b"LDARJNL1" + bytes(9))
-    ran = run([journal, "import", "1", ("units", "components")[sort]], data)
+def tried_import(program, data, sort):
+    put("journal", EMPTY)
+    ran = program.run("import", "1", ("units", "components")[sort], given=data)
     if ran.returncode not in (0, 8, 11) or not NOTE.fullmatch(ran.stderr.decode()) or (ran.returncode == 0) != (ran.stderr == b""):
         return f"import: {ran.returncode} {ran.stderr} {ran.stdout}"
-    return receipted_stand(journal, ran.stdout)
+    return receipted_stand(program, ran.stdout)
 
 
-def receipted_stand(journal, said):
+def receipted_stand(program, said):
     """The journal opens, and has each position that was receipted."""
     positions = [int(it) for it in re.findall(rb"receipt \d+ \d+ (\d+)\n", said)]
-    again = run([journal, "check"], b"")
+    again = program.run("check")
     found = re.fullmatch(rb"journal (\d+) batches \d+ facts\n", again.stdout)
     if not found or int(found[1]) < max(positions, default=0):
         return f"check: {again.returncode} {again.stdout} after {positions}"
     return None
 
 
-TRIES = {"dock": tried_dock, "open": tried_open, "drain": tried_drain, "units": lambda j, d: tried_import(j, d, 0),
-         "components": lambda j, d: tried_import(j, d, 1)}
+TRIES = {"dock": tried_dock, "open": tried_open, "drain": tried_drain, "units": lambda p, d: tried_import(p, d, 0),
+         "components": lambda p, d: tried_import(p, d, 1)}
 MAKERS = {"dock": batches_input, "open": journal_input, "drain": request_input, "units": lambda rng: table_input(rng, 0),
           "components": lambda rng: table_input(rng, 1)}
 
 
-def tried(what, data, journal):
-    try:
-        return TRIES[what](journal, data)
-    except subprocess.TimeoutExpired:
-        return f"{what}: it hangs"
-
-
 def worker(seed, until):
-    """Tries inputs until the time is up. Returns how many, and what was wrong."""
-    rng, count, wrong = random.Random(seed), 0, []
-    with tempfile.TemporaryDirectory() as folder:
+    """Tries inputs until the time is up. Returns how many of each kind, and what was wrong."""
+    rng, counts, wrong = random.Random(seed), collections.Counter(), []
+    with loaded() as program:
         while time.time() < until and len(wrong) < 3:
             what = rng.choice(("dock", "dock", "open", "open", "drain", "units", "components"))
             data = MAKERS[what](rng)
-            why = tried(what, data, f"{folder}/journal")
-            count += 1
+            why = TRIES[what](program, data)
+            counts[what] += 1
             if why:
                 wrong.append((what, data, why))
-    return count, wrong
+    return counts, wrong
 
 
 def main():
     words = dict(zip(sys.argv[1::2], sys.argv[2::2]))
     seconds, seed = int(words.get("--seconds", 60)), int(words.get("--seed", time.time()))
     CORPUS.mkdir(exist_ok=True)
-    with tempfile.TemporaryDirectory() as folder:
+    with loaded() as program:
         for file in sorted(CORPUS.iterdir()):
-            why = tried(file.name.split("-")[0], file.read_bytes(), f"{folder}/journal")
+            why = TRIES[file.name.split("-")[0]](program, file.read_bytes())
             if why:
                 sys.exit(f"{file}: {why}")
-    lanes, until, count, found = len(os.sched_getaffinity(0)), time.time() + seconds, 0, 0
+    lanes, until, counts, found = len(os.sched_getaffinity(0)), time.time() + seconds, collections.Counter(), 0
     with concurrent.futures.ProcessPoolExecutor(lanes, multiprocessing.get_context("fork")) as pool:
         for tries, wrong in pool.map(worker, range(seed, seed + lanes), [until] * lanes):
-            count += tries
+            counts += tries
             for what, data, why in wrong:
                 found += 1
                 (CORPUS / f"{what}-{seed}-{found}").write_bytes(data)
                 print(f"{what}-{seed}-{found}: {why}")
-    print(f"{count} inputs by seed {seed} in {seconds} seconds, {found} wrong")
+    kinds = ", ".join(f"{count:,} {what}" for what, count in sorted(counts.items()))
+    print(f"{counts.total():,} inputs ({kinds}) by seed {seed} in {seconds} seconds, {found} wrong")
     sys.exit(1 if found else 0)
 
 

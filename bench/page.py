@@ -292,7 +292,9 @@ def reports(page, journal):
     page.show("report", 4, DAY)
     wanted = shown(journal, "report", 4, 7, DAY).splitlines()
     case("report: the last period that ended", Select(page.one("#field-reporting-period")).first_selected_option.text[:2], "7:")
-    same("report: its months", page.cells(), [[w for at, w in enumerate(it.split()) if at in (0, 2, 3, 5, 6, 8, 9)] for it in wanted[1:7]])
+    months = [[w for at, w in enumerate(it.split()) if at in (0, 2, 3, 5, 6, 8, 9)] for it in wanted[1:7]]
+    same("report: its months", page.cells(), months)
+    same("report: the file of its months", page.download(f"report-4-7-{DAY}.csv")[1:], months)
     page.shot("report")
     case("report: pages of paper", page.printed("report"), 1)
     Select(page.one("#field-reporting-period")).select_by_value("8")

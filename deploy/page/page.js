@@ -253,7 +253,7 @@ async function percent({ unit, day, signal }) {
   say(`${plural(all.length, "quarter")}, in the table the newest first`);
   return [
     make("figure", {}, chart(all), make("figcaption", {}, "Valves found leaking, in percent of those monitored. "
-      + "Green with a check: a good quarter; red with a cross: not good; striped: monitoring was skipped.")),
+      + "Green with a check: a good quarter; red with a cross: not good; striped, or “skip”: monitoring was skipped.")),
     ...list({
       label: "Percent leaking by quarter",
       columns: [["Quarter", (it) => it.quarter, "number"], ["Months", (it) => `${it.from} to ${it.to}`],
@@ -278,7 +278,7 @@ function draw(name, properties, ...children) {
 
 /** The chart of quarters. The table below it has the same numbers, so to a screen reader it is one picture. */
 function chart(all) {
-  const [wide, high, left, top, below] = [1000, 300, 46, 26, 52];
+  const [wide, high, left, top, below] = [1000, 300, 54, 26, 52];
   // Bars of more than 10 percent are cut there, so that the 2 percent stay in sight.
   const greatest = Math.min(10, Math.max(2.5, ...all.map((it) => it.value ?? 0)));
   const tick = [0.5, 1, 2].find((it) => greatest / it <= 6);
@@ -293,7 +293,7 @@ function chart(all) {
     const [middle, least] = [left + (place + 0.5) * step, it.value === null ? 0 : 2];
     const value = Math.min(10, it.value ?? 0);
     const bar = { x: middle - step * 0.3, y: y(value) - least, width: step * 0.6, height: y(0) - y(value) + least };
-    const number = it.value?.toFixed(it.value < 10 ? 1 : 0) ?? (it.isSkipped ? "skipped" : "none read");
+    const number = it.value?.toFixed(it.value < 10 ? 1 : 0) ?? (it.isSkipped ? "skip" : "none");
     return [draw("rect", { ...bar, class: it.isGood ? "good" : "bad" }),
       it.isSkipped ? draw("rect", { ...bar, fill: "url(#stripes)" }) : "",
       text(middle, y(value) - 8, "value", `${it.value > 10 ? "↑" : ""}${number} ${it.isGood ? "✓" : "✗"}`),
@@ -330,6 +330,7 @@ async function report({ unit, day, extra, signal }) {
   const columns = (heads, numbers) =>
     heads.map((text, place) => [text, (row) => row[place], numbers.includes(place) ? "number" : ""]);
   const name = `report-${unit}-${half}-${day}`;
+  say(`6 months, ${plural(delays.length, "delay")} of repair, ${plural(shutdowns.length, "shutdown")}`);
   const kinds = ["Valves", "Pumps", "Compressors"];
   const ofDelays = columns(["Component", "Detected", "Ground", "Signer", "Expected", "Until", "Closed"], [0, 3]);
   ofDelays[2] = ["Ground", (row) => `(${row[2]}) ${GROUNDS[row[2]] ?? ""}`, "text"];
