@@ -266,8 +266,8 @@ def untaken(office, name, shown):
         it.setsockopt(socket.SOL_SOCKET, socket.SO_RCVBUF, 4_096)
         it.settimeout(300)
         it.connect(("127.0.0.1", office.port))
-        it.send(get(VIEWS[4]))
-        it.recv(4_096)
+        it.send(get(VIEWS[5]))
+        response = len(it.recv(4_096))
         it.setblocking(False)
         until = time.monotonic() + WHOLE + 10
         while time.monotonic() < until:
@@ -284,7 +284,7 @@ def untaken(office, name, shown):
                 taken += len(piece)
         except OSError:
             pass
-        return 0 < taken < sent // len(get(VIEWS[5])) * len(shown[5])
+        return 0 < taken < sent // len(get(VIEWS[5])) * response
 
 
 def garbage(office, name, shown):
