@@ -269,7 +269,7 @@ def untaken(office, name, shown):
         it.send(get(VIEWS[5]))
         response = len(it.recv(4_096))
         it.setblocking(False)
-        until = time.monotonic() + WHOLE + 10
+        until = time.monotonic() + WHOLE + SILENCE + 10
         while time.monotonic() < until:
             try:
                 sent += it.send(given[sent:sent + 65_536])
