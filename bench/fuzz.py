@@ -318,6 +318,10 @@ def table_input(rng, sort):
 Ran = collections.namedtuple("Ran", "returncode stdout stderr")
 
 
+# The program's buffers of up to 8 MB would take longest: they come in pages of 2 MB, where the machine has them.
+TUNABLES = "glibc.malloc.hugetlb=1:glibc.malloc.mmap_threshold=1073741824:glibc.malloc.top_pad=16777216"
+
+
 class Program:
     """The program in this folder, with the file `journal`. For each command it is loaded once, and a copy of it runs each time."""
 
@@ -326,8 +330,8 @@ class Program:
 
     def run(self, *words, given=b""):
         if words not in self.loaded:
-            self.loaded[words] = subprocess.Popen([PROGRAM, "journal", *words], env={"LD_PRELOAD": self.preloaded}, bufsize=0,
-                                                  stdin=subprocess.PIPE, stdout=subprocess.PIPE)
+            env = {"LD_PRELOAD": self.preloaded, "GLIBC_TUNABLES": TUNABLES}
+            self.loaded[words] = subprocess.Popen([PROGRAM, "journal", *words], env=env, bufsize=0, stdin=subprocess.PIPE, stdout=subprocess.PIPE)
         put("in", given)
         it = self.loaded[words]
         it.stdin.write(b".")

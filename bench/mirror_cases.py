@@ -2,7 +2,7 @@
 """Takes the answers of an office in every bad way, with the real program, until the mirror has all of them.
 
 orders  the answers of seven batches in each of their 5,040 orders, in two runs: each answer is lost, comes once, or comes twice, by
-        another of the 2,187 ways for each order. With answers of one batch, and with longer ones that overlap
+        another of the 2,187 ways for each order. With answers of one batch; and each seventh order with longer ones that overlap
 stops   a kill, a disk error and a full disk at each system call of a run of `mirror`, and each piece of memory refused
 chain   a mirror of a mirror of a mirror, while the first office goes on; and the commands of docs/MIRROR.md
 cuts    answers cut after each byte; a batch of another history; an answer that comes byte by byte
@@ -134,10 +134,10 @@ def orders():
     first = First(BATCHES)
     every = list(enumerate(itertools.permutations(range(len(BATCHES)))))
     with concurrent.futures.ThreadPoolExecutor(len(os.sched_getaffinity(0))) as lanes:
-        for most, what in ((1, "answers of one batch"), (4, "longer answers that overlap")):
+        for most, what, some in ((1, "answers of one batch", every), (4, "longer answers that overlap", every[::7])):
             one = functools.partial(after_order, first, os.getcwd(), most)
-            wrong = [it for it in lanes.map(lambda it, one=one: one(*it), every) if it]
-            case(f"{what} in {len(every):,} orders, lost and doubled: {len(wrong)} wrong", wrong[:5], [])
+            wrong = [it for it in lanes.map(lambda it, one=one: one(*it), some) if it]
+            case(f"{what} in {len(some):,} orders, lost and doubled: {len(wrong)} wrong", wrong[:5], [])
 
 
 # ---- stops
