@@ -33,9 +33,9 @@ impl Work {
     }
 }
 
-fn at(day: u32, body: FactBody) -> Fact {
+fn at(day: Day, body: FactBody) -> Fact {
     Fact {
-        day: Day::at(day),
+        day,
         minute: 600,
         body,
     }
@@ -63,6 +63,7 @@ fn register(alloc: Global) -> Result<Request, anyhow::Error> {
     let Some(name) = Name::new(b"CRUDE") else {
         return Err(anyhow::Error::msg("no name"));
     };
+    let startup = Day::at(STARTUP);
     let unit = FactBody::Unit {
         unit: 1,
         older: false,
@@ -82,7 +83,7 @@ fn register(alloc: Global) -> Result<Request, anyhow::Error> {
         replaces: false,
         class,
     };
-    batch(alloc, 0, 1, &[at(STARTUP, unit), at(STARTUP, valve)])
+    batch(alloc, 0, 1, &[at(startup, unit), at(startup, valve)])
 }
 
 /// An office in memory with one process unit.
@@ -108,7 +109,7 @@ pub fn request(alloc: Global, work: Work, number: u32) -> Result<Request, anyhow
         instrument: 1,
         gas: 500,
     };
-    batch(alloc, 7, number, &[at(FEBRUARY, calibration)])
+    batch(alloc, 7, number, &[at(Day::at(FEBRUARY), calibration)])
 }
 
 /// Whether a request was answered by a receipt or a view.
