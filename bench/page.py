@@ -51,7 +51,7 @@ class Page:
         self.browser.get(f"https://{kit.USER}:{kit.PASSWORD.replace(' ', '%20')}@localhost:{front.port}/#help")
         self.wait(lambda: self.state() == "")
 
-    def wait(self, test, seconds=60):
+    def wait(self, test, seconds=240):
         return WebDriverWait(self.browser, seconds, poll_frequency=0.05).until(lambda _: test())
 
     def one(self, selector):
