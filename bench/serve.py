@@ -10,11 +10,11 @@ faults  the same, while each few writes and syncs fail (faults.c)
 speed   syncs and views of one day a second with 1, 2, 4 and 8 workers, and the time from connecting to the answer while others sync (50th
         and 99th of 100), beside a plain Rust server of the same protocol with a mutex (serve.rs), and beside the same writes and syncs in a
         loop by one thread, of which the syncs may take 1.3 times; medians of three runs in turn, of COUNT requests each
-room    what a room costs with nobody waiting: the processor time in user mode of COUNT requests through a room, beside that of the same
-        requests asked of the office itself: at most 1.1 times as much (crates/room_bench, which is proved and built first)
+room    what a room costs with nobody waiting: the processor time in user mode of COUNT views on one connection of one worker, beside
+        that of `drain`, which has no room; reading and writing the requests is in both, and plain Rust shows what the socket adds
 
 usage: bench/serve.py [mix] [ends] [kills [TIMES]] [faults [TIMES]] [speed [COUNT]] [room [COUNT]]
-       without words: all, with 100 kills, 2,000 requests for speed and 1,000,000 for the room"""
+       without words: all, with 100 kills, 2,000 requests for speed and 500,000 for the room"""
 import itertools
 import json
 import multiprocessing
@@ -37,7 +37,6 @@ from office import loop
 
 DAY = "2024-02-20"
 SILENCE, WHOLE = 30, 60
-ROOM_BENCH = os.path.join(HERE, "crates", "room_bench", "out", "room_bench")
 VIEWS = [["due", "2", DAY], ["tags", "2", DAY], ["delays", "2", DAY], ["route", "2", DAY, "3"], ["percent", "2", "1", DAY], ["report", "2", "1", DAY]]
 
 
@@ -548,22 +547,41 @@ def speed(folder, count):
 
 # ---- what a room costs
 
-def user_time(words):
-    """The processor time in user mode of a run of crates/room_bench, in microseconds a request."""
-    def run(count):
-        before = resource.getrusage(resource.RUSAGE_CHILDREN).ru_utime
-        subprocess.run([ROOM_BENCH, *words, str(count)], check=True, stdout=subprocess.DEVNULL)
-        return resource.getrusage(resource.RUSAGE_CHILDREN).ru_utime - before
-    return run
+def user_time(run):
+    """The processor time in user mode of the processes that a call starts and ends."""
+    before = resource.getrusage(resource.RUSAGE_CHILDREN).ru_utime
+    run()
+    return resource.getrusage(resource.RUSAGE_CHILDREN).ru_utime - before
 
 
-def room(count):
-    subprocess.run(["rt", "run"], cwd=os.path.dirname(os.path.dirname(ROOM_BENCH)), check=True, stdout=subprocess.DEVNULL, stderr=subprocess.DEVNULL)
-    for work, name in ("syncs", "a batch of one fact"), ("views", "the due list of a process unit with one valve"):
-        through, direct = (lambda words=words: (user_time(words)(count) / count * 1e6,) for words in (("room", work), ("book", work)))
-        (ours,), (alone,) = medians.in_turn(5, through, direct)
-        medians.row(f"{name}, asked through a room in which nobody else waits, user time, µs", f"{ours:.3f}", f"{alone:.3f} (`Book::ask`)", ours / alone)
-        medians.wanted(f"{name} asked through a room, beside `Book::ask`", 1.1, ours / alone, " times")
+def piped_to_one(program, journal, count):
+    """Sends views over one connection, as fast as they are taken, and reads the answers."""
+    office = Office(journal, 1, program=program)
+    with Line(office.port) as line:
+        asking = threading.Thread(target=line.send, args=(get(VIEWS[4]) * count,))
+        asking.start()
+        for _ in range(count):
+            line.response()
+        asking.join()
+    office.end()
+
+
+def room(folder, count):
+    journal, plain = made(f"{folder}/room.journal"), medians.compiled("serve.rs", folder)
+
+    def drained(program, count):
+        return user_time(lambda: subprocess.run([program, journal, "drain"], input=get(VIEWS[4]) * count, check=True, stdout=subprocess.DEVNULL))
+
+    def served(program, count):
+        return user_time(lambda: piped_to_one(program, journal, count))
+
+    works = [lambda way=way, program=program: ((way(program, count) - way(program, 1)) / count * 1e6,) for program in (PROGRAM, plain) for way in (served, drained)]
+    (through,), (direct,), (locked,), (alone,) = medians.in_turn(3, *works)
+    print(f"user time of a view, us: through a room {through:.2f}, by drain {direct:.2f}; plain Rust: under a mutex {locked:.2f}, by drain {alone:.2f}, "
+          f"ratio {locked / alone:.2f}, which has the socket's share")
+    medians.row("a view over one connection of one worker, user time, µs (beside `drain`, which has no room)", f"{through:.2f}", f"{direct:.2f} (drain)", through / direct)
+    medians.row("the same in plain Rust, with a mutex", f"{locked:.2f}", f"{alone:.2f} (drain)", locked / alone)
+    medians.wanted("a view through a room, beside one without", 1.1, through / direct, " times")
 
 
 def main():
@@ -584,7 +602,7 @@ def main():
             elif word == "speed":
                 speed(folder, number or 2_000)
             elif word == "room":
-                room(number or 1_000_000)
+                room(folder, number or 500_000)
             elif not word.isdigit():
                 sys.exit(__doc__)
     if {"speed", "room"} & set(words):
