@@ -352,7 +352,7 @@ const DRIPPING: &str = "seals 1 2024-02-22
 5 seal drip detected 2024-02-20 attempt 2024-02-25 - repair 2024-03-06 -
 6 sealweek 2024-02-25 done 2024-02-20
 6 sealdrip 2024-02-25 open
-end 5
+end 4
 ";
 
 // Facts of the pumps, a seal file, and what it shows.
